@@ -1,0 +1,3 @@
+mod NameLemmas
+pub mod FolderLemmas
+pub mod WorldLemmas

@@ -1,0 +1,15 @@
+-- What the array of a name holds.
+use Rattle.std.proofs.Common.{◌≡◌, ℕ, ◌-◌, List, ◌++◌, length, take, drop, replicate, arith, sym, ap, subst, ◌∙◌}
+use Rattle.std.proofs.Math.Seq.{take-append_seam}
+use Rattle.std.proofs.lemmas.List.{drop-replicate}
+use Rattle.host_calls.specs.Names.{IsName, IsPadded, padded}
+
+-- the bytes of a name before the zeros of an array that had 64
+pub padded_front : (bytes : List ℕ) → IsName bytes → IsPadded (bytes ++ drop (length bytes) (replicate 64 0)) (length bytes)
+padded_front bytes name =
+    let front : take (length bytes) (bytes ++ drop (length bytes) (replicate 64 0)) ≡ bytes = take-append_seam bytes _ in
+    record {
+      name = subst IsName (sym front) name;
+      counted = ap length front;
+      zeros = ap (λ rest. bytes ++ rest) (drop-replicate (length bytes) 64 0) ∙ ap padded (sym front);
+    }

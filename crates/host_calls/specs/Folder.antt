@@ -1,0 +1,193 @@
+-- The spool folder: what its files read as, and what a crash may leave of them.
+--
+-- A change of names (a file made, renamed or removed) is pending until the names are synced, and bytes
+-- that are written are uncertain until their file is synced. So POSIX has it: without fsync nothing is
+-- promised of either (IEEE Std 1003.1-2017, XSH fsync and rename).
+use Rattle.std.specs.Prelude.{◌≡◌, ◌⊎◌, ◌+◌, ◌≤◌, ◌==◌, ◌||◌, ◌&&◌, ◌++◌, [], ◌∷◌, ℕ, Bool, true, false, List, Option, Some, None, MatchBool, length, map, slice_index, take, drop, nat_le, nat_lt, if◌then◌else◌}
+use Rattle.std.specs.Ordering.{nat_cmp}
+use Rattle.std.specs.Cmp.Lexicographic.{slice_cmp}
+use Rattle.std.specs.declared.cmp.Ordering.{Ordering}
+use Rattle.std.specs.FinMap as map
+use Rattle.std.specs.FinMap.{FinMap, entries, from_entries}
+
+-- the order of names, byte by byte
+abbrev pub name_cmp : List ℕ → List ℕ → Ordering
+name_cmp = slice_cmp nat_cmp
+
+-- the bytes of files, by their names
+abbrev pub Files : Type 0
+Files = FinMap name_cmp (List ℕ)
+
+-- the number of a body, by the name that holds it
+abbrev pub Names : Type 0
+Names = FinMap name_cmp ℕ
+
+-- the body of a file: its bytes, whether it was synced since it was made, and its uncertain places
+pub record Body : Type 0 where
+  pub bytes : List ℕ
+  pub is_synced : Bool
+  pub is_uncertain : ℕ → Bool
+
+-- a change of names
+pub data Change : Type 0 where
+  Made : (name : List ℕ) (body : ℕ) → Change
+  Renamed : (from to : List ℕ) → Change
+  Removed : (name : List ℕ) → Change
+
+-- the names that are certain, the changes that are pending, the newest first, and the bodies by their numbers
+pub record Folder : Type 0 where
+  pub certain : Names
+  pub pending : List Change
+  pub body : ℕ → Body
+
+-- the names after one of them has moved, if it was there
+abbrev pub moved : Option ℕ → List ℕ → List ℕ → Names → Names
+moved None from to names = names
+moved (Some body) from to names = map.insert (map.remove names from) to body
+
+-- the names after a change, which does nothing where its source is missing
+abbrev pub changed : Change → Names → Names
+changed (Made name body) names = map.insert names name body
+changed (Renamed from to) names = moved (map.get names from) from to names
+changed (Removed name) names = map.remove names name
+
+-- the names after all of the changes
+abbrev pub names_after : List Change → Names → Names
+names_after [] certain = certain
+names_after (change ∷ older) certain = changed change (names_after older certain)
+
+-- these are the names after some of the changes, taken in their order
+abbrev pub AreAfterSome : List Change → Names → Names → Type 0
+AreAfterSome [] certain names = names ≡ certain
+AreAfterSome (change ∷ older) certain names =
+    (before : Names) × AreAfterSome older certain before × ((names ≡ before) ⊎ (names ≡ changed change before))
+
+-- as many bytes as the body has, the same at each place that is certain
+pub record IsSameElsewhere (body : Body) (bytes : List ℕ) : Type 0 where
+  pub counted : length bytes ≡ length body.bytes
+  pub certain : (place : ℕ) → body.is_uncertain place ≡ false → slice_index bytes place ≡ slice_index body.bytes place
+
+-- What a crash may leave of a body. One that was never synced may have any length up to its own.
+abbrev pub MayHold : Body → List ℕ → Type 0
+MayHold body bytes = MatchBool body.is_synced (IsSameElsewhere body bytes) (length bytes ≤ length body.bytes)
+
+-- what a crash may leave at a name that holds this body, or none
+abbrev pub MayStand : (ℕ → Body) → Option ℕ → Option (List ℕ) → Type 0
+MayStand body None None = Unit {0}
+MayStand body None (Some bytes) = ⊥
+MayStand body (Some number) None = ⊥
+MayStand body (Some number) (Some bytes) = MayHold (body number) bytes
+
+-- The files are an image of the folder: a crash may leave them.
+pub record IsImage (folder : Folder) (image : Files) : Type 0 where
+  pub names : Names
+  pub chosen : AreAfterSome folder.pending folder.certain names
+  pub each : (name : List ℕ) → MayStand folder.body (map.get names name) (map.get image name)
+
+-- the names as they read now
+abbrev pub names_of : Folder → Names
+names_of folder = names_after folder.pending folder.certain
+
+-- the files of these names and bodies
+unfoldable pub files_of : (ℕ → Body) → Names → Files
+files_of body names = from_entries (map (λ entry. (entry.0, (body entry.1).bytes)) (entries names))
+
+-- the reading: the files as they read now
+abbrev pub reading_of : Folder → Files
+reading_of folder = files_of folder.body (names_of folder)
+
+-- no image has the name
+abbrev pub IsInNoImage : Folder → List ℕ → Type 0
+IsInNoImage folder name = (image : Files) → IsImage folder image → map.get image name ≡ None
+
+-- each image of the one folder is an image of the other
+abbrev pub HasImagesOf : Folder → Folder → Type 0
+HasImagesOf old new = (image : Files) → IsImage new image → IsImage old image
+
+-- What a call on one file or on the names does.
+
+-- the bodies with one of them changed
+abbrev pub with_body : (ℕ → Body) → ℕ → Body → ℕ → Body
+with_body bodies number body other = if other == number then body else bodies other
+
+-- no choice of the pending changes gives a name this number
+abbrev pub IsFresh : Folder → ℕ → Type 0
+IsFresh folder number =
+    (names : Names) → AreAfterSome folder.pending folder.certain names → (name : List ℕ) → ¬ (map.get names name ≡ Some number)
+
+-- a file that was just made
+abbrev pub made_body : List ℕ → Body
+made_body bytes = record { bytes = bytes; is_synced = false; is_uncertain = λ _. true }
+
+-- the folder with one file more
+abbrev pub with_file : List ℕ → ℕ → List ℕ → Folder → Folder
+with_file name number bytes folder =
+    record { certain = folder.certain; pending = Made name number ∷ folder.pending; body = with_body folder.body number (made_body bytes) }
+
+-- the file was made, under a number that no other has
+pub record IsMade (name bytes : List ℕ) (old new : Folder) : Type 0 where
+  pub number : ℕ
+  pub fresh : IsFresh old number
+  pub made : new ≡ with_file name number bytes old
+
+-- a part of the file was made: fewer bytes, or others
+pub record IsMadeInPart (name bytes : List ℕ) (old new : Folder) : Type 0 where
+  pub part : List ℕ
+  pub shorter : length part ≤ length bytes
+  pub made : IsMade name part old new
+
+-- the place lies in the range
+abbrev pub is_within : ℕ → ℕ → ℕ → Bool
+is_within offset count place = nat_le offset place && nat_lt place (offset + count)
+
+-- the bytes with others from the offset on
+abbrev pub overwritten : List ℕ → ℕ → List ℕ → List ℕ
+overwritten old offset bytes = take offset old ++ bytes ++ drop (offset + length bytes) old
+
+-- the body after a write
+abbrev pub written_body : ℕ → List ℕ → Body → Body
+written_body offset bytes body =
+    record {
+      bytes = overwritten body.bytes offset bytes;
+      is_synced = body.is_synced;
+      is_uncertain = λ place. body.is_uncertain place || is_within offset (length bytes) place;
+    }
+
+-- the name alone holds the body of this number
+pub record IsHeldAt (names : Names) (name : List ℕ) (number : ℕ) : Type 0 where
+  pub held : map.get names name ≡ Some number
+  pub alone : (other : List ℕ) → map.get names other ≡ Some number → other ≡ name
+
+-- the folder with one body changed
+abbrev pub with_changed : ℕ → (Body → Body) → Folder → Folder
+with_changed number change folder =
+    record { certain = folder.certain; pending = folder.pending; body = with_body folder.body number (change (folder.body number)) }
+
+-- the range of the file was written
+pub record IsWritten (name : List ℕ) (offset : ℕ) (bytes : List ℕ) (old new : Folder) : Type 0 where
+  pub number : ℕ
+  pub held : IsHeldAt (names_of old) name number
+  pub written : new ≡ with_changed number (written_body offset bytes) old
+
+-- the range of the file was written in part, or with other bytes
+pub record IsWrittenInPart (name : List ℕ) (offset : ℕ) (bytes : List ℕ) (old new : Folder) : Type 0 where
+  pub part : List ℕ
+  pub as_long : length part ≡ length bytes
+  pub written : IsWritten name offset part old new
+
+-- the body after a sync
+abbrev pub certain_body : Body → Body
+certain_body body = record { bytes = body.bytes; is_synced = true; is_uncertain = λ _. false }
+
+-- the folder after all of it was synced: the reading is its only image
+abbrev pub settled : Folder → Folder
+settled folder = record { certain = names_of folder; pending = []; body = λ number. certain_body (folder.body number) }
+
+-- all of the folder was synced
+abbrev pub IsSettled : Folder → Folder → Type 0
+IsSettled old new = new ≡ settled old
+
+-- a part of the folder was synced
+pub record IsSyncedInPart (old new : Folder) : Type 0 where
+  pub reading : reading_of new ≡ reading_of old
+  pub images : HasImagesOf old new

@@ -1,0 +1,98 @@
+-- A world: each moment of a spool folder so far, with what was handed over by then.
+use Rattle.std.specs.Prelude.{◌≡◌, ◌⊎◌, ◌+◌, ◌-◌, ◌≤◌, ◌++◌, [], ◌∷◌, ℕ, List, length, take, drop, Option, option_map, IsSomeAnd, Result, Ok, Err}
+use Rattle.std.specs.FinMap as map
+use Rattle.host_calls.specs.declared.child.Handed.{Handed}
+use Rattle.host_calls.specs.declared.child.Asked.{Asked}
+use Rattle.host_calls.specs.declared.fault.HostFault.{HostFault}
+use Rattle.host_calls.specs.declared.fault.HostFault.TheVariants.{Failed, Memory}
+use Rattle.host_calls.specs.Folder.{Folder, Files, IsImage, reading_of}
+
+-- the folder at a moment, and all scripts that were handed over by then
+pub record Moment : Type 0 where
+  pub folder : Folder
+  pub handed : List Handed
+
+-- the moment now, those before it, the newest first, and each question to a child with its answer
+pub record World : Type 0 where
+  pub now : Moment
+  pub before : List Moment
+  pub asked : List Asked
+
+-- all moments, the newest first
+abbrev pub moments : World → List Moment
+moments world = world.now ∷ world.before
+
+-- the number of the moment now, which rises with each change
+abbrev pub moment : World → ℕ
+moment world = length world.before
+
+-- the files as they read now
+abbrev pub reading : World → Files
+reading world = reading_of world.now.folder
+
+-- how many bytes the file of a name has, if there is one
+abbrev pub size_of : Files → List ℕ → Option ℕ
+size_of files name = option_map length (map.get files name)
+
+-- at most so many bytes of the file from an offset on, if there is one
+abbrev pub bytes_from : Files → List ℕ → ℕ → ℕ → Option (List ℕ)
+bytes_from files name offset most = option_map (λ bytes. take most (drop offset bytes)) (map.get files name)
+
+-- the range lies within the file
+abbrev pub IsWithinFile : Files → List ℕ → ℕ → ℕ → Type 0
+IsWithinFile files name offset count = IsSomeAnd (map.get files name) (λ bytes. offset + count ≤ length bytes)
+
+-- one of the moments has P
+abbrev pub AtSome : (Moment → Type 0) → List Moment → Type 0
+AtSome P [] = ⊥
+AtSome P (here ∷ others) = P here ⊎ AtSome P others
+
+-- each of the moments has P
+abbrev pub AtEach : (Moment → Type 0) → List Moment → Type 0
+AtEach P [] = Unit {0}
+AtEach P (here ∷ others) = P here × AtEach P others
+
+-- A crash at the moment may leave the image, and these scripts were handed over by then.
+abbrev pub Leaves : Files → List Handed → Moment → Type 0
+Leaves image handed at = IsImage at.folder image × (handed ≡ at.handed)
+
+-- A crash at some moment from the one of this number on might have left the image, these scripts handed over.
+abbrev pub Could : World → ℕ → Files → List Handed → Type 0
+Could world since image handed = AtSome (Leaves image handed) (take (moment world + 1 - since) (moments world))
+
+-- each image of the moment, with what was handed over by then, has P
+abbrev pub HasEachImage : (Files → List Handed → Type 0) → Moment → Type 0
+HasEachImage P at = (image : Files) → IsImage at.folder image → P image at.handed
+
+-- Since the old world a crash at any moment leaves an image that has P.
+pub record LeavesOnly (P : Files → List Handed → Type 0) (old new : World) : Type 0 where
+  pub more : List Moment
+  pub run : moments new ≡ more ++ moments old
+  pub each : AtEach (HasEachImage P) more
+
+-- the world after a call, by the call's answer: a call that failed has done nothing to the folder or a part
+abbrev pub Outcome : {T : Type 0} → (Folder → Folder → Type 0) → (Folder → Folder → Type 0) → World → World → Result T HostFault → Type 0
+Outcome done part old new (Ok value) = done old.now.folder new.now.folder
+Outcome done part old new (Err Failed) = (new.now.folder ≡ old.now.folder) ⊎ part old.now.folder new.now.folder
+Outcome done part old new (Err Memory) = new ≡ old
+
+-- The image is one of the folder at a call's start, or one that the call lets a crash leave.
+abbrev pub IsWithin : (Folder → Folder → Type 0) → Folder → Files → Type 0
+IsWithin done old image = IsImage old image ⊎ ((new : Folder) × done old new × IsImage new image)
+
+-- what a crash may leave at each moment of a call
+abbrev pub WithinCall : (Folder → Folder → Type 0) → Moment → Files → List Handed → Type 0
+WithinCall done start image handed = IsWithin done start.folder image × (handed ≡ start.handed)
+
+-- one call that changes the folder and hands nothing over
+pub record FileCall {T : Type 0} (done part : Folder → Folder → Type 0) (old new : World) (result : Result T HostFault) : Type 0 where
+  pub outcome : Outcome done part old new result
+  pub handed : new.now.handed ≡ old.now.handed
+  pub asked : new.asked ≡ old.asked
+  pub leaves : LeavesOnly (WithinCall done old.now) old new
+
+-- Time goes on between sessions: others may change the folder, and nothing is handed over.
+pub record GoesOn (old new : World) : Type 0 where
+  pub asked : new.asked ≡ old.asked
+  pub handed : new.now.handed ≡ old.now.handed
+  pub leaves : LeavesOnly (λ image handed. handed ≡ old.now.handed) old new

@@ -1,0 +1,108 @@
+//! A spool folder, its lock and the children that are started from it.
+ghost use Rattle.std.specs.Prelude.{◌≡◌, ◌+◌, ◌≤◌, Bool, IsTrue, IsSome, IsErrOf, IfOk, length, take, drop, option_map, vec_len};
+ghost use Rattle.std.specs.FinMap as map;
+ghost use Rattle.host_calls.specs.Causes.{HasCause, Rose};
+ghost use Rattle.host_calls.specs.Folder.{IsInNoImage, IsMade, IsMadeInPart, IsWritten, IsWrittenInPart, IsSettled, IsSyncedInPart};
+ghost use Rattle.host_calls.specs.Session.{Session, IsInside, IsOutside, StaysInside, Enters, IsLeft};
+ghost use Rattle.host_calls.specs.World.{World, FileCall, GoesOn, reading, size_of, bytes_from, IsWithinFile};
+
+use crate::{EnterFault, HostFault, Name};
+use std::alloc::Global;
+
+/// One spool folder. The work between `enter` and `leave` is a session.
+pub trait Host {
+    /// Whether it tells its files.
+    ghost tells: { Bool };
+
+    /// Whether nobody else changes the folder.
+    ghost alone: { Bool };
+
+    /// What every host tells.
+    ghost session: { Self → Session };
+
+    /// Each moment so far. It is meant only where the host tells its files.
+    ghost world: { Self → World };
+
+    /// Begins a session.
+    fn enter(&mut self, alloc: Global) -> Result<(), EnterFault>
+        requires { IsOutside (session self.old) }
+        ensures enters { Enters (session self.old) (session self.new) result }
+        ensures taken { IsErrOf result EnterFault.Taken → Rose (session self.old).taken (session self.new).taken }
+        ensures failed { IsErrOf result EnterFault.Failed → Rose (session self.old).file_faults (session self.new).file_faults }
+        ensures goes_on { IsTrue tells → GoesOn (world self.old) (world self.new) }
+        ensures alone { IsTrue tells → IsTrue alone → world self.new ≡ world self.old };
+
+    /// Ends the session.
+    fn leave(&mut self)
+        requires { IsInside (session self.old) }
+        ensures left { IsLeft (session self.old) (session self.new) }
+        ensures goes_on { IsTrue tells → GoesOn (world self.old) (world self.new) }
+        ensures alone { IsTrue tells → IsTrue alone → world self.new ≡ world self.old };
+
+    /// The names of the plain files, in byte order.
+    fn names(&mut self, alloc: Global) -> Result<Vec<Name>, HostFault>
+        requires { IsInside (session self.old) }
+        ensures inside { StaysInside (session self.old) (session self.new) }
+        ensures cause { HasCause HostFault.Failed (session self.old).file_faults (session self.new).file_faults result }
+        ensures looks { IsTrue tells → world self.new ≡ world self.old }
+        ensures listed { IsTrue tells → IfOk result (λ names. names.items ≡ map.keys (reading (world self.old))) };
+
+    /// The length of a file in bytes.
+    fn length(&mut self, alloc: Global, name: &Name) -> Result<u64, HostFault>
+        requires inside { IsInside (session self.old) }
+        requires held { IsTrue tells → IsSome (map.get (reading (world self.old)) name.now) }
+        ensures inside { StaysInside (session self.old) (session self.new) }
+        ensures cause { HasCause HostFault.Failed (session self.old).file_faults (session self.new).file_faults result }
+        ensures looks { IsTrue tells → world self.new ≡ world self.old }
+        ensures counted { IsTrue tells → IfOk result (λ count. size_of (reading (world self.old)) name.now ≡ Some count) };
+
+    /// At most `most` bytes of a file from an offset on, fewer only at its end.
+    fn read(
+        &mut self,
+        alloc: Global,
+        name: &Name,
+        offset: u64,
+        most: usize,
+    ) -> Result<Vec<u8>, HostFault>
+        requires inside { IsInside (session self.old) }
+        requires held { IsTrue tells → IsSome (map.get (reading (world self.old)) name.now) }
+        ensures inside { StaysInside (session self.old) (session self.new) }
+        ensures cause { HasCause HostFault.Failed (session self.old).file_faults (session self.new).file_faults result }
+        ensures looks { IsTrue tells → world self.new ≡ world self.old }
+        ensures few { IfOk result (λ bytes. vec_len bytes ≤ most) }
+        ensures bytes { IsTrue tells
+            → IfOk result (λ bytes. bytes_from (reading (world self.old)) name.now offset most ≡ Some bytes.items) };
+
+    /// Makes a file with these bytes. Neither its name nor its bytes are certain then.
+    fn create(&mut self, alloc: Global, name: &Name, bytes: &[u8]) -> Result<(), HostFault>
+        requires inside { IsInside (session self.old) }
+        requires new_name { IsTrue tells → IsInNoImage (world self.old).now.folder name.now }
+        ensures inside { StaysInside (session self.old) (session self.new) }
+        ensures cause { HasCause HostFault.Failed (session self.old).file_faults (session self.new).file_faults result }
+        ensures files { IsTrue tells → FileCall (IsMade name.now bytes.now) (IsMadeInPart name.now bytes.now)
+            (world self.old) (world self.new) result };
+
+    /// Writes over a range of a file. The range is uncertain then.
+    fn write(
+        &mut self,
+        alloc: Global,
+        name: &Name,
+        offset: u64,
+        bytes: &[u8],
+    ) -> Result<(), HostFault>
+        requires inside { IsInside (session self.old) }
+        requires range { IsTrue tells
+            → IsWithinFile (reading (world self.old)) name.now offset (length bytes.now) }
+        ensures inside { StaysInside (session self.old) (session self.new) }
+        ensures cause { HasCause HostFault.Failed (session self.old).file_faults (session self.new).file_faults result }
+        ensures files { IsTrue tells
+            → FileCall (IsWritten name.now offset bytes.now) (IsWrittenInPart name.now offset bytes.now)
+            (world self.old) (world self.new) result };
+
+    /// Makes all of the folder certain, also what others left.
+    fn settle(&mut self, alloc: Global) -> Result<(), HostFault>
+        requires { IsInside (session self.old) }
+        ensures inside { StaysInside (session self.old) (session self.new) }
+        ensures cause { HasCause HostFault.Failed (session self.old).file_faults (session self.new).file_faults result }
+        ensures files { IsTrue tells → FileCall IsSettled IsSyncedInPart (world self.old) (world self.new) result };
+}
