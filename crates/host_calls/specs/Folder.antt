@@ -183,6 +183,32 @@ certain_body body = record { bytes = body.bytes; is_synced = true; is_uncertain 
 abbrev pub settled : Folder → Folder
 settled folder = record { certain = names_of folder; pending = []; body = λ number. certain_body (folder.body number) }
 
+-- the file was synced: its bytes are certain
+pub record IsSynced (name : List ℕ) (old new : Folder) : Type 0 where
+  pub number : ℕ
+  pub held : map.get (names_of old) name ≡ Some number
+  pub synced : new ≡ with_changed number certain_body old
+
+-- the folder after its names were synced
+abbrev pub with_names_certain : Folder → Folder
+with_names_certain folder = record { certain = names_of folder; pending = []; body = folder.body }
+
+-- the names were synced: no change of them is pending
+abbrev pub HasNamesSynced : Folder → Folder → Type 0
+HasNamesSynced old new = new ≡ with_names_certain old
+
+-- the folder with one change of names more
+abbrev pub with_change : Change → Folder → Folder
+with_change change folder = record { certain = folder.certain; pending = change ∷ folder.pending; body = folder.body }
+
+-- the file of one name was moved to another
+abbrev pub IsRenamed : List ℕ → List ℕ → Folder → Folder → Type 0
+IsRenamed from to old new = new ≡ with_change (Renamed from to) old
+
+-- the name was removed
+abbrev pub IsRemoved : List ℕ → Folder → Folder → Type 0
+IsRemoved name old new = new ≡ with_change (Removed name) old
+
 -- all of the folder was synced
 abbrev pub IsSettled : Folder → Folder → Type 0
 IsSettled old new = new ≡ settled old

@@ -1,5 +1,6 @@
 -- What every host tells of itself, also one that does not tell its files.
-use Rattle.std.specs.Prelude.{◌≡◌, ◌≤◌, ℕ, Bool, true, false, List, Result, is_ok}
+use Rattle.std.specs.Prelude.{◌≡◌, ◌≤◌, ◌++◌, ℕ, Bool, true, false, List, Result, IfOk, Contains, is_ok, option_to_list}
+use Rattle.std.specs.Result.{result_ok}
 use Rattle.host_calls.specs.declared.child.Child.{Child}
 
 -- Whether a session is on, the children since the last reboot, in order, what the host was made as,
@@ -18,25 +19,34 @@ IsInside session = session.inside ≡ true
 abbrev pub IsOutside : Session → Type 0
 IsOutside session = session.inside ≡ false
 
--- the children and what it was made as stay, and no count falls
-pub record IsSameHost (old new : Session) : Type 0 where
-  pub children : new.children ≡ old.children
+-- what it was made as stays, and no count falls
+pub record KeepsCounts (old new : Session) : Type 0 where
   pub made_as : new.made_as ≡ old.made_as
   pub file_faults : old.file_faults ≤ new.file_faults
   pub start_faults : old.start_faults ≤ new.start_faults
   pub taken : old.taken ≤ new.taken
 
--- a call within a session
+-- a call within a session, which starts no child
 pub record StaysInside (old new : Session) : Type 0 where
   pub inside : IsInside new
-  pub same : IsSameHost old new
+  pub children : new.children ≡ old.children
+  pub counts : KeepsCounts old new
 
 -- a session begins where the call succeeds
 pub record Enters {T E : Type 0} (old new : Session) (result : Result T E) : Type 0 where
   pub inside : new.inside ≡ is_ok result
-  pub same : IsSameHost old new
+  pub children : new.children ≡ old.children
+  pub counts : KeepsCounts old new
 
 -- a session ends
 pub record IsLeft (old new : Session) : Type 0 where
   pub outside : IsOutside new
-  pub same : IsSameHost old new
+  pub children : new.children ≡ old.children
+  pub counts : KeepsCounts old new
+
+-- a call within a session that starts a child, with a number that no child has, or none
+pub record Starts {E : Type 0} (old new : Session) (result : Result Child E) : Type 0 where
+  pub inside : IsInside new
+  pub children : new.children ≡ old.children ++ option_to_list (result_ok result)
+  pub is_new : IfOk result (λ child. ¬ (Contains old.children child))
+  pub counts : KeepsCounts old new

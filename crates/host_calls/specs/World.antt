@@ -1,10 +1,15 @@
 -- A world: each moment of a spool folder so far, with what was handed over by then.
-use Rattle.std.specs.Prelude.{◌≡◌, ◌⊎◌, ◌+◌, ◌-◌, ◌≤◌, ◌++◌, [], ◌∷◌, ℕ, List, length, take, drop, Option, option_map, IsSomeAnd, Result, Ok, Err}
+use Rattle.std.specs.Prelude.{◌≡◌, ◌⊎◌, ◌+◌, ◌-◌, ◌≤◌, ◌++◌, [], ◌∷◌, ℕ, Bool, true, false, List, Contains, length, take, drop, Option, Some, option_map, IsSomeAnd, Result, Ok, Err}
+use Rattle.std.specs.declared.alloc.AllocError.{AllocError}
 use Rattle.std.specs.FinMap as map
+use Rattle.host_calls.specs.declared.child.Child.{Child}
+use Rattle.host_calls.specs.declared.child.Ending.{Ending}
 use Rattle.host_calls.specs.declared.child.Handed.{Handed}
 use Rattle.host_calls.specs.declared.child.Asked.{Asked}
 use Rattle.host_calls.specs.declared.fault.HostFault.{HostFault}
 use Rattle.host_calls.specs.declared.fault.HostFault.TheVariants.{Failed, Memory}
+use Rattle.host_calls.specs.declared.fault.StartFault.{StartFault}
+use Rattle.host_calls.specs.declared.fault.StartFault.TheVariants.{Failed as NoStart, Memory as NoMemory}
 use Rattle.host_calls.specs.Folder.{Folder, Files, IsImage, reading_of}
 
 -- the folder at a moment, and all scripts that were handed over by then
@@ -96,3 +101,37 @@ pub record GoesOn (old new : World) : Type 0 where
   pub asked : new.asked ≡ old.asked
   pub handed : new.now.handed ≡ old.now.handed
   pub leaves : LeavesOnly (λ image handed. handed ≡ old.now.handed) old new
+
+-- One script more was handed over: the bytes of the named file, and whether a child came of it.
+pub record HandsOver (number : ℕ) (name : List ℕ) (nice : ℕ) (started : Bool) (old new : Moment) : Type 0 where
+  pub script : List ℕ
+  pub read : map.get (reading_of old.folder) name ≡ Some script
+  pub handed : new.handed ≡ old.handed ++ record { number = number; script = script; nice = nice; started = started } ∷ []
+
+-- the world after a start, by its answer
+abbrev pub StartOutcome : {T : Type 0} → ℕ → List ℕ → ℕ → World → World → Result T StartFault → Type 0
+StartOutcome number name nice old new (Ok child) = HandsOver number name nice true old.now new.now
+StartOutcome number name nice old new (Err NoStart) = HandsOver number name nice false old.now new.now
+StartOutcome number name nice old new (Err NoMemory) = new ≡ old
+
+-- a start: the folder stays, and at most one script more is handed over, in one moment
+pub record StartCall {T : Type 0} (number : ℕ) (name : List ℕ) (nice : ℕ) (old new : World) (result : Result T StartFault) : Type 0 where
+  pub outcome : StartOutcome number name nice old new result
+  pub folder : new.now.folder ≡ old.now.folder
+  pub asked : new.asked ≡ old.asked
+  pub leaves : LeavesOnly
+      (λ image handed. IsImage old.now.folder image × ((handed ≡ old.now.handed) ⊎ (handed ≡ new.now.handed)))
+      old
+      new
+
+-- the world with one question to a child more
+abbrev pub with_question : Child → Option Ending → World → World
+with_question child answer world =
+    record { now = world.now; before = world.before; asked = world.asked ++ record { child = child; answer = answer } ∷ [] }
+
+-- a question to a child, by its answer: an ending that it has given is given again
+abbrev pub Asks : Child → World → World → Result (Option Ending) AllocError → Type 0
+Asks child old new (Ok answer) =
+    (new ≡ with_question child answer old)
+    × ((ending : Ending) → Contains old.asked (record { child = child; answer = Some ending }) → answer ≡ Some ending)
+Asks child old new (Err none) = new ≡ old

@@ -1,13 +1,13 @@
 //! A spool folder, its lock and the children that are started from it.
-ghost use Rattle.std.specs.Prelude.{◌≡◌, ◌+◌, ◌≤◌, Bool, IsTrue, IsSome, IsErrOf, IfOk, length, take, drop, option_map, vec_len};
+ghost use Rattle.std.specs.Prelude.{◌≡◌, ◌≢◌, ◌≤◌, Bool, Contains, IsTrue, IsSome, IsErrOf, IfOk, length, vec_len};
 ghost use Rattle.std.specs.FinMap as map;
 ghost use Rattle.host_calls.specs.Causes.{HasCause, Rose};
-ghost use Rattle.host_calls.specs.Folder.{IsInNoImage, IsMade, IsMadeInPart, IsWritten, IsWrittenInPart, IsSettled, IsSyncedInPart};
-ghost use Rattle.host_calls.specs.Session.{Session, IsInside, IsOutside, StaysInside, Enters, IsLeft};
-ghost use Rattle.host_calls.specs.World.{World, FileCall, GoesOn, reading, size_of, bytes_from, IsWithinFile};
+ghost use Rattle.host_calls.specs.Folder.{IsInNoImage, IsMade, IsMadeInPart, IsWritten, IsWrittenInPart, IsSynced, IsRenamed, IsRemoved, HasNamesSynced, IsSettled, IsSyncedInPart};
+ghost use Rattle.host_calls.specs.Session.{Session, IsInside, IsOutside, StaysInside, Enters, IsLeft, Starts};
+ghost use Rattle.host_calls.specs.World.{World, FileCall, StartCall, Asks, GoesOn, reading, size_of, bytes_from, IsWithinFile};
 
-use crate::{EnterFault, HostFault, Name};
-use std::alloc::Global;
+use crate::{Child, Ending, EnterFault, HostFault, Name, StartFault};
+use std::alloc::{AllocError, Global};
 
 /// One spool folder. The work between `enter` and `leave` is a session.
 pub trait Host {
@@ -99,10 +99,68 @@ pub trait Host {
             → FileCall (IsWritten name.now offset bytes.now) (IsWrittenInPart name.now offset bytes.now)
             (world self.old) (world self.new) result };
 
+    /// Makes the bytes of a file certain.
+    fn sync(&mut self, alloc: Global, name: &Name) -> Result<(), HostFault>
+        requires inside { IsInside (session self.old) }
+        requires held { IsTrue tells → IsSome (map.get (reading (world self.old)) name.now) }
+        ensures inside { StaysInside (session self.old) (session self.new) }
+        ensures cause { HasCause HostFault.Failed (session self.old).file_faults (session self.new).file_faults result }
+        ensures files { IsTrue tells
+            → FileCall (IsSynced name.now) IsSyncedInPart (world self.old) (world self.new) result };
+
+    /// Makes the names certain.
+    fn sync_names(&mut self, alloc: Global) -> Result<(), HostFault>
+        requires { IsInside (session self.old) }
+        ensures inside { StaysInside (session self.old) (session self.new) }
+        ensures cause { HasCause HostFault.Failed (session self.old).file_faults (session self.new).file_faults result }
+        ensures files { IsTrue tells
+            → FileCall HasNamesSynced IsSyncedInPart (world self.old) (world self.new) result };
+
     /// Makes all of the folder certain, also what others left.
     fn settle(&mut self, alloc: Global) -> Result<(), HostFault>
         requires { IsInside (session self.old) }
         ensures inside { StaysInside (session self.old) (session self.new) }
         ensures cause { HasCause HostFault.Failed (session self.old).file_faults (session self.new).file_faults result }
         ensures files { IsTrue tells → FileCall IsSettled IsSyncedInPart (world self.old) (world self.new) result };
+
+    /// Moves a file to another name, and replaces what stands there. The change is not certain then.
+    fn rename(&mut self, alloc: Global, from: &Name, to: &Name) -> Result<(), HostFault>
+        requires inside { IsInside (session self.old) }
+        requires held { IsTrue tells → IsSome (map.get (reading (world self.old)) from.now) }
+        ensures inside { StaysInside (session self.old) (session self.new) }
+        ensures cause { HasCause HostFault.Failed (session self.old).file_faults (session self.new).file_faults result }
+        ensures files { IsTrue tells → FileCall (IsRenamed from.now to.now) (IsRenamed from.now to.now)
+            (world self.old) (world self.new) result };
+
+    /// Removes a file. The change is not certain then.
+    fn remove(&mut self, alloc: Global, name: &Name) -> Result<(), HostFault>
+        requires inside { IsInside (session self.old) }
+        requires held { IsTrue tells → IsSome (map.get (reading (world self.old)) name.now) }
+        ensures inside { StaysInside (session self.old) (session self.new) }
+        ensures cause { HasCause HostFault.Failed (session self.old).file_faults (session self.new).file_faults result }
+        ensures files { IsTrue tells
+            → FileCall (IsRemoved name.now) (IsRemoved name.now) (world self.old) (world self.new) result };
+
+    /// Hands the script in the named file over, under this number and niceness. Where no child could be
+    /// started, it counts as handed over too.
+    fn start(
+        &mut self,
+        alloc: Global,
+        number: u32,
+        name: &Name,
+        nice: u8,
+    ) -> Result<Child, StartFault>
+        requires inside { IsInside (session self.old) }
+        requires held { IsTrue tells → IsSome (map.get (reading (world self.old)) name.now) }
+        ensures starts { Starts (session self.old) (session self.new) result }
+        ensures cause { HasCause StartFault.Failed (session self.old).start_faults (session self.new).start_faults result }
+        ensures handed { IsTrue tells → StartCall number name.now nice (world self.old) (world self.new) result };
+
+    /// Asks, without waiting, whether a child has ended.
+    fn ended(&mut self, alloc: Global, child: &Child) -> Result<Option<Ending>, AllocError>
+        requires inside { IsInside (session self.old) }
+        requires started { Contains (session self.old).children child.now }
+        ensures inside { StaysInside (session self.old) (session self.new) }
+        ensures was_started { result ≢ Ok (Some Ending.NotStarted) }
+        ensures asked { IsTrue tells → Asks child.now (world self.old) (world self.new) result };
 }
