@@ -28,7 +28,8 @@ pub trait Host {
         requires { IsOutside (session self.old) }
         ensures enters { Enters (session self.old) (session self.new) result }
         ensures taken { IsErrOf result EnterFault.Taken → Rose (session self.old).taken (session self.new).taken }
-        ensures failed { IsErrOf result EnterFault.Failed → Rose (session self.old).file_faults (session self.new).file_faults }
+        ensures failed { IsErrOf result EnterFault.Failed
+            → Rose (session self.old).file_faults (session self.new).file_faults }
         ensures goes_on { IsTrue tells → GoesOn (world self.old) (world self.new) }
         ensures alone { IsTrue tells → IsTrue alone → world self.new ≡ world self.old };
 
@@ -54,7 +55,8 @@ pub trait Host {
         ensures inside { StaysInside (session self.old) (session self.new) }
         ensures cause { HasCause HostFault.Failed (session self.old).file_faults (session self.new).file_faults result }
         ensures looks { IsTrue tells → world self.new ≡ world self.old }
-        ensures counted { IsTrue tells → IfOk result (λ count. size_of (reading (world self.old)) name.now ≡ Some count) };
+        ensures counted { IsTrue tells
+            → IfOk result (λ count. size_of (reading (world self.old)) name.now ≡ Some count) };
 
     /// At most `most` bytes of a file from an offset on, fewer only at its end.
     fn read(
@@ -153,7 +155,8 @@ pub trait Host {
         requires inside { IsInside (session self.old) }
         requires held { IsTrue tells → IsSome (map.get (reading (world self.old)) name.now) }
         ensures starts { Starts (session self.old) (session self.new) result }
-        ensures cause { HasCause StartFault.Failed (session self.old).start_faults (session self.new).start_faults result }
+        ensures cause { HasCause StartFault.Failed
+            (session self.old).start_faults (session self.new).start_faults result }
         ensures handed { IsTrue tells → StartCall number name.now nice (world self.old) (world self.new) result };
 
     /// Asks, without waiting, whether a child has ended.

@@ -23,7 +23,8 @@ pub trait Inputs {
         ensures few { IfOk result (λ bytes. length bytes ≤ most) }
         ensures contents { contents self.new ≡ contents self.old }
         ensures made_as { (sources self.new).made_as ≡ (sources self.old).made_as }
-        ensures cause { HasCause InputFault.Failed (sources self.old).input_faults (sources self.new).input_faults result };
+        ensures cause { HasCause InputFault.Failed
+            (sources self.old).input_faults (sources self.new).input_faults result };
 
     /// The first bytes of a file: all of them, or `most`.
     fn file(&mut self, alloc: Global, path: &str, most: usize) -> Result<Bytes, InputFault>
@@ -31,5 +32,6 @@ pub trait Inputs {
         ensures few { IfOk result (λ bytes. length bytes ≤ most) }
         ensures contents { contents self.new ≡ contents self.old }
         ensures made_as { (sources self.new).made_as ≡ (sources self.old).made_as }
-        ensures cause { HasCause InputFault.Failed (sources self.old).input_faults (sources self.new).input_faults result };
+        ensures cause { HasCause InputFault.Failed
+            (sources self.old).input_faults (sources self.new).input_faults result };
 }

@@ -1,0 +1,4 @@
+mod EntriesLemmas
+pub mod StepLemmas
+pub mod TableLemmas
+mod UserLemmas

@@ -1,0 +1,5 @@
+pub mod Codes
+pub mod JobTable
+pub mod Laws
+pub mod Steps
+pub mod Users

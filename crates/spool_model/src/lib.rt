@@ -1,0 +1,35 @@
+//! The job table: which jobs there are, how far each has come, and the steps that change it.
+//! It knows nothing of files. The spool folder shows such a table, and every command is a list of
+//! such steps.
+#![tactic(auto)]
+
+mod decided;
+mod entries;
+mod entry;
+mod fate;
+mod job;
+mod laws;
+mod number;
+mod row;
+mod state;
+mod step;
+mod table;
+mod user_name;
+
+pub use decided::Decided;
+pub use entry::Entry;
+pub use fate::Fate;
+pub use job::Job;
+pub use laws::{
+    fronts_are_legal, last_never_falls, no_step_leads_back_to_pending, numbers_are_accepted_once,
+    steps_keep_the_table_sound,
+};
+pub use number::GREATEST_NUMBER;
+pub use row::Row;
+pub use state::State;
+pub use step::Step;
+pub use table::Table;
+pub use user_name::{MAX_USER_NAME, UserName};
+
+#[cfg(test)]
+mod tests;
