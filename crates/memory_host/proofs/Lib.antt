@@ -1,0 +1,17 @@
+pub mod AnswerLemmas
+pub mod BodiedLemmas
+pub mod BodyLemmas
+pub mod ChildLemmas
+pub mod CountLemmas
+pub mod CrashLemmas
+pub mod FilesLemmas
+pub mod HostLemmas
+pub mod InputsLemmas
+pub mod NamedLemmas
+pub mod NamesLemmas
+pub mod OpenLemmas
+pub mod PastLemmas
+pub mod ReadingsLemmas
+pub mod SinkLemmas
+pub mod SoundLemmas
+pub mod TableLemmas

@@ -1,0 +1,194 @@
+-- One call more in the past.
+use Rattle.std.proofs.Common.{◌≡◌, ◌+◌, ◌<◌, ◌≤◌, ℕ, List, [], ◌∷◌, ◌++◌, length, sym, ap, subst, ◌∙◌, refl, arith, length-append}
+use Rattle.std.specs.Prelude.{Bool, true, Some, None, IsSome, IsSomeAnd, is_some, option_map}
+use Rattle.std.specs.FinMap as finite
+use Rattle.host_calls.specs.declared.child.Handed.{Handed}
+use Rattle.host_calls.specs.Folder.{Made, Renamed, Removed, names_of, IsFresh, IsHeldAt, made_body, reading_of, settled, with_body, with_changed, with_change, with_names_certain, written_body, certain_body}
+use Rattle.host_calls.proofs.FolderLemmas.{all_are_some, get-files_of}
+use Rattle.host_calls.specs.World.{IsWithinFile}
+use Rattle.memory_host.specs.Bodies.{body_of, kept_at, kept_made, kept_written, kept_synced, kept_crashed, none_kept, with_kept, with_each}
+use Rattle.memory_host.specs.Crash.{picked_names, rebooted}
+use Rattle.memory_host.specs.Past.{History, State, Story, after_call, history_of, state_of, with_call, with_calls, with_folder, with_handed, with_new_file, with_next}
+use Rattle.memory_host.specs.Table.{HoldsSameCertain, HoldsSameNow, KeepsPlaces, certain_in, changed_at, is_kept, meant, now_in, pending_of, picked_holders, touches, where_touched}
+use Rattle.memory_host.specs.Told.{AreBodied, AreListed, AreNamed, IsTold}
+use Rattle.memory_host.specs.declared.bodies.Bodies.{Bodies}
+use Rattle.memory_host.specs.declared.name_table.NameTable.{NameTable}
+use Rattle.memory_host.specs.declared.past_call.PastCall.{PastCall}
+use Rattle.memory_host.specs.declared.pending.Change.TheVariants as kept
+use Rattle.memory_host.proofs.BodiedLemmas.{crashed-certain, bodied_crashed, bodied_made, bodied_settled, bodied_synced, bodied_written, length-with_each, length-with_kept}
+use Rattle.memory_host.proofs.NamedLemmas.{named_change, named_crash, named_same, named_sync}
+use Rattle.memory_host.proofs.SoundLemmas.{picked_chosen, sound_change, sound_chosen}
+
+with_calls-push : (calls : List PastCall) (call : PastCall) (past : History) → with_calls (calls ++ call ∷ []) past ≡ with_call call (with_calls calls past)
+with_calls-push [] call past = refl
+with_calls-push (first ∷ later) call past = with_calls-push later call (with_call first past)
+
+-- one call more is one moment more
+pub history_next : (call : PastCall) (story : Story) → history_of (with_next call story) ≡ with_call call (history_of story)
+unfolding history_of
+history_next call story = with_calls-push story.calls call _
+
+-- what is kept after one call more
+pub told_next : (call : PastCall) (story : Story) (before calls : List PastCall) (names : NameTable) (bodies : Bodies) (handed : List Handed) → calls ≡ before ++ call ∷ [] → before ≡ story.calls → IsTold (after_call call (state_of story)) names bodies handed → IsTold (state_of (record { opening = story.opening; calls = calls })) names bodies handed
+told_next call story before calls names bodies handed more same_before is =
+    let same : state_of (record { opening = story.opening; calls = calls }) ≡ after_call call (state_of story) =
+    ap (λ all. state_of (record { opening = story.opening; calls = all })) (more ∙ ap (λ all. all ++ call ∷ []) same_before) ∙ ap (λ past. past.now) (history_next call story) in
+    subst (λ at. IsTold at names bodies handed) (sym same) is
+
+-- the same calls
+pub told_kept : (story : Story) (calls : List PastCall) (names : NameTable) (bodies : Bodies) (handed : List Handed) → calls ≡ story.calls → IsTold (state_of story) names bodies handed → IsTold (state_of (record { opening = story.opening; calls = calls })) names bodies handed
+told_kept story calls names bodies handed same is = subst (λ all. IsTold (state_of (record { opening = story.opening; calls = all })) names bodies handed) (sym same) is
+
+-- What is read.
+
+module _ (at : State) (names : NameTable) (bodies : Bodies) (handed : List Handed) (is : IsTold at names bodies handed) where
+  -- the number that the table holds is held by the name alone
+  pub held_at : (name : List ℕ) (number : ℕ) → now_in names.held name ≡ Some number → IsHeldAt (names_of at.folder) name number
+  held_at name number found =
+      let held : finite.get (names_of at.folder) name ≡ Some number = is.named.now_names name ∙ found in
+      record { held = held; alone = λ other also. is.sound.apart (names_of at.folder) (all_are_some at.folder.pending at.folder.certain) other name number also held }
+
+  -- the number is that of a body
+  pub number_known : (name : List ℕ) (number : ℕ) → IsHeldAt (names_of at.folder) name number → number < length bodies.list.items
+  number_known name number held = subst (λ n. number < n) is.counted (is.sound.below (names_of at.folder) (all_are_some at.folder.pending at.folder.certain) name number held.held)
+
+  -- the bytes of the body are what the file reads as
+  pub reading_told : (name : List ℕ) (number : ℕ) → IsHeldAt (names_of at.folder) name number → finite.get (reading_of at.folder) name ≡ Some (kept_at bodies.list.items number).bytes
+  reading_told name number held = get-files_of at.folder.body (names_of at.folder) name ∙ ap (option_map (λ n. (at.folder.body n).bytes)) held.held ∙ ap (λ body. Some body.bytes) (is.bodied.each number)
+
+  -- a name that holds nothing has no file
+  pub none_told : (name : List ℕ) → now_in names.held name ≡ None → finite.get (reading_of at.folder) name ≡ None
+  none_told name none = get-files_of at.folder.body (names_of at.folder) name ∙ ap (option_map (λ n. (at.folder.body n).bytes)) (is.named.now_names name ∙ none)
+
+  -- so a file that is there is held
+  pub held_told : (name : List ℕ) → IsSome (finite.get (reading_of at.folder) name) → ¬ (now_in names.held name ≡ None)
+  held_told name there none = let same : finite.get (reading_of at.folder) name ≡ None = none_told name none in let found : is_some (finite.get (reading_of at.folder) name) ≡ true = there in cc
+
+  -- the range lies within the body
+  pub within_told : (name : List ℕ) (number offset count : ℕ) → IsHeldAt (names_of at.folder) name number → IsWithinFile (reading_of at.folder) name offset count → offset + count ≤ length (kept_at bodies.list.items number).bytes
+  within_told name number offset count held within = subst (λ file. IsSomeAnd file (λ bytes. offset + count ≤ length bytes)) (reading_told name number held) within
+
+  -- the next number is fresh
+  pub fresh_told : IsFresh at.folder at.next
+  fresh_told chosen is_chosen name found = let small : at.next < at.next = is.sound.below chosen is_chosen name at.next found in absurd (omega arith)
+
+-- bodies that hold the same
+pub told_alike : (at : State) (names : NameTable) (bodies more : Bodies) (handed : List Handed) → IsTold at names bodies handed → more.list.items ≡ bodies.list.items → more.unsettled.items ≡ bodies.unsettled.items → IsTold at names more handed
+told_alike at names bodies more handed is list unsettled = record {
+  named = is.named;
+  bodied = record {
+    each = λ number. is.bodied.each number ∙ ap (λ l. body_of (kept_at l number)) (sym list);
+    listed = subst (λ l. AreListed l more.unsettled.items) (sym list) (subst (AreListed bodies.list.items) (sym unsettled) is.bodied.listed);
+  };
+  counted = is.counted ∙ ap length (sym list);
+  scripts = is.scripts;
+  sound = is.sound;
+}
+
+-- What is kept after each call.
+
+module _ (at : State) (names after : NameTable) (bodies more : Bodies) (handed : List Handed) (is : IsTold at names bodies handed) where
+  -- a table that holds the same
+  pub told_same : HoldsSameNow names.held after.held → HoldsSameCertain names.held after.held → after.pending.items ≡ names.pending.items → ((name : List ℕ) → is_kept names.held name ≡ true → is_kept after.held name ≡ true) → IsTold at after bodies handed
+  told_same now certain pending places = record {
+    named = named_same at.folder.certain at.folder.pending names after is.named now certain pending places;
+    bodied = is.bodied;
+    counted = is.counted;
+    scripts = is.scripts;
+    sound = is.sound;
+  }
+
+  -- a file was made
+  pub told_made : (name bytes : List ℕ) (number : ℕ) → number ≡ length bodies.list.items → ((other : List ℕ) → now_in after.held other ≡ changed_at (meant (kept.Made name number)) (now_in names.held) other) → HoldsSameCertain names.held after.held → KeepsPlaces names.held after.held → ((other : List ℕ) → touches (kept.Made name number) other ≡ true → is_kept names.held other ≡ true) → after.pending.items ≡ names.pending.items ++ kept.Made name number ∷ [] → more.list.items ≡ bodies.list.items ++ kept_made bytes ∷ [] → more.unsettled.items ≡ bodies.unsettled.items ++ length bodies.list.items ∷ [] → IsTold (with_new_file name bytes at) after more handed
+  told_made name bytes number is_next now certain places has pending list unsettled =
+      let same : number ≡ at.next = is_next ∙ sym is.counted in
+      record {
+        named = subst (λ n. AreNamed at.folder.certain (Made name n ∷ at.folder.pending) after) same (named_change at.folder.certain at.folder.pending names after is.named (kept.Made name number) now certain places has pending);
+        bodied = subst (λ n. AreBodied (with_body at.folder.body n (made_body bytes)) more) (sym is.counted) (bodied_made at.folder.body bodies more is.bodied bytes list unsettled);
+        counted = ap (λ n. n + 1) is.counted ∙ sym (ap length list ∙ length-append bodies.list.items (kept_made bytes ∷ []));
+        scripts = is.scripts;
+        sound = sound_change at.folder.certain at.folder.pending at.next (Made name at.next) refl is.sound;
+      }
+
+  -- a name was moved or removed
+  pub told_renamed : (from to : List ℕ) → ((other : List ℕ) → now_in after.held other ≡ changed_at (meant (kept.Renamed from to)) (now_in names.held) other) → HoldsSameCertain names.held after.held → KeepsPlaces names.held after.held → ((other : List ℕ) → touches (kept.Renamed from to) other ≡ true → is_kept names.held other ≡ true) → after.pending.items ≡ names.pending.items ++ kept.Renamed from to ∷ [] → IsTold (with_folder (with_change (Renamed from to) at.folder) at) after bodies handed
+  told_renamed from to now certain places has pending = record {
+    named = named_change at.folder.certain at.folder.pending names after is.named (kept.Renamed from to) now certain places has pending;
+    bodied = is.bodied;
+    counted = is.counted;
+    scripts = is.scripts;
+    sound = sound_change at.folder.certain at.folder.pending at.next (Renamed from to) tt is.sound;
+  }
+
+  pub told_removed : (name : List ℕ) → ((other : List ℕ) → now_in after.held other ≡ changed_at (meant (kept.Removed name)) (now_in names.held) other) → HoldsSameCertain names.held after.held → KeepsPlaces names.held after.held → ((other : List ℕ) → touches (kept.Removed name) other ≡ true → is_kept names.held other ≡ true) → after.pending.items ≡ names.pending.items ++ kept.Removed name ∷ [] → IsTold (with_folder (with_change (Removed name) at.folder) at) after bodies handed
+  told_removed name now certain places has pending = record {
+    named = named_change at.folder.certain at.folder.pending names after is.named (kept.Removed name) now certain places has pending;
+    bodied = is.bodied;
+    counted = is.counted;
+    scripts = is.scripts;
+    sound = sound_change at.folder.certain at.folder.pending at.next (Removed name) tt is.sound;
+  }
+
+  -- the names were synced
+  pub told_names : HoldsSameNow names.held after.held → ((name : List ℕ) → certain_in after.held name ≡ where_touched names.pending.items (now_in names.held) (certain_in names.held) name) → after.pending.items ≡ [] → IsTold (with_folder (with_names_certain at.folder) at) after bodies handed
+  told_names now certain none = record {
+    named = named_sync at.folder.certain at.folder.pending names after is.named now certain none;
+    bodied = is.bodied;
+    counted = is.counted;
+    scripts = is.scripts;
+    sound = sound_chosen at.folder.certain at.folder.pending at.next (names_of at.folder) (all_are_some at.folder.pending at.folder.certain) is.sound;
+  }
+
+  -- all was synced
+  pub told_settled : HoldsSameNow names.held after.held → ((name : List ℕ) → certain_in after.held name ≡ where_touched names.pending.items (now_in names.held) (certain_in names.held) name) → after.pending.items ≡ [] → more.list.items ≡ with_each kept_synced bodies.unsettled.items bodies.list.items → IsTold (with_folder (settled at.folder) at) after more handed
+  told_settled now certain none done = record {
+    named = named_sync at.folder.certain at.folder.pending names after is.named now certain none;
+    bodied = bodied_settled at.folder.body bodies more is.bodied done;
+    counted = is.counted ∙ sym (ap length done ∙ length-with_each kept_synced refl bodies.unsettled.items bodies.list.items);
+    scripts = is.scripts;
+    sound = sound_chosen at.folder.certain at.folder.pending at.next (names_of at.folder) (all_are_some at.folder.pending at.folder.certain) is.sound;
+  }
+
+  -- the folder crashed
+  pub told_crashed : (pick : ℕ) → ((name : List ℕ) → now_in after.held name ≡ picked_holders pick (pending_of names.pending.items) (where_touched names.pending.items (certain_in names.held) (now_in names.held)) name) → ((name : List ℕ) → certain_in after.held name ≡ where_touched names.pending.items (now_in after.held) (certain_in names.held) name) → after.pending.items ≡ [] → more.list.items ≡ with_each (kept_crashed pick) bodies.unsettled.items bodies.list.items → IsTold (with_folder (rebooted pick at.folder) at) after more handed
+  told_crashed pick now certain none done = record {
+    named = named_crash at.folder.certain at.folder.pending names after is.named pick now certain none;
+    bodied = bodied_crashed at.folder.body bodies more is.bodied pick done;
+    counted = is.counted ∙ sym (ap length done ∙ length-with_each (kept_crashed pick) (crashed-certain pick none_kept) bodies.unsettled.items bodies.list.items);
+    scripts = is.scripts;
+    sound = sound_chosen at.folder.certain at.folder.pending at.next (picked_names pick at.folder.pending at.folder.certain) (picked_chosen pick at.folder.pending at.folder.certain) is.sound;
+  }
+
+  -- a range was written
+  pub told_written : (number offset : ℕ) (bytes : List ℕ) → number < length bodies.list.items → more.list.items ≡ with_kept (kept_written offset bytes) number bodies.list.items → more.unsettled.items ≡ bodies.unsettled.items ++ number ∷ [] → IsTold (with_folder (with_changed number (written_body offset bytes) at.folder) at) names more handed
+  told_written number offset bytes inside done unsettled = record {
+    named = is.named;
+    bodied = bodied_written at.folder.body bodies more is.bodied offset bytes number inside done unsettled;
+    counted = is.counted ∙ sym (ap length done ∙ length-with_kept (kept_written offset bytes) number bodies.list.items);
+    scripts = is.scripts;
+    sound = is.sound;
+  }
+
+  -- a file was synced
+  pub told_synced : (number : ℕ) → more.list.items ≡ with_kept kept_synced number bodies.list.items → more.unsettled.items ≡ bodies.unsettled.items → IsTold (with_folder (with_changed number certain_body at.folder) at) names more handed
+  told_synced number done same = record {
+    named = is.named;
+    bodied = bodied_synced at.folder.body bodies more is.bodied number done same;
+    counted = is.counted ∙ sym (ap length done ∙ length-with_kept kept_synced number bodies.list.items);
+    scripts = is.scripts;
+    sound = is.sound;
+  }
+
+  -- a script was handed over
+  pub told_handed : (number body nice : ℕ) (started : Bool) (scripts : List Handed) → scripts ≡ handed ++ record { number = number; script = (at.folder.body body).bytes; nice = nice; started = started } ∷ [] → IsTold (with_handed number body nice started at) names bodies scripts
+  told_handed number body nice started scripts more = record {
+    named = is.named;
+    bodied = is.bodied;
+    counted = is.counted;
+    scripts = ap (λ all. all ++ record { number = number; script = (at.folder.body body).bytes; nice = nice; started = started } ∷ []) is.scripts ∙ sym more;
+    sound = is.sound;
+  }
+
+-- the script is what the file reads as
+pub script_more : (handed room more : List Handed) (number : ℕ) (script bytes : List ℕ) (nice : ℕ) (started : Bool) → room ≡ handed → more ≡ room ++ record { number = number; script = script; nice = nice; started = started } ∷ [] → script ≡ bytes → more ≡ handed ++ record { number = number; script = bytes; nice = nice; started = started } ∷ []
+script_more handed room more number script bytes nice started same pushed is = pushed ∙ rw (same, is) refl

@@ -1,0 +1,48 @@
+-- Which image a crash leaves, by a number that picks it.
+use Rattle.std.specs.Prelude.{◌+◌, ◌/◌, ◌%◌, ◌^◌, ◌==◌, [], ◌∷◌, ℕ, Bool, true, false, List, length, take, if◌then◌else◌}
+use Rattle.host_calls.specs.Folder.{Body, Change, Folder, Names, changed}
+
+-- the body of a number that no file has
+abbrev pub no_body : Body
+no_body = record { bytes = []; is_synced = true; is_uncertain = λ _. false }
+
+-- whether the pick takes the pending change of this number, by its bit of that number modulo 64
+abbrev pub is_picked : ℕ → ℕ → Bool
+is_picked pick number = pick / 2 ^ (number % 64) % 2 == 1
+
+-- the names after those of the pending changes that are picked, the newest first, numbered from the oldest
+abbrev pub picked_names : ℕ → List Change → Names → Names
+picked_names pick [] certain = certain
+picked_names pick (change ∷ older) certain =
+    if is_picked pick (length older) then changed change (picked_names pick older certain) else picked_names pick older certain
+
+-- the byte at an uncertain place
+abbrev pub picked_byte : ℕ → ℕ → ℕ
+picked_byte pick place = (pick + place) % 256
+
+-- the bytes from a place on, others at the uncertain places
+abbrev pub picked_bytes : ℕ → (ℕ → Bool) → ℕ → List ℕ → List ℕ
+picked_bytes pick is_uncertain place [] = []
+picked_bytes pick is_uncertain place (byte ∷ others) =
+    (if is_uncertain place then picked_byte pick place else byte) ∷ picked_bytes pick is_uncertain (place + 1) others
+
+-- the bytes that a file keeps: a file that was never synced is cut off
+abbrev pub kept_bytes : ℕ → Body → List ℕ
+kept_bytes pick body = if body.is_synced then body.bytes else take (pick % (length body.bytes + 1)) body.bytes
+
+-- the bytes that the crash leaves of a file
+abbrev pub crashed_bytes : ℕ → Body → List ℕ
+crashed_bytes pick body = picked_bytes pick body.is_uncertain 0 (kept_bytes pick body)
+
+-- the body after the crash
+abbrev pub crashed_body : ℕ → Body → Body
+crashed_body pick body = record { bytes = crashed_bytes pick body; is_synced = true; is_uncertain = λ _. false }
+
+-- the folder after the crash: nothing of it is uncertain
+abbrev pub rebooted : ℕ → Folder → Folder
+rebooted pick folder =
+    record {
+      certain = picked_names pick folder.pending folder.certain;
+      pending = [];
+      body = λ number. crashed_body pick (folder.body number);
+    }

@@ -1,0 +1,15 @@
+pub mod Bodies
+pub mod Children
+pub mod Counts
+pub mod Crash
+pub mod Host
+pub mod Inputs
+pub mod ListReadings
+pub mod MemoryInputs
+pub mod MemorySink
+pub mod Past
+pub mod Plan
+pub mod Readings
+pub mod Sink
+pub mod Table
+pub mod Told
