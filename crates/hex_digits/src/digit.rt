@@ -1,0 +1,28 @@
+//! One hexadecimal digit.
+ghost use Rattle.std.specs.Prelude.{◌≡◌, ◌≢◌, ◌<◌, ℕ, IfSome, IfNone};
+ghost use Rattle.hex_digits.specs.Digits.{digit_byte};
+
+/// The digit that the byte is, if it is one. A capital letter is none.
+pub fn digit_of(byte: u8) -> Option<u8>
+    ensures small { IfSome result (λ digit. digit < 16) }
+    ensures digit { IfSome result (λ digit. byte ≡ digit_byte digit) }
+    ensures none { IfNone result ((digit : ℕ) → digit < 16 → byte ≢ digit_byte digit) }
+{
+    match byte {
+        b'0'..=b'9' => Some(byte - b'0'),
+        b'a'..=b'f' => Some(byte - b'a' + 10),
+        _ => None,
+    }
+}
+
+/// The byte of a digit.
+pub fn byte_of(digit: u8) -> u8
+    requires { digit < 16 }
+    ensures { result ≡ digit_byte digit }
+{
+    if digit < 10 {
+        b'0' + digit
+    } else {
+        b'a' + (digit - 10)
+    }
+}

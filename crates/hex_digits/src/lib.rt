@@ -1,0 +1,12 @@
+//! Numbers in hexadecimal digits of a fixed count, as the formats of the spool have them: `0` to `9`
+//! and `a` to `f`, the greatest place first, with zeros in front.
+#![tactic(auto)]
+
+mod digit;
+mod number;
+
+pub use digit::{byte_of, digit_of};
+pub use number::{read, write};
+
+#[cfg(test)]
+mod tests;
