@@ -1,0 +1,4 @@
+use Rattle.sequence_file.proofs.text.number_of.Goals as goal
+
+pub returns-in_err-number-clause-none : goal.returns-in_err-number-clause-none
+returns-in_err-number-clause-none c = rw c.from_residual.ensures (λ number spelled. c.in_err-number.ensures.none number spelled.digits)

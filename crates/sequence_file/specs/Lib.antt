@@ -1,0 +1,4 @@
+pub mod Drawing
+pub mod Faults
+pub mod Places
+pub mod Sequence

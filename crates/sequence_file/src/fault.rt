@@ -1,0 +1,35 @@
+//! Why the last number could not be read.
+ghost use Rattle.std.specs.Prelude.{◌≡◌};
+ghost use Rattle.sequence_file.specs.Faults.{fault_of};
+
+use host_calls::{Damage, HostFault};
+use std::fmt;
+use thiserror::Error;
+
+/// Why the last number could not be read.
+#[derive(Clone, Copy, Error)]
+pub enum SequenceFault {
+    #[error("spool fault")]
+    Failed,
+    #[error("out of memory")]
+    Memory,
+    #[error("damaged at {}", .0.offset)]
+    Damaged(Damage),
+}
+
+impl fmt::Debug for SequenceFault {
+    fn fmt<W: fmt::Write>(&self, f: &mut fmt::Formatter<W>) -> fmt::Result {
+        write!(f, "{self}")
+    }
+}
+
+impl From<HostFault> for SequenceFault {
+    ghost from_gives = { λ fault made. made ≡ fault_of fault };
+
+    fn from(fault: HostFault) -> Self {
+        match fault {
+            HostFault::Failed => SequenceFault::Failed,
+            HostFault::Memory => SequenceFault::Memory,
+        }
+    }
+}

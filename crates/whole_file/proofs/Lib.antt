@@ -1,0 +1,4 @@
+pub mod ClearLemmas
+pub mod ContentLemmas
+pub mod OthersLemmas
+pub mod PlaceLemmas

@@ -1,0 +1,103 @@
+-- What calls on files leave, one after another.
+use Rattle.std.proofs.Common.{◌≡◌, ◌⊎◌, ℕ, Bool, true, false, List, [], sym, ap, subst, ◌∙◌, refl, inl, inr, arith, Result}
+use Rattle.std.specs.Prelude.{Option, Some, None, IsSome, option_map, ◌==◌, if◌then◌else◌}
+use Rattle.std.specs.FinMap as map
+use Rattle.std.specs.Str.{bytes_eq}
+use Rattle.std.proofs.lemmas.Bool.Decides.{nat_tests}
+use Rattle.std.proofs.lemmas.Slice.Eq.{bytes_eq-Decides}
+use Rattle.host_calls.specs.declared.fault.HostFault.{HostFault}
+use Rattle.host_calls.specs.Folder.{AreAfterSome, Body, Files, Folder, IsImage, IsInNoImage, MayHold, MayStand, Names, files_of, names_of, reading_of, with_body, with_names_certain}
+use Rattle.host_calls.specs.World.{FileCall, IsWithin, World}
+use Rattle.host_calls.proofs.FolderLemmas.{all_are_some, get-insert_other, get-insert_same, get-remove_other, get-remove_same, get-files_of, reading_is_image}
+use Rattle.host_calls.proofs.WorldLemmas.{call_then, leaves_none}
+use Rattle.whole_file.specs.Others.{ChangesFiles, IsEither}
+
+-- before any call
+pub changes_none : (P : Files → Type 0) (world : World) → ChangesFiles P world world
+changes_none P world = record { handed = refl; asked = refl; leaves = leaves_none _ world world refl }
+
+-- one call after others: it is enough that what the call lets a crash leave has P
+pub changes_then : {T : Type 0} (P : Files → Type 0) (done part : Folder → Folder → Type 0) (first second third : World) (result : Result T HostFault) → ChangesFiles P first second → FileCall done part second third result → ((image : Files) → IsWithin done second.now.folder image → P image) → ChangesFiles P first third
+changes_then P done part first second third result before call within = record {
+  handed = call.handed ∙ before.handed;
+  asked = call.asked ∙ before.asked;
+  leaves = call_then (λ image handed. P image × (handed ≡ first.now.handed)) done part first second third result before.leaves call (λ image is. (within image is, before.handed));
+}
+
+-- two names are the same or not
+pub one_or_other : (first second : List ℕ) → (first ≡ second) ⊎ (¬ (first ≡ second))
+one_or_other first second = by_test (bytes_eq first second) refl where
+  by_test : (test : Bool) → bytes_eq first second ≡ test → (first ≡ second) ⊎ (¬ (first ≡ second))
+  by_test true is = inl ((bytes_eq-Decides first second).0 is)
+  by_test false is = inr (λ same. let impossible : true ≡ false = sym ((bytes_eq-Decides first second).1 same) ∙ is in cc)
+
+-- a name that is neither of two
+pub neither : (first second name : List ℕ) → ¬ (name ≡ first) → ¬ (name ≡ second) → ¬ (IsEither first second name)
+neither first second name not_first not_second either = elim either [ inl is ↦ not_first is | inr is ↦ not_second is ]
+
+-- the files with a value or none at a name
+pub with_value : Files → List ℕ → Option (List ℕ) → Files
+with_value files name None = map.remove files name
+with_value files name (Some value) = map.insert files name value
+
+pub get-with_value_same : (files : Files) (name : List ℕ) (value : Option (List ℕ)) → map.get (with_value files name value) name ≡ value
+unfolding with_value
+get-with_value_same files name None = get-remove_same files name
+get-with_value_same files name (Some value) = get-insert_same files name value
+
+pub get-with_value_other : (files : Files) (name other : List ℕ) (value : Option (List ℕ)) → ¬ (other ≡ name) → map.get (with_value files name value) other ≡ map.get files other
+unfolding with_value
+get-with_value_other files name other None differ = get-remove_other files name other differ
+get-with_value_other files name other (Some value) differ = get-insert_other files name other value differ
+
+-- the bodies but one, after that one has changed
+pub with_body-other : (bodies : ℕ → Body) (number other : ℕ) (body : Body) → ¬ (other ≡ number) → with_body bodies number body other ≡ bodies other
+with_body-other bodies number other body differ = let test : (other == number) ≡ false = grind (arith, nat_tests) in ap (λ b. if b then body else bodies other) test
+
+pub with_body-same : (bodies : ℕ → Body) (number : ℕ) (body : Body) → with_body bodies number body number ≡ body
+with_body-same bodies number body = let test : (number == number) ≡ true = grind (arith, nat_tests) in ap (λ b. if b then body else bodies number) test
+
+-- what may stand at a name that does not hold the one body that differs
+pub stands_elsewhere : (bodies others : ℕ → Body) (number : ℕ) → ((other : ℕ) → ¬ (other ≡ number) → others other ≡ bodies other) → (held : Option ℕ) (stands : Option (List ℕ)) → ¬ (held ≡ Some number) → MayStand others held stands → MayStand bodies held stands
+stands_elsewhere bodies others number elsewhere None None differ is = tt
+stands_elsewhere bodies others number elsewhere None (Some bytes) differ is = is
+stands_elsewhere bodies others number elsewhere (Some held) None differ is = is
+stands_elsewhere bodies others number elsewhere (Some held) (Some bytes) differ is =
+    subst (λ body. MayHold body bytes) (elsewhere held (λ same. differ (ap Some same))) is
+
+-- nothing may stand at a name alone where nothing is held
+pub nothing_stands : (bodies : ℕ → Body) (held : Option ℕ) → MayStand bodies held None → held ≡ None
+nothing_stands bodies None is = refl
+nothing_stands bodies (Some number) is = absurd is
+
+-- nothing but nothing may stand where nothing is held
+pub none_stands : (bodies : ℕ → Body) (stands : Option (List ℕ)) → MayStand bodies None stands → stands ≡ None
+none_stands bodies None is = refl
+none_stands bodies (Some bytes) is = absurd is
+
+-- what a name reads as that does not hold the one body that differs
+pub reads_elsewhere : (bodies others : ℕ → Body) (number : ℕ) → ((other : ℕ) → ¬ (other ≡ number) → others other ≡ bodies other) → (held : Option ℕ) → ¬ (held ≡ Some number) → option_map (λ at. (others at).bytes) held ≡ option_map (λ at. (bodies at).bytes) held
+reads_elsewhere bodies others number elsewhere None differ = refl
+reads_elsewhere bodies others number elsewhere (Some held) differ = ap (λ (body : Body). Some body.bytes) (elsewhere held (λ same. differ (ap Some same)))
+
+-- what names read as may stand there
+pub reading_stands : (bodies : ℕ → Body) (names : Names) (name : List ℕ) → MayStand bodies (map.get names name) (map.get (files_of bodies names) name)
+reading_stands bodies names name =
+    let folder : Folder = record { certain = names; pending = []; body = bodies } in
+    let is : IsImage folder (files_of bodies names) = reading_is_image folder in
+    subst (λ chosen. MayStand bodies (map.get chosen name) (map.get (files_of bodies names) name)) is.chosen (is.each name)
+
+-- a name that is in no image is in no choice of the pending changes
+pub in_no_choice : (folder : Folder) (name : List ℕ) → IsInNoImage folder name → (names : Names) → AreAfterSome folder.pending folder.certain names → map.get names name ≡ None
+in_no_choice folder name no_image names chosen =
+    let image : Files = files_of folder.body names in
+    let none : map.get image name ≡ None = no_image image (record { names = names; chosen = chosen; each = reading_stands folder.body names }) in
+    nothing_stands folder.body (map.get names name) (subst (MayStand folder.body (map.get names name)) none (reading_stands folder.body names name))
+
+-- a name that is held is in the reading
+pub held_reads : (folder : Folder) (name : List ℕ) (number : ℕ) → map.get (names_of folder) name ≡ Some number → IsSome (map.get (reading_of folder) name)
+held_reads folder name number held = rw (get-files_of folder.body (names_of folder) name, held) refl
+
+-- once the names are certain, no image is new
+pub names_certain : (folder : Folder) (image : Files) → IsImage (with_names_certain folder) image → IsImage folder image
+names_certain folder image is = record { names = is.names; chosen = subst (AreAfterSome folder.pending folder.certain) (sym is.chosen) (all_are_some folder.pending folder.certain); each = is.each }

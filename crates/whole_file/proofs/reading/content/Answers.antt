@@ -1,0 +1,12 @@
+use Rattle.std.proofs.Common.{sym, ◌∙◌}
+use Rattle.host_calls.specs.World.{reading}
+use Rattle.whole_file.proofs.ContentLemmas.{found_is, none_found}
+use Rattle.whole_file.proofs.reading.content.Goals as goal
+
+pub returns-then-not-contains-clause-content : goal.returns-then-not-contains-clause-content
+returns-then-not-contains-clause-content g c = λ tells.
+    none_found _ (sym c.if-not-contains.true ∙ found_is (reading (g.H.Host.world c.args.host.now)) c.args.name.now c.deref.result.now c.contains.result (c.deref.ensures.value ∙ c.in_ok-names.ensures.listed tells) c.contains.ensures.value)
+
+pub length-requires-clause-held : goal.length-requires-clause-held
+length-requires-clause-held g c = λ tells. rw (c.in_ok-names.ensures.looks tells) (sym
+    (found_is (reading (g.H.Host.world c.args.host.now)) c.args.name.now c.deref.result.now c.contains.result (c.deref.ensures.value ∙ c.in_ok-names.ensures.listed tells) c.contains.ensures.value) ∙ c.if-not-contains.false)

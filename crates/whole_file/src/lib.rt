@@ -1,0 +1,10 @@
+//! Files that are replaced, read and removed whole, over any host.
+#![tactic(auto)]
+
+mod reading;
+mod removing;
+mod replacing;
+
+pub use reading::content;
+pub use removing::clear;
+pub use replacing::place;

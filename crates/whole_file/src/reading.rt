@@ -1,0 +1,32 @@
+//! Reading a file whole.
+ghost use Rattle.std.specs.Prelude.{◌≡◌, IfOk, IsTrue};
+ghost use Rattle.std.specs.FinMap as map;
+ghost use Rattle.host_calls.specs.Causes.{HasCause};
+ghost use Rattle.host_calls.specs.Session.{IsInside, StaysInside};
+ghost use Rattle.host_calls.specs.World.{reading};
+
+use host_calls::{Bytes, Host, HostFault, Name};
+use std::alloc::Global;
+
+/// All bytes of the named file, if there is such a file.
+pub fn content<H: Host>(
+    alloc: Global,
+    host: &mut H,
+    name: &Name,
+) -> Result<Option<Bytes>, HostFault>
+    requires { IsInside (H.session host.old) }
+    ensures inside { StaysInside (H.session host.old) (H.session host.new) }
+    ensures cause { HasCause HostFault.Failed
+        (H.session host.old).file_faults (H.session host.new).file_faults result }
+    ensures looks { IsTrue H.tells → H.world host.new ≡ H.world host.old }
+    ensures content { IsTrue H.tells
+        → IfOk result (λ content. content ≡ map.get (reading (H.world host.old)) name.now) }
+{
+    let names = host.names(alloc)?;
+    if !names.contains(name) {
+        return Ok(None);
+    }
+    let length = host.length(alloc, name)?;
+    let bytes = host.read(alloc, name, 0, length as usize)?;
+    Ok(Some(Bytes::from(bytes)))
+}

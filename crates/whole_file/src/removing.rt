@@ -1,0 +1,34 @@
+//! Removing files.
+ghost use Rattle.std.specs.Prelude.{◌≡◌, ◌≢◌, [], Contains, IsTrue, OnOk};
+ghost use Rattle.host_calls.specs.Causes.{HasCause};
+ghost use Rattle.host_calls.specs.Session.{IsInside, StaysInside};
+ghost use Rattle.host_calls.specs.World.{reading};
+ghost use Rattle.whole_file.specs.Others.{ChangesFiles, LeavesOthers};
+ghost use Rattle.whole_file.specs.Clearing.{AreFiles, AreCleared};
+
+use host_calls::{Host, HostFault, Name};
+use std::alloc::Global;
+
+/// Removes the named files, one by one, and makes that certain. Nothing is done where there are none.
+pub fn clear<H: Host>(alloc: Global, host: &mut H, names: &[Name]) -> Result<(), HostFault>
+    requires inside { IsInside (H.session host.old) }
+    requires held { IsTrue H.tells → AreFiles names.now (reading (H.world host.old)) }
+    ensures inside { StaysInside (H.session host.old) (H.session host.new) }
+    ensures cause { HasCause HostFault.Failed
+        (H.session host.old).file_faults (H.session host.new).file_faults result }
+    ensures nothing { names.now ≡ [] → host.new ≡ host.old }
+    ensures files { IsTrue H.tells
+        → ChangesFiles (LeavesOthers (Contains names.now) (H.world host.old).now.folder)
+        (H.world host.old) (H.world host.new) }
+    ensures cleared { IsTrue H.tells → names.now ≢ []
+        → OnOk result (AreCleared names.now (H.world host.old).now.folder (H.world host.new).now.folder) }
+{
+    if names.is_empty() {
+        return Ok(());
+    }
+    for name in names {
+        host.remove(alloc, name)?;
+    }
+    // Until the names are certain, a crash could bring the files back.
+    host.sync_names(alloc)
+}

@@ -1,0 +1,40 @@
+//! Replacing a file whole.
+ghost use Rattle.std.specs.Prelude.{◌≢◌, IsTrue, OnOk};
+ghost use Rattle.host_calls.specs.Causes.{HasCause};
+ghost use Rattle.host_calls.specs.Folder.{IsInNoImage};
+ghost use Rattle.host_calls.specs.Session.{IsInside, StaysInside};
+ghost use Rattle.whole_file.specs.Others.{ChangesFiles};
+ghost use Rattle.whole_file.specs.Placing.{IsPlacing, IsPlaced};
+
+use host_calls::{Host, HostFault, Name};
+use std::alloc::Global;
+
+/// Gives the target these bytes, by way of the temporary name, so that a crash at any moment leaves
+/// the target as it was or whole.
+pub fn place<H: Host>(
+    alloc: Global,
+    host: &mut H,
+    temp: &Name,
+    target: &Name,
+    bytes: &[u8],
+) -> Result<(), HostFault>
+    requires inside { IsInside (H.session host.old) }
+    requires differ { temp.now ≢ target.now }
+    requires no_temp { IsTrue H.tells → IsInNoImage (H.world host.old).now.folder temp.now }
+    ensures inside { StaysInside (H.session host.old) (H.session host.new) }
+    ensures cause { HasCause HostFault.Failed
+        (H.session host.old).file_faults (H.session host.new).file_faults result }
+    ensures files { IsTrue H.tells
+        → ChangesFiles (IsPlacing temp.now target.now bytes.now (H.world host.old).now.folder)
+        (H.world host.old) (H.world host.new) }
+    ensures placed { IsTrue H.tells
+        → OnOk result (IsPlaced temp.now target.now bytes.now
+        (H.world host.old).now.folder (H.world host.new).now.folder) }
+{
+    host.create(alloc, temp, bytes)?;
+    // Bytes that are still uncertain could stand at the target after a crash.
+    host.sync(alloc, temp)?;
+    host.rename(alloc, temp, target)?;
+    // Until the names are certain, a crash could still take the new file back.
+    host.sync_names(alloc)
+}
