@@ -1,0 +1,4 @@
+mod CivilLemmas
+mod LaterLemmas
+mod MeantLemmas
+mod OnlyLemmas

@@ -1,0 +1,4 @@
+pub mod Civil
+pub mod Meant
+pub mod Zone
+pub mod ZoneText

@@ -2,5 +2,16 @@
 #![tactic(auto)]
 
 mod civil;
+mod fault;
+mod later;
+mod minute;
+mod picked;
+mod zone;
 
-pub use civil::CivilMinute;
+pub use civil::{CivilMinute, LAST_MINUTE, civil_of};
+pub use fault::DateFault;
+pub use minute::{minute_of, minute_of_touch};
+pub use zone::{Zone, zone_of};
+
+#[cfg(test)]
+mod tests;

@@ -1,0 +1,10 @@
+//! Why a time means no minute.
+
+/// The cause of a refusal, in the order in which they are tried, and want of memory.
+#[derive(Clone, Copy, Debug, PartialEq, Eq)]
+pub enum DateFault {
+    NoSuchDay,
+    OutOfRange,
+    Past,
+    Memory,
+}

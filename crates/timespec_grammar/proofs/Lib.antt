@@ -1,0 +1,5 @@
+mod AcceptLemmas
+mod ParseLemmas
+mod RangeLemmas
+mod ReadLemmas
+mod ViableLemmas

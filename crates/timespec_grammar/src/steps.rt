@@ -1,0 +1,221 @@
+//! One token more: what may follow what was read so far.
+ghost use Rattle.std.specs.Prelude.{◌≡◌};
+ghost use Rattle.timespec_grammar.specs.Grammar.{timespec_of};
+ghost use Rattle.timespec_grammar.specs.Steps.{step, ends, begin, minute_of, after_date, after_time, after_half, after_minute, after_hour, day_of, after_day, year_of, count_of, unit_of};
+
+use crate::numbers::{
+    is_count, is_day, is_hour, is_hour_minute, is_minute, is_month, is_twelve, is_weekday, is_year,
+};
+use crate::read::Read;
+use crate::{Clock, DatePart, Increment, Timespec};
+use timespec_lexer::Token;
+
+/// What is read with one token more, if it may follow.
+pub fn step(read: Read, token: Token) -> Option<Read>
+    ensures { result ≡ step read token }
+{
+    match read {
+        Read::Nothing => begin(token),
+        Read::Hour(hour) => after_hour(hour, token),
+        Read::HourColon(hour) => minute_of(hour, token),
+        Read::HourMinute(hour, minute) => after_minute(hour, minute, token),
+        Read::Half(hour, minute) => after_half(hour, minute, token),
+        Read::Timed(clock) => after_time(clock, token),
+        Read::MonthNamed(clock, month) => day_of(clock, month, token),
+        Read::DayNamed(clock, month, day) => after_day(clock, month, day, token),
+        Read::DayComma(clock, month, day) => year_of(clock, month, day, token),
+        Read::Dated(clock, date) => after_date(clock, date, token),
+        Read::Added(clock, date) => count_of(clock, date, token),
+        Read::Counted(clock, date, count) => unit_of(clock, date, count, token),
+        Read::Following(clock, date) => unit_of(clock, date, 1, token),
+        Read::Whole(_) => None,
+    }
+}
+
+/// The timespec that was read, if the tokens may end there.
+pub fn ends(read: Read) -> Option<Timespec>
+    ensures { result ≡ ends read }
+{
+    match read {
+        Read::Hour(hour) => Some(plain(at(hour, 0, false), DatePart::Absent)),
+        Read::HourMinute(hour, minute) => Some(plain(at(hour, minute, false), DatePart::Absent)),
+        Read::Half(hour, minute) => Some(plain(at(hour, minute, false), DatePart::Absent)),
+        Read::Timed(clock) => Some(plain(clock, DatePart::Absent)),
+        Read::DayNamed(clock, month, day) => Some(plain(clock, month_day(month, day, None))),
+        Read::Dated(clock, date) => Some(plain(clock, date)),
+        Read::Whole(spec) => Some(spec),
+        _ => None,
+    }
+}
+
+/// An hour and a minute of the 24-hour clock.
+fn at(hour: u8, minute: u8, utc: bool) -> Clock
+    ensures { result ≡ Clock.At hour minute utc }
+{
+    Clock::At { hour, minute, utc }
+}
+
+/// A day of a month.
+fn month_day(month: u8, day: u8, year: Option<u16>) -> DatePart
+    ensures { result ≡ DatePart.MonthDay month day year }
+{
+    DatePart::MonthDay { month, day, year }
+}
+
+/// A timespec without an increment.
+fn plain(clock: Clock, date: DatePart) -> Timespec
+    ensures { result ≡ timespec_of clock date None }
+{
+    Timespec {
+        clock,
+        date,
+        increment: None,
+    }
+}
+
+/// The first token: an hour, an hour and a minute, or a named time.
+fn begin(token: Token) -> Option<Read>
+    ensures { result ≡ begin token }
+{
+    match token {
+        Token::Number { digits, value } if is_hour(digits, value) => Some(Read::Hour(value as u8)),
+        Token::Number { digits, value } if is_hour_minute(digits, value) => {
+            Some(Read::HourMinute((value / 100) as u8, (value % 100) as u8))
+        }
+        Token::Now => Some(Read::Dated(Clock::Now, DatePart::Absent)),
+        Token::Noon => Some(Read::Timed(at(12, 0, false))),
+        Token::Midnight => Some(Read::Timed(at(0, 0, false))),
+        _ => None,
+    }
+}
+
+/// The minute behind an hour and a colon.
+fn minute_of(hour: u8, token: Token) -> Option<Read>
+    ensures { result ≡ minute_of hour token }
+{
+    match token {
+        Token::Number { digits, value } if is_minute(digits, value) => {
+            Some(Read::HourMinute(hour, value as u8))
+        }
+        _ => None,
+    }
+}
+
+/// A colon, or what follows an hour and a minute.
+fn after_hour(hour: u8, token: Token) -> Option<Read>
+    ensures { result ≡ after_hour hour token }
+{
+    match token {
+        Token::Colon => Some(Read::HourColon(hour)),
+        _ => after_minute(hour, 0, token),
+    }
+}
+
+/// A half of the day, or what follows a time without its zone.
+fn after_minute(hour: u8, minute: u8, token: Token) -> Option<Read>
+    ensures { result ≡ after_minute hour minute token }
+{
+    match token {
+        Token::Am if is_twelve(hour) => Some(Read::Half(hour % 12, minute)),
+        Token::Pm if is_twelve(hour) => Some(Read::Half(hour % 12 + 12, minute)),
+        _ => after_half(hour, minute, token),
+    }
+}
+
+/// The zone, or what follows a whole time.
+fn after_half(hour: u8, minute: u8, token: Token) -> Option<Read>
+    ensures { result ≡ after_half hour minute token }
+{
+    match token {
+        Token::Utc => Some(Read::Timed(at(hour, minute, true))),
+        _ => after_time(at(hour, minute, false), token),
+    }
+}
+
+/// A date, or what follows one.
+fn after_time(clock: Clock, token: Token) -> Option<Read>
+    ensures { result ≡ after_time clock token }
+{
+    match token {
+        Token::Month(month) if is_month(month) => Some(Read::MonthNamed(clock, month)),
+        Token::Weekday(day) if is_weekday(day) => Some(Read::Dated(clock, DatePart::Weekday(day))),
+        Token::Today => Some(Read::Dated(clock, DatePart::Today)),
+        Token::Tomorrow => Some(Read::Dated(clock, DatePart::Tomorrow)),
+        _ => after_date(clock, DatePart::Absent, token),
+    }
+}
+
+/// The day behind a month.
+fn day_of(clock: Clock, month: u8, token: Token) -> Option<Read>
+    ensures { result ≡ day_of clock month token }
+{
+    match token {
+        Token::Number { digits, value } if is_day(digits, value) => {
+            Some(Read::DayNamed(clock, month, value as u8))
+        }
+        _ => None,
+    }
+}
+
+/// A comma, or what follows a date.
+fn after_day(clock: Clock, month: u8, day: u8, token: Token) -> Option<Read>
+    ensures { result ≡ after_day clock month day token }
+{
+    match token {
+        Token::Comma => Some(Read::DayComma(clock, month, day)),
+        _ => after_date(clock, month_day(month, day, None), token),
+    }
+}
+
+/// The year behind a month, a day and a comma.
+fn year_of(clock: Clock, month: u8, day: u8, token: Token) -> Option<Read>
+    ensures { result ≡ year_of clock month day token }
+{
+    match token {
+        Token::Number { digits, value } if is_year(digits, value) => {
+            let year = Some(value as u16);
+            Some(Read::Dated(clock, month_day(month, day, year)))
+        }
+        _ => None,
+    }
+}
+
+/// The first token of an increment.
+fn after_date(clock: Clock, date: DatePart, token: Token) -> Option<Read>
+    ensures { result ≡ after_date clock date token }
+{
+    match token {
+        Token::Plus => Some(Read::Added(clock, date)),
+        Token::Next => Some(Read::Following(clock, date)),
+        _ => None,
+    }
+}
+
+/// The count behind a plus.
+fn count_of(clock: Clock, date: DatePart, token: Token) -> Option<Read>
+    ensures { result ≡ count_of clock date token }
+{
+    match token {
+        Token::Number { digits, value } if is_count(digits, value) => {
+            Some(Read::Counted(clock, date, value))
+        }
+        _ => None,
+    }
+}
+
+/// The unit that ends an increment.
+fn unit_of(clock: Clock, date: DatePart, count: u32, token: Token) -> Option<Read>
+    ensures { result ≡ unit_of clock date count token }
+{
+    match token {
+        Token::Unit(period) => {
+            let increment = Some(Increment { count, period });
+            Some(Read::Whole(Timespec {
+                clock,
+                date,
+                increment,
+            }))
+        }
+        _ => None,
+    }
+}

@@ -1,0 +1,5 @@
+mod NumberLemmas
+mod WalkLemmas
+mod WordLemmas
+mod StandLaws
+mod ReadingLaws

@@ -1,0 +1,9 @@
+//! A token and where it ends.
+use crate::Token;
+
+/// A token that was found at some place, and the place behind it.
+#[derive(Clone, Copy)]
+pub struct Found {
+    pub token: Token,
+    pub end: usize,
+}

@@ -1,0 +1,22 @@
+//! The tokens of a time as `at` reads it: numbers, marks and keywords, with the places where they
+//! stand.
+#![tactic(auto)]
+
+mod fault;
+mod found;
+mod keywords;
+mod lexer;
+mod number;
+mod period;
+mod placed;
+mod token;
+mod word;
+
+pub use fault::LexFault;
+pub use lexer::{MOST_TOKENS, tokens};
+pub use period::Period;
+pub use placed::Placed;
+pub use token::Token;
+
+#[cfg(test)]
+mod tests;

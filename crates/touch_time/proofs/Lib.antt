@@ -1,0 +1,3 @@
+mod OptionLemmas
+mod ReaderLemmas
+mod TouchLemmas

@@ -1,0 +1,88 @@
+//! The parts of a time, one after another. Each function reads the front of a slice, and gives the
+//! value and the rest.
+ghost use Rattle.std.specs.Prelude.{◌≡◌, ◌≤◌, IfSome};
+ghost use Rattle.touch_time.specs.Reader as Reader;
+
+use crate::TouchTime;
+
+/// A time and nothing behind it.
+#[tactic(auto, unfolding(crate::specs::Reader::read_touch))]
+pub(crate) fn read_touch(text: &[u8]) -> Option<TouchTime>
+    ensures { result ≡ Reader.read_touch text.now }
+{
+    let (year, text) = read_year(text)?;
+    let (month, text) = read_number(text, 1, 12)?;
+    let (day, text) = read_number(text, 1, 31)?;
+    let (hour, text) = read_number(text, 0, 23)?;
+    let (minute, text) = read_number(text, 0, 59)?;
+    if !is_seconds(text) {
+        return None;
+    }
+    Some(TouchTime {
+        year,
+        month,
+        day,
+        hour,
+        minute,
+    })
+}
+
+// The length of the text tells how its year is spelled, since no two forms have the same.
+#[tactic(auto, unfolding(crate::specs::Reader::read_year))]
+fn read_year(text: &[u8]) -> Option<(Option<u16>, &[u8])>
+    ensures { Reader.read_view result ≡ Reader.read_year text.now }
+{
+    match text.len() {
+        8 | 11 => Some((None, text)),
+        10 | 13 => read_short_year(text),
+        12 | 15 => read_full_year(text),
+        _ => None,
+    }
+}
+
+#[tactic(auto, unfolding(crate::specs::Reader::read_short_year))]
+fn read_short_year(text: &[u8]) -> Option<(Option<u16>, &[u8])>
+    ensures { Reader.read_view result ≡ Reader.read_short_year text.now }
+{
+    let (year, text) = read_number(text, 0, 99)?;
+    let century = if year < 69 { 2000 } else { 1900 };
+    Some((Some(century + u16::from(year)), text))
+}
+
+#[tactic(auto, unfolding(crate::specs::Reader::read_full_year))]
+fn read_full_year(text: &[u8]) -> Option<(Option<u16>, &[u8])>
+    ensures { Reader.read_view result ≡ Reader.read_full_year text.now }
+{
+    let (century, text) = read_number(text, 0, 99)?;
+    let (year, text) = read_number(text, 0, 99)?;
+    Some((Some(u16::from(century) * 100 + u16::from(year)), text))
+}
+
+#[tactic(auto, unfolding(crate::specs::Reader::read_number))]
+fn read_number(text: &[u8], low: u8, high: u8) -> Option<(u8, &[u8])>
+    ensures value { Reader.read_view result ≡ Reader.read_number low high text.now }
+    ensures bound { IfSome result (λ read. read.0 ≤ 99) }
+{
+    match text {
+        [tens @ b'0'..=b'9', ones @ b'0'..=b'9', rest @ ..] => {
+            let number = (*tens - b'0') * 10 + (*ones - b'0');
+            if number < low || number > high {
+                return None;
+            }
+            Some((number, rest))
+        }
+        _ => None,
+    }
+}
+
+// No seconds, or a point and seconds.
+#[tactic(auto, unfolding(crate::specs::Reader::is_seconds))]
+fn is_seconds(text: &[u8]) -> bool
+    ensures { result ≡ Reader.is_seconds text.now }
+{
+    match text {
+        [] => true,
+        [b'.', rest @ ..] => matches!(read_number(rest, 0, 60), Some((_, []))),
+        _ => false,
+    }
+}
