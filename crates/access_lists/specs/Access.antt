@@ -1,0 +1,44 @@
+-- Who may use `at`, by the lists at.allow and at.deny (XCU at, Description).
+use Rattle.std.specs.Prelude.{ℕ, Bool, false, not, ◌||◌, ◌==◌, IsTrue, List, [], ◌∷◌, Option, Some, None, codes, reverse, if◌then◌else◌}
+use Rattle.std.specs.List.{slice_split, list_any}
+use Rattle.std.specs.Str.{bytes_eq}
+
+-- a space or a tab (own)
+abbrev pub is_blank : ℕ → Bool
+is_blank byte = byte == 32 || byte == 9
+
+-- the bytes from the first on that is no blank
+abbrev pub after_blanks : List ℕ → List ℕ
+after_blanks [] = []
+after_blanks (byte ∷ rest) = if is_blank byte then after_blanks rest else byte ∷ rest
+
+-- the bytes without the blanks at their end
+abbrev pub before_blanks : List ℕ → List ℕ
+before_blanks bytes = reverse (after_blanks (reverse bytes))
+
+-- the name that a line tells: the line without the blanks at both its ends (own)
+abbrev pub name_in : List ℕ → List ℕ
+name_in line = before_blanks (after_blanks line)
+
+-- the lines of a list: what stands between newlines or the ends of the text
+abbrev pub lines_of : List ℕ → List (List ℕ)
+lines_of list = slice_split (λ byte. byte == 10) list
+
+-- some line of the list tells the name
+abbrev pub is_listed : List ℕ → List ℕ → Bool
+is_listed list user = list_any (λ line. bytes_eq (name_in line) user) (lines_of list)
+
+-- The lists permit the user. With at.allow those may whom it lists; else with at.deny those whom it
+-- doesn't; without both lists nobody may.
+abbrev pub lists_permit : List ℕ → Option (List ℕ) → Option (List ℕ) → Bool
+lists_permit user (Some allow) deny = is_listed allow user
+lists_permit user None (Some deny) = not (is_listed deny user)
+lists_permit user None None = false
+
+-- the test of who may use `at`: root always may (Debian at(1)), others where the lists permit it
+abbrev pub may_use : List ℕ → Option (List ℕ) → Option (List ℕ) → Bool
+may_use user allow deny = bytes_eq user (codes "root") || lists_permit user allow deny
+
+-- the user may use `at`
+abbrev pub MayUse : List ℕ → Option (List ℕ) → Option (List ℕ) → Type 0
+MayUse user allow deny = IsTrue (may_use user allow deny)

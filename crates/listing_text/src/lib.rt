@@ -1,0 +1,20 @@
+//! What the tools print: the lines of jobs, dates, and the line that says why a command failed,
+//! with the exit status that goes with it. Each text is exact to the byte.
+#![tactic(auto)]
+
+mod cause;
+mod date;
+mod lines;
+mod refusal;
+mod status;
+mod turn_step;
+
+pub use cause::{Cause, cause_line};
+pub use date::date_text;
+pub use lines::{accepted_line, queue_line};
+pub use refusal::Refusal;
+pub use status::Status;
+pub use turn_step::{TurnStepText, turn_line};
+
+#[cfg(test)]
+mod tests;

@@ -1,0 +1,40 @@
+//! The lines of jobs.
+ghost use Rattle.std.specs.Prelude.{◌≡◌, IfOk};
+ghost use Rattle.listing_text.specs.Lines.{accepted_line_of, letter_of, queue_line_of};
+
+use host_calls::Bytes;
+use spool_model::{Row, State};
+use std::alloc::{AllocError, Global};
+
+/// The line of a job that was accepted.
+pub fn accepted_line(alloc: Global, number: u32, date: &[u8; 24]) -> Result<Bytes, AllocError>
+    ensures { IfOk result (λ line. line ≡ accepted_line_of number date.now) }
+{
+    let mut line = format!(in alloc; "job {number} at ")?.into_bytes();
+    line.extend_from_slice(date)?;
+    line.push(b'\n')?;
+    Ok(Bytes::from(line))
+}
+
+/// The line of a live job in a listing.
+pub fn queue_line(alloc: Global, row: &Row, date: &[u8; 24]) -> Result<Bytes, AllocError>
+    ensures { IfOk result (λ line. line ≡ queue_line_of row.now date.now) }
+{
+    let mut line = format!(in alloc; "{}\t", row.number)?.into_bytes();
+    line.extend_from_slice(date)?;
+    line.push(b' ')?;
+    line.push(letter(row))?;
+    line.push(b' ')?;
+    line.extend_from_slice(row.user.as_bytes())?;
+    line.push(b'\n')?;
+    Ok(Bytes::from(line))
+}
+
+fn letter(row: &Row) -> u8
+    ensures { result ≡ letter_of row.now }
+{
+    match row.state {
+        State::Pending => row.queue,
+        State::Running(_) => b'=',
+    }
+}

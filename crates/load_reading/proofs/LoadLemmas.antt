@@ -1,0 +1,45 @@
+-- Where the parts of a load text stand.
+use Rattle.std.proofs.Common.{◌≡◌, ℕ, ◌^◌, ◌<◌, ◌≤◌, Bool, true, false, cond, IsTrue, List, [], ◌∷◌, ◌++◌, length, drop, arith, refl, sym, subst}
+use Rattle.std.proofs.Math.Nat.{pow-le-pow_right}
+use Rattle.std.proofs.Math.Seq.{drop-append_seam}
+use Rattle.std.proofs.lemmas.List.Sums.{take_while-cons}
+use Rattle.std.specs.List.{list_all, prefix_len, take_while}
+use Rattle.std.specs.Char.{is_ascii_digit}
+use Rattle.load_reading.specs.Load.{SpellsFraction, SpellsLoad}
+
+-- one byte more at the front
+front-cons : (test : ℕ → Bool) (byte : ℕ) (front : List ℕ) (passes : Bool) → test byte ≡ passes → IsTrue (list_all test front) → IsTrue (list_all test (cond passes (byte ∷ front) []))
+front-cons test byte front true passed each = rw passed each
+front-cons test byte front false failed each = refl
+
+-- the bytes that pass at the front pass
+pub list_all-front : (test : ℕ → Bool) (bytes : List ℕ) → IsTrue (list_all test (take_while test bytes))
+list_all-front test [] = refl
+list_all-front test (byte ∷ bytes) =
+    rw (take_while-cons test byte bytes)
+    (front-cons test byte (take_while test bytes) (test byte) refl (list_all-front test bytes))
+
+-- a run of digits ends where the point stands
+pub count-before_point : (whole rest : List ℕ) → IsTrue (list_all is_ascii_digit whole) → prefix_len is_ascii_digit (whole ++ 46 ∷ rest) ≡ length whole
+count-before_point [] rest digits = refl
+count-before_point (byte ∷ whole) rest digits =
+    let first : is_ascii_digit byte ≡ true = grind (arith, digits) in
+    let others : list_all is_ascii_digit whole ≡ true = grind (arith, digits) in
+    let more = count-before_point whole rest others in
+    rw (first, more) (omega arith)
+
+-- as many digits stand at the front as the load has before its point
+pub count-load : (text : List ℕ) (load : ℕ) → (spelled : SpellsLoad text load) → prefix_len is_ascii_digit text ≡ length spelled.whole
+count-load text load spelled =
+    rw (spelled.spelled, spelled.fraction.spelled) (count-before_point spelled.whole _ spelled.digits)
+
+-- behind those digits stands the fraction
+pub fraction-load : (text : List ℕ) (load : ℕ) → (spelled : SpellsLoad text load) → SpellsFraction (drop (prefix_len is_ascii_digit text) text) spelled.hundredths
+fraction-load text load spelled =
+    let behind : drop (prefix_len is_ascii_digit text) text ≡ spelled.rest =
+    rw (count-load text load spelled, spelled.spelled) (drop-append_seam spelled.whole spelled.rest) in
+    subst (λ (bytes : List ℕ). SpellsFraction bytes spelled.hundredths) (sym behind) spelled.fraction
+
+-- a number below that many tens is below ten million
+pub below-most : (number count : ℕ) → number < 10 ^ count → count ≤ 7 → number < 10 ^ 7
+below-most number count small few = let most : 10 ^ count ≤ 10 ^ 7 = pow-le-pow_right (omega arith) few in omega arith

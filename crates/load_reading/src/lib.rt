@@ -1,0 +1,9 @@
+//! The one-minute load that a load text tells.
+#![tactic(auto)]
+
+mod load;
+
+pub use load::hundredths;
+
+#[cfg(test)]
+mod tests;

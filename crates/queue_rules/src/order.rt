@@ -1,0 +1,63 @@
+//! The order in which jobs start.
+ghost use Rattle.std.specs.Prelude.{◌≡◌, ℕ, IsTrue, IfOk, IfSome, IfNone, [], map, filter};
+ghost use Rattle.queue_rules.specs.Order.{is_pending, is_ready, is_ready_job, is_ready_batch, place_of, places_of, AreInDueOrder, IsFirstOf, IsFirstBatch};
+
+use crate::{is_batch, is_due};
+use spool_model::{Row, State};
+use std::alloc::{AllocError, Global};
+
+/// The numbers of all ready jobs outside the batch queues, by minute, then number.
+pub fn due_order(alloc: Global, rows: &[Row], now: i64) -> Result<Vec<u32>, AllocError>
+    ensures { IfOk result (λ numbers. AreInDueOrder rows.now now numbers.items) }
+{
+    let mut places = ready_places(alloc, rows, now)?;
+    places.sort_unstable();
+    numbers_of(alloc, &places)
+}
+
+fn numbers_of(alloc: Global, places: &[(u32, u32)]) -> Result<Vec<u32>, AllocError>
+    ensures { IfOk result (λ numbers. numbers.items ≡ map (λ place. place.1) places.now) }
+{
+    places.iter().map(|place| place.1).collect(alloc)
+}
+
+fn ready_places(alloc: Global, rows: &[Row], now: i64) -> Result<Vec<(u32, u32)>, AllocError>
+    ensures { IfOk result (λ places. places.items ≡ map place_of (filter (is_ready_job now) rows.now)) }
+{
+    rows.iter()
+        .filter(|row| is_ready(row, now) && !is_batch(row.queue))
+        .map(place)
+        .collect(alloc)
+}
+
+/// The number of the first ready job of the batch queues, by minute, then number.
+pub fn first_batch(rows: &[Row], now: i64) -> Option<u32>
+    ensures some { IfSome result (IsFirstBatch rows.now now) }
+    ensures none { IfNone result (places_of (is_ready_batch now) rows.now ≡ []) }
+{
+    let place = first_place(rows, now)?;
+    Some(place.1)
+}
+
+fn first_place(rows: &[Row], now: i64) -> Option<(u32, u32)>
+    ensures some { IfSome result (IsFirstOf (places_of (is_ready_batch now) rows.now)) }
+    ensures none { IfNone result (places_of (is_ready_batch now) rows.now ≡ []) }
+{
+    rows.iter()
+        .filter(|row| is_ready(row, now) && is_batch(row.queue))
+        .map(place)
+        .min()
+}
+
+fn is_ready(row: &Row, now: i64) -> bool
+    ensures { result ≡ is_ready now row.now }
+{
+    row.state == State::Pending && is_due(row, now)
+}
+
+/// The place in the line.
+fn place(row: &Row) -> (u32, u32)
+    ensures { result ≡ place_of row.now }
+{
+    (row.minute, row.number)
+}

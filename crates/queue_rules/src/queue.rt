@@ -1,0 +1,66 @@
+//! The rules of one queue and of one job.
+ghost use Rattle.std.specs.Prelude.{◌≡◌, IsTrue, IfSome};
+ghost use Rattle.std.specs.Char.{is_ascii_alphabetic};
+ghost use Rattle.spool_model.specs.JobTable.{is_batch_queue};
+ghost use Rattle.queue_rules.specs.Queues.{niceness_of, is_due, IsClockSecond, has_rested, may_start_batch};
+
+use spool_model::Row;
+
+/// The niceness that no job passes.
+const GREATEST_NICENESS: u8 = 19;
+
+/// Whether it is a batch queue.
+pub fn is_batch(queue: u8) -> bool
+    ensures { result ≡ is_batch_queue queue }
+{
+    queue == b'b' || queue.is_ascii_uppercase()
+}
+
+/// The niceness of the queue's jobs.
+pub fn nice_of(queue: u8) -> u8
+    requires { IsTrue (is_ascii_alphabetic queue) }
+    ensures { result ≡ niceness_of queue }
+{
+    let position = if queue >= b'a' {
+        queue - b'a'
+    } else {
+        queue - b'A'
+    };
+    (2 * position).min(GREATEST_NICENESS)
+}
+
+/// Whether the job's minute has begun.
+pub fn is_due(row: &Row, now: i64) -> bool
+    ensures { result ≡ is_due now row.now }
+{
+    60 * i64::from(row.minute) <= now
+}
+
+/// Whether a batch job may start now: the load is in hundredths, the interval in seconds.
+pub fn may_start_batch(
+    load: Option<u32>,
+    limit: u32,
+    last: Option<i64>,
+    now: i64,
+    interval: u32,
+) -> bool
+    requires now { IsClockSecond now }
+    requires last { IfSome last IsClockSecond }
+    ensures { result ≡ may_start_batch load limit last now interval }
+{
+    let Some(load) = load else {
+        return false;
+    };
+    load < limit && has_rested(last, now, interval)
+}
+
+fn has_rested(last: Option<i64>, now: i64, interval: u32) -> bool
+    requires now { IsClockSecond now }
+    requires last { IfSome last IsClockSecond }
+    ensures { result ≡ has_rested last now interval }
+{
+    match last {
+        None => true,
+        Some(last) => now - last >= i64::from(interval) || now < last,
+    }
+}
