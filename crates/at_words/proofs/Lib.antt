@@ -1,0 +1,6 @@
+mod AskLemmas
+mod CommandLemmas
+mod DigitLemmas
+mod NumberLemmas
+mod OperandLemmas
+mod ToolLemmas

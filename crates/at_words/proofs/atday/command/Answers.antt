@@ -1,0 +1,10 @@
+use Rattle.std.proofs.Common.{codes, ap}
+use Rattle.clap.specs.Simple.{app_of}
+use Rattle.at_words.specs.Commands.{atday_app, long_rule}
+use Rattle.at_words.proofs.CommandLemmas.{made_with, with}
+use Rattle.at_words.proofs.atday.command.Goals as goal
+
+pub returns : goal.returns
+unfolding atday_app
+returns c =
+    made_with c.with_long.result (app_of c.bare.result) atday_app (long_rule (codes "make")) c.with_long.ensures (ap (with (long_rule (codes "make"))) c.bare.ensures)

@@ -1,0 +1,10 @@
+pub mod Answers
+pub mod Asked
+pub mod Commands
+pub mod Daemons
+pub mod Digits
+pub mod Numbers
+pub mod Queues
+pub mod Requests
+pub mod Rows
+pub mod Tools

@@ -1,0 +1,86 @@
+//! The words of `atd`.
+ghost use Rattle.std.specs.Prelude.{◌≡◌, IfOk, map, string_bytes};
+ghost use Rattle.clap.specs.Matches.{found_of};
+ghost use Rattle.clap.specs.Simple.{app_of};
+ghost use Rattle.clap.specs.Walk.{rows_of};
+ghost use Rattle.at_words.specs.Answers.{Answers, asked_of, or_usage};
+ghost use Rattle.at_words.specs.Commands.{atd_app};
+ghost use Rattle.at_words.specs.Daemons.{atd_asked, interval_asked, limit_asked, turns_asked};
+ghost use Rattle.at_words.specs.Rows.{text_of};
+
+use crate::building::{bare, with_flag, with_long, with_value};
+use crate::reading::{has_flag, parsed, value};
+use crate::{ToolRequest, WordsFault, digits};
+use clap::{ArgMatches, Command};
+use std::alloc::{AllocError, Global};
+
+/// The greatest number of turns, and the number where none is given.
+const MOST_TURNS: u64 = 4_611_686_018_427_387_904;
+
+/// What the words of `atd` ask for, the first of which stands for its name.
+pub fn request(alloc: Global, words: &[String]) -> Result<ToolRequest, WordsFault>
+    ensures { Answers (asked_of atd_app atd_asked (map string_bytes words.now)) result }
+{
+    let command = command(alloc)?;
+    let matches = parsed(command, words)?;
+    asked(&matches)
+}
+
+fn command<'a>(alloc: Global) -> Result<Command<'a>, AllocError>
+    ensures { IfOk result (λ made. app_of made ≡ atd_app) }
+{
+    let once = with_flag(alloc, bare(alloc, "atd"), "once", 's')?;
+    let limit = with_value(alloc, once, "limit", 'l')?;
+    let interval = with_value(alloc, limit, "interval", 'b')?;
+    with_long(alloc, interval, "turns")
+}
+
+fn asked(matches: &ArgMatches) -> Result<ToolRequest, WordsFault>
+    ensures { Answers (atd_asked (rows_of (found_of matches.now))) result }
+{
+    match daemon(matches) {
+        Some(daemon) => Ok(daemon),
+        None => Err(WordsFault::Usage),
+    }
+}
+
+fn daemon(matches: &ArgMatches) -> Option<ToolRequest>
+    ensures { or_usage result ≡ atd_asked (rows_of (found_of matches.now)) }
+{
+    let limit = limit_of(value(matches, "limit"))?;
+    let interval = interval_of(value(matches, "interval"))?;
+    let turns = turns_of(value(matches, "turns"))?;
+    Some(ToolRequest::Daemon {
+        limit,
+        interval,
+        once: has_flag(matches, "once"),
+        turns,
+    })
+}
+
+fn limit_of(value: Option<&str>) -> Option<u32>
+    ensures { result ≡ limit_asked (text_of value.entry) }
+{
+    match value {
+        Some(text) => digits::limit(text),
+        None => Some(150),
+    }
+}
+
+fn interval_of(value: Option<&str>) -> Option<u32>
+    ensures { result ≡ interval_asked (text_of value.entry) }
+{
+    match value {
+        Some(text) => digits::short(text, 9, 0, 999_999_999),
+        None => Some(60),
+    }
+}
+
+fn turns_of(value: Option<&str>) -> Option<u64>
+    ensures { result ≡ turns_asked (text_of value.entry) }
+{
+    match value {
+        Some(text) => digits::number(text, 19, 1, MOST_TURNS),
+        None => Some(MOST_TURNS),
+    }
+}

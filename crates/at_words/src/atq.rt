@@ -1,0 +1,37 @@
+//! The words of `atq`.
+ghost use Rattle.std.specs.Prelude.{◌≡◌, IfOk, map, string_bytes};
+ghost use Rattle.clap.specs.Matches.{found_of};
+ghost use Rattle.clap.specs.Simple.{app_of};
+ghost use Rattle.clap.specs.Walk.{rows_of};
+ghost use Rattle.at_words.specs.Answers.{Answers, asked_of};
+ghost use Rattle.at_words.specs.Asked.{atq_asked};
+ghost use Rattle.at_words.specs.Commands.{atq_app};
+
+use crate::building::{bare, with_value};
+use crate::jobs::filter;
+use crate::reading::{parsed, value};
+use crate::{ToolRequest, WordsFault};
+use clap::{ArgMatches, Command};
+use std::alloc::{AllocError, Global};
+
+/// What the words of `atq` ask for, the first of which stands for its name.
+pub fn request(alloc: Global, words: &[String]) -> Result<ToolRequest, WordsFault>
+    ensures { Answers (asked_of atq_app atq_asked (map string_bytes words.now)) result }
+{
+    let command = command(alloc)?;
+    let matches = parsed(command, words)?;
+    asked(alloc, &matches)
+}
+
+fn command<'a>(alloc: Global) -> Result<Command<'a>, AllocError>
+    ensures { IfOk result (λ made. app_of made ≡ atq_app) }
+{
+    with_value(alloc, bare(alloc, "atq"), "queue", 'q')
+}
+
+fn asked(alloc: Global, matches: &ArgMatches) -> Result<ToolRequest, WordsFault>
+    ensures { Answers (atq_asked (rows_of (found_of matches.now))) result }
+{
+    let filter = filter(alloc, value(matches, "queue"), &[])?;
+    Ok(ToolRequest::List(filter))
+}

@@ -1,0 +1,36 @@
+//! The words of `atrm`.
+ghost use Rattle.std.specs.Prelude.{◌≡◌, IfOk, map, string_bytes};
+ghost use Rattle.clap.specs.Matches.{found_of};
+ghost use Rattle.clap.specs.Simple.{app_of};
+ghost use Rattle.clap.specs.Walk.{rows_of};
+ghost use Rattle.at_words.specs.Answers.{Answers, asked_of};
+ghost use Rattle.at_words.specs.Asked.{atrm_asked};
+ghost use Rattle.at_words.specs.Commands.{atrm_app};
+
+use crate::building::{bare, with_operands};
+use crate::jobs::one_or_more;
+use crate::reading::{operands, parsed};
+use crate::{ToolRequest, WordsFault};
+use clap::{ArgMatches, Command};
+use std::alloc::{AllocError, Global};
+
+/// What the words of `atrm` ask for, the first of which stands for its name.
+pub fn request(alloc: Global, words: &[String]) -> Result<ToolRequest, WordsFault>
+    ensures { Answers (asked_of atrm_app atrm_asked (map string_bytes words.now)) result }
+{
+    let command = command(alloc)?;
+    let matches = parsed(command, words)?;
+    asked(alloc, &matches)
+}
+
+fn command<'a>(alloc: Global) -> Result<Command<'a>, AllocError>
+    ensures { IfOk result (λ made. app_of made ≡ atrm_app) }
+{
+    with_operands(alloc, bare(alloc, "atrm"))
+}
+
+fn asked(alloc: Global, matches: &ArgMatches) -> Result<ToolRequest, WordsFault>
+    ensures { Answers (atrm_asked (rows_of (found_of matches.now))) result }
+{
+    Ok(ToolRequest::Remove(one_or_more(alloc, operands(matches))?))
+}

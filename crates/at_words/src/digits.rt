@@ -1,0 +1,83 @@
+//! Numbers in decimal digits.
+ghost use Rattle.std.specs.Prelude.{◌≡◌, ◌<◌, IfSome};
+ghost use Rattle.std.specs.List.{list_all};
+ghost use Rattle.std.specs.Char.{is_ascii_digit};
+ghost use Rattle.at_words.specs.Digits.{are_digits, fraction_of, limit_of, number_in, within};
+ghost use Rattle.at_words.specs.Numbers.{job_number};
+
+/// The number of a job.
+pub fn job(text: &str) -> Option<u32>
+    ensures { result ≡ job_number text.now }
+{
+    short(text, 10, 1, u32::MAX)
+}
+
+/// The same as `number`, where the number is short.
+pub fn short(text: &str, most: usize, least: u32, greatest: u32) -> Option<u32>
+    ensures { result ≡ number_in most least greatest text.now }
+{
+    let number = number(text, most, u64::from(least), u64::from(greatest))?;
+    Some(number as u32)
+}
+
+/// The number from the least to the greatest that so many digits at most write.
+pub fn number(text: &str, most: usize, least: u64, greatest: u64) -> Option<u64>
+    ensures { result ≡ number_in most least greatest text.now }
+{
+    if !is_digits(text, most) {
+        return None;
+    }
+    match text.parse::<u64>() {
+        Ok(number) => limited(number, least, greatest),
+        Err(_) => None,
+    }
+}
+
+// The number, where it is from the least to the greatest.
+fn limited(number: u64, least: u64, greatest: u64) -> Option<u64>
+    ensures { result ≡ within least greatest number }
+{
+    if least <= number && number <= greatest {
+        Some(number)
+    } else {
+        None
+    }
+}
+
+fn is_digits(text: &str, most: usize) -> bool
+    ensures { result ≡ are_digits most text.now }
+{
+    let bytes = text.as_bytes();
+    !bytes.is_empty() && bytes.len() <= most && are_all_digits(bytes)
+}
+
+fn are_all_digits(bytes: &[u8]) -> bool
+    ensures { result ≡ list_all is_ascii_digit bytes.now }
+{
+    bytes.iter().all(|byte| byte.is_ascii_digit())
+}
+
+/// A load in hundredths, from digits with at most two places behind a point.
+pub fn limit(text: &str) -> Option<u32>
+    ensures { result ≡ limit_of text.now }
+{
+    match text.split_once('.') {
+        Some((whole, fraction)) => {
+            let hundredths = hundredths(fraction)?;
+            Some(short(whole, 6, 0, 999_999)? * 100 + hundredths)
+        }
+        None => Some(short(text, 6, 0, 999_999)? * 100),
+    }
+}
+
+// What one or two digits behind a point write.
+fn hundredths(text: &str) -> Option<u32>
+    ensures value { result ≡ fraction_of text.now }
+    ensures few { IfSome result (λ value. value < 100) }
+{
+    if text.len() == 1 {
+        Some(short(text, 1, 0, 9)? * 10)
+    } else {
+        short(text, 2, 0, 99)
+    }
+}

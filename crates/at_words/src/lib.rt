@@ -1,0 +1,33 @@
+//! The words of `at`, `batch`, `atq`, `atrm`, `atd` and `atday`, read as what they ask for. Each tool's
+//! words are read by `clap` as one simple command.
+#![tactic(auto)]
+
+mod at;
+mod atd;
+mod atday;
+mod atq;
+mod atrm;
+mod batch;
+mod building;
+mod digits;
+mod fault;
+mod filter;
+mod jobs;
+mod numbers;
+mod queue;
+mod reading;
+mod tool;
+mod tool_request;
+mod when;
+mod words;
+
+pub use fault::WordsFault;
+pub use filter::Filter;
+pub use numbers::Numbers;
+pub use tool::{Tool, tool_of};
+pub use tool_request::ToolRequest;
+pub use when::When;
+pub use words::request;
+
+#[cfg(test)]
+mod tests;

@@ -1,0 +1,31 @@
+//! The request that words make.
+ghost use Rattle.std.specs.Prelude.{map, string_bytes};
+ghost use Rattle.at_words.specs.Answers.{Answers};
+ghost use Rattle.at_words.specs.Requests.{request_of, request_to};
+
+use crate::{Tool, ToolRequest, WordsFault, at, atd, atday, atq, atrm, batch, tool_of};
+use std::alloc::Global;
+
+/// What the words ask for: the tool that they name, with what stands behind its name.
+pub fn request(alloc: Global, words: &[String]) -> Result<ToolRequest, WordsFault>
+    ensures { Answers (request_of (map string_bytes words.now)) result }
+{
+    match tool_of(words) {
+        Some((tool, start)) => request_by(alloc, tool, &words[start - 1..]),
+        None => Err(WordsFault::Usage),
+    }
+}
+
+// What the tool is asked for by these words, the first of which stands for its name.
+fn request_by(alloc: Global, tool: Tool, words: &[String]) -> Result<ToolRequest, WordsFault>
+    ensures { Answers (request_to tool (map string_bytes words.now)) result }
+{
+    match tool {
+        Tool::At => at::request(alloc, words),
+        Tool::Batch => batch::request(alloc, words),
+        Tool::Atq => atq::request(alloc, words),
+        Tool::Atrm => atrm::request(alloc, words),
+        Tool::Atd => atd::request(alloc, words),
+        Tool::Atday => atday::request(alloc, words),
+    }
+}
