@@ -1,0 +1,416 @@
+-- Headers and their faults.
+use Rattle.std.proofs.Common.{◌≡◌, ◌≢◌, ℕ, suc, ◌+◌, ◌-◌, ◌<◌, ◌≤◌, ◌⊎◌, inl, inr, Bool, true, false, List, [], ◌∷◌, ◌++◌, length, get_or, take, drop, max, IsTrue, refl, sym, ap, subst, arith, drop-cons, ◌∙◌, zero}
+use Rattle.std.proofs.Math.Seq.{take-append-add}
+use Rattle.std.proofs.lemmas.Bool.{cases_lt}
+use Rattle.std.proofs.lemmas.List.{append_assoc, append_cancel_left, drop_all, get_or_append_left, get_or-take, take-append-drop, take_all, ext_get_or, length-append, length-take-le}
+use Rattle.spool_model.specs.Users.{IsUserName, is_user_byte, are_user_bytes}
+use Rattle.job_script.specs.Header.{BeginsWithHeader, IsHeaderFault, IsHeaderFront, before_user, behind_user, header_text}
+use Rattle.job_script.specs.Scan.{Matches, Runs}
+use Rattle.job_script.proofs.UserRuns.{EndsUser, IsMost, both_hold, is_the_name, same_user, users_by_place}
+
+-- the bytes have as much of the text as agrees
+pub matched_front : (bytes text : List ℕ) (count : ℕ) → Matches bytes text count → take count bytes ≡ take count text
+matched_front bytes text count m =
+    let left : length (take count bytes) ≡ count = length-take-le count bytes m.in_bytes in
+    let right : length (take count text) ≡ count = length-take-le count text m.in_text in
+    ext_get_or 0 (take count bytes) (take count text) (left ∙ sym right)
+    (λ k below. let within : k < count = omega arith in
+    get_or-take count bytes k 0 within ∙ m.same k within ∙ sym (get_or-take count text k 0 within))
+
+-- where all of the text agrees, the bytes begin with it
+pub matched_whole : (bytes text : List ℕ) (count : ℕ) → Matches bytes text count → count ≡ length text
+    → bytes ≡ text ++ drop count bytes
+matched_whole bytes text count m all =
+    let front : take count bytes ≡ text = matched_front bytes text count m ∙ take_all count text (omega arith) in
+    sym (take-append-drop count bytes) ∙ ap (λ (it : List ℕ). it ++ drop count bytes) front
+
+-- where a text has more of the bytes than agrees, it doesn't begin with the other text
+pub agrees_no_further : (bytes text whole more : List ℕ) (count far : ℕ) → Matches bytes text count
+    → count < far → far ≤ length bytes → count < length text
+    → get_or whole count 0 ≡ get_or text count 0 → whole ≡ take far bytes ++ more → ⊥
+agrees_no_further bytes text whole more count far m less within short begins same =
+    let taken : length (take far bytes) ≡ far = length-take-le far bytes within in
+    let there : get_or (take far bytes ++ more) count 0 ≡ get_or (take far bytes) count 0 =
+    get_or_append_left (take far bytes) more 0 count (omega arith) in
+    let inside : get_or (take far bytes) count 0 ≡ get_or bytes count 0 = get_or-take far bytes count 0 less in
+    let equal : get_or whole count 0 ≡ get_or (take far bytes ++ more) count 0 = ap (λ (it : List ℕ). get_or it count 0) same in
+    let short_of : count < length bytes = omega arith in
+    m.stops short short_of (cc (begins, equal, there, inside))
+
+-- bytes that agree no further don't begin with the text
+pub is_no_front : (bytes text rest : List ℕ) (count : ℕ) → Matches bytes text count
+    → count < length text → bytes ≡ text ++ rest → ⊥
+is_no_front bytes text rest count m short same =
+    let long : length bytes ≡ length text + length rest = ap length same ∙ length-append text rest in
+    let here : get_or (text ++ rest) count 0 ≡ get_or text count 0 = get_or_append_left text rest 0 count short in
+    m.stops short (omega arith) (ap (λ (it : List ℕ). get_or it count 0) same ∙ here)
+
+-- what stands behind a user begins with no byte of a name
+pub ends_there : (mail : Bool) (rest : List ℕ) → EndsUser (behind_user mail ++ rest)
+ends_there true rest = refl
+ends_there false rest = refl
+
+-- the part behind the user has eight bytes
+pub eight_behind : (mail : Bool) → length (behind_user mail) ≡ 8
+eight_behind true = refl
+eight_behind false = refl
+
+-- the digits of the flag are two
+unlike : (a b : ℕ) → a ≡ 49 → b ≡ 48 → a ≡ b → ⊥
+unlike a b one none same = omega arith
+
+-- two flags that are spelled alike are one
+pub one_flag : (a b : Bool) (x y : List ℕ) → behind_user a ++ x ≡ behind_user b ++ y → a ≡ b
+one_flag true true x y same = refl
+one_flag false false x y same = refl
+one_flag true false x y same =
+    absurd (unlike _ _ refl refl (ap (λ (it : List ℕ). get_or it 6 0) same))
+one_flag false true x y same =
+    absurd (unlike _ _ refl refl (sym (ap (λ (it : List ℕ). get_or it 6 0) same)))
+
+-- the flag stands alone at the end of a header
+pub ends_alone : (mail : Bool) → EndsUser (behind_user mail)
+ends_alone true = refl
+ends_alone false = refl
+
+-- a header and what follows it, part by part
+pub parts : (user more : List ℕ) (mail : Bool)
+    → header_text user mail ++ more ≡ before_user ++ (user ++ (behind_user mail ++ more))
+parts user more mail =
+    append_assoc before_user (user ++ behind_user mail) more
+    ∙ ap (λ (it : List ℕ). before_user ++ it) (append_assoc user (behind_user mail) more)
+
+-- the text behind the front of a header begins with the rest of it
+pub behind_front : (rest user more : List ℕ) (mail : Bool)
+    → before_user ++ rest ≡ header_text user mail ++ more → rest ≡ user ++ (behind_user mail ++ more)
+behind_front rest user more mail same =
+    append_cancel_left before_user rest (user ++ (behind_user mail ++ more)) (same ∙ parts user more mail)
+
+-- bytes begin with one header at most
+pub one_header : (bytes u v : List ℕ) (a b : Bool) → BeginsWithHeader bytes u a → BeginsWithHeader bytes v b → (u ≡ v) × (a ≡ b)
+one_header bytes u v a b first second =
+    let both : before_user ++ (u ++ (behind_user a ++ first.rest)) ≡ header_text v b ++ second.rest =
+    sym (parts u first.rest a) ∙ sym first.text ∙ second.text in
+    let tails : u ++ (behind_user a ++ first.rest) ≡ v ++ (behind_user b ++ second.rest) =
+    behind_front (u ++ (behind_user a ++ first.rest)) v second.rest b both in
+    let same : (u ≡ v) × (behind_user a ++ first.rest ≡ behind_user b ++ second.rest) =
+    same_user u v (behind_user a ++ first.rest) (behind_user b ++ second.rest) first.name.each second.name.each
+    (ends_there a first.rest) (ends_there b second.rest) tails in
+    (same.0, one_flag a b first.rest second.rest same.1)
+
+-- the header that the code has found
+pub header_found : (bytes rest user tail : List ℕ) (mail : Bool) (more : List ℕ) → IsUserName user
+    → bytes ≡ before_user ++ rest → rest ≡ user ++ tail → tail ≡ behind_user mail ++ more
+    → BeginsWithHeader bytes user mail
+header_found bytes rest user tail mail more name front middle end = record {
+  name = name;
+  rest = more;
+  text = front ∙ ap (λ (it : List ℕ). before_user ++ it) (middle ∙ ap (λ (it : List ℕ). user ++ it) end)
+      ∙ sym (parts user more mail);
+}
+
+-- the shortest user's name
+pub some_name : IsUserName (97 ∷ [])
+some_name = record { some = omega arith; few = omega arith; each = refl; no_dash = λ same. absurd (cc same) }
+
+-- a fault before the user
+pub fault_before : (bytes : List ℕ) (count : ℕ) → Matches bytes before_user count → count < 20 → IsHeaderFault bytes count
+fault_before bytes count m short = record {
+  none = λ h. is_no_front bytes before_user (h.user ++ (behind_user h.mail ++ h.header.rest)) count m short
+      (h.header.text ∙ parts h.user h.header.rest h.mail);
+  within = m.in_bytes;
+  front = record {
+    user = 97 ∷ [];
+    mail = false;
+    name = some_name;
+    rest = drop count before_user ++ ((97 ∷ []) ++ behind_user false);
+    text = ap (λ (it : List ℕ). it ++ ((97 ∷ []) ++ behind_user false)) (sym (take-append-drop count before_user))
+        ∙ append_assoc (take count before_user) (drop count before_user) ((97 ∷ []) ++ behind_user false)
+        ∙ ap (λ (it : List ℕ). it ++ (drop count before_user ++ ((97 ∷ []) ++ behind_user false)))
+        (sym (matched_front bytes before_user count m));
+  };
+  longest = λ more less within f.
+      agrees_no_further bytes before_user (header_text f.user f.mail) f.rest count more m less within short
+      (get_or_append_left before_user (f.user ++ behind_user f.mail) 0 count short) f.text;
+}
+
+-- no user's name begins there: another byte stands there, or a dash
+abbrev pub NoName : List ℕ → Type 0
+NoName [] = Unit {0}
+NoName (x ∷ xs) = (is_user_byte x ≡ false) ⊎ (x ≡ 45)
+
+-- no name begins where none can
+pub no_name : (x v y : List ℕ) → NoName x → IsUserName v → x ≡ v ++ y → ⊥
+no_name [] [] y none name same = absurd (omega (arith, name.some))
+no_name [] (b ∷ v) y none name same = absurd (cc same)
+no_name (a ∷ x) [] y none name same = absurd (omega (arith, name.some))
+no_name (a ∷ x) (b ∷ v) y (inl strange) name same =
+    let head : a ≡ b = cc same in
+    cc ((both_hold (is_user_byte b) (are_user_bytes v) name.each).0, strange, ap is_user_byte head)
+no_name (a ∷ x) (b ∷ v) y (inr dash) name same =
+    let head : b ≡ 45 = cc (same, dash) in
+    name.no_dash head
+
+-- a front of such a text is one
+pub no_name_in_front : (x more : List ℕ) (count : ℕ) → 0 < count → count ≤ length x → NoName x → NoName (take count x ++ more)
+no_name_in_front [] more count some within none = absurd (omega arith)
+no_name_in_front (a ∷ x) more zero some within none = absurd (omega arith)
+no_name_in_front (a ∷ x) more (suc count) some within none = none
+
+-- a front of a text behind a user's name is one
+pub ends_in_front : (x more : List ℕ) (count : ℕ) → 0 < count → count ≤ length x → EndsUser x → EndsUser (take count x ++ more)
+ends_in_front [] more count some within ends = absurd (omega arith)
+ends_in_front (a ∷ x) more zero some within ends = absurd (omega arith)
+ends_in_front (a ∷ x) more (suc count) some within ends = ends
+
+-- a front of a header that reaches behind what stands before the user
+pub front_behind : (x : List ℕ) (f : IsHeaderFront (before_user ++ x)) → f.user ++ behind_user f.mail ≡ x ++ f.rest
+front_behind x f =
+    append_cancel_left before_user (f.user ++ behind_user f.mail) (x ++ f.rest)
+    (f.text ∙ append_assoc before_user x f.rest)
+
+-- a front of a text with a known front
+pub take_behind : (front x : List ℕ) (more : ℕ) → length front ≤ more
+    → take more (front ++ x) ≡ front ++ take (more - length front) x
+take_behind front x more far =
+    let whole : more ≡ length front + (more - length front) = omega arith in
+    ap (λ (n : ℕ). take n (front ++ x)) whole ∙ take-append-add front x (more - length front)
+
+-- a fault where a user should stand
+pub fault_at_user : (bytes rest : List ℕ) → bytes ≡ before_user ++ rest → NoName rest → IsHeaderFault bytes 20
+fault_at_user bytes rest front none =
+    let long : length bytes ≡ 20 + length rest = ap length front ∙ length-append before_user rest in
+    let taken : take 20 bytes ≡ before_user ++ [] = ap (λ (it : List ℕ). take 20 it) front ∙ take-append-add before_user rest 0 in
+    record {
+      none = λ h. no_name rest h.user (behind_user h.mail ++ h.header.rest) none h.header.name
+          (behind_front rest h.user h.header.rest h.mail (sym front ∙ h.header.text));
+      within = omega arith;
+      front = record {
+        user = 97 ∷ [];
+        mail = false;
+        name = some_name;
+        rest = (97 ∷ []) ++ behind_user false;
+        text = ap (λ (it : List ℕ). it ++ ((97 ∷ []) ++ behind_user false)) (sym taken);
+      };
+      longest = λ more less within f.
+          let taken : take more bytes ≡ before_user ++ take (more - 20) rest =
+          ap (λ (it : List ℕ). take more it) front ∙ take_behind before_user rest more (omega arith) in
+          let g : IsHeaderFront (before_user ++ take (more - 20) rest) = subst IsHeaderFront taken f in
+          no_name (take (more - 20) rest ++ g.rest) g.user (behind_user g.mail)
+          (no_name_in_front rest g.rest (more - 20) (omega arith) (omega arith) none) g.name
+          (sym (front_behind (take (more - 20) rest) g));
+    }
+
+-- the run of bytes goes on no further in a front of the text behind it
+pub most_in_front : (u x more : List ℕ) (count : ℕ) → 0 < count → count ≤ length x → IsMost u x → IsMost u (take count x ++ more)
+most_in_front u x more count some within (inl full) = inl full
+most_in_front u x more count some within (inr ends) = inr (ends_in_front x more count some within ends)
+
+-- how far what stands behind the user agrees with each spelling of the flag
+pub record MatchesFlags (tail : List ℕ) (count : Bool → ℕ) (most : ℕ) : Type 0 where
+  pub each : (mail : Bool) → Matches tail (behind_user mail) (count mail)
+  pub short : (mail : Bool) → count mail < 8
+  pub below : (mail : Bool) → count mail ≤ most
+  pub mail : Bool
+  pub here : count mail ≡ most
+
+-- a fault behind the user
+pub fault_behind : (bytes u tail : List ℕ) (count : Bool → ℕ) (most : ℕ)
+    → bytes ≡ before_user ++ (u ++ tail) → IsUserName u → IsMost u tail → MatchesFlags tail count most
+    → IsHeaderFault bytes (20 + length u + most)
+fault_behind bytes u tail count most front name ends m =
+    let long : length bytes ≡ 20 + (length u + length tail) =
+    ap length front ∙ length-append before_user (u ++ tail) ∙ ap (λ (n : ℕ). 20 + n) (length-append u tail) in
+    let best : Matches tail (behind_user m.mail) most =
+    subst (λ (n : ℕ). Matches tail (behind_user m.mail) n) m.here (m.each m.mail) in
+    let taken : (far : ℕ) → 20 + length u ≤ far → take far bytes ≡ before_user ++ (u ++ take (far - 20 - length u) tail) =
+    λ far reach. ap (λ (it : List ℕ). take far it) front
+    ∙ take_behind before_user (u ++ tail) far (omega arith)
+    ∙ ap (λ (it : List ℕ). before_user ++ it) (take_behind u tail (far - 20) (omega arith)) in
+    record {
+      none = λ h.
+          let tails : u ++ tail ≡ h.user ++ (behind_user h.mail ++ h.header.rest) =
+          behind_front (u ++ tail) h.user h.header.rest h.mail (sym front ∙ h.header.text) in
+          let same : (u ≡ h.user) × (tail ≡ behind_user h.mail ++ h.header.rest) =
+          is_the_name u h.user tail (behind_user h.mail ++ h.header.rest) name h.header.name ends
+          (ends_there h.mail h.header.rest) tails in
+          let short : count h.mail < length (behind_user h.mail) = rw eight_behind (m.short h.mail) in
+          is_no_front tail (behind_user h.mail) h.header.rest (count h.mail) (m.each h.mail) short same.1;
+      within = let within : most ≤ length tail = best.in_bytes in omega arith;
+      front =
+          let back : 20 + length u + most - 20 - length u ≡ most = omega arith in
+          let here : take (20 + length u + most) bytes ≡ before_user ++ (u ++ take most tail) =
+          taken (20 + length u + most) (omega arith)
+          ∙ ap (λ (n : ℕ). before_user ++ (u ++ take n tail)) back in
+          let agree : take most tail ≡ take most (behind_user m.mail) = matched_front tail (behind_user m.mail) most best in
+          let flag : behind_user m.mail ≡ take most tail ++ drop most (behind_user m.mail) =
+          sym (take-append-drop most (behind_user m.mail))
+          ∙ ap (λ (it : List ℕ). it ++ drop most (behind_user m.mail)) (sym agree) in
+          record {
+            user = u;
+            mail = m.mail;
+            name = name;
+            rest = drop most (behind_user m.mail);
+            text = ap (λ (it : List ℕ). before_user ++ (u ++ it)) flag
+                ∙ sym (ap (λ (it : List ℕ). before_user ++ it) (append_assoc u (take most tail) (drop most (behind_user m.mail))))
+                ∙ sym (append_assoc before_user (u ++ take most tail) (drop most (behind_user m.mail)))
+                ∙ ap (λ (it : List ℕ). it ++ drop most (behind_user m.mail)) (sym here);
+          };
+      longest = λ more less within f.
+          let far = more - 20 - length u in
+          let g : IsHeaderFront (before_user ++ (u ++ take far tail)) = subst IsHeaderFront (taken more (omega arith)) f in
+          let tails : u ++ (take far tail ++ g.rest) ≡ g.user ++ behind_user g.mail =
+          sym (append_assoc u (take far tail) g.rest) ∙ sym (front_behind (u ++ take far tail) g) in
+          let same : (u ≡ g.user) × (take far tail ++ g.rest ≡ behind_user g.mail) =
+          is_the_name u g.user (take far tail ++ g.rest) (behind_user g.mail) name g.name
+          (most_in_front u tail g.rest far (omega arith) (omega arith) ends) (ends_alone g.mail) tails in
+          let below : count g.mail ≤ most = m.below g.mail in
+          let short : count g.mail < length (behind_user g.mail) = rw eight_behind (m.short g.mail) in
+          agrees_no_further tail (behind_user g.mail) (behind_user g.mail) g.rest (count g.mail) far (m.each g.mail)
+          (omega arith) (omega arith) short refl (sym same.1);
+    }
+
+-- the count of each spelling
+abbrev pub pick : ℕ → ℕ → Bool → ℕ
+pick without with true = with
+pick without with false = without
+
+-- what holds of both counts holds of each that is picked
+pub pick_each : (tail : List ℕ) (without with : ℕ) → Matches tail (behind_user false) without
+    → Matches tail (behind_user true) with → (mail : Bool) → Matches tail (behind_user mail) (pick without with mail)
+pick_each tail without with plain mailed true = mailed
+pick_each tail without with plain mailed false = plain
+
+-- both counts are short
+pub pick_short : (without with : ℕ) → without < 8 → with < 8 → (mail : Bool) → pick without with mail < 8
+pick_short without with plain mailed true = mailed
+pick_short without with plain mailed false = plain
+
+-- neither count is above the greater
+pub pick_below : (without with : ℕ) (mail : Bool) → pick without with mail ≤ max without with
+pick_below without with true = omega arith
+pick_below without with false = omega arith
+
+-- one of the counts is the greater
+pub pick_best : (without with : ℕ) → (mail : Bool) × (pick without with mail ≡ max without with)
+pick_best without with =
+    elim (cases_lt without with) [
+      | inl less ↦ (true, omega arith)
+      | inr most ↦ (false, omega arith)
+    ]
+
+-- both spellings of the flag, and the longer of the two
+pub both_flags : (tail : List ℕ) (without with : ℕ) → Matches tail (behind_user false) without
+    → Matches tail (behind_user true) with → without < 8 → with < 8
+    → MatchesFlags tail (pick without with) (max without with)
+both_flags tail without with plain mailed short brief = record {
+  each = pick_each tail without with plain mailed;
+  short = pick_short without with short brief;
+  below = pick_below without with;
+  mail = (pick_best without with).0;
+  here = (pick_best without with).1;
+}
+
+-- the run goes on no further
+pub run_is_most : (rest : List ℕ) (count : ℕ) → Runs rest count → 0 < count → IsMost (take count rest) (drop count rest)
+run_is_most rest count run some =
+    elim (cases_lt count 32) [
+      | inl short ↦ elim (cases_lt count (length rest)) [
+        | inl more ↦ elim (run.stops short more) [
+          | inl strange ↦ inr (subst EndsUser (sym (drop-cons rest count 0 more)) strange)
+          | inr dash ↦ absurd (omega (arith, dash.0))
+        ]
+        | inr all ↦ inr (subst EndsUser (sym (drop_all count rest all)) tt)
+      ]
+      | inr full ↦ inl (length-take-le count rest run.within ∙ omega (arith, run.few))
+    ]
+
+-- a run of at least one byte is a user's name
+pub run_is_name : (rest : List ℕ) (count : ℕ) → Runs rest count → 0 < count → IsUserName (take count rest)
+run_is_name rest count run some =
+    let long : length (take count rest) ≡ count = length-take-le count rest run.within in
+    let few : count ≤ 32 = run.few in
+    record {
+      some = omega arith;
+      few = omega arith;
+      each = users_by_place (take count rest)
+          (λ k below. let inside : k < count = omega arith in
+          subst (λ (byte : ℕ). IsTrue (is_user_byte byte)) (sym (get_or-take count rest k 0 inside)) (run.each k inside));
+      no_dash = λ same. run.no_dash some (sym (get_or-take count rest 0 0 some) ∙ same);
+    }
+
+-- where the run has no byte, no name begins
+pub no_run : (rest : List ℕ) → Runs rest 0 → NoName rest
+no_run [] run = tt
+no_run (x ∷ xs) run =
+    elim (run.stops (omega arith) (omega arith)) [
+      | inl strange ↦ inl strange
+      | inr dash ↦ inr dash.1
+    ]
+
+-- where the run is no name, no name begins
+pub no_name_here : (rest : List ℕ) (count : ℕ) → Runs rest count → ¬ IsUserName (take count rest) → NoName rest
+no_name_here rest zero run none = no_run rest run
+no_name_here rest (suc count) run none = absurd (none (run_is_name rest (suc count) run (omega arith)))
+
+-- a name has a byte
+pub some_run : (rest : List ℕ) (count : ℕ) → Runs rest count → IsUserName (take count rest) → 0 < count
+some_run rest count run name =
+    let long : length (take count rest) ≡ count = length-take-le count rest run.within in
+    omega (arith, name.some)
+
+-- what stands before the user stands there whole
+pub whole_front : (bytes rest : List ℕ) (before : ℕ) → Matches bytes before_user before → 20 ≤ before
+    → rest ≡ drop before bytes → bytes ≡ before_user ++ rest
+whole_front bytes rest before m far behind =
+    let few : before ≤ 20 = m.in_text in
+    let whole : before ≡ length before_user = omega arith in
+    matched_whole bytes before_user before m whole ∙ ap (λ (it : List ℕ). before_user ++ it) (sym behind)
+
+-- the run and what follows it are all that stands there
+pub run_and_rest : (rest user tail : List ℕ) (count : ℕ) → user ≡ take count rest → tail ≡ drop count rest → rest ≡ user ++ tail
+run_and_rest rest user tail count front behind =
+    sym (take-append-drop count rest)
+    ∙ ap (λ (it : List ℕ). it ++ drop count rest) (sym front) ∙ ap (λ (it : List ℕ). user ++ it) (sym behind)
+
+-- the code has found a header
+pub header_read : (bytes rest user tail : List ℕ) (before count flag : ℕ) (mail : Bool) → Matches bytes before_user before
+    → 20 ≤ before → rest ≡ drop before bytes → user ≡ take count rest → tail ≡ drop count rest → IsUserName user
+    → Matches tail (behind_user mail) flag → flag ≡ 8 → BeginsWithHeader bytes user mail
+header_read bytes rest user tail before count flag mail m far behind front after name found all =
+    header_found bytes rest user tail mail (drop flag tail) name
+    (whole_front bytes rest before m far behind) (run_and_rest rest user tail count front after)
+    (matched_whole tail (behind_user mail) flag found (all ∙ sym (eight_behind mail)))
+
+-- the code has found no user
+pub user_missing : (bytes rest user : List ℕ) (before count : ℕ) → Matches bytes before_user before → 20 ≤ before
+    → rest ≡ drop before bytes → Runs rest count → user ≡ take count rest → ¬ IsUserName user → IsHeaderFault bytes before
+user_missing bytes rest user before count m far behind run front none =
+    let few : before ≤ 20 = m.in_text in
+    let place : 20 ≡ before = omega arith in
+    subst (λ (n : ℕ). IsHeaderFault bytes n) place
+    (fault_at_user bytes rest (whole_front bytes rest before m far behind)
+    (no_name_here rest count run (λ name. none (subst IsUserName (sym front) name))))
+
+-- the code has found a user, and no flag
+pub flag_missing : (bytes rest user tail : List ℕ) (before count without with : ℕ) → Matches bytes before_user before
+    → 20 ≤ before → rest ≡ drop before bytes → Runs rest count → user ≡ take count rest → tail ≡ drop count rest
+    → IsUserName user → Matches tail (behind_user false) without → Matches tail (behind_user true) with
+    → without ≢ 8 → with ≢ 8 → IsHeaderFault bytes (before + count + max without with)
+flag_missing bytes rest user tail before count without with m far behind run front after name plain mailed short brief =
+    let few : before ≤ 20 = m.in_text in
+    let no_more : without ≤ 8 = plain.in_text in
+    let as_few : with ≤ 8 = mailed.in_text in
+    let named : IsUserName (take count rest) = subst IsUserName front name in
+    let some : 0 < count = some_run rest count run named in
+    let long : length user ≡ count = ap length front ∙ length-take-le count rest run.within in
+    let ends : IsMost user tail = subst (λ (it : List ℕ). IsMost it tail) (sym front)
+    (subst (λ (it : List ℕ). IsMost (take count rest) it) (sym after) (run_is_most rest count run some)) in
+    let flags : MatchesFlags tail (pick without with) (max without with) =
+    both_flags tail without with plain mailed (omega arith) (omega arith) in
+    let whole : bytes ≡ before_user ++ (user ++ tail) =
+    whole_front bytes rest before m far behind
+    ∙ ap (λ (it : List ℕ). before_user ++ it) (run_and_rest rest user tail count front after) in
+    let place : 20 + length user + max without with ≡ before + count + max without with = omega arith in
+    subst (λ (n : ℕ). IsHeaderFault bytes n) place
+    (fault_behind bytes user tail (pick without with) (max without with) whole name ends flags)

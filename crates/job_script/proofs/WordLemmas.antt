@@ -1,0 +1,103 @@
+-- What is written between single quotes is a word of the shell, and stands for what was quoted.
+use Rattle.std.proofs.Common.{◌≡◌, ◌≢◌, ◌<◌, ◌==◌, ℕ, Bool, true, false, nat_eq, ◌&&◌, not, List, [], ◌∷◌, ◌++◌, IsTrue, refl, sym, ap, subst, ◌∙◌, arith}
+use Rattle.std.specs.List.{flat_map, filter}
+use Rattle.std.proofs.lemmas.List.{append_assoc}
+use Rattle.std.proofs.lemmas.Bool.Decides.{nat_tests}
+use Rattle.spool_model.specs.Users.{IsUserName}
+use Rattle.job_script.specs.Header.{header_text, before_user, behind_user}
+use Rattle.job_script.specs.JobText.{quoted, quoted_part, job_text, directory_lines, behind_directory, umask_line, variable_line, variable_lines}
+use Rattle.job_script.specs.Meaning.{Piece, between_quotes, behind_backslash, ArePieces, IsShellWord, Means, SetsVariables, has_no_quote, spelling, stands_for}
+use Rattle.job_script.specs.Variables.{has_no_zero, is_kept, kept, may_stand}
+use Rattle.job_script.proofs.UserRuns.{both_hold}
+
+-- a word whose first quote is open: the bytes up to the next quote, and the pieces behind it
+record IsOpened (value : List ℕ) : Type 0 where
+  run : List ℕ
+  pieces : List Piece
+  clean : IsTrue (has_no_quote run)
+  each : ArePieces pieces
+  spelled : flat_map quoted_part value ++ 39 ∷ [] ≡ run ++ (39 ∷ flat_map spelling pieces)
+  meant : value ≡ run ++ flat_map stands_for pieces
+
+-- one byte more in front of such a word
+opens : (byte : ℕ) (value : List ℕ) (is_quote : Bool) → nat_eq byte 39 ≡ is_quote → IsOpened value → IsOpened (byte ∷ value)
+opens byte value true here o =
+    let quote : byte ≡ 39 = grind (arith, nat_tests, here) in
+    record {
+      run = [];
+      pieces = behind_backslash 39 ∷ between_quotes o.run ∷ o.pieces;
+      clean = refl;
+      each = ((λ same. omega arith), (o.clean, o.each));
+      spelled = rw here (ap (λ (it : List ℕ). 39 ∷ 92 ∷ 39 ∷ 39 ∷ it)
+          (o.spelled ∙ sym (append_assoc o.run (39 ∷ []) (flat_map spelling o.pieces))));
+      meant = ap (λ (first : ℕ). first ∷ value) quote ∙ ap (λ (it : List ℕ). 39 ∷ it) o.meant;
+    }
+opens byte value false here o = record {
+  run = byte ∷ o.run;
+  pieces = o.pieces;
+  clean = rw here o.clean;
+  each = o.each;
+  spelled = rw here (ap (λ (it : List ℕ). byte ∷ it) o.spelled);
+  meant = ap (λ (it : List ℕ). byte ∷ it) o.meant;
+}
+
+-- a value whose first quote is open
+opened : (value : List ℕ) → IsOpened value
+opened [] = record { run = []; pieces = []; clean = refl; each = tt; spelled = refl; meant = refl }
+opened (byte ∷ value) = opens byte value (nat_eq byte 39) refl (opened value)
+
+-- a quoted value is a word of the shell with this value
+pub quoted_word : (value : List ℕ) → IsShellWord (quoted value) value
+quoted_word value =
+    let o : IsOpened value = opened value in
+    record {
+      pieces = between_quotes o.run ∷ o.pieces;
+      each = (o.clean, o.each);
+      spelled = ap (λ (it : List ℕ). 39 ∷ it)
+          (o.spelled ∙ sym (append_assoc o.run (39 ∷ []) (flat_map spelling o.pieces)));
+      meant = o.meant;
+    }
+
+-- each of the variables may stand in a job
+abbrev pub MayAllStand : List (List ℕ × List ℕ) → Type 0
+MayAllStand [] = Unit {0}
+MayAllStand (variable ∷ others) = IsTrue (may_stand variable.0) × MayAllStand others
+
+-- one variable more before those that are kept
+kept_before : (variable : List ℕ × List ℕ) (others : List (List ℕ × List ℕ)) (here : Bool) → is_kept variable ≡ here
+    → MayAllStand (kept others) → MayAllStand (kept (variable ∷ others))
+kept_before variable others true here stand =
+    rw here ((both_hold (may_stand variable.0) (has_no_zero variable.1) here).0, stand)
+kept_before variable others false here stand = rw here stand
+
+-- the variables that are kept may stand in a job
+pub kept_may_stand : (variables : List (List ℕ × List ℕ)) → MayAllStand (kept variables)
+kept_may_stand [] = tt
+kept_may_stand (variable ∷ others) = kept_before variable others (is_kept variable) refl (kept_may_stand others)
+
+-- the lines of variables set them in turn
+pub lines_set : (variables : List (List ℕ × List ℕ)) → MayAllStand variables → SetsVariables (variable_lines variables) variables
+lines_set [] stand = refl
+lines_set (variable ∷ others) stand =
+    (stand.0, quoted variable.1, quoted_word variable.1, variable_lines others, refl, lines_set others stand.1)
+
+-- a job text means what it was made of
+pub job_text_means : (user : List ℕ) (mail : Bool) (umask : ℕ) (variables : List (List ℕ × List ℕ)) (directory commands : List ℕ)
+    → IsUserName user → umask < 512
+    → Means (job_text user mail umask (kept variables) directory commands) user mail umask (kept variables) directory commands
+job_text_means user mail umask variables directory commands name octal = record {
+  name = name;
+  octal = octal;
+  lines = variable_lines (kept variables);
+  sets = lines_set (kept variables) (kept_may_stand variables);
+  word = quoted directory;
+  goes_to = quoted_word directory;
+  all = refl;
+}
+
+-- the parts of a job text, put one behind the other
+pub put_together : (u b m v q c t2 t3 t4 t5 t6 t7 t8 t9 : List ℕ) → t2 ≡ before_user ++ u → t3 ≡ t2 ++ b → t4 ≡ t3 ++ m → t5 ≡ t4 ++ v
+    → t6 ≡ t5 ++ (99 ∷ 100 ∷ 32 ∷ []) → t7 ≡ t6 ++ q → t8 ≡ t7 ++ behind_directory → t9 ≡ t8 ++ c
+    → t9 ≡ (before_user ++ (u ++ b)) ++ (m ++ (v ++ (((99 ∷ 100 ∷ 32 ∷ []) ++ (q ++ behind_directory)) ++ c)))
+put_together u b m v q c t2 t3 t4 t5 t6 t7 t8 t9 e2 e3 e4 e5 e6 e7 e8 e9 =
+    rw (e9, e8, e7, e6, e5, e4, e3, e2) (simp append_assoc)

@@ -1,0 +1,21 @@
+//! The text of a job: a shell script that says whose it is, sets up what its caller had, and then
+//! has the commands.
+#![tactic(auto)]
+
+mod checks;
+mod context;
+mod fault;
+mod headers;
+mod kept;
+mod variables;
+mod writer;
+
+pub use checks::{MOST_DIRECTORY, MOST_ENVIRONMENT, check};
+pub use context::Context;
+pub use fault::ScriptFault;
+pub use headers::{JobHeader, header, header_fault};
+pub use variables::Variables;
+pub use writer::{MOST_COMMANDS, write};
+
+#[cfg(test)]
+mod tests;

@@ -1,0 +1,123 @@
+//! The text of a job.
+ghost use Rattle.std.specs.Prelude.{◌≡◌, ◌++◌, ◌<◌, IfOk, OnOk};
+ghost use Rattle.job_script.specs.Check.{Written};
+ghost use Rattle.job_script.specs.Variables.{kept};
+ghost use Rattle.job_script.specs.Header.{behind_user};
+ghost use Rattle.job_script.specs.JobText.{quoted, text_for, quoted_part, umask_line, variable_line, variable_lines};
+ghost use Rattle.job_script.specs.Meaning.{MeansFor};
+
+use crate::checks::check;
+use crate::kept::is_kept_by_a_job;
+use crate::{Context, ScriptFault, Variables};
+use host_calls::Bytes;
+use std::alloc::{AllocError, Global};
+
+/// The greatest length of the commands of a job.
+pub const MOST_COMMANDS: usize = 1_048_576;
+
+/// The text of a job that runs the commands as its caller would. It refuses as `check` does, and
+/// then commands that are too long.
+pub fn write(
+    alloc: Global,
+    context: &Context,
+    mail: bool,
+    commands: &[u8],
+) -> Result<Bytes, ScriptFault>
+    requires { context.now.umask < 512 }
+    ensures refused { Written context.now commands.now result }
+    ensures text { IfOk result (λ text. text ≡ text_for context.now mail commands.now) }
+    ensures means { IfOk result (λ text. MeansFor text context.now mail commands.now) }
+{
+    check(context)?;
+    if commands.len() > MOST_COMMANDS {
+        return Err(ScriptFault::TooLong);
+    }
+    match text_of(alloc, context, mail, commands) {
+        Ok(text) => Ok(Bytes::from(text)),
+        Err(_) => Err(ScriptFault::Memory),
+    }
+}
+
+fn text_of(
+    alloc: Global,
+    context: &Context,
+    mail: bool,
+    commands: &[u8],
+) -> Result<Vec<u8>, AllocError>
+    requires { context.now.umask < 512 }
+    ensures { IfOk result (λ text. text.items ≡ text_for context.now mail commands.now) }
+{
+    let mut text = Vec::from_slice(alloc, b"#!/bin/sh\n# at user=")?;
+    text.extend_from_slice(context.user.as_str().as_bytes())?;
+    text.extend_from_slice(text_of_flag(mail))?;
+    put_umask(&mut text, context.umask)?;
+    put_variables(&mut text, &context.environment)?;
+    text.extend_from_slice(b"cd ")?;
+    put_quoted(&mut text, context.directory.as_str())?;
+    text.extend_from_slice(b" || {\n\techo 'Execution directory inaccessible' >&2\n\texit 1\n}\n")?;
+    text.extend_from_slice(commands)?;
+    Ok(text)
+}
+
+fn text_of_flag(mail: bool) -> &'static [u8]
+    ensures { result.now ≡ behind_user mail }
+{
+    if mail { b" mail=1\n" } else { b" mail=0\n" }
+}
+
+fn put_umask(text: &mut Vec<u8>, umask: u16) -> Result<(), AllocError>
+    requires { umask < 512 }
+    ensures { OnOk result (text.new.items ≡ text.old.items ++ umask_line umask) }
+{
+    text.extend_from_slice(b"umask 0")?;
+    text.push(b'0' + (umask / 64 % 8) as u8)?;
+    text.push(b'0' + (umask / 8 % 8) as u8)?;
+    text.push(b'0' + (umask % 8) as u8)?;
+    text.push(b'\n')?;
+    Ok(())
+}
+
+fn put_variables(text: &mut Vec<u8>, variables: &Variables) -> Result<(), AllocError>
+    ensures { OnOk result (text.new.items ≡ text.old.items ++ variable_lines (kept variables.now)) }
+{
+    for (name, value) in variables.as_slice() {
+        if is_kept_by_a_job(name.as_str(), value.as_str()) {
+            put_variable(text, name.as_str(), value.as_str())?;
+        }
+    }
+    Ok(())
+}
+
+fn put_variable(text: &mut Vec<u8>, name: &str, value: &str) -> Result<(), AllocError>
+    ensures { OnOk result (text.new.items ≡ text.old.items ++ variable_line name.now (quoted value.now)) }
+{
+    text.extend_from_slice(name.as_bytes())?;
+    text.push(b'=')?;
+    put_quoted(text, value)?;
+    text.extend_from_slice(b"; export ")?;
+    text.extend_from_slice(name.as_bytes())?;
+    text.push(b'\n')?;
+    Ok(())
+}
+
+fn put_quoted(text: &mut Vec<u8>, value: &str) -> Result<(), AllocError>
+    ensures { OnOk result (text.new.items ≡ text.old.items ++ quoted value.now) }
+{
+    text.push(b'\'')?;
+    for byte in value.as_bytes() {
+        put_part(text, *byte)?;
+    }
+    text.push(b'\'')?;
+    Ok(())
+}
+
+fn put_part(text: &mut Vec<u8>, byte: u8) -> Result<(), AllocError>
+    ensures { OnOk result (text.new.items ≡ text.old.items ++ quoted_part byte) }
+{
+    if byte == b'\'' {
+        text.extend_from_slice(b"'\\''")?;
+    } else {
+        text.push(byte)?;
+    }
+    Ok(())
+}

@@ -1,0 +1,4 @@
+pub mod LifeLemmas
+pub mod MarkLemmas
+pub mod SlotLemmas
+pub mod WriteLemmas

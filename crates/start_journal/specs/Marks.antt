@@ -1,0 +1,119 @@
+-- What a list of marks says (own): which lists are legal, what became of each number, and what a
+-- compaction keeps.
+use Rattle.std.specs.Prelude.{◌≡◌, ◌==◌, ◌&&◌, ◌++◌, [], ◌∷◌, ℕ, ℤ, Bool, true, false, not, List, Option, Some, None, if◌then◌else◌}
+use Rattle.std.specs.List.{filter, list_any}
+use Rattle.spool_model.specs.JobTable.{is_batch_queue}
+use Rattle.start_journal.specs.declared.mark.Mark.{Mark}
+use Rattle.start_journal.specs.declared.mark.Mark.TheVariants.{Removed, Started, Ended, Interrupted, Forgotten, Batch}
+
+-- the mark names the number
+abbrev pub names : ℕ → Mark → Bool
+names number (Removed other) = other == number
+names number (Started other queue second) = other == number
+names number (Ended other ending) = other == number
+names number (Interrupted other) = other == number
+names number (Forgotten other) = other == number
+names number (Batch second) = false
+
+-- the mark is the start of the number
+abbrev pub starts : ℕ → Mark → Bool
+starts number (Started other queue second) = other == number
+starts number _ = false
+
+-- the mark is the end of the number, or gives it up
+abbrev pub ends : ℕ → Mark → Bool
+ends number (Ended other ending) = other == number
+ends number (Interrupted other) = other == number
+ends number _ = false
+
+-- the mark decides the number
+abbrev pub decides : ℕ → Mark → Bool
+decides number (Removed other) = other == number
+decides number (Ended other ending) = other == number
+decides number (Interrupted other) = other == number
+decides number _ = false
+
+-- the mark forgets the number
+abbrev pub forgets : ℕ → Mark → Bool
+forgets number (Forgotten other) = other == number
+forgets number _ = false
+
+-- some mark names the number, starts it, ends it, decides it or forgets it
+abbrev pub is_named : ℕ → List Mark → Bool
+is_named number marks = list_any (names number) marks
+
+abbrev pub is_started : ℕ → List Mark → Bool
+is_started number marks = list_any (starts number) marks
+
+abbrev pub is_ended : ℕ → List Mark → Bool
+is_ended number marks = list_any (ends number) marks
+
+abbrev pub is_decided : ℕ → List Mark → Bool
+is_decided number marks = list_any (decides number) marks
+
+abbrev pub is_forgotten : ℕ → List Mark → Bool
+is_forgotten number marks = list_any (forgets number) marks
+
+-- The mark is legal behind those before it.
+abbrev pub IsLegalAfter : List Mark → Mark → Type 0
+IsLegalAfter before (Removed number) = is_named number before ≡ false
+IsLegalAfter before (Started number queue second) = is_named number before ≡ false
+IsLegalAfter before (Ended number ending) = (is_started number before ≡ true) × (is_ended number before ≡ false)
+IsLegalAfter before (Interrupted number) = (is_started number before ≡ true) × (is_ended number before ≡ false)
+IsLegalAfter before (Forgotten number) = (is_decided number before ≡ true) × (is_forgotten number before ≡ false)
+IsLegalAfter before (Batch second) = Unit {0}
+
+-- the marks are legal, one after the other, behind those before them
+abbrev pub AreLegalAfter : List Mark → List Mark → Type 0
+AreLegalAfter before [] = Unit {0}
+AreLegalAfter before (mark ∷ later) = IsLegalAfter before mark × AreLegalAfter (before ++ mark ∷ []) later
+
+-- each mark is legal behind those before it
+abbrev pub AreLegal : List Mark → Type 0
+AreLegal marks = AreLegalAfter [] marks
+
+-- the marks that name the number, in their order
+abbrev pub marks_of : ℕ → List Mark → List Mark
+marks_of number marks = filter (names number) marks
+
+-- the number is started and not decided
+abbrev pub is_open : ℕ → List Mark → Bool
+is_open number marks = is_started number marks && not (is_decided number marks)
+
+-- the number is decided, and not forgotten
+abbrev pub is_remembered : ℕ → List Mark → Bool
+is_remembered number marks = is_decided number marks && not (is_forgotten number marks)
+
+-- the second of a mark that starts a job of a batch queue
+abbrev pub batch_second : Mark → Option ℤ
+batch_second (Started number queue second) = if is_batch_queue queue then Some second else None
+batch_second (Batch second) = Some second
+batch_second _ = None
+
+-- the first of two, if there is one, else the second
+abbrev pub first_of_two : Option ℤ → Option ℤ → Option ℤ
+first_of_two (Some second) other = Some second
+first_of_two None other = other
+
+-- the second of the last mark that starts a job of a batch queue
+abbrev pub last_batch : List Mark → Option ℤ
+last_batch [] = None
+last_batch (mark ∷ later) = first_of_two (last_batch later) (batch_second mark)
+
+-- the mark names a number, and no mark of the list forgets it
+abbrev pub is_kept : List Mark → Mark → Bool
+is_kept marks (Removed number) = not (is_forgotten number marks)
+is_kept marks (Started number queue second) = not (is_forgotten number marks)
+is_kept marks (Ended number ending) = not (is_forgotten number marks)
+is_kept marks (Interrupted number) = not (is_forgotten number marks)
+is_kept marks (Forgotten number) = not (is_forgotten number marks)
+is_kept marks (Batch second) = false
+
+-- a mark of the last batch start, if there was one
+abbrev pub batch_mark : Option ℤ → List Mark
+batch_mark (Some second) = Batch second ∷ []
+batch_mark None = []
+
+-- what a compaction keeps: the marks of numbers that are not forgotten, and the last batch start
+abbrev pub kept_marks : List Mark → List Mark
+kept_marks marks = filter (is_kept marks) marks ++ batch_mark (last_batch marks)

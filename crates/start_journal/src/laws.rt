@@ -1,0 +1,23 @@
+//! What holds of every legal list of marks and of every slot, each law as the contract of a function.
+ghost use Rattle.start_journal.specs.Laws.{KeptMarksAreLegal, KeptMarksKeepWhatCounts, MarksHaveOneSlot, NumbersLiveOnce, SlotsSpellOneMark};
+
+/// A slot spells one mark, and a mark has one slot.
+pub fn marks_have_one_spelling()
+    ensures marks { SlotsSpellOneMark }
+    ensures slots { MarksHaveOneSlot }
+{}
+
+/// Each number is removed, or started and then ended or given up, and then forgotten, each at most once.
+pub fn numbers_live_once()
+    ensures { NumbersLiveOnce }
+{}
+
+/// What a compaction keeps is legal.
+pub fn kept_marks_are_legal()
+    ensures { KeptMarksAreLegal }
+{}
+
+/// What a compaction keeps has the same open and remembered numbers and the same last batch start.
+pub fn kept_marks_keep_what_counts()
+    ensures { KeptMarksKeepWhatCounts }
+{}

@@ -1,0 +1,20 @@
+//! The journal of starts and ends: which jobs were removed, started, ended, interrupted and forgotten,
+//! in their order. Each is one slot of the file `.JRN`.
+#![tactic(auto)]
+
+mod fields;
+mod laws;
+mod mark;
+mod slot;
+mod stage;
+
+pub use fields::Fields;
+pub use laws::{
+    kept_marks_are_legal, kept_marks_keep_what_counts, marks_have_one_spelling, numbers_live_once,
+};
+pub use mark::Mark;
+pub use slot::{LAST_SECOND, SLOT, mark_text, read_mark};
+pub use stage::Stage;
+
+#[cfg(test)]
+mod tests;
