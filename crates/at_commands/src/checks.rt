@@ -1,0 +1,78 @@
+//! The checks of a submission that come before the spool is entered.
+ghost use Rattle.std.specs.Prelude.{◌≡◌, ◌≤◌, ◌*◌, ◌↔◌, true, IsTrue, IsErrOf, MatchResult, Err, OnErr, map, string_bytes, length};
+ghost use Rattle.host_calls.specs.Causes.{HasCause};
+ghost use Rattle.at_commands.specs.Words.{asks_now};
+ghost use Rattle.at_commands.specs.Verdict.{Asks, is_clock_second, is_unreadable, minute_at};
+
+use crate::submission::Submission;
+use crate::words::asks_now;
+use civil_minute::Zone;
+use host_calls::{InputFault, Inputs, Readings};
+use listing_text::{Cause, Refusal};
+use std::alloc::Global;
+
+/// The greatest length of the commands of a job.
+pub const MAX_COMMANDS: usize = 1_048_576;
+
+/// The last second of the clock's range, which is the last of 9998 in UTC.
+pub const LAST_SECOND: i64 = 253_370_764_799;
+
+/// Checks the words, the clock, the zone and the commands, in this order.
+pub(crate) fn ask<R: Readings, I: Inputs>(
+    alloc: Global,
+    words: &[String],
+    zone: &Zone,
+    readings: &mut R,
+    inputs: &mut I,
+) -> Result<Submission, Cause>
+    ensures readers { R.readers readings.new ≡ R.readers readings.old }
+    ensures contents { I.contents inputs.new ≡ I.contents inputs.old }
+    ensures made_as { (I.sources inputs.new).made_as ≡ (I.sources inputs.old).made_as }
+    ensures cause { HasCause Cause.InputFault
+        (I.sources inputs.old).input_faults (I.sources inputs.new).input_faults result }
+    ensures asks { Asks R.tells I.tells (map string_bytes words.now) zone.now
+        (R.answers readings.old) (R.answers readings.new) (I.contents inputs.old) result }
+{
+    if !asks_now(words) {
+        return Err(Cause::Refused(Refusal::Usage));
+    }
+    let now = readings.now();
+    if !is_in_range(now) {
+        return Err(Cause::Refused(Refusal::BadClock));
+    }
+    if is_unreadable(zone) {
+        return Err(Cause::Refused(Refusal::BadZone));
+    }
+    let commands = match inputs.standard(alloc, MAX_COMMANDS + 1) {
+        Ok(commands) => commands,
+        Err(InputFault::Failed) => return Err(Cause::InputFault),
+        Err(InputFault::Memory) => return Err(Cause::Memory),
+    };
+    if commands.as_slice().len() > MAX_COMMANDS {
+        return Err(Cause::Refused(Refusal::TooLong));
+    }
+    Ok(Submission {
+        minute: minute_of(now),
+        commands,
+    })
+}
+
+fn is_unreadable(zone: &Zone) -> bool
+    ensures { result ≡ is_unreadable zone.now }
+{
+    matches!(zone, Zone::Unreadable)
+}
+
+fn is_in_range(second: i64) -> bool
+    ensures { result ≡ is_clock_second second }
+{
+    (0..=LAST_SECOND).contains(&second)
+}
+
+fn minute_of(second: i64) -> u32
+    requires { is_clock_second second ≡ true }
+    ensures value { result ≡ minute_at second }
+    ensures in_calendar { result ≤ 4222846079 }
+{
+    (second / 60) as u32
+}

@@ -1,0 +1,27 @@
+//! The caller for whom this tool works as yet.
+ghost use Rattle.std.specs.Prelude.{IfOk};
+ghost use Rattle.spool_model.specs.Users.{IsUserName};
+
+use at_commands::Caller;
+use civil_minute::Zone;
+use host_calls::Text;
+use job_script::{Context, Variables};
+use std::alloc::{AllocError, Global};
+
+/// The user `ann` at home.
+pub fn ann(alloc: Global) -> Result<Caller, AllocError>
+    ensures { IfOk result (λ caller. IsUserName caller.context.user) }
+{
+    let mut environment = Variables::new(alloc);
+    environment.push(alloc, "HOME", "/home/ann")?;
+    let context = Context {
+        user: Text::of(alloc, "ann")?,
+        directory: Text::of(alloc, "/home/ann")?,
+        umask: 0o022,
+        environment,
+    };
+    Ok(Caller {
+        context,
+        zone: Zone::Utc,
+    })
+}
