@@ -1,0 +1,29 @@
+-- What a folder that was just settled has in its images.
+use Rattle.std.proofs.Common.{◌≡◌, ℕ, List, sym, ap, subst, ◌∙◌, refl}
+use Rattle.std.specs.Prelude.{None, Result, Ok}
+use Rattle.std.specs.FinMap as finite
+use Rattle.host_calls.specs.declared.fault.HostFault.{HostFault}
+use Rattle.host_calls.specs.Folder.{Files, Folder, IsImage, IsInNoImage, IsSettled, IsSyncedInPart, reading_of, settled}
+use Rattle.host_calls.specs.World.{FileCall, World, reading}
+use Rattle.host_calls.proofs.FolderLemmas.{settled_image, reading_of-settled}
+use Rattle.sequence_file.specs.Drawing.{EachGives}
+use Rattle.sequence_file.specs.Sequence.{Gives, sequence_file}
+
+abbrev pub done_ok : Result Unit HostFault
+done_ok = Ok tt
+
+-- each image of a folder that was settled is its reading
+only_reading : (old new : World) → FileCall IsSettled IsSyncedInPart old new done_ok → (image : Files) → IsImage new.now.folder image → image ≡ reading new
+only_reading old new call image is =
+    settled_image old.now.folder image (subst (λ folder. IsImage folder image) call.outcome is)
+    ∙ sym (ap reading_of call.outcome ∙ reading_of-settled old.now.folder)
+
+-- a name that does not read as a file is in no image
+pub absent : (old settled_world new : World) (name : List ℕ) → FileCall IsSettled IsSyncedInPart old settled_world done_ok → new ≡ settled_world → None ≡ finite.get (reading settled_world) name → IsInNoImage new.now.folder name
+absent old settled_world new name call same none = subst (λ world. IsInNoImage world.now.folder name) (sym same)
+    (λ image is. ap (λ files. finite.get files name) (only_reading old settled_world call image is) ∙ sym none)
+
+-- the number that the sequence file reads as is that of every image
+pub each_gives : (old settled_world new : World) (number : ℕ) → FileCall IsSettled IsSyncedInPart old settled_world done_ok → new ≡ settled_world → Gives (finite.get (reading settled_world) sequence_file) number → EachGives number new.now.folder
+each_gives old settled_world new number call same gives = subst (λ world. EachGives number world.now.folder) (sym same)
+    (λ image is. subst (λ files. Gives (finite.get files sequence_file) number) (sym (only_reading old settled_world call image is)) gives)

@@ -1,0 +1,8 @@
+//! Crashes, tried: calls that change files, stopped at each host call in turn, and the folder that the
+//! next program finds. What is proved of every crash stands in the crates of those calls.
+#![tactic(auto)]
+
+#[cfg(test)]
+mod calls;
+#[cfg(test)]
+mod tests;
