@@ -1,9 +1,9 @@
 -- What a folder that was just settled has in its images.
-use Rattle.std.proofs.Common.{◌≡◌, ℕ, List, sym, ap, subst, ◌∙◌, refl}
+use Rattle.std.proofs.Common.{◌≡◌, ℕ, List, sym, ap, subst, ◌∙◌}
 use Rattle.std.specs.Prelude.{None, Result, Ok}
 use Rattle.std.specs.FinMap as finite
 use Rattle.host_calls.specs.declared.fault.HostFault.{HostFault}
-use Rattle.host_calls.specs.Folder.{Files, Folder, IsImage, IsInNoImage, IsSettled, IsSyncedInPart, reading_of, settled}
+use Rattle.host_calls.specs.Folder.{Files, IsImage, IsInNoImage, IsSettled, IsSyncedInPart, reading_of}
 use Rattle.host_calls.specs.World.{FileCall, World, reading}
 use Rattle.host_calls.proofs.FolderLemmas.{settled_image, reading_of-settled}
 use Rattle.sequence_file.specs.Drawing.{EachGives}

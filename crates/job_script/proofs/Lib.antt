@@ -1,3 +1,4 @@
 pub mod HeaderLemmas
+pub mod HeaderScans
 pub mod UserRuns
 pub mod WordLemmas

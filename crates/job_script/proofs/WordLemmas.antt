@@ -1,11 +1,11 @@
 -- What is written between single quotes is a word of the shell, and stands for what was quoted.
-use Rattle.std.proofs.Common.{◌≡◌, ◌≢◌, ◌<◌, ◌==◌, ℕ, Bool, true, false, nat_eq, ◌&&◌, not, List, [], ◌∷◌, ◌++◌, IsTrue, refl, sym, ap, subst, ◌∙◌, arith}
-use Rattle.std.specs.List.{flat_map, filter}
+use Rattle.std.proofs.Common.{◌≡◌, ◌<◌, ℕ, Bool, true, false, nat_eq, List, [], ◌∷◌, ◌++◌, IsTrue, refl, sym, ap, ◌∙◌, arith}
+use Rattle.std.specs.List.{flat_map}
 use Rattle.std.proofs.lemmas.List.{append_assoc}
 use Rattle.std.proofs.lemmas.Bool.Decides.{nat_tests}
 use Rattle.spool_model.specs.Users.{IsUserName}
-use Rattle.job_script.specs.Header.{header_text, before_user, behind_user}
-use Rattle.job_script.specs.JobText.{quoted, quoted_part, job_text, directory_lines, behind_directory, umask_line, variable_line, variable_lines}
+use Rattle.job_script.specs.Header.{before_user}
+use Rattle.job_script.specs.JobText.{quoted, quoted_part, job_text, behind_directory, variable_lines}
 use Rattle.job_script.specs.Meaning.{Piece, between_quotes, behind_backslash, ArePieces, IsShellWord, Means, SetsVariables, has_no_quote, spelling, stands_for}
 use Rattle.job_script.specs.Variables.{has_no_zero, is_kept, kept, may_stand}
 use Rattle.job_script.proofs.UserRuns.{both_hold}

@@ -1,6 +1,7 @@
 use Rattle.std.proofs.Common.{◌+◌, ℕ, List, false, true, refl, sym, subst}
 use Rattle.job_script.specs.Header.{BeginsWithHeader, IsHeaderFault}
-use Rattle.job_script.proofs.HeaderLemmas.{fault_before, header_read, user_missing, flag_missing}
+use Rattle.job_script.proofs.HeaderLemmas.{fault_before}
+use Rattle.job_script.proofs.HeaderScans.{header_read, user_missing, flag_missing}
 use Rattle.job_script.proofs.headers.read.Goals as goal
 
 pub returns-then-before-lt20 : goal.returns-then-before-lt20

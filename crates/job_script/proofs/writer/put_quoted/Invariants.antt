@@ -1,4 +1,4 @@
-use Rattle.std.proofs.Common.{◌≡◌, ◌++◌, ◌∷◌, [], take}
+use Rattle.std.proofs.Common.{◌≡◌, ◌++◌, ◌∷◌, take}
 use Rattle.std.specs.List.{flat_map}
 use Rattle.job_script.specs.JobText.{quoted_part}
 use Rattle.job_script.proofs.writer.put_quoted.Given as goal
