@@ -2,12 +2,14 @@
 //! in their order. Each is one slot of the file `.JRN`.
 #![tactic(auto)]
 
+mod fault;
 mod fields;
 mod laws;
 mod mark;
 mod slot;
 mod stage;
 
+pub use fault::JournalFault;
 pub use fields::Fields;
 pub use laws::{
     kept_marks_are_legal, kept_marks_keep_what_counts, marks_have_one_spelling, numbers_live_once,
