@@ -1,3 +1,4 @@
+pub mod ByteLemmas
 pub mod LifeLemmas
 pub mod MarkLemmas
 pub mod SlotLemmas
