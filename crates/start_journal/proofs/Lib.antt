@@ -1,3 +1,5 @@
+pub mod ByteLemmas
+pub mod JournalLemmas
 pub mod LifeLemmas
 pub mod MarkLemmas
 pub mod SlotLemmas

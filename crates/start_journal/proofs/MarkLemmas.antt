@@ -29,7 +29,7 @@ pub either : (one other : Bool) → (one || other) ≡ true → (one ≡ true) �
 either true other is = inl refl
 either false other is = inr is
 
-not_true : (b : Bool) → not b ≡ true → b ≡ false
+pub not_true : (b : Bool) → not b ≡ true → b ≡ false
 not_true true is = cc
 not_true false is = refl
 

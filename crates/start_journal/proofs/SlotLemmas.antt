@@ -53,7 +53,7 @@ second_again : (second : ℤ) → IsSecond second → pos (unsigned_abs second) 
 second_again (pos count) is = refl
 second_again (negsuc count) is = let from : pos 0 ≤ℤ negsuc count = is.from in grind (arith, ints)
 
-mark_again : (mark : Mark) → IsWritable mark → mark_with (fields_of mark) ≡ Some mark
+pub mark_again : (mark : Mark) → IsWritable mark → mark_with (fields_of mark) ≡ Some mark
 mark_again (Removed number) writable = refl
 mark_again (Started number queue second) writable = rw (within (unsigned_abs second) (second_counted second writable.second_of)) (ap (λ second. Some (Started number queue second)) (second_again second writable.second_of))
 mark_again (Ended number (Exit status)) writable = refl

@@ -1,4 +1,9 @@
+pub mod Adding
+pub mod JournalFaults
+pub mod JournalLaws
+pub mod Journals
 pub mod Laws
 pub mod Marks
+pub mod SlotBytes
 pub mod Slots
 pub mod Stages

@@ -1,4 +1,5 @@
 //! What holds of every legal list of marks and of every slot, each law as the contract of a function.
+ghost use Rattle.start_journal.specs.JournalLaws.{JournalsReadBack, SlotsGiveTheirMarks};
 ghost use Rattle.start_journal.specs.Laws.{KeptMarksAreLegal, KeptMarksKeepWhatCounts, MarksHaveOneSlot, NumbersLiveOnce, SlotsSpellOneMark};
 
 /// A slot spells one mark, and a mark has one slot.
@@ -20,4 +21,14 @@ pub fn kept_marks_are_legal()
 /// What a compaction keeps has the same open and remembered numbers and the same last batch start.
 pub fn kept_marks_keep_what_counts()
     ensures { KeptMarksKeepWhatCounts }
+{}
+
+/// The mark that the bytes of a slot give is the one that it spells.
+pub fn slots_give_their_marks()
+    ensures { SlotsGiveTheirMarks }
+{}
+
+/// A journal that was placed whole reads back.
+pub fn journals_read_back()
+    ensures { JournalsReadBack }
 {}

@@ -2,15 +2,19 @@
 //! in their order. Each is one slot of the file `.JRN`.
 #![tactic(auto)]
 
+mod fault;
 mod fields;
+mod front;
 mod laws;
 mod mark;
 mod slot;
 mod stage;
 
+pub use fault::JournalFault;
 pub use fields::Fields;
 pub use laws::{
-    kept_marks_are_legal, kept_marks_keep_what_counts, marks_have_one_spelling, numbers_live_once,
+    journals_read_back, kept_marks_are_legal, kept_marks_keep_what_counts, marks_have_one_spelling,
+    numbers_live_once, slots_give_their_marks,
 };
 pub use mark::Mark;
 pub use slot::{LAST_SECOND, SLOT, mark_text, read_mark};

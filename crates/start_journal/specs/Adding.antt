@@ -1,0 +1,38 @@
+-- What a crash leaves of the journal while it changes, and what stands once it has.
+use Rattle.std.specs.Prelude.{◌≡◌, ◌⊎◌, ◌-◌, ◌++◌, List, [], ◌∷◌, ℕ, Option}
+use Rattle.std.specs.FinMap as map
+use Rattle.host_calls.specs.Folder.{Files, Folder, IsImage, IsInNoImage, reading_of}
+use Rattle.whole_file.specs.Others.{IsEither, LeavesOthers}
+use Rattle.start_journal.specs.declared.mark.Mark.{Mark}
+use Rattle.start_journal.specs.Journals.{GivesMarks, JournalRead, journal_file, temporary_file}
+use Rattle.start_journal.specs.Marks.{kept_marks}
+
+-- the content of a journal file gives this journal
+abbrev pub Gives : Option (List ℕ) → JournalRead → Type 0
+Gives content journal = GivesMarks content journal.marks journal.free
+
+-- the journal with one mark more, and so one free slot fewer
+abbrev pub added : JournalRead → Mark → JournalRead
+added journal mark = record { marks = journal.marks ++ mark ∷ []; free = journal.free - 1 }
+
+-- the journal that a compaction leaves
+abbrev pub compacted : JournalRead → JournalRead
+compacted journal = record { marks = kept_marks journal.marks; free = 256 }
+
+-- The folder holds this journal: its file has the same bytes in every image, and no image has a file
+-- that is being made.
+pub record HoldsJournal (journal : JournalRead) (folder : Folder) : Type 0 where
+  pub same : (image : Files) → IsImage folder image → map.get image journal_file ≡ map.get (reading_of folder) journal_file
+  pub gives : Gives (map.get (reading_of folder) journal_file) journal
+  pub no_temp : IsInNoImage folder temporary_file
+
+-- the image gives the one journal or the other, and other files are left alone
+pub record IsChanging (before after : JournalRead) (start : Folder) (image : Files) : Type 0 where
+  pub alone : LeavesOthers (IsEither temporary_file journal_file) start image
+  pub gives : Gives (map.get image journal_file) before ⊎ Gives (map.get image journal_file) after
+
+-- the folder holds the journal now, all else reads as before, and no change of names is pending where none was
+pub record IsChanged (journal : JournalRead) (old new : Folder) : Type 0 where
+  pub holds : HoldsJournal journal new
+  pub others : (name : List ℕ) → ¬ (IsEither temporary_file journal_file name) → map.get (reading_of new) name ≡ map.get (reading_of old) name
+  pub certain : old.pending ≡ [] → new.pending ≡ []
