@@ -1,3 +1,4 @@
+pub mod HeaderInLemmas
 pub mod HeaderLemmas
 pub mod HeaderScans
 pub mod UserRuns
