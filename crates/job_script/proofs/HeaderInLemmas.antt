@@ -1,14 +1,15 @@
 -- What is read from the front of the bytes is their header, or the place of their fault.
-use Rattle.std.proofs.Common.{◌≡◌, ℕ, suc, zero, ◌+◌, ◌-◌, ◌<◌, ◌≤◌, ◌↔◌, Bool, true, false, cond, not, ◌&&◌, eqb, List, [], ◌∷◌, ◌++◌, length, get_or, take, drop, max, min, refl, sym, ap, subst, arith, ◌∙◌, inl, inr, Option, Some, None, IsTrue}
+use Rattle.std.proofs.Common.{◌≡◌, ℕ, suc, zero, ◌+◌, ◌-◌, ◌<◌, ◌≤◌, ◌↔◌, Bool, true, false, cond, not, ◌&&◌, eqb, List, [], ◌∷◌, ◌++◌, length, get_or, take, drop, max, refl, sym, ap, subst, arith, ◌∙◌, inl, inr, Option, Some, None, IsTrue}
 use Rattle.std.specs.Option.{MatchOption}
 use Rattle.std.specs.List.{take_while}
 use Rattle.std.proofs.lemmas.Bool.{and_cases, and_parts, cases_lt, eqb-true, eqb-false, not-true, not-false}
+use Rattle.std.proofs.lemmas.List.{drop-take, get_or-take, take-take}
 use Rattle.std.proofs.lemmas.List.Sums.{take_while-cons}
 use Rattle.spool_model.specs.Users.{IsUserName, is_user_byte}
 use Rattle.job_script.specs.Header.{before_user, behind_user, header_text, BeginsWithHeader, HasHeader, IsHeaderFault}
 use Rattle.job_script.specs.HeaderIn.{alike, name_front, user_in, flag_alike, has_user, header_in, header_place}
 use Rattle.job_script.specs.Scan.{Matches, Runs}
-use Rattle.job_script.proofs.HeaderLemmas.{fault_before, one_header}
+use Rattle.job_script.proofs.HeaderLemmas.{eight_behind, fault_before, one_header}
 use Rattle.job_script.proofs.HeaderScans.{header_read, flag_missing, run_is_name, user_missing}
 
 -- one byte more that agrees
@@ -37,10 +38,16 @@ alike_before x y bytes text count false here m = record {
 pub alike-matches : (text bytes : List ℕ) → Matches bytes text (alike text bytes)
 unfolding alike
 alike-matches [] bytes = record {
-  in_text = omega arith; in_bytes = omega arith; same = λ k below. absurd (omega arith); stops = λ short brief. absurd (omega arith)
+  in_text = omega arith;
+  in_bytes = omega arith;
+  same = λ k below. absurd (omega arith);
+  stops = λ short brief. absurd (omega arith);
 }
 alike-matches (x ∷ text) [] = record {
-  in_text = omega arith; in_bytes = omega arith; same = λ k below. absurd (omega arith); stops = λ short brief. absurd (omega arith)
+  in_text = omega arith;
+  in_bytes = omega arith;
+  same = λ k below. absurd (omega arith);
+  stops = λ short brief. absurd (omega arith);
 }
 alike-matches (x ∷ text) (y ∷ bytes) =
     alike_before x y bytes text (alike text bytes) (eqb x y) refl (alike-matches text bytes)
@@ -80,10 +87,18 @@ front_before x bytes run most false here f = record {
 -- what is taken is such a front
 taken_front : (most : ℕ) (bytes : List ℕ) → IsFront bytes (take_while is_user_byte (take most bytes)) most
 taken_front zero bytes = record {
-  few = omega arith; within = omega arith; front = refl; each = λ k below. absurd (omega arith); stops = λ short brief. absurd (omega arith)
+  few = omega arith;
+  within = omega arith;
+  front = refl;
+  each = λ k below. absurd (omega arith);
+  stops = λ short brief. absurd (omega arith);
 }
 taken_front (suc most) [] = record {
-  few = omega arith; within = omega arith; front = refl; each = λ k below. absurd (omega arith); stops = λ short brief. absurd (omega arith)
+  few = omega arith;
+  within = omega arith;
+  front = refl;
+  each = λ k below. absurd (omega arith);
+  stops = λ short brief. absurd (omega arith);
 }
 taken_front (suc most) (x ∷ bytes) =
     subst (λ (run : List ℕ). IsFront (x ∷ bytes) run (suc most)) (sym (take_while-cons is_user_byte x (take most bytes)))
@@ -178,8 +193,8 @@ reads_so : (bytes user : List ℕ) (before : ℕ) (flag : Bool → ℕ) (has pla
     → (eqb before 20 && not (eqb (length user) 0)) ≡ has → eqb (flag false) 8 ≡ plain → eqb (flag true) 8 ≡ mailed
     → IsRead bytes user before flag
     → MatchOption {T = List ℕ × Bool} (cond (has && plain) (Some (user, false)) (cond (has && mailed) (Some (user, true)) None))
-        (IsHeaderFault bytes (cond has (20 + length user + max (flag false) (flag true)) before))
-        (λ found. BeginsWithHeader bytes found.0 found.1)
+    (IsHeaderFault bytes (cond has (20 + length user + max (flag false) (flag true)) before))
+    (λ found. BeginsWithHeader bytes found.0 found.1)
 reads_so bytes user before flag true true mailed has plain mail r =
     let both = and_parts (eqb before 20) (not (eqb (length user) 0)) has in
     read_header bytes user before flag false r (eqb-true before 20 both.0)
@@ -244,15 +259,106 @@ read_none bytes place None fault same = fault.none
 -- the function gives a header exactly where the bytes begin with it
 pub header_in-some : (bytes user : List ℕ) (mail : Bool) → (header_in bytes ≡ Some (user, mail)) ↔ BeginsWithHeader bytes user mail
 header_in-some bytes user mail = (
-    some_begins bytes user mail (header_place bytes) (header_in bytes) (header_in-reads bytes),
-    begins_some bytes user mail (header_place bytes) (header_in bytes) (header_in-reads bytes))
+  some_begins bytes user mail (header_place bytes) (header_in bytes) (header_in-reads bytes),
+  begins_some bytes user mail (header_place bytes) (header_in bytes) (header_in-reads bytes),
+)
 
 -- it gives none exactly where they begin with none
 pub header_in-none : (bytes : List ℕ) → (header_in bytes ≡ None) ↔ (¬ HasHeader bytes)
 header_in-none bytes = (
-    read_none bytes (header_place bytes) (header_in bytes) (header_in-reads bytes),
-    λ none. (none_read bytes (header_place bytes) (header_in bytes) (header_in-reads bytes) none).0)
+  read_none bytes (header_place bytes) (header_in bytes) (header_in-reads bytes),
+  λ none. (none_read bytes (header_place bytes) (header_in bytes) (header_in-reads bytes) none).0,
+)
 
 -- and there the place is where they leave all headers
 pub header_place-fault : (bytes : List ℕ) → ¬ HasHeader bytes → IsHeaderFault bytes (header_place bytes)
 header_place-fault bytes none = (none_read bytes (header_place bytes) (header_in bytes) (header_in-reads bytes) none).1
+
+-- bytes behind the length of a text don't matter to what agrees with it
+alike-take : (text bytes : List ℕ) (count : ℕ) → length text ≤ count → alike text (take count bytes) ≡ alike text bytes
+unfolding alike
+alike-take [] bytes count within = refl
+alike-take (x ∷ text) bytes zero within = absurd (omega arith)
+alike-take (x ∷ text) [] (suc count) within = refl
+alike-take (x ∷ text) (y ∷ bytes) (suc count) within =
+    ap (λ (n : ℕ). cond (eqb x y) (suc n) 0) (alike-take text bytes count (omega arith))
+
+-- bytes behind the longest name don't matter to the front of a name
+name_front-take : (bytes : List ℕ) (count : ℕ) → 32 ≤ count → name_front (take count bytes) ≡ name_front bytes
+unfolding name_front
+name_front-take bytes count far =
+    let first : get_or (take count bytes) 0 0 ≡ get_or bytes 0 0 = get_or-take count bytes 0 0 (omega arith) in
+    let few : take 32 (take count bytes) ≡ take 32 bytes = take-take 32 count bytes far in
+    λ i. cond (eqb (first i) 45) [] (take_while is_user_byte (few i))
+
+-- the user among the first 60 bytes is that of all
+user_in-take : (bytes : List ℕ) → user_in (take 60 bytes) ≡ user_in bytes
+unfolding user_in
+user_in-take bytes =
+    ap name_front (drop-take 20 40 bytes) ∙ name_front-take (drop 20 bytes) 40 (omega arith)
+
+-- the user has at most 32 bytes
+length-user_in : (bytes : List ℕ) → length (user_in bytes) ≤ 32
+unfolding user_in
+length-user_in bytes = (name_front-runs (drop 20 bytes)).runs.few
+
+-- a text behind a few bytes, where enough of them are taken
+behind-take : (rest text : List ℕ) (count : ℕ) → count ≤ 32 → length text ≡ 8
+    → alike text (drop count (take 40 rest)) ≡ alike text (drop count rest)
+behind-take rest text count few long =
+    let whole : 40 ≡ count + (40 - count) = omega arith in
+    ap (λ (n : ℕ). alike text (drop count (take n rest))) whole
+    ∙ ap (alike text) (drop-take count (40 - count) rest)
+    ∙ alike-take text (drop count rest) (40 - count) (omega arith)
+
+-- the flag among the first 60 bytes is that of all
+flag_alike-take : (bytes : List ℕ) (mail : Bool) → flag_alike (take 60 bytes) mail ≡ flag_alike bytes mail
+unfolding flag_alike
+flag_alike-take bytes mail =
+    let user : user_in (take 60 bytes) ≡ user_in bytes = user_in-take bytes in
+    let rest : drop 20 (take 60 bytes) ≡ take 40 (drop 20 bytes) = drop-take 20 40 bytes in
+    (λ i. alike (behind_user mail) (drop (length (user i)) (rest i)))
+    ∙ behind-take (drop 20 bytes) (behind_user mail) (length (user_in bytes)) (length-user_in bytes) (eight_behind mail)
+
+-- what stands before a user among the first 60 bytes
+before_user-take : (bytes : List ℕ) → alike before_user (take 60 bytes) ≡ alike before_user bytes
+before_user-take bytes = alike-take before_user bytes 60 (omega arith)
+
+-- only the first 60 bytes matter to whether a user stands there
+has_user-take : (bytes : List ℕ) → has_user (take 60 bytes) ≡ has_user bytes
+unfolding has_user
+has_user-take bytes =
+    let front = before_user-take bytes in
+    let user = user_in-take bytes in
+    λ i. eqb (front i) 20 && not (eqb (length (user i)) 0)
+
+-- only the first 60 bytes matter to the header
+pub header_in-take : (bytes : List ℕ) → header_in (take 60 bytes) ≡ header_in bytes
+unfolding header_in
+header_in-take bytes =
+    let has = has_user-take bytes in
+    let user = user_in-take bytes in
+    let plain = flag_alike-take bytes false in
+    let mailed = flag_alike-take bytes true in
+    λ i. cond (has i && eqb (plain i) 8) (Some (user i, false)) (cond (has i && eqb (mailed i) 8) (Some (user i, true)) None)
+
+-- only the first 60 bytes matter to the place of a fault
+pub header_place-take : (bytes : List ℕ) → header_place (take 60 bytes) ≡ header_place bytes
+unfolding header_place
+header_place-take bytes =
+    let has = has_user-take bytes in
+    let user = user_in-take bytes in
+    let plain = flag_alike-take bytes false in
+    let mailed = flag_alike-take bytes true in
+    let front = before_user-take bytes in
+    λ i. cond (has i) (20 + length (user i) + max (plain i) (mailed i)) (front i)
+
+-- a text is read so
+header_in-small : header_in (header_text (97 ∷ 110 ∷ 110 ∷ []) true ++ (111 ∷ [])) ≡ Some (97 ∷ 110 ∷ 110 ∷ [], true)
+unfolding header_in has_user user_in flag_alike name_front alike
+header_in-small = refl
+
+-- a place is found so
+header_place-small : header_place (before_user ++ (97 ∷ 32 ∷ 109 ∷ [])) ≡ 23
+unfolding header_place has_user user_in flag_alike name_front alike
+header_place-small = refl
