@@ -5,7 +5,8 @@ use Rattle.std.proofs.lemmas.List.{append_assoc, append_cancel_left, get_or_appe
 use Rattle.spool_model.specs.Users.{IsUserName, is_user_byte, are_user_bytes}
 use Rattle.job_script.specs.Header.{BeginsWithHeader, IsHeaderFault, IsHeaderFront, before_user, behind_user, header_text}
 use Rattle.job_script.specs.Scan.{Matches}
-use Rattle.job_script.proofs.UserRuns.{EndsUser, IsMost, both_hold, is_the_name, same_user}
+use Rattle.job_script.proofs.RunLemmas.{both_hold}
+use Rattle.job_script.proofs.UserRuns.{EndsUser, IsMost, is_the_name, same_user}
 
 -- the bytes have as much of the text as agrees
 pub matched_front : (bytes text : List ℕ) (count : ℕ) → Matches bytes text count → take count bytes ≡ take count text

@@ -1,16 +1,7 @@
 -- Where a user's name ends in a text.
 use Rattle.std.proofs.Common.{◌≡◌, ℕ, suc, ◌<◌, ◌≤◌, ◌⊎◌, inl, inr, Bool, true, false, ◌&&◌, List, [], ◌∷◌, ◌++◌, length, get_or, IsTrue, refl, ap, arith}
+use Rattle.job_script.proofs.RunLemmas.{Ends, both_hold, hold_both, same_run}
 use Rattle.spool_model.specs.Users.{IsUserName, is_user_byte, are_user_bytes}
-
--- both parts of a test that holds
-pub both_hold : (a b : Bool) → IsTrue (a && b) → IsTrue a × IsTrue b
-both_hold true b holds = (refl, holds)
-both_hold false b holds = absurd (cc holds)
-
--- a test holds where both parts do
-pub hold_both : (a b : Bool) → IsTrue a → IsTrue b → IsTrue (a && b)
-hold_both true b first second = second
-hold_both false b first second = absurd (cc first)
 
 -- bytes that may each stand in a user's name
 pub users_by_place : (u : List ℕ) → ((k : ℕ) → k < length u → IsTrue (is_user_byte (get_or u k 0))) → IsTrue (are_user_bytes u)
@@ -21,30 +12,12 @@ users_by_place (x ∷ xs) each =
 
 -- the text begins with no byte of a user's name
 abbrev pub EndsUser : List ℕ → Type 0
-EndsUser [] = Unit {0}
-EndsUser (x ∷ xs) = is_user_byte x ≡ false
+EndsUser rest = Ends is_user_byte rest
 
 -- two runs of bytes of a user's name that end at a byte that is none are one
 pub same_user : (u v x y : List ℕ) → IsTrue (are_user_bytes u) → IsTrue (are_user_bytes v)
     → EndsUser x → EndsUser y → u ++ x ≡ v ++ y → (u ≡ v) × (x ≡ y)
-same_user [] [] x y us vs xs ys same = (refl, same)
-same_user [] (b ∷ v) [] y us vs xs ys same = absurd (cc same)
-same_user [] (b ∷ v) (c ∷ x) y us vs xs ys same =
-    let first : IsTrue (is_user_byte b) × IsTrue (are_user_bytes v) = both_hold (is_user_byte b) (are_user_bytes v) vs in
-    let head : c ≡ b = cc same in
-    absurd (cc (first.0, xs, ap is_user_byte head))
-same_user (a ∷ u) [] x [] us vs xs ys same = absurd (cc same)
-same_user (a ∷ u) [] x (c ∷ y) us vs xs ys same =
-    let first : IsTrue (is_user_byte a) × IsTrue (are_user_bytes u) = both_hold (is_user_byte a) (are_user_bytes u) us in
-    let head : c ≡ a = cc same in
-    absurd (cc (first.0, ys, ap is_user_byte head))
-same_user (a ∷ u) (b ∷ v) x y us vs xs ys same =
-    let head : a ≡ b = cc same in
-    let rest : u ++ x ≡ v ++ y = cc same in
-    let tails : (u ≡ v) × (x ≡ y) =
-    same_user u v x y (both_hold (is_user_byte a) (are_user_bytes u) us).1
-    (both_hold (is_user_byte b) (are_user_bytes v) vs).1 xs ys rest in
-    (cc (head, tails.0), tails.1)
+same_user u v x y us vs xs ys same = same_run is_user_byte u v x y us vs xs ys same
 
 -- a run of bytes of a user's name is no longer than the name that stands there
 pub no_longer : (u v x y : List ℕ) → IsTrue (are_user_bytes u) → EndsUser y → u ++ x ≡ v ++ y → length u ≤ length v

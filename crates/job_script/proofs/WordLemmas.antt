@@ -8,7 +8,7 @@ use Rattle.job_script.specs.Header.{before_user}
 use Rattle.job_script.specs.JobText.{quoted, quoted_part, job_text, behind_directory, variable_lines}
 use Rattle.job_script.specs.Meaning.{Piece, between_quotes, behind_backslash, ArePieces, IsShellWord, Means, SetsVariables, has_no_quote, spelling, stands_for}
 use Rattle.job_script.specs.Variables.{has_no_zero, is_kept, kept, may_stand}
-use Rattle.job_script.proofs.UserRuns.{both_hold}
+use Rattle.job_script.proofs.RunLemmas.{both_hold}
 
 -- a word whose first quote is open: the bytes up to the next quote, and the pieces behind it
 record IsOpened (value : List ℕ) : Type 0 where

@@ -7,6 +7,7 @@ mod context;
 mod fault;
 mod headers;
 mod kept;
+mod laws;
 mod variables;
 mod writer;
 
@@ -14,6 +15,7 @@ pub use checks::{MOST_DIRECTORY, MOST_ENVIRONMENT, check};
 pub use context::Context;
 pub use fault::ScriptFault;
 pub use headers::{JobHeader, header, header_fault};
+pub use laws::headers_are_read_exactly;
 pub use variables::Variables;
 pub use writer::{MOST_COMMANDS, write};
 

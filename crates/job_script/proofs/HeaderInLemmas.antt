@@ -1,0 +1,364 @@
+-- What is read from the front of the bytes is their header, or the place of their fault.
+use Rattle.std.proofs.Common.{◌≡◌, ℕ, suc, zero, ◌+◌, ◌-◌, ◌<◌, ◌≤◌, ◌↔◌, Bool, true, false, cond, not, ◌&&◌, eqb, List, [], ◌∷◌, ◌++◌, length, get_or, take, drop, max, refl, sym, ap, subst, arith, ◌∙◌, inl, inr, Option, Some, None, IsTrue}
+use Rattle.std.specs.Option.{MatchOption}
+use Rattle.std.specs.List.{take_while}
+use Rattle.std.proofs.lemmas.Bool.{and_cases, and_parts, cases_lt, eqb-true, eqb-false, not-true, not-false}
+use Rattle.std.proofs.lemmas.List.{drop-take, get_or-take, take-take}
+use Rattle.std.proofs.lemmas.List.Sums.{take_while-cons}
+use Rattle.spool_model.specs.Users.{IsUserName, is_user_byte}
+use Rattle.job_script.specs.Header.{before_user, behind_user, header_text, BeginsWithHeader, HasHeader, IsHeaderFault}
+use Rattle.job_script.specs.HeaderIn.{alike, name_front, user_in, flag_alike, has_user, header_in, header_place}
+use Rattle.job_script.specs.Scan.{Matches, Runs}
+use Rattle.job_script.proofs.HeaderLemmas.{eight_behind, fault_before, one_header}
+use Rattle.job_script.proofs.HeaderScans.{header_read, flag_missing, run_is_name, user_missing}
+
+-- one byte more that agrees
+same_before : (x : ℕ) (y : ℕ) (bytes text : List ℕ) (count : ℕ) → x ≡ y → Matches bytes text count
+    → (k : ℕ) → k < suc count → get_or (y ∷ bytes) k 0 ≡ get_or (x ∷ text) k 0
+same_before x y bytes text count same m zero below = sym same
+same_before x y bytes text count same m (suc k) below = m.same k (omega arith)
+
+-- one byte more in front of both texts
+alike_before : (x y : ℕ) (bytes text : List ℕ) (count : ℕ) (here : Bool) → eqb x y ≡ here → Matches bytes text count
+    → Matches (y ∷ bytes) (x ∷ text) (cond here (suc count) 0)
+alike_before x y bytes text count true here m = record {
+  in_text = let within : count ≤ length text = m.in_text in omega arith;
+  in_bytes = let within : count ≤ length bytes = m.in_bytes in omega arith;
+  same = same_before x y bytes text count (eqb-true x y here) m;
+  stops = λ short brief. m.stops (omega arith) (omega arith);
+}
+alike_before x y bytes text count false here m = record {
+  in_text = omega arith;
+  in_bytes = omega arith;
+  same = λ k below. absurd (omega arith);
+  stops = λ short brief same. eqb-false x y here (sym same);
+}
+
+-- two texts agree as far as is counted, and no farther
+pub alike-matches : (text bytes : List ℕ) → Matches bytes text (alike text bytes)
+unfolding alike
+alike-matches [] bytes = record {
+  in_text = omega arith;
+  in_bytes = omega arith;
+  same = λ k below. absurd (omega arith);
+  stops = λ short brief. absurd (omega arith);
+}
+alike-matches (x ∷ text) [] = record {
+  in_text = omega arith;
+  in_bytes = omega arith;
+  same = λ k below. absurd (omega arith);
+  stops = λ short brief. absurd (omega arith);
+}
+alike-matches (x ∷ text) (y ∷ bytes) =
+    alike_before x y bytes text (alike text bytes) (eqb x y) refl (alike-matches text bytes)
+
+-- the longest front of the bytes, of at most so many, that may stand in a user's name
+record IsFront (bytes run : List ℕ) (most : ℕ) : Type 0 where
+  few : length run ≤ most
+  within : length run ≤ length bytes
+  front : run ≡ take (length run) bytes
+  each : (k : ℕ) → k < length run → IsTrue (is_user_byte (get_or bytes k 0))
+  stops : length run < most → length run < length bytes → is_user_byte (get_or bytes (length run) 0) ≡ false
+
+-- one byte more of a name at each place
+each_before : (x : ℕ) (bytes run : List ℕ) (most : ℕ) → IsTrue (is_user_byte x) → IsFront bytes run most
+    → (k : ℕ) → k < suc (length run) → IsTrue (is_user_byte (get_or (x ∷ bytes) k 0))
+each_before x bytes run most here f zero below = here
+each_before x bytes run most here f (suc k) below = f.each k (omega arith)
+
+-- one byte more in front of such a front
+front_before : (x : ℕ) (bytes run : List ℕ) (most : ℕ) (here : Bool) → is_user_byte x ≡ here → IsFront bytes run most
+    → IsFront (x ∷ bytes) (cond here (x ∷ run) []) (suc most)
+front_before x bytes run most true here f = record {
+  few = let few : length run ≤ most = f.few in omega arith;
+  within = let within : length run ≤ length bytes = f.within in omega arith;
+  front = ap (λ (it : List ℕ). x ∷ it) f.front;
+  each = each_before x bytes run most here f;
+  stops = λ short brief. f.stops (omega arith) (omega arith);
+}
+front_before x bytes run most false here f = record {
+  few = omega arith;
+  within = omega arith;
+  front = refl;
+  each = λ k below. absurd (omega arith);
+  stops = λ short brief. here;
+}
+
+-- what is taken is such a front
+taken_front : (most : ℕ) (bytes : List ℕ) → IsFront bytes (take_while is_user_byte (take most bytes)) most
+taken_front zero bytes = record {
+  few = omega arith;
+  within = omega arith;
+  front = refl;
+  each = λ k below. absurd (omega arith);
+  stops = λ short brief. absurd (omega arith);
+}
+taken_front (suc most) [] = record {
+  few = omega arith;
+  within = omega arith;
+  front = refl;
+  each = λ k below. absurd (omega arith);
+  stops = λ short brief. absurd (omega arith);
+}
+taken_front (suc most) (x ∷ bytes) =
+    subst (λ (run : List ℕ). IsFront (x ∷ bytes) run (suc most)) (sym (take_while-cons is_user_byte x (take most bytes)))
+    (front_before x bytes (take_while is_user_byte (take most bytes)) most (is_user_byte x) refl (taken_front most bytes))
+
+-- what stands at the front of the bytes as a user's name
+record IsNameFront (bytes run : List ℕ) : Type 0 where
+  runs : Runs bytes (length run)
+  front : run ≡ take (length run) bytes
+
+-- the same behind the test for a dash
+no_dash_front : (bytes run : List ℕ) (dash : Bool) → eqb (get_or bytes 0 0) 45 ≡ dash → IsFront bytes run 32
+    → IsNameFront bytes (cond dash [] run)
+no_dash_front bytes run true dash f = record {
+  runs = record {
+    few = omega arith;
+    within = omega arith;
+    each = λ k below. absurd (omega arith);
+    no_dash = λ some. absurd (omega arith);
+    stops = λ short brief. inr (refl, eqb-true (get_or bytes 0 0) 45 dash);
+  };
+  front = refl;
+}
+no_dash_front bytes run false dash f = record {
+  runs = record {
+    few = f.few;
+    within = f.within;
+    each = f.each;
+    no_dash = λ some. eqb-false (get_or bytes 0 0) 45 dash;
+    stops = λ short brief. inl (f.stops short brief);
+  };
+  front = f.front;
+}
+
+-- the front is a run of bytes of a user's name
+name_front-runs : (bytes : List ℕ) → IsNameFront bytes (name_front bytes)
+unfolding name_front
+name_front-runs bytes =
+    no_dash_front bytes (take_while is_user_byte (take 32 bytes)) (eqb (get_or bytes 0 0) 45) refl (taken_front 32 bytes)
+
+-- what is read from the front of the bytes
+record IsRead (bytes user : List ℕ) (before : ℕ) (flag : Bool → ℕ) : Type 0 where
+  front : Matches bytes before_user before
+  name : IsNameFront (drop 20 bytes) user
+  flags : (mail : Bool) → Matches (drop (length user) (drop 20 bytes)) (behind_user mail) (flag mail)
+
+-- it is read so
+is_read : (bytes : List ℕ) → IsRead bytes (user_in bytes) (alike before_user bytes) (flag_alike bytes)
+unfolding user_in flag_alike
+is_read bytes = record {
+  front = alike-matches before_user bytes;
+  name = name_front-runs (drop 20 bytes);
+  flags = λ mail. alike-matches (behind_user mail) (drop (length (name_front (drop 20 bytes))) (drop 20 bytes));
+}
+
+-- a header with this flag was read
+read_header : (bytes user : List ℕ) (before : ℕ) (flag : Bool → ℕ) (mail : Bool) → IsRead bytes user before flag
+    → before ≡ 20 → 0 < length user → flag mail ≡ 8 → BeginsWithHeader bytes user mail
+read_header bytes user before flag mail r whole some all =
+    header_read bytes (drop 20 bytes) user (drop (length user) (drop 20 bytes)) before (length user) (flag mail) mail
+    r.front (omega arith) (ap (λ (n : ℕ). drop n bytes) (sym whole)) r.name.front refl
+    (subst IsUserName (sym r.name.front) (run_is_name (drop 20 bytes) (length user) r.name.runs some))
+    (r.flags mail) all
+
+-- a user was read, and no flag
+read_no_flag : (bytes user : List ℕ) (before : ℕ) (flag : Bool → ℕ) → IsRead bytes user before flag
+    → before ≡ 20 → 0 < length user → (flag false ≡ 8 → ⊥) → (flag true ≡ 8 → ⊥)
+    → IsHeaderFault bytes (20 + length user + max (flag false) (flag true))
+read_no_flag bytes user before flag r whole some plain mailed =
+    subst (λ (n : ℕ). IsHeaderFault bytes (n + length user + max (flag false) (flag true))) whole
+    (flag_missing bytes (drop 20 bytes) user (drop (length user) (drop 20 bytes)) before (length user)
+    (flag false) (flag true) r.front (omega arith) (ap (λ (n : ℕ). drop n bytes) (sym whole)) r.name.runs r.name.front refl
+    (subst IsUserName (sym r.name.front) (run_is_name (drop 20 bytes) (length user) r.name.runs some))
+    (r.flags false) (r.flags true) plain mailed)
+
+-- no user was read
+read_no_user : (bytes user : List ℕ) (before : ℕ) (flag : Bool → ℕ) → IsRead bytes user before flag
+    → (before ≡ 20 → 0 < length user → ⊥) → IsHeaderFault bytes before
+read_no_user bytes user before flag r none =
+    elim (cases_lt before 20) [
+      | inl short ↦ fault_before bytes before r.front short
+      | inr far ↦
+          let few : before ≤ 20 = r.front.in_text in
+          let whole : before ≡ 20 = omega arith in
+          user_missing bytes (drop 20 bytes) user before (length user) r.front far
+          (ap (λ (n : ℕ). drop n bytes) (sym whole)) r.name.runs r.name.front
+          (λ name. none whole name.some)
+    ]
+
+-- what the three tests say together
+reads_so : (bytes user : List ℕ) (before : ℕ) (flag : Bool → ℕ) (has plain mailed : Bool)
+    → (eqb before 20 && not (eqb (length user) 0)) ≡ has → eqb (flag false) 8 ≡ plain → eqb (flag true) 8 ≡ mailed
+    → IsRead bytes user before flag
+    → MatchOption {T = List ℕ × Bool} (cond (has && plain) (Some (user, false)) (cond (has && mailed) (Some (user, true)) None))
+    (IsHeaderFault bytes (cond has (20 + length user + max (flag false) (flag true)) before))
+    (λ found. BeginsWithHeader bytes found.0 found.1)
+reads_so bytes user before flag true true mailed has plain mail r =
+    let both = and_parts (eqb before 20) (not (eqb (length user) 0)) has in
+    read_header bytes user before flag false r (eqb-true before 20 both.0)
+    (let some = eqb-false (length user) 0 (not-true (eqb (length user) 0) both.1) in omega arith) (eqb-true (flag false) 8 plain)
+reads_so bytes user before flag true false true has plain mail r =
+    let both = and_parts (eqb before 20) (not (eqb (length user) 0)) has in
+    read_header bytes user before flag true r (eqb-true before 20 both.0)
+    (let some = eqb-false (length user) 0 (not-true (eqb (length user) 0) both.1) in omega arith) (eqb-true (flag true) 8 mail)
+reads_so bytes user before flag true false false has plain mail r =
+    let both = and_parts (eqb before 20) (not (eqb (length user) 0)) has in
+    read_no_flag bytes user before flag r (eqb-true before 20 both.0)
+    (let some = eqb-false (length user) 0 (not-true (eqb (length user) 0) both.1) in omega arith)
+    (eqb-false (flag false) 8 plain) (eqb-false (flag true) 8 mail)
+reads_so bytes user before flag false plain mailed has p m r =
+    read_no_user bytes user before flag r (λ whole some.
+    elim (and_cases (eqb before 20) (not (eqb (length user) 0)) has) [
+      | inl other ↦ eqb-false before 20 other whole
+      | inr empty ↦ absurd (let none = eqb-true (length user) 0 (not-false (eqb (length user) 0) empty) in omega arith)
+    ])
+
+-- what is read is the header of the bytes, or their fault
+pub header_in-reads : (bytes : List ℕ)
+    → MatchOption (header_in bytes) (IsHeaderFault bytes (header_place bytes)) (λ found. BeginsWithHeader bytes found.0 found.1)
+unfolding header_in header_place has_user
+header_in-reads bytes =
+    reads_so bytes (user_in bytes) (alike before_user bytes) (flag_alike bytes)
+    (eqb (alike before_user bytes) 20 && not (eqb (length (user_in bytes)) 0))
+    (eqb (flag_alike bytes false) 8) (eqb (flag_alike bytes true) 8) refl refl refl (is_read bytes)
+
+-- the header that is read stands there
+some_begins : (bytes user : List ℕ) (mail : Bool) (place : ℕ) (read : Option (List ℕ × Bool))
+    → MatchOption read (IsHeaderFault bytes place) (λ found. BeginsWithHeader bytes found.0 found.1)
+    → read ≡ Some (user, mail) → BeginsWithHeader bytes user mail
+some_begins bytes user mail place (Some found) begins same =
+    let it : found ≡ (user, mail) = cc same in
+    subst (λ (one : List ℕ × Bool). BeginsWithHeader bytes one.0 one.1) it begins
+some_begins bytes user mail place None fault same = absurd (cc same)
+
+-- the header that stands there is read
+begins_some : (bytes user : List ℕ) (mail : Bool) (place : ℕ) (read : Option (List ℕ × Bool))
+    → MatchOption read (IsHeaderFault bytes place) (λ found. BeginsWithHeader bytes found.0 found.1)
+    → BeginsWithHeader bytes user mail → read ≡ Some (user, mail)
+begins_some bytes user mail place (Some found) begins header =
+    let same : (found.0 ≡ user) × (found.1 ≡ mail) = one_header bytes found.0 user found.1 mail begins header in
+    λ i. Some (same.0 i, same.1 i)
+begins_some bytes user mail place None fault header = absurd (fault.none (record { user = user; mail = mail; header = header }))
+
+-- nothing is read where no header stands
+none_read : (bytes : List ℕ) (place : ℕ) (read : Option (List ℕ × Bool))
+    → MatchOption read (IsHeaderFault bytes place) (λ found. BeginsWithHeader bytes found.0 found.1)
+    → ¬ HasHeader bytes → (read ≡ None) × IsHeaderFault bytes place
+none_read bytes place (Some found) begins none = absurd (none (record { user = found.0; mail = found.1; header = begins }))
+none_read bytes place None fault none = (refl, fault)
+
+-- no header stands where nothing is read
+read_none : (bytes : List ℕ) (place : ℕ) (read : Option (List ℕ × Bool))
+    → MatchOption read (IsHeaderFault bytes place) (λ found. BeginsWithHeader bytes found.0 found.1)
+    → read ≡ None → ¬ HasHeader bytes
+read_none bytes place (Some found) begins same = absurd (cc same)
+read_none bytes place None fault same = fault.none
+
+-- the function gives a header exactly where the bytes begin with it
+pub header_in-some : (bytes user : List ℕ) (mail : Bool) → (header_in bytes ≡ Some (user, mail)) ↔ BeginsWithHeader bytes user mail
+header_in-some bytes user mail = (
+  some_begins bytes user mail (header_place bytes) (header_in bytes) (header_in-reads bytes),
+  begins_some bytes user mail (header_place bytes) (header_in bytes) (header_in-reads bytes),
+)
+
+-- it gives none exactly where they begin with none
+pub header_in-none : (bytes : List ℕ) → (header_in bytes ≡ None) ↔ (¬ HasHeader bytes)
+header_in-none bytes = (
+  read_none bytes (header_place bytes) (header_in bytes) (header_in-reads bytes),
+  λ none. (none_read bytes (header_place bytes) (header_in bytes) (header_in-reads bytes) none).0,
+)
+
+-- and there the place is where they leave all headers
+pub header_place-fault : (bytes : List ℕ) → ¬ HasHeader bytes → IsHeaderFault bytes (header_place bytes)
+header_place-fault bytes none = (none_read bytes (header_place bytes) (header_in bytes) (header_in-reads bytes) none).1
+
+-- bytes behind the length of a text don't matter to what agrees with it
+alike-take : (text bytes : List ℕ) (count : ℕ) → length text ≤ count → alike text (take count bytes) ≡ alike text bytes
+unfolding alike
+alike-take [] bytes count within = refl
+alike-take (x ∷ text) bytes zero within = absurd (omega arith)
+alike-take (x ∷ text) [] (suc count) within = refl
+alike-take (x ∷ text) (y ∷ bytes) (suc count) within =
+    ap (λ (n : ℕ). cond (eqb x y) (suc n) 0) (alike-take text bytes count (omega arith))
+
+-- bytes behind the longest name don't matter to the front of a name
+name_front-take : (bytes : List ℕ) (count : ℕ) → 32 ≤ count → name_front (take count bytes) ≡ name_front bytes
+unfolding name_front
+name_front-take bytes count far =
+    let first : get_or (take count bytes) 0 0 ≡ get_or bytes 0 0 = get_or-take count bytes 0 0 (omega arith) in
+    let few : take 32 (take count bytes) ≡ take 32 bytes = take-take 32 count bytes far in
+    λ i. cond (eqb (first i) 45) [] (take_while is_user_byte (few i))
+
+-- the user among the first 60 bytes is that of all
+user_in-take : (bytes : List ℕ) → user_in (take 60 bytes) ≡ user_in bytes
+unfolding user_in
+user_in-take bytes =
+    ap name_front (drop-take 20 40 bytes) ∙ name_front-take (drop 20 bytes) 40 (omega arith)
+
+-- the user has at most 32 bytes
+length-user_in : (bytes : List ℕ) → length (user_in bytes) ≤ 32
+unfolding user_in
+length-user_in bytes = (name_front-runs (drop 20 bytes)).runs.few
+
+-- a text behind a few bytes, where enough of them are taken
+behind-take : (rest text : List ℕ) (count : ℕ) → count ≤ 32 → length text ≡ 8
+    → alike text (drop count (take 40 rest)) ≡ alike text (drop count rest)
+behind-take rest text count few long =
+    let whole : 40 ≡ count + (40 - count) = omega arith in
+    ap (λ (n : ℕ). alike text (drop count (take n rest))) whole
+    ∙ ap (alike text) (drop-take count (40 - count) rest)
+    ∙ alike-take text (drop count rest) (40 - count) (omega arith)
+
+-- the flag among the first 60 bytes is that of all
+flag_alike-take : (bytes : List ℕ) (mail : Bool) → flag_alike (take 60 bytes) mail ≡ flag_alike bytes mail
+unfolding flag_alike
+flag_alike-take bytes mail =
+    let user : user_in (take 60 bytes) ≡ user_in bytes = user_in-take bytes in
+    let rest : drop 20 (take 60 bytes) ≡ take 40 (drop 20 bytes) = drop-take 20 40 bytes in
+    (λ i. alike (behind_user mail) (drop (length (user i)) (rest i)))
+    ∙ behind-take (drop 20 bytes) (behind_user mail) (length (user_in bytes)) (length-user_in bytes) (eight_behind mail)
+
+-- what stands before a user among the first 60 bytes
+before_user-take : (bytes : List ℕ) → alike before_user (take 60 bytes) ≡ alike before_user bytes
+before_user-take bytes = alike-take before_user bytes 60 (omega arith)
+
+-- only the first 60 bytes matter to whether a user stands there
+has_user-take : (bytes : List ℕ) → has_user (take 60 bytes) ≡ has_user bytes
+unfolding has_user
+has_user-take bytes =
+    let front = before_user-take bytes in
+    let user = user_in-take bytes in
+    λ i. eqb (front i) 20 && not (eqb (length (user i)) 0)
+
+-- only the first 60 bytes matter to the header
+pub header_in-take : (bytes : List ℕ) → header_in (take 60 bytes) ≡ header_in bytes
+unfolding header_in
+header_in-take bytes =
+    let has = has_user-take bytes in
+    let user = user_in-take bytes in
+    let plain = flag_alike-take bytes false in
+    let mailed = flag_alike-take bytes true in
+    λ i. cond (has i && eqb (plain i) 8) (Some (user i, false)) (cond (has i && eqb (mailed i) 8) (Some (user i, true)) None)
+
+-- only the first 60 bytes matter to the place of a fault
+pub header_place-take : (bytes : List ℕ) → header_place (take 60 bytes) ≡ header_place bytes
+unfolding header_place
+header_place-take bytes =
+    let has = has_user-take bytes in
+    let user = user_in-take bytes in
+    let plain = flag_alike-take bytes false in
+    let mailed = flag_alike-take bytes true in
+    let front = before_user-take bytes in
+    λ i. cond (has i) (20 + length (user i) + max (plain i) (mailed i)) (front i)
+
+-- a text is read so
+header_in-small : header_in (header_text (97 ∷ 110 ∷ 110 ∷ []) true ++ (111 ∷ [])) ≡ Some (97 ∷ 110 ∷ 110 ∷ [], true)
+unfolding header_in has_user user_in flag_alike name_front alike
+header_in-small = refl
+
+-- a place is found so
+header_place-small : header_place (before_user ++ (97 ∷ 32 ∷ 109 ∷ [])) ≡ 23
+unfolding header_place has_user user_in flag_alike name_front alike
+header_place-small = refl

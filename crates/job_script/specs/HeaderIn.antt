@@ -1,0 +1,40 @@
+-- The header of a job text, read from the front of the bytes: functions that compute what the
+-- relations of Header say (own).
+use Rattle.std.specs.Prelude.{ℕ, suc, ◌+◌, ◌==◌, ◌&&◌, max, Bool, true, false, not, List, [], ◌∷◌, Option, Some, None, length, slice_index, take, drop, if◌then◌else◌}
+use Rattle.std.specs.List.{take_while}
+use Rattle.spool_model.specs.Users.{is_user_byte}
+use Rattle.job_script.specs.Header.{before_user, behind_user}
+
+-- how many of their first bytes a text and the bytes have alike
+unfoldable pub alike : List ℕ → List ℕ → ℕ
+alike [] bytes = 0
+alike (x ∷ text) [] = 0
+alike (x ∷ text) (y ∷ bytes) = if x == y then suc (alike text bytes) else 0
+
+-- the longest front of the bytes, of at most 32, that may stand in a user's name; none before a dash
+unfoldable pub name_front : List ℕ → List ℕ
+name_front bytes = if slice_index bytes 0 == 45 then [] else take_while is_user_byte (take 32 bytes)
+
+-- what stands where a header has its user
+unfoldable pub user_in : List ℕ → List ℕ
+user_in bytes = name_front (drop 20 bytes)
+
+-- how many bytes of this flag of mail, with the end of its line, stand behind that user
+unfoldable pub flag_alike : List ℕ → Bool → ℕ
+flag_alike bytes mail = alike (behind_user mail) (drop (length (user_in bytes)) (drop 20 bytes))
+
+-- the bytes begin as a header does, with at least one byte of a user
+unfoldable pub has_user : List ℕ → Bool
+has_user bytes = alike before_user bytes == 20 && not (length (user_in bytes) == 0)
+
+-- the user and the flag of the header that the bytes begin with, if they begin with one
+unfoldable pub header_in : List ℕ → Option (List ℕ × Bool)
+header_in bytes =
+    if has_user bytes && flag_alike bytes false == 8 then Some (user_in bytes, false)
+    else (if has_user bytes && flag_alike bytes true == 8 then Some (user_in bytes, true) else None)
+
+-- how many of the first bytes some header has too, where the bytes begin with none
+unfoldable pub header_place : List ℕ → ℕ
+header_place bytes =
+    if has_user bytes then 20 + length (user_in bytes) + max (flag_alike bytes false) (flag_alike bytes true)
+    else alike before_user bytes
