@@ -4,7 +4,6 @@
 
 mod fault;
 mod fields;
-mod front;
 mod laws;
 mod mark;
 mod slot;

@@ -1,0 +1,39 @@
+use Rattle.std.proofs.Common.{refl}
+use Rattle.job_script.specs.HeaderIn.{alike, flag_alike, has_user, header_in, header_place, name_front, user_in}
+use Rattle.start_journal.specs.Journals.{free_slot, journal_in}
+use Rattle.start_journal.specs.SlotBytes.{mark_in, may_stand, right_front}
+use Rattle.spool_shows.proofs.laws.small_folders.Goals as goal
+
+pub returns-clause-show : goal.returns-clause-show
+unfolding alike flag_alike has_user header_in header_place name_front user_in free_slot journal_in mark_in may_stand right_front
+returns-clause-show c = record {
+  nothing = refl;
+  drawn = refl;
+  pending = refl;
+  running = refl;
+  done = refl;
+  done_with_file = refl;
+  free = refl;
+  other_names = refl;
+}
+
+pub returns-clause-damaged : goal.returns-clause-damaged
+unfolding alike flag_alike has_user header_in header_place name_front user_in free_slot journal_in mark_in may_stand right_front
+returns-clause-damaged c = record {
+  sequence_digit = refl;
+  sequence_short = refl;
+  sequence_long = refl;
+  sequence_empty = refl;
+  rest = refl;
+  start_without_file = refl;
+  start_in_another_queue = refl;
+  kind = refl;
+  number_of_zeros = refl;
+  second_start = refl;
+  open_behind_closed = refl;
+  not_drawn = refl;
+  header = refl;
+  long_user = refl;
+  empty_file = refl;
+  two_files = refl;
+}

@@ -1,0 +1,86 @@
+-- Small folders and what they show, by computing.
+use Rattle.std.specs.Prelude.{◌≡◌, ◌++◌, [], ◌∷◌, ℕ, ℤ, pos, List, Option, Some, None, Ok, Err, codes}
+use Rattle.std.specs.FinMap.{from_entries}
+use Rattle.host_calls.specs.declared.child.Ending.TheVariants.{Exit}
+use Rattle.host_calls.specs.declared.damage.Damage.{Damage}
+use Rattle.spool_model.specs.declared.entry.Entry.TheVariants.{Live, Done}
+use Rattle.spool_model.specs.declared.fate.Fate.TheVariants.{Finished}
+use Rattle.spool_model.specs.declared.job.Job.{Job}
+use Rattle.spool_model.specs.declared.state.State.TheVariants.{Pending, Running}
+use Rattle.spool_model.specs.JobTable.{JobEntry, JobState, JobTable, table_of}
+use Rattle.start_journal.specs.Journals.{free_slot}
+use Rattle.spool_shows.specs.Shown.{shown}
+
+-- a file by its name and its bytes
+abbrev pub File : Type 0
+File = List ℕ × List ℕ
+
+abbrev pub sequence : List ℕ → File
+sequence bytes = (codes ".SEQ", bytes)
+
+abbrev pub journal : List ℕ → File
+journal bytes = (codes ".JRN", bytes)
+
+-- the file of the first job, of ann in queue a
+abbrev pub script : List ℕ
+script = codes "#!/bin/sh\n# at user=ann mail=0\necho hi\n"
+
+abbrev pub first_job : File
+first_job = (codes "a0000101b968a0", script)
+
+abbrev pub deny : File
+deny = (codes "at.deny", [])
+
+-- slots of that job's start and of its end
+abbrev pub started : List ℕ
+started = codes "+S00000001a-000000000067748580.\n"
+
+abbrev pub ended : List ℕ
+ended = codes "+E00000001-x000000000000000000.\n"
+
+abbrev pub removed : List ℕ
+removed = codes "+R00000001--000000000000000000.\n"
+
+-- the table with this last number and no job
+abbrev pub without_jobs : ℕ → JobTable
+without_jobs last = table_of last (from_entries []) None
+
+-- the table with the first job alone
+abbrev pub with_first : JobEntry → JobTable
+with_first entry = table_of 1 (from_entries ((1, entry) ∷ [])) None
+
+abbrev pub live : JobState → JobEntry
+live state = Live (record { queue = 97; minute = 28928160; user = codes "ann"; script = script }) state
+
+abbrev pub damaged : List ℕ → ℕ → Option ℕ → Damage
+damaged name offset byte = record { name = name; offset = offset; byte = byte }
+
+-- tables that small folders show
+pub record SmallFoldersShow : Type 0 where
+  pub nothing : shown (deny ∷ []) ≡ Ok (without_jobs 0)
+  pub drawn : shown (sequence (codes "00001\n") ∷ deny ∷ []) ≡ Ok (without_jobs 1)
+  pub pending : shown (sequence (codes "00001\n") ∷ first_job ∷ deny ∷ []) ≡ Ok (with_first (live Pending))
+  pub running : shown (journal started ∷ sequence (codes "00001\n") ∷ first_job ∷ []) ≡ Ok (with_first (live (Running (pos 1735689600))))
+  pub done : shown (journal (started ++ ended) ∷ sequence (codes "00001\n") ∷ []) ≡ Ok (with_first (Done (Finished (Exit 0))))
+  pub done_with_file : shown (journal (started ++ ended) ∷ sequence (codes "00001\n") ∷ first_job ∷ []) ≡ Ok (with_first (Done (Finished (Exit 0))))
+  pub free : shown (journal (started ++ free_slot) ∷ sequence (codes "00001\n") ∷ first_job ∷ []) ≡ Ok (with_first (live (Running (pos 1735689600))))
+  pub other_names : shown (sequence (codes "00001\n") ∷ (codes "README", codes "x") ∷ first_job ∷ []) ≡ Ok (with_first (live Pending))
+
+-- damage that small folders show
+pub record SmallFoldersAreDamaged : Type 0 where
+  pub sequence_digit : shown (sequence (codes "0000g\n") ∷ []) ≡ Err (damaged (codes ".SEQ") 4 (Some 103))
+  pub sequence_short : shown (sequence (codes "00001") ∷ []) ≡ Err (damaged (codes ".SEQ") 5 None)
+  pub sequence_long : shown (sequence (codes "00001\n\n") ∷ []) ≡ Err (damaged (codes ".SEQ") 6 (Some 10))
+  pub sequence_empty : shown (sequence [] ∷ []) ≡ Err (damaged (codes ".SEQ") 0 None)
+  pub rest : shown (journal (codes ".................................") ∷ sequence (codes "00001\n") ∷ []) ≡ Err (damaged (codes ".JRN") 32 (Some 46))
+  pub start_without_file : shown (journal started ∷ sequence (codes "00001\n") ∷ []) ≡ Err (damaged (codes ".JRN") 0 (Some 43))
+  pub start_in_another_queue : shown (journal started ∷ sequence (codes "00001\n") ∷ (codes "b0000101b968a0", script) ∷ []) ≡ Err (damaged (codes ".JRN") 10 (Some 97))
+  pub kind : shown (journal (codes "+Z00000001--000000000000000000.\n") ∷ sequence (codes "00001\n") ∷ []) ≡ Err (damaged (codes ".JRN") 1 (Some 90))
+  pub number_of_zeros : shown (journal (codes "+S00000000a-000000000067748580.\n") ∷ sequence (codes "00001\n") ∷ []) ≡ Err (damaged (codes ".JRN") 9 (Some 48))
+  pub second_start : shown (journal (started ++ started) ∷ sequence (codes "00001\n") ∷ first_job ∷ []) ≡ Err (damaged (codes ".JRN") 32 (Some 43))
+  pub open_behind_closed : shown (journal (free_slot ++ removed) ∷ sequence (codes "00001\n") ∷ []) ≡ Err (damaged (codes ".JRN") 32 (Some 43))
+  pub not_drawn : shown (sequence (codes "00001\n") ∷ (codes "a0000201b968a0", script) ∷ []) ≡ Err (damaged (codes "a0000201b968a0") 0 (Some 35))
+  pub header : shown (sequence (codes "00001\n") ∷ (codes "a0000101b968a0", codes "#!/bin/sh\n# at user=ann mail=2\n") ∷ []) ≡ Err (damaged (codes "a0000101b968a0") 29 (Some 50))
+  pub long_user : shown (sequence (codes "00001\n") ∷ (codes "a0000101b968a0", codes "#!/bin/sh\n# at user=abcdefghijklmnopqrstuvwxyzabcdefg mail=0\n") ∷ []) ≡ Err (damaged (codes "a0000101b968a0") 52 (Some 103))
+  pub empty_file : shown (sequence (codes "00001\n") ∷ (codes "a0000101b968a0", []) ∷ []) ≡ Err (damaged (codes "a0000101b968a0") 0 None)
+  pub two_files : shown (sequence (codes "00001\n") ∷ first_job ∷ (codes "b0000101b968a0", script) ∷ []) ≡ Err (damaged (codes "b0000101b968a0") 0 (Some 35))

@@ -1,0 +1,6 @@
+pub mod ByName
+pub mod Digits
+pub mod Examples
+pub mod JobFiles
+pub mod LastNumber
+pub mod Shown

@@ -1,0 +1,138 @@
+-- What a folder shows (own): one job table, or one damage. A function of the files: no order of calls is in it.
+--
+-- The checks go in this order, and the first fault counts: the sequence file, the journal, the files of
+-- jobs in byte order of their names, and the numbers that are started and not decided.
+use Rattle.std.specs.Prelude.{◌+◌, ◌*◌, ◌==◌, ◌&&◌, ◌++◌, ◌≡◌, [], ◌∷◌, ℕ, ℤ, Bool, not, List, Option, Some, None, Result, Ok, Err, map, if◌then◌else◌}
+use Rattle.std.specs.FinMap.{entries, find, from_entries}
+use Rattle.std.specs.List.{filter_map}
+use Rattle.std.specs.Option.{option_or}
+use Rattle.host_calls.specs.declared.damage.Damage.{Damage}
+use Rattle.host_calls.specs.Folder.{Files, name_cmp}
+use Rattle.job_script.specs.HeaderIn.{header_in}
+use Rattle.sequence_file.specs.Sequence.{sequence_file}
+use Rattle.spool_model.specs.declared.entry.Entry.TheVariants.{Live, Done}
+use Rattle.spool_model.specs.declared.fate.Fate.{Fate}
+use Rattle.spool_model.specs.declared.fate.Fate.TheVariants as fate
+use Rattle.spool_model.specs.declared.job.Job.{Job}
+use Rattle.spool_model.specs.declared.state.State.TheVariants.{Pending, Running}
+use Rattle.spool_model.specs.JobTable.{JobEntry, JobState, JobTable, table_of}
+use Rattle.start_journal.specs.declared.mark.Mark.{Mark}
+use Rattle.start_journal.specs.declared.mark.Mark.TheVariants.{Removed, Started, Ended, Interrupted, Forgotten, Batch}
+use Rattle.start_journal.specs.Journals.{JournalRead, journal_file, journal_in}
+use Rattle.start_journal.specs.Marks.{is_decided, is_forgotten, last_batch}
+use Rattle.spool_shows.specs.JobFiles.{JobFile, file_of, files_damage, job_files}
+use Rattle.spool_shows.specs.LastNumber.{last_in}
+
+-- Numbers that are started and not decided.
+
+-- the damage of the journal at the slot of a start, whose job has this file or none
+abbrev pub start_damage : ℕ → ℕ → Option JobFile → Option Damage
+start_damage place queue None = Some (record { name = journal_file; offset = 32 * place; byte = Some 43 })
+start_damage place queue (Some file) =
+    if file.job.queue == queue then None
+    else Some (record { name = journal_file; offset = 32 * place + 10; byte = Some queue })
+
+-- the damage that a mark at this place of the journal shows: its job is started and not decided, and
+-- has no file, or one of another queue
+abbrev pub mark_damage : List Mark → List JobFile → ℕ → Mark → Option Damage
+mark_damage marks files place (Started number queue second) =
+    if is_decided number marks then None else start_damage place queue (file_of number files)
+mark_damage marks files place (Removed number) = None
+mark_damage marks files place (Ended number ending) = None
+mark_damage marks files place (Interrupted number) = None
+mark_damage marks files place (Forgotten number) = None
+mark_damage marks files place (Batch second) = None
+
+-- the first such damage, from this place on
+abbrev pub starts_damage : List Mark → List JobFile → ℕ → List Mark → Option Damage
+starts_damage marks files place [] = None
+starts_damage marks files place (mark ∷ later) =
+    option_or (mark_damage marks files place mark) (starts_damage marks files (place + 1) later)
+
+-- The table.
+
+-- the second at which the mark starts the number
+abbrev pub start_second : ℕ → Mark → Option ℤ
+start_second number (Started other queue second) = if other == number then Some second else None
+start_second number (Removed other) = None
+start_second number (Ended other ending) = None
+start_second number (Interrupted other) = None
+start_second number (Forgotten other) = None
+start_second number (Batch second) = None
+
+-- the second at which the number was started, if it was
+abbrev pub started_at : ℕ → List Mark → Option ℤ
+started_at number [] = None
+started_at number (mark ∷ later) = option_or (start_second number mark) (started_at number later)
+
+-- a job runs since its start, and is pending where there is none
+abbrev pub state_since : Option ℤ → JobState
+state_since (Some second) = Running second
+state_since None = Pending
+
+-- the user of a header
+abbrev pub user_of : Option (List ℕ × Bool) → List ℕ
+user_of (Some header) = header.0
+user_of None = []
+
+-- the job of a file: queue and minute of its name, the user of its header, and the whole file as its script
+abbrev pub job_of : JobFile → Job
+job_of file =
+    record { queue = file.job.queue; minute = file.job.minute; user = user_of (header_in file.bytes); script = file.bytes }
+
+-- the entry of a file
+abbrev pub live_entry : List Mark → JobFile → ℕ × JobEntry
+live_entry marks file = (file.job.number, Live (job_of file) (state_since (started_at file.job.number marks)))
+
+-- the entry of a number that a mark decides, unless it was forgotten
+abbrev pub done_as : List Mark → ℕ → Fate → Option (ℕ × JobEntry)
+done_as marks number fate = if is_forgotten number marks then None else Some (number, Done fate)
+
+-- the entry that a mark leaves
+abbrev pub done_entry : List Mark → Mark → Option (ℕ × JobEntry)
+done_entry marks (Removed number) = done_as marks number fate.Removed
+done_entry marks (Ended number ending) = done_as marks number (fate.Finished ending)
+done_entry marks (Interrupted number) = done_as marks number fate.Interrupted
+done_entry marks (Started number queue second) = None
+done_entry marks (Forgotten number) = None
+done_entry marks (Batch second) = None
+
+-- the entries: of the files that count, and of the numbers that are decided
+abbrev pub entries_shown : List Mark → List JobFile → List (ℕ × JobEntry)
+entries_shown marks files = map (live_entry marks) files ++ filter_map (done_entry marks) marks
+
+abbrev pub table_shown : ℕ → List Mark → List JobFile → JobTable
+table_shown last marks files = table_of last (from_entries (entries_shown marks files)) (last_batch marks)
+
+-- What a folder shows.
+
+-- the first damage of files that count and of starts
+abbrev pub damage_of_jobs : ℕ → List Mark → List JobFile → Option Damage
+damage_of_jobs last marks files = option_or (files_damage last [] files) (starts_damage marks files 0 marks)
+
+abbrev pub table_or_damage : ℕ → List Mark → List JobFile → Option Damage → Result JobTable Damage
+table_or_damage last marks files (Some damage) = Err damage
+table_or_damage last marks files None = Ok (table_shown last marks files)
+
+abbrev pub shown_by_files : ℕ → List Mark → List JobFile → Result JobTable Damage
+shown_by_files last marks files = table_or_damage last marks files (damage_of_jobs last marks files)
+
+abbrev pub shown_behind_journal : ℕ → Result JournalRead Damage → List (List ℕ × List ℕ) → Result JobTable Damage
+shown_behind_journal last (Err damage) files = Err damage
+shown_behind_journal last (Ok read) files = shown_by_files last read.marks (job_files read.marks files)
+
+abbrev pub shown_behind_last : Result ℕ Damage → List (List ℕ × List ℕ) → Result JobTable Damage
+shown_behind_last (Err damage) files = Err damage
+shown_behind_last (Ok last) files = shown_behind_journal last (journal_in last (find name_cmp journal_file files)) files
+
+-- what files show that stand in byte order of their names
+abbrev pub shown : List (List ℕ × List ℕ) → Result JobTable Damage
+shown files = shown_behind_last (last_in (find name_cmp sequence_file files)) files
+
+-- what a folder shows
+unfoldable pub shown_by : Files → Result JobTable Damage
+shown_by files = shown (entries files)
+
+-- the folder shows the table
+abbrev pub Shows : Files → JobTable → Type 0
+Shows files table = shown_by files ≡ Ok table
