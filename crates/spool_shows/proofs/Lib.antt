@@ -1,5 +1,9 @@
+pub mod ByNameLemmas
+pub mod DeciderLemmas
+pub mod EntryLemmas
 pub mod EntryLists
 pub mod FileLemmas
+pub mod JournalReads
 pub mod Membership
 pub mod SoundLemmas
 pub mod StartLemmas

@@ -8,6 +8,10 @@ abbrev pub Has : {X : Type 0} → List X → X → Type 0
 Has [] x = ⊥
 Has (y ∷ later) x = (y ≡ x) ⊎ Has later x
 
+-- nothing is not something
+pub none_some : {X : Type 0} → (x : X) → ◌≡◌ {A = Option X} None (Some x) → ⊥
+none_some x is = let impossible : None ≡ Some x = is in cc
+
 pub has_contained : {X : Type 0} → (xs : List X) (x : X) → Contains xs x → Has xs x
 has_contained [] x is = absurd (omega (arith, is.1))
 has_contained (y ∷ later) x is = at is.0 is.1 is.2 (has_contained later x) where
