@@ -1,1 +1,4 @@
 pub mod JournalReads
+pub mod FreshNumbers
+pub mod NameLemmas
+pub mod DrawLemmas
