@@ -2,3 +2,4 @@ pub mod JournalReads
 pub mod FreshNumbers
 pub mod NameLemmas
 pub mod DrawLemmas
+pub mod AcceptLemmas
