@@ -3,3 +3,4 @@ pub mod FreshNumbers
 pub mod NameLemmas
 pub mod DrawLemmas
 pub mod AcceptLemmas
+pub mod OtherLemmas
