@@ -4,3 +4,4 @@ pub mod NameLemmas
 pub mod DrawLemmas
 pub mod AcceptLemmas
 pub mod OtherLemmas
+pub mod Spellings
