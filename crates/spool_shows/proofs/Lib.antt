@@ -1,9 +1,15 @@
+pub mod AcceptLemmas
 pub mod ByNameLemmas
 pub mod DeciderLemmas
+pub mod DrawLemmas
 pub mod EntryLemmas
 pub mod EntryLists
 pub mod FileLemmas
+pub mod FreshNumbers
 pub mod JournalReads
 pub mod Membership
+pub mod NameLemmas
+pub mod OtherLemmas
 pub mod SoundLemmas
+pub mod Spellings
 pub mod StartLemmas
