@@ -53,7 +53,7 @@ ShowsLive marks files number (Some entry) = (file : JobFile) × IsJobFile marks 
 -- the entry of a number
 abbrev pub ShowsEntry : List Mark → Files → ℕ → Option JobEntry → Type 0
 ShowsEntry marks files number entry =
-    MatchBool (is_decided number marks) (ShowsLive marks files number entry) (ShowsDone marks number entry)
+    MatchBool (is_decided number marks) (ShowsDone marks number entry) (ShowsLive marks files number entry)
 
 -- The folder shows the table, by each of its names and numbers.
 pub record ShowsByName (files : Files) (table : JobTable) : Type 0 where
