@@ -114,7 +114,7 @@ entry_left marks number entry (Started other queue second) leaves = cc
 entry_left marks number entry (Forgotten other) leaves = cc
 entry_left marks number entry (Batch second) leaves = cc
 
-done_moves : (number : ℕ) (marks later : List Mark) (entry : Option JobEntry) → TellSame number marks later → ShowsDone marks number entry → ShowsDone later number entry
+pub done_moves : (number : ℕ) (marks later : List Mark) (entry : Option JobEntry) → TellSame number marks later → ShowsDone marks number entry → ShowsDone later number entry
 done_moves number marks later None same shows = same.forgotten ∙ shows
 done_moves number marks later (Some entry) same (mark, there, leaves) =
     let left = entry_left marks number entry mark leaves in
@@ -126,7 +126,7 @@ live_same : (marks later : List Mark) (file : JobFile) (number : ℕ) → file.j
 live_same marks later file number is same =
     ap (λ since. (file.job.number, Live (job_of file) (state_since since))) (ap (λ n. started_at n later) is ∙ same ∙ sym (ap (λ n. started_at n marks) is))
 
-live_moves : (number : ℕ) (marks later : List Mark) (one other : Files) (entry : Option JobEntry) → SameJobs one other → TellSame number marks later → is_decided number marks ≡ false → ShowsLive marks one number entry → ShowsLive later other number entry
+pub live_moves : (number : ℕ) (marks later : List Mark) (one other : Files) (entry : Option JobEntry) → SameJobs one other → TellSame number marks later → is_decided number marks ≡ false → ShowsLive marks one number entry → ShowsLive later other number entry
 live_moves number marks later one other None files same undecided none =
     λ file is number_is. none file (file_moves later marks other one (same_back one other files) file is (ap (λ n. is_decided n marks) number_is ∙ undecided)) number_is
 live_moves number marks later one other (Some entry) files same undecided (file, is, shows) =
