@@ -1,3 +1,5 @@
 pub mod MarkTests
 pub mod ShownEntries
 pub mod ShownStates
+pub mod JournalReads
+pub mod StepMarks

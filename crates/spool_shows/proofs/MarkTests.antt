@@ -4,14 +4,14 @@ use Rattle.std.specs.Prelude.{◌==◌, ◌||◌, Contains}
 use Rattle.std.specs.List.{All, filter, list_any}
 use Rattle.std.specs.Option.{option_or}
 use Rattle.std.proofs.lemmas.Bool.Decides.{nat_tests}
-use Rattle.std.proofs.lemmas.List.{append-nil}
+use Rattle.std.proofs.lemmas.List.{append-nil, append_assoc}
 use Rattle.std.proofs.lemmas.List.Elements.{All-cons, All-contains, All-contains_itself, All-filter, All-nil, All-weaker, Contains-append_left, Contains-append_right, Contains-push, filter-append}
 use Rattle.std.proofs.lemmas.List.Folds.{list_any-append}
 use Rattle.std.proofs.lemmas.Map.Views.{any-filter_same}
 use Rattle.start_journal.specs.declared.mark.Mark.{Mark}
 use Rattle.start_journal.specs.declared.mark.Mark.TheVariants.{Removed, Started, Ended, Interrupted, Forgotten, Batch}
-use Rattle.start_journal.specs.Marks.{batch_second, decides, first_of_two, forgets, is_decided, is_forgotten, last_batch, marks_of, names}
-use Rattle.start_journal.proofs.MarkLemmas.{decides_names, forgets_names, or_false, or_true}
+use Rattle.start_journal.specs.Marks.{AreLegal, AreLegalAfter, IsLegalAfter, batch_second, decides, first_of_two, forgets, is_decided, is_forgotten, last_batch, marks_of, names}
+use Rattle.start_journal.proofs.MarkLemmas.{decides_names, either, forgets_names, or_false, or_true, same_number}
 use Rattle.spool_shows.specs.Shown.{start_second, started_at}
 
 -- One mark more.
@@ -124,3 +124,28 @@ tell_same number one other same = record {
 
   from_its : {mark : Mark} → Contains (marks_of number other) mark → Contains other mark
   from_its {mark} there = All-contains (Contains other) (marks_of number other) mark (All-filter (names number) (Contains other) other (All-contains_itself other)) there
+
+-- Legal marks.
+
+-- a mark that forgets a number stands behind one that decides it
+decided_before : (number : ℕ) (before : List Mark) (mark : Mark) → IsLegalAfter before mark → forgets number mark ≡ true → is_decided number before ≡ true
+decided_before number before (Forgotten other) legal is = subst (λ n. is_decided n before ≡ true) (same_number other number is) legal.0
+decided_before number before (Removed other) legal is = cc
+decided_before number before (Started other queue second) legal is = cc
+decided_before number before (Ended other ending) legal is = cc
+decided_before number before (Interrupted other) legal is = cc
+decided_before number before (Batch second) legal is = cc
+
+pub forgotten_was_decided : (number : ℕ) (before later : List Mark) → AreLegalAfter before later → is_forgotten number later ≡ true → is_decided number (before ++ later) ≡ true
+forgotten_was_decided number before [] legal is = cc
+forgotten_was_decided number before (mark ∷ later) legal is = elim (either (forgets number mark) (is_forgotten number later) is) [
+  | inl here ↦ list_any-append (decides number) before (mark ∷ later) ∙ ap (λ b. b || is_decided number (mark ∷ later)) (decided_before number before mark legal.0 here)
+  | inr behind ↦ subst (λ list. is_decided number list ≡ true) (append_assoc before (mark ∷ []) later) (forgotten_was_decided number (before ++ mark ∷ []) later legal.1 behind)
+]
+
+-- a number that is not decided is not forgotten
+pub not_forgotten : (marks : List Mark) (number : ℕ) → AreLegal marks → is_decided number marks ≡ false → is_forgotten number marks ≡ false
+not_forgotten marks number legal undecided = by_test (is_forgotten number marks) refl where
+  by_test : (forgotten : Bool) → is_forgotten number marks ≡ forgotten → is_forgotten number marks ≡ false
+  by_test true is = let impossible : false ≡ true = sym undecided ∙ forgotten_was_decided number [] marks legal is in cc
+  by_test false is = is

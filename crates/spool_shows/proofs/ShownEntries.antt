@@ -41,7 +41,7 @@ fails_other one other differ = grind (arith, nat_tests)
 abbrev pub SameJobs : Files → Files → Type 0
 SameJobs one other = (name : List ℕ) (job : NamedJob) → job_named name ≡ Some job → map.get other name ≡ map.get one name
 
-same_back : (one other : Files) → SameJobs one other → SameJobs other one
+pub same_back : (one other : Files) → SameJobs one other → SameJobs other one
 same_back one other same name job named = sym (same name job named)
 
 -- neither the journal nor a file that is being made has the name of a job
