@@ -1,5 +1,6 @@
+pub mod JournalReads
 pub mod MarkTests
+pub mod OneMark
 pub mod ShownEntries
 pub mod ShownStates
-pub mod JournalReads
 pub mod StepMarks

@@ -1,96 +1,185 @@
--- A step of the table that adds its mark to the journal is shown.
-use Rattle.std.proofs.Common.{◌≡◌, ◌⊎◌, ℕ, ℤ, Bool, true, false, List, Option, Some, None, [], ◌∷◌, ◌++◌, sym, ap, subst, ◌∙◌, refl, inl, inr}
-use Rattle.std.specs.Prelude.{◌==◌, Contains, MatchBool, Ok, Result, slice_index}
+-- A step that is legal on a table, with its mark in the journal, leads from a folder that shows the
+-- table to one that shows the table after the step.
+use Rattle.std.proofs.Common.{◌≡◌, ℕ, ℤ, Bool, true, false, cond, List, Option, Some, None, [], ◌∷◌, ◌++◌, sym, ap, subst, ◌∙◌, refl}
+use Rattle.std.specs.Prelude.{◌==◌, if◌then◌else◌}
 use Rattle.std.specs.FinMap as map
-use Rattle.std.proofs.lemmas.Bool.Decides.{eqb_tells}
-use Rattle.std.proofs.lemmas.List.Elements.{Contains-push, Contains-push_cases}
-use Rattle.host_calls.specs.declared.damage.Damage.{Damage}
+use Rattle.std.specs.Option.{option_or}
 use Rattle.host_calls.specs.Folder.{Files}
-use Rattle.sequence_file.specs.Sequence.{sequence_file, temporary_file}
+use Rattle.host_calls.specs.declared.child.Ending.{Ending}
 use Rattle.spool_model.specs.declared.entry.Entry.TheVariants.{Live, Done}
 use Rattle.spool_model.specs.declared.fate.Fate.{Fate}
-use Rattle.spool_model.specs.JobTable.{JobEntries, JobEntry, JobTable, entry_at, table_of}
+use Rattle.spool_model.specs.declared.fate.Fate.TheVariants as fate
+use Rattle.spool_model.specs.declared.job.Job.{Job}
+use Rattle.spool_model.specs.declared.state.State.TheVariants.{Pending, Running}
+use Rattle.spool_model.specs.declared.step.Step.{Step}
+use Rattle.spool_model.specs.declared.step.Step.TheVariants.{Draw, Accept, Remove, Start, End, Interrupt, Forget}
+use Rattle.spool_model.specs.JobTable.{IsDone, IsPending, IsRunning, JobEntries, JobEntry, JobState, JobTable, entry_at, is_batch_queue, table_of}
+use Rattle.spool_model.specs.Steps.{IsLegal, after_step, is_batch_entry, with_state}
+use Rattle.spool_model.proofs.TableLemmas.{get-put_other, get-put_same, get-taken_other, get-taken_same}
 use Rattle.start_journal.specs.declared.mark.Mark.{Mark}
-use Rattle.start_journal.specs.declared.mark.Mark.TheVariants.{Started}
-use Rattle.start_journal.specs.Journals.{JournalRead, journal_file, journal_in}
-use Rattle.start_journal.specs.Marks.{AreLegal, batch_second, decides, first_of_two, forgets, is_decided, is_forgotten, names}
-use Rattle.whole_file.specs.Others.{IsEither}
-use Rattle.spool_shows.specs.ByName.{AreSound, HasFile, IsJobFile, ShowsByName, ShowsEntry}
+use Rattle.start_journal.specs.declared.mark.Mark.TheVariants as mark
+use Rattle.start_journal.specs.Marks.{batch_second, decides, first_of_two, forgets, is_decided, is_forgotten, names}
+use Rattle.spool_shows.specs.ByName.{HasFile, ShowsByName, ShowsEntry}
 use Rattle.spool_shows.specs.JobFiles.{JobFile}
-use Rattle.spool_shows.specs.Laws.{AgreeElsewhere, HasMarked, HasMarks}
-use Rattle.spool_shows.specs.LastNumber.{last_in}
-use Rattle.spool_shows.specs.Shown.{done_entry}
-use Rattle.spool_shows.proofs.JournalReads.{journal_legal}
-use Rattle.spool_shows.proofs.MarkTests.{any_with, any_without, batch_more, marks_of_other, none_before, not_forgotten, tell_same}
-use Rattle.spool_shows.proofs.ShownEntries.{SameJobs, file_moves, same_back, same_jobs, shows_done}
-use Rattle.spool_shows.proofs.ShownStates.{entry_moves, sound_moves}
+use Rattle.spool_shows.specs.Laws.{AddsMark, HasMarked}
+use Rattle.spool_shows.specs.Shown.{done_entry, job_of, live_entry, start_second, started_at, state_since}
+use Rattle.spool_shows.proofs.MarkTests.{any_with, any_without, not_forgotten, started_more}
+use Rattle.spool_shows.proofs.OneMark.{decided_shown, marks_legal, step_shown}
+use Rattle.spool_shows.proofs.ShownEntries.{fails_other, file_moves, leaves_as, passes_same, same_jobs, shows_done, shows_live}
+use Rattle.spool_shows.proofs.ShownStates.{IsDoneBy, IsLiveBy, done_told, live_told, not_started}
 
--- one answer gives one value
-pub ok_same : {X : Type 0} {one other : X} (answer : Result X Damage) → answer ≡ Ok one → answer ≡ Ok other → one ≡ other
-ok_same answer is also = cc
+-- the entry that the table has under a number is shown
+pub live_in : (files : Files) (table : JobTable) (number : ℕ) (job : Job) (state : JobState) (shows : ShowsByName files table) → entry_at table number ≡ Some (Live job state) → IsLiveBy shows.read.marks files number job state
+live_in files table number job state shows is =
+    live_told shows.read.marks files number job state (subst (ShowsEntry shows.read.marks files number) is (shows.entries number))
 
--- the marks of the journal are those of the table
-pub had_same : (files : Files) (table : JobTable) (marks : List Mark) (shows : ShowsByName files table) → HasMarks files marks → shows.read.marks ≡ marks
-had_same files table marks shows had =
-    let last_is : table.last ≡ had.last = ok_same (last_in (map.get files sequence_file)) shows.last had.number in
-    let read_is : shows.read ≡ record { marks = marks; free = had.free } =
-      ok_same (journal_in had.last (map.get files journal_file)) (ap (λ last. journal_in last (map.get files journal_file)) (sym last_is) ∙ shows.journal) had.journal in
-    ap (λ (read : JournalRead). read.marks) read_is
+pub done_in : (files : Files) (table : JobTable) (number : ℕ) (fate : Fate) (shows : ShowsByName files table) → entry_at table number ≡ Some (Done fate) → IsDoneBy shows.read.marks number
+done_in files table number fate shows is =
+    done_told shows.read.marks files number fate (subst (ShowsEntry shows.read.marks files number) is (shows.entries number))
 
--- those marks are legal
-pub marks_legal : (files : Files) (table : JobTable) (shows : ShowsByName files table) → AreLegal shows.read.marks
-marks_legal files table shows = journal_legal table.last (map.get files journal_file) shows.read shows.journal
+-- a number is not tested as another
+silent_other : (number other : ℕ) → ¬ (other ≡ number) → (number == other) ≡ false
+silent_other number other differ = fails_other number other (λ same. differ (sym same))
 
--- the sequence file is neither the journal nor a file that is being made
-sequence_elsewhere : ¬ (IsEither temporary_file journal_file sequence_file)
-sequence_elsewhere (inl same) = let impossible : true ≡ false = ap (λ name. slice_index name 1 == 83) same in cc
-sequence_elsewhere (inr same) = let impossible : true ≡ false = ap (λ name. slice_index name 1 == 83) same in cc
+-- Steps that decide a number.
 
-pub last_moves : (before after : Files) (last : ℕ) → AgreeElsewhere temporary_file journal_file before after → last_in (map.get before sequence_file) ≡ Ok last → last_in (map.get after sequence_file) ≡ Ok last
-last_moves before after last others is = ap last_in (others sequence_file sequence_elsewhere) ∙ is
+-- the mark decides the number by this fate, and says nothing else
+record DecidesBy (number : ℕ) (fate : Fate) (added : Mark) : Type 0 where
+  batch : batch_second added ≡ None
+  silent : (other : ℕ) → ¬ (other ≡ number) → names other added ≡ false
+  decides_it : decides number added ≡ true
+  forgets_not : forgets number added ≡ false
+  leaves : (list : List Mark) → is_forgotten number list ≡ false → done_entry list added ≡ Some (number, Done fate)
+  no_start : (other queue : ℕ) (second : ℤ) → ¬ (added ≡ mark.Started other queue second)
 
--- what a step does to the table and to the folder, where its mark names this number alone
-pub record IsStepOf (before after : Files) (table : JobTable) (entries : JobEntries) (last_batch : Option ℤ) (added : Mark) (number : ℕ) (marks : List Mark) : Type 0 where
-  pub batch : last_batch ≡ first_of_two (batch_second added) table.last_batch
-  pub silent : (other : ℕ) → ¬ (other ≡ number) → names other added ≡ false
-  pub kept : (other : ℕ) → ¬ (other ≡ number) → map.get entries other ≡ entry_at table other
-  pub here : ShowsEntry (marks ++ added ∷ []) after number (map.get entries number)
-  pub starts : (other queue : ℕ) (second : ℤ) → added ≡ Started other queue second → HasFile marks before other queue
-
--- the folder is as sound with the mark
-sound_more : (last : ℕ) (before after : Files) (marks : List Mark) (added : Mark) → SameJobs before after → ((other queue : ℕ) (second : ℤ) → added ≡ Started other queue second → HasFile marks before other queue) → AreSound last marks before → AreSound last (marks ++ added ∷ []) after
-sound_more last before after marks added same starts sound = sound_moves last marks (marks ++ added ∷ []) before after (record { files = same; back = back; started = started }) sound where
-  back : (file : JobFile) → IsJobFile (marks ++ added ∷ []) after file → IsJobFile marks before file
-  back file is = file_moves (marks ++ added ∷ []) marks after before (same_back before after same) file is (none_before (decides file.job.number) marks added is.undecided)
-
-  started : (number queue : ℕ) (second : ℤ) → Contains (marks ++ added ∷ []) (Started number queue second) → is_decided number (marks ++ added ∷ []) ≡ false → HasFile marks before number queue
-  started number queue second there undecided = elim (Contains-push_cases marks added (Started number queue second) there) [
-    | inl old ↦ sound.started number queue second old (none_before (decides number) marks added undecided)
-    | inr new ↦ starts number queue second new
-  ]
-
-entries_more : (before after : Files) (table : JobTable) (entries : JobEntries) (last_batch : Option ℤ) (added : Mark) (number : ℕ) (marks : List Mark) → SameJobs before after → ((other : ℕ) → ShowsEntry marks before other (entry_at table other)) → IsStepOf before after table entries last_batch added number marks → (other : ℕ) → ShowsEntry (marks ++ added ∷ []) after other (map.get entries other)
-entries_more before after table entries last_batch added number marks same shows step other = elim (eqb_tells other number) [
-  | inl one ↦ subst (λ n. ShowsEntry (marks ++ added ∷ []) after n (map.get entries n)) (sym one.1) step.here
-  | inr apart ↦ subst (ShowsEntry (marks ++ added ∷ []) after other) (sym (step.kept other apart.1))
-    (entry_moves other marks (marks ++ added ∷ []) before after (entry_at table other) same (tell_same other marks (marks ++ added ∷ []) (marks_of_other other marks added (step.silent other apart.1))) (shows other))
-]
-
-pub step_shown : (before after : Files) (table : JobTable) (entries : JobEntries) (last_batch : Option ℤ) (added : Mark) (number : ℕ) (shows : ShowsByName before table) → HasMarked table added before after → IsStepOf before after table entries last_batch added number shows.read.marks → ShowsByName after (table_of table.last entries last_batch)
-step_shown before after table entries last_batch added number shows marked step =
+decided_step : (before after : Files) (table : JobTable) (number : ℕ) (fate : Fate) (added : Mark) (job : Job) (state : JobState) → ShowsByName before table → entry_at table number ≡ Some (Live job state) → DecidesBy number fate added → HasMarked table added before after → ShowsByName after (table_of table.last (map.insert table.entries number (Done fate)) table.last_batch)
+decided_step before after table number fate added job state shows is decides_by marked =
     let marks : List Mark = shows.read.marks in
-    let same : SameJobs before after = same_jobs before after marked.others in
-    record {
-      read = record { marks = marks ++ added ∷ []; free = marked.free };
-      last = last_moves before after table.last marked.others shows.last;
-      journal = subst (λ list. journal_in table.last (map.get after journal_file) ≡ Ok (record { marks = list ++ added ∷ []; free = marked.free })) (sym (had_same before table marked.marks shows marked.had)) marked.journal;
-      sound = sound_more table.last before after marks added same step.starts shows.sound;
-      batch = step.batch ∙ ap (first_of_two (batch_second added)) shows.batch ∙ sym (batch_more marks added);
-      entries = entries_more before after table entries last_batch added number marks same shows.entries step;
-    }
+    let live : IsLiveBy marks before number job state = live_in before table number job state shows is in
+    step_shown before after table (map.insert table.entries number (Done fate)) table.last_batch added number shows marked (record {
+      batch = ap (λ batch. first_of_two batch table.last_batch) (sym decides_by.batch);
+      silent = decides_by.silent;
+      kept = λ other differ. get-put_other table.entries number other (Done fate) differ;
+      here = subst (ShowsEntry (marks ++ added ∷ []) after number) (sym (get-put_same table.entries number (Done fate)))
+        (decided_shown marks after added number fate decides_by.decides_it decides_by.forgets_not (not_forgotten marks number (marks_legal before table shows) live.undecided) decides_by.leaves);
+      starts = λ other queue second same. absurd (decides_by.no_start other queue second same);
+    })
 
--- a mark that decides a number leaves its entry
-pub decided_shown : (marks : List Mark) (files : Files) (added : Mark) (number : ℕ) (fate : Fate) → decides number added ≡ true → forgets number added ≡ false → is_forgotten number marks ≡ false → ((list : List Mark) → is_forgotten number list ≡ false → done_entry list added ≡ Some (number, Done fate)) → ShowsEntry (marks ++ added ∷ []) files number (Some (Done fate))
-decided_shown marks files added number fate decides_it forgets_not remembered leaves =
-    shows_done (marks ++ added ∷ []) files number (Some (Done fate)) (any_with (decides number) marks added decides_it)
-    (added, Contains-push marks added, leaves (marks ++ added ∷ []) (any_without (forgets number) marks added forgets_not ∙ remembered))
+remove_shown : (before after : Files) (table : JobTable) (number : ℕ) → ShowsByName before table → IsPending table number → HasMarked table (mark.Removed number) before after → ShowsByName after (after_step table (Remove number))
+remove_shown before after table number shows (job, is) marked =
+    decided_step before after table number fate.Removed (mark.Removed number) job Pending shows is (record {
+      batch = refl;
+      silent = silent_other number;
+      decides_it = passes_same number number refl;
+      forgets_not = refl;
+      leaves = λ list remembered. leaves_as list number number fate.Removed refl remembered;
+      no_start = λ other queue second same. cc;
+    }) marked
+
+end_shown : (before after : Files) (table : JobTable) (number : ℕ) (ending : Ending) → ShowsByName before table → IsRunning table number → HasMarked table (mark.Ended number ending) before after → ShowsByName after (after_step table (End number ending))
+end_shown before after table number ending shows (job, second, is) marked =
+    decided_step before after table number (fate.Finished ending) (mark.Ended number ending) job (Running second) shows is (record {
+      batch = refl;
+      silent = silent_other number;
+      decides_it = passes_same number number refl;
+      forgets_not = refl;
+      leaves = λ list remembered. leaves_as list number number (fate.Finished ending) refl remembered;
+      no_start = λ other queue second same. cc;
+    }) marked
+
+interrupt_shown : (before after : Files) (table : JobTable) (number : ℕ) → ShowsByName before table → IsRunning table number → HasMarked table (mark.Interrupted number) before after → ShowsByName after (after_step table (Interrupt number))
+interrupt_shown before after table number shows (job, second, is) marked =
+    decided_step before after table number fate.Interrupted (mark.Interrupted number) job (Running second) shows is (record {
+      batch = refl;
+      silent = silent_other number;
+      decides_it = passes_same number number refl;
+      forgets_not = refl;
+      leaves = λ list remembered. leaves_as list number number fate.Interrupted refl remembered;
+      no_start = λ other queue second same. cc;
+    }) marked
+
+-- The step that forgets a number.
+
+forget_shown : (before after : Files) (table : JobTable) (number : ℕ) → ShowsByName before table → IsDone table number → HasMarked table (mark.Forgotten number) before after → ShowsByName after (after_step table (Forget number))
+forget_shown before after table number shows (fate, is) marked =
+    let marks : List Mark = shows.read.marks in
+    let done : IsDoneBy marks number = done_in before table number fate shows is in
+    let added : Mark = mark.Forgotten number in
+    step_shown before after table (map.remove table.entries number) table.last_batch added number shows marked (record {
+      batch = refl;
+      silent = silent_other number;
+      kept = λ other differ. get-taken_other table.entries number other differ;
+      here = subst (ShowsEntry (marks ++ added ∷ []) after number) (sym (get-taken_same table.entries number))
+        (shows_done (marks ++ added ∷ []) after number None (any_without (decides number) marks added refl ∙ done.decided) (any_with (forgets number) marks added (passes_same number number refl)));
+      starts = λ other queue second same. cc;
+    })
+
+-- The step that starts a job.
+
+-- the file of a number shows the job in the state
+live_is : (marks : List Mark) (file : JobFile) (number : ℕ) (job : Job) (state : JobState) → file.job.number ≡ number → job_of file ≡ job → state_since (started_at number marks) ≡ state → live_entry marks file ≡ (number, Live job state)
+live_is marks file number job state number_is job_is state_is =
+    ap (λ n. (n, Live (job_of file) (state_since (started_at n marks)))) number_is
+    ∙ ap (λ j. (number, Live j (state_since (started_at number marks)))) job_is
+    ∙ ap (λ s. (number, Live job s)) state_is
+
+-- the start is that of the mark
+started_since : (number queue : ℕ) (second : ℤ) (marks : List Mark) → started_at number marks ≡ None → started_at number (marks ++ mark.Started number queue second ∷ []) ≡ Some second
+started_since number queue second marks none =
+    started_more number marks (mark.Started number queue second)
+    ∙ ap (λ first. option_or first (start_second number (mark.Started number queue second))) none
+    ∙ ap (λ b. cond b (Some second) None) (passes_same number number refl)
+
+-- the start of a batch job is the last one
+batch_since : (batch : Bool) (second : ℤ) (last : Option ℤ) → (if batch then Some second else last) ≡ first_of_two (if batch then Some second else None) last
+batch_since true second last = refl
+batch_since false second last = refl
+
+-- the job has its file in the queue of its start
+has_its_file : (marks : List Mark) (files : Files) (number : ℕ) (job : Job) (state : JobState) → IsLiveBy marks files number job state → HasFile marks files number job.queue
+has_its_file marks files number job state live = record {
+  file = live.file;
+  is = live.is;
+  number_is = live.number_is;
+  queue_is = ap (λ (j : Job). j.queue) live.job_is;
+}
+
+same_start : (number other queue its : ℕ) (second since : ℤ) → mark.Started number queue second ≡ mark.Started other its since → (number ≡ other) × (queue ≡ its)
+same_start number other queue its second since same = (cc, cc)
+
+start_shown : (before after : Files) (table : JobTable) (number : ℕ) (second : ℤ) (job : Job) → ShowsByName before table → entry_at table number ≡ Some (Live job Pending) → HasMarked table (mark.Started number job.queue second) before after → ShowsByName after (after_step table (Start number second))
+start_shown before after table number second job shows is marked =
+    let marks : List Mark = shows.read.marks in
+    let added : Mark = mark.Started number job.queue second in
+    let live : IsLiveBy marks before number job Pending = live_in before table number job Pending shows is in
+    let entries : JobEntries = with_state number (Running second) (map.get table.entries number) table.entries in
+    let entries_is : entries ≡ map.insert table.entries number (Live job (Running second)) = ap (λ entry. with_state number (Running second) entry table.entries) is in
+    let since : started_at number (marks ++ added ∷ []) ≡ Some second = started_since number job.queue second marks (not_started (started_at number marks) live.state_is) in
+    let running : ShowsEntry (marks ++ added ∷ []) after number (Some (Live job (Running second))) =
+      shows_live (marks ++ added ∷ []) after number (Some (Live job (Running second))) (any_without (decides number) marks added refl ∙ live.undecided)
+      (live.file, file_moves marks (marks ++ added ∷ []) before after (same_jobs before after marked.others) live.file live.is (any_without (decides live.file.job.number) marks added refl ∙ live.is.undecided), live_is (marks ++ added ∷ []) live.file number job (Running second) live.number_is live.job_is (ap state_since since)) in
+    step_shown before after table entries (if is_batch_entry (entry_at table number) then Some second else table.last_batch) added number shows marked (record {
+      batch = ap (λ entry. if is_batch_entry entry then Some second else table.last_batch) is ∙ batch_since (is_batch_queue job.queue) second table.last_batch;
+      silent = silent_other number;
+      kept = λ other differ. ap (λ list. map.get list other) entries_is ∙ get-put_other table.entries number other (Live job (Running second)) differ;
+      here = subst (ShowsEntry (marks ++ added ∷ []) after number) (sym (ap (λ list. map.get list number) entries_is ∙ get-put_same table.entries number (Live job (Running second)))) running;
+      starts = λ other queue since same.
+        let parts : (number ≡ other) × (job.queue ≡ queue) = same_start number other job.queue queue second since same in
+        subst (λ n. HasFile marks before n queue) parts.0 (subst (HasFile marks before number) parts.1 (has_its_file marks before number job Pending live));
+    })
+
+-- All five.
+
+pub marked_by_name : (before after : Files) (table : JobTable) (step : Step) (added : Mark) → ShowsByName before table → IsLegal table step → AddsMark table step added → HasMarked table added before after → ShowsByName after (after_step table step)
+marked_by_name before after table Draw added shows legal adds marked = absurd adds
+marked_by_name before after table (Accept number job) added shows legal adds marked = absurd adds
+marked_by_name before after table (Remove number) added shows legal adds marked =
+    remove_shown before after table number shows legal (subst (λ one. HasMarked table one before after) adds marked)
+marked_by_name before after table (Start number second) added shows legal (job, is, adds) marked =
+    start_shown before after table number second job shows is (subst (λ one. HasMarked table one before after) adds marked)
+marked_by_name before after table (End number ending) added shows legal adds marked =
+    end_shown before after table number ending shows legal (subst (λ one. HasMarked table one before after) adds marked)
+marked_by_name before after table (Interrupt number) added shows legal adds marked =
+    interrupt_shown before after table number shows legal (subst (λ one. HasMarked table one before after) adds marked)
+marked_by_name before after table (Forget number) added shows legal adds marked =
+    forget_shown before after table number shows legal (subst (λ one. HasMarked table one before after) adds marked)
