@@ -3,4 +3,5 @@ pub mod MarkTests
 pub mod OneMark
 pub mod ShownEntries
 pub mod ShownStates
+pub mod StepLegal
 pub mod StepMarks
