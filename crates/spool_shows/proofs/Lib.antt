@@ -1,3 +1,4 @@
+pub mod Compacted
 pub mod JournalReads
 pub mod MarkTests
 pub mod OneMark

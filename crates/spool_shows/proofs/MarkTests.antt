@@ -14,6 +14,11 @@ use Rattle.start_journal.specs.Marks.{AreLegal, AreLegalAfter, IsLegalAfter, bat
 use Rattle.start_journal.proofs.MarkLemmas.{decides_names, either, forgets_names, or_false, or_true, same_number}
 use Rattle.spool_shows.specs.Shown.{start_second, started_at}
 
+-- none of the two holds
+pub neither : (one other : Bool) → (one || other) ≡ false → (one ≡ false) × (other ≡ false)
+neither true other is = cc
+neither false other is = (refl, is)
+
 -- One mark more.
 
 pub any_more : (test : Mark → Bool) (before : List Mark) (mark : Mark) → list_any test (before ++ mark ∷ []) ≡ (list_any test before || test mark)

@@ -17,16 +17,12 @@ use Rattle.start_journal.proofs.MarkLemmas.{or_true}
 use Rattle.spool_shows.specs.ByName.{ShowsByName}
 use Rattle.spool_shows.specs.Laws.{AddsMark, HasMarks}
 use Rattle.spool_shows.specs.Shown.{start_second, started_at}
-use Rattle.spool_shows.proofs.MarkTests.{not_forgotten}
+use Rattle.spool_shows.proofs.MarkTests.{neither, not_forgotten}
 use Rattle.spool_shows.proofs.OneMark.{had_same, marks_legal}
 use Rattle.spool_shows.proofs.ShownStates.{IsDoneBy, IsLiveBy, not_started, started_then}
 use Rattle.spool_shows.proofs.StepMarks.{done_in, live_in}
 
 -- A number that is not decided, not forgotten and not started is named by no mark.
-
-neither : (one other : Bool) → (one || other) ≡ false → (one ≡ false) × (other ≡ false)
-neither true other is = cc
-neither false other is = (refl, is)
 
 no_second : (same : Bool) (second : ℤ) → cond same (Some second) None ≡ None → same ≡ false
 no_second true second is = cc
