@@ -15,7 +15,7 @@ use Rattle.start_journal.proofs.MarkLemmas.{decides_names, kept_marks_keep_what_
 use Rattle.spool_shows.specs.ByName.{AreSound, HasFile, IsJobFile, ShowsByName, ShowsDone, ShowsEntry, ShowsLive}
 use Rattle.spool_shows.specs.JobFiles.{JobFile}
 use Rattle.spool_shows.specs.Laws.{HasCompacted, HasNoForgotten}
-use Rattle.spool_shows.proofs.MarkTests.{TellSame, forgotten_was_decided, neither, tell_same}
+use Rattle.spool_shows.proofs.MarkTests.{forgotten_was_decided, neither, tell_same}
 use Rattle.spool_shows.proofs.OneMark.{had_same, last_moves, marks_legal}
 use Rattle.spool_shows.proofs.ShownEntries.{SameJobs, entry_left, file_moves, passes_same, same_back, same_jobs, shows_live}
 use Rattle.spool_shows.proofs.ShownStates.{entry_moves, sound_moves}
@@ -75,15 +75,17 @@ no_entry marks files number entry legal forgotten shows =
           let impossible : true ≡ false = sym forgotten ∙ (entry_left marks number done mark leaves).remembered in
           cc
 
+-- each number keeps its entry
 entry_kept : (marks : List Mark) (before after : Files) (number : ℕ) (entry : Option JobEntry) → IsCompacted marks before after → ShowsEntry marks before number entry → ShowsEntry (kept_marks marks) after number entry
 entry_kept marks before after number entry compacted shows = by_test (is_forgotten number marks) refl where
   by_test : (forgotten : Bool) → is_forgotten number marks ≡ forgotten → ShowsEntry (kept_marks marks) after number entry
   by_test true is =
       subst (ShowsEntry (kept_marks marks) after number) (sym (no_entry marks before number entry compacted.legal is shows))
-        (shows_live (kept_marks marks) after number None (undecided number (kept_marks marks) (compacted.keeps.gone number is)) (no_file marks before after number compacted is))
+      (shows_live (kept_marks marks) after number None (undecided number (kept_marks marks) (compacted.keeps.gone number is)) (no_file marks before after number compacted is))
   by_test false is =
       entry_moves number marks (kept_marks marks) before after entry compacted.same (tell_same number marks (kept_marks marks) (compacted.keeps.same_marks number is)) shows
 
+-- and the folder is as sound
 sound_kept : (last : ℕ) (marks : List Mark) (before after : Files) → IsCompacted marks before after → AreSound last marks before → AreSound last (kept_marks marks) after
 sound_kept last marks before after compacted sound = sound_moves last marks (kept_marks marks) before after (record { files = compacted.same; back = back; started = started }) sound where
   same_decided : (number : ℕ) → is_forgotten number marks ≡ false → is_decided number (kept_marks marks) ≡ false → is_decided number marks ≡ false
@@ -104,8 +106,8 @@ sound_kept last marks before after compacted sound = sound_moves last marks (kep
     by_test true gone = absurd (not_contained number (kept_marks marks) (Started number queue second) (compacted.keeps.gone number gone) named there)
     by_test false kept =
         sound.started number queue second
-          ((tell_same number (kept_marks marks) marks (sym (compacted.keeps.same_marks number kept))).contained (Started number queue second) named there)
-          (same_decided number kept undecided)
+        ((tell_same number (kept_marks marks) marks (sym (compacted.keeps.same_marks number kept))).contained (Started number queue second) named there)
+        (same_decided number kept undecided)
 
 pub compacted_by_name : (before after : Files) (table : JobTable) → ShowsByName before table → HasCompacted table before after → ShowsByName after table
 compacted_by_name before after table shows had =

@@ -1,9 +1,8 @@
 -- What a list of marks tells of one number, by the marks of that number, and with one mark more.
-use Rattle.std.proofs.Common.{◌≡◌, ◌⊎◌, ℕ, ℤ, Bool, true, false, cond, List, Option, Some, None, [], ◌∷◌, ◌++◌, sym, ap, subst, ◌∙◌, refl, arith, inl, inr}
-use Rattle.std.specs.Prelude.{◌==◌, ◌||◌, Contains}
+use Rattle.std.proofs.Common.{◌≡◌, ℕ, ℤ, Bool, true, false, cond, List, Option, Some, None, [], ◌∷◌, ◌++◌, sym, ap, subst, ◌∙◌, refl, inl, inr}
+use Rattle.std.specs.Prelude.{◌||◌, Contains}
 use Rattle.std.specs.List.{All, filter, list_any}
 use Rattle.std.specs.Option.{option_or}
-use Rattle.std.proofs.lemmas.Bool.Decides.{nat_tests}
 use Rattle.std.proofs.lemmas.List.{append-nil, append_assoc}
 use Rattle.std.proofs.lemmas.List.Elements.{All-cons, All-contains, All-contains_itself, All-filter, All-nil, All-weaker, Contains-append_left, Contains-append_right, Contains-push, filter-append}
 use Rattle.std.proofs.lemmas.List.Folds.{list_any-append}
@@ -21,6 +20,7 @@ neither false other is = (refl, is)
 
 -- One mark more.
 
+-- a test over one mark more
 pub any_more : (test : Mark → Bool) (before : List Mark) (mark : Mark) → list_any test (before ++ mark ∷ []) ≡ (list_any test before || test mark)
 any_more test before mark = list_any-append test before (mark ∷ []) ∙ ap (λ b. list_any test before || b) (or_false (test mark))
 
@@ -45,6 +45,7 @@ or_assoc : (one other third : Option ℤ) → option_or one (option_or other thi
 or_assoc (Some second) other third = refl
 or_assoc None other third = refl
 
+-- the start of a number, and the last batch start, with one mark more
 pub started_more : (number : ℕ) (before : List Mark) (mark : Mark) → started_at number (before ++ mark ∷ []) ≡ option_or (started_at number before) (start_second number mark)
 started_more number [] mark = or_none (start_second number mark)
 started_more number (first ∷ before) mark =
@@ -65,6 +66,7 @@ batch_more (first ∷ before) mark =
     ap (λ last. first_of_two last (batch_second first)) (batch_more before mark)
     ∙ first_assoc (batch_second mark) (last_batch before) (batch_second first)
 
+-- a mark of another number adds nothing
 pub marks_of_other : (number : ℕ) (before : List Mark) (mark : Mark) → names number mark ≡ false → marks_of number (before ++ mark ∷ []) ≡ marks_of number before
 marks_of_other number before mark other =
     filter-append (names number) before (mark ∷ [])
@@ -102,12 +104,12 @@ contains_filtered test (first ∷ later) = by_test (test first) refl (contains_f
   by_test : (passes : Bool) → test first ≡ passes → All (IsInIfPassing test (filter test later)) later → All (IsInIfPassing test (filter test (first ∷ later))) (first ∷ later)
   by_test true is rest =
       rw is (All-cons (IsInIfPassing test (first ∷ filter test later)) first later
-        (λ passes. Contains-append_left (first ∷ []) (filter test later) first (Contains-push [] first))
-        (All-weaker (IsInIfPassing test (filter test later)) (IsInIfPassing test (first ∷ filter test later)) (λ mark there passes. Contains-append_right (first ∷ []) (filter test later) mark (there passes)) later rest))
+      (λ passes. Contains-append_left (first ∷ []) (filter test later) first (Contains-push [] first))
+      (All-weaker (IsInIfPassing test (filter test later)) (IsInIfPassing test (first ∷ filter test later)) (λ mark there passes. Contains-append_right (first ∷ []) (filter test later) mark (there passes)) later rest))
   by_test false is rest =
       rw is (All-cons (IsInIfPassing test (filter test later)) first later
-        (λ passes. let impossible : false ≡ true = sym is ∙ passes in cc)
-        rest)
+      (λ passes. let impossible : false ≡ true = sym is ∙ passes in cc)
+      rest)
 
 -- Two lists have the same marks of the number.
 
@@ -117,6 +119,7 @@ pub record TellSame (number : ℕ) (one other : List Mark) : Type 0 where
   pub started : started_at number other ≡ started_at number one
   pub contained : (mark : Mark) → names number mark ≡ true → Contains one mark → Contains other mark
 
+-- then they tell the same of it
 pub tell_same : (number : ℕ) (one other : List Mark) → marks_of number other ≡ marks_of number one → TellSame number one other
 tell_same number one other same = record {
   decided = same_test (decides number) (decides_names number);
@@ -141,6 +144,7 @@ decided_before number before (Ended other ending) legal is = cc
 decided_before number before (Interrupted other) legal is = cc
 decided_before number before (Batch second) legal is = cc
 
+-- so a number that is forgotten was decided
 pub forgotten_was_decided : (number : ℕ) (before later : List Mark) → AreLegalAfter before later → is_forgotten number later ≡ true → is_decided number (before ++ later) ≡ true
 forgotten_was_decided number before [] legal is = cc
 forgotten_was_decided number before (mark ∷ later) legal is = elim (either (forgets number mark) (is_forgotten number later) is) [

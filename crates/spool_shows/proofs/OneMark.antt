@@ -1,15 +1,15 @@
 -- A folder with one mark more in its journal, and with the entry of its number put or taken out.
-use Rattle.std.proofs.Common.{◌≡◌, ◌⊎◌, ℕ, ℤ, Bool, true, false, List, Option, Some, None, [], ◌∷◌, ◌++◌, sym, ap, subst, ◌∙◌, refl, inl, inr}
-use Rattle.std.specs.Prelude.{◌==◌, Contains, MatchBool, Ok, Result, slice_index}
+use Rattle.std.proofs.Common.{◌≡◌, ℕ, ℤ, true, false, List, Option, Some, [], ◌∷◌, ◌++◌, sym, ap, subst, ◌∙◌, inl, inr}
+use Rattle.std.specs.Prelude.{◌==◌, Contains, Ok, Result, slice_index}
 use Rattle.std.specs.FinMap as map
 use Rattle.std.proofs.lemmas.Bool.Decides.{eqb_tells}
 use Rattle.std.proofs.lemmas.List.Elements.{Contains-push, Contains-push_cases}
 use Rattle.host_calls.specs.declared.damage.Damage.{Damage}
 use Rattle.host_calls.specs.Folder.{Files}
 use Rattle.sequence_file.specs.Sequence.{sequence_file, temporary_file}
-use Rattle.spool_model.specs.declared.entry.Entry.TheVariants.{Live, Done}
+use Rattle.spool_model.specs.declared.entry.Entry.TheVariants.{Done}
 use Rattle.spool_model.specs.declared.fate.Fate.{Fate}
-use Rattle.spool_model.specs.JobTable.{JobEntries, JobEntry, JobTable, entry_at, table_of}
+use Rattle.spool_model.specs.JobTable.{JobEntries, JobTable, entry_at, table_of}
 use Rattle.start_journal.specs.declared.mark.Mark.{Mark}
 use Rattle.start_journal.specs.declared.mark.Mark.TheVariants.{Started}
 use Rattle.start_journal.specs.Journals.{JournalRead, journal_file, journal_in}
@@ -21,7 +21,7 @@ use Rattle.spool_shows.specs.Laws.{AgreeElsewhere, HasMarked, HasMarks}
 use Rattle.spool_shows.specs.LastNumber.{last_in}
 use Rattle.spool_shows.specs.Shown.{done_entry}
 use Rattle.spool_shows.proofs.JournalReads.{journal_legal}
-use Rattle.spool_shows.proofs.MarkTests.{any_with, any_without, batch_more, marks_of_other, none_before, not_forgotten, tell_same}
+use Rattle.spool_shows.proofs.MarkTests.{any_with, any_without, batch_more, marks_of_other, none_before, tell_same}
 use Rattle.spool_shows.proofs.ShownEntries.{SameJobs, file_moves, same_back, same_jobs, shows_done}
 use Rattle.spool_shows.proofs.ShownStates.{entry_moves, sound_moves}
 
@@ -34,7 +34,7 @@ pub had_same : (files : Files) (table : JobTable) (marks : List Mark) (shows : S
 had_same files table marks shows had =
     let last_is : table.last ≡ had.last = ok_same (last_in (map.get files sequence_file)) shows.last had.number in
     let read_is : shows.read ≡ record { marks = marks; free = had.free } =
-      ok_same (journal_in had.last (map.get files journal_file)) (ap (λ last. journal_in last (map.get files journal_file)) (sym last_is) ∙ shows.journal) had.journal in
+    ok_same (journal_in had.last (map.get files journal_file)) (ap (λ last. journal_in last (map.get files journal_file)) (sym last_is) ∙ shows.journal) had.journal in
     ap (λ (read : JournalRead). read.marks) read_is
 
 -- those marks are legal
@@ -46,6 +46,7 @@ sequence_elsewhere : ¬ (IsEither temporary_file journal_file sequence_file)
 sequence_elsewhere (inl same) = let impossible : true ≡ false = ap (λ name. slice_index name 1 == 83) same in cc
 sequence_elsewhere (inr same) = let impossible : true ≡ false = ap (λ name. slice_index name 1 == 83) same in cc
 
+-- so the last number is the same
 pub last_moves : (before after : Files) (last : ℕ) → AgreeElsewhere temporary_file journal_file before after → last_in (map.get before sequence_file) ≡ Ok last → last_in (map.get after sequence_file) ≡ Ok last
 last_moves before after last others is = ap last_in (others sequence_file sequence_elsewhere) ∙ is
 
@@ -69,13 +70,15 @@ sound_more last before after marks added same starts sound = sound_moves last ma
     | inr new ↦ starts number queue second new
   ]
 
+-- each number has the entry of the table with the step
 entries_more : (before after : Files) (table : JobTable) (entries : JobEntries) (last_batch : Option ℤ) (added : Mark) (number : ℕ) (marks : List Mark) → SameJobs before after → ((other : ℕ) → ShowsEntry marks before other (entry_at table other)) → IsStepOf before after table entries last_batch added number marks → (other : ℕ) → ShowsEntry (marks ++ added ∷ []) after other (map.get entries other)
 entries_more before after table entries last_batch added number marks same shows step other = elim (eqb_tells other number) [
   | inl one ↦ subst (λ n. ShowsEntry (marks ++ added ∷ []) after n (map.get entries n)) (sym one.1) step.here
   | inr apart ↦ subst (ShowsEntry (marks ++ added ∷ []) after other) (sym (step.kept other apart.1))
-    (entry_moves other marks (marks ++ added ∷ []) before after (entry_at table other) same (tell_same other marks (marks ++ added ∷ []) (marks_of_other other marks added (step.silent other apart.1))) (shows other))
+      (entry_moves other marks (marks ++ added ∷ []) before after (entry_at table other) same (tell_same other marks (marks ++ added ∷ []) (marks_of_other other marks added (step.silent other apart.1))) (shows other))
 ]
 
+-- so the folder shows the table with the step
 pub step_shown : (before after : Files) (table : JobTable) (entries : JobEntries) (last_batch : Option ℤ) (added : Mark) (number : ℕ) (shows : ShowsByName before table) → HasMarked table added before after → IsStepOf before after table entries last_batch added number shows.read.marks → ShowsByName after (table_of table.last entries last_batch)
 step_shown before after table entries last_batch added number shows marked step =
     let marks : List Mark = shows.read.marks in

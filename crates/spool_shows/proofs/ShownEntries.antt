@@ -1,7 +1,7 @@
 -- What a folder shows of one number, told by its entry, and kept where the marks of the number and
 -- the files of jobs are the same.
-use Rattle.std.proofs.Common.{◌≡◌, ◌⊎◌, ℕ, ℤ, Bool, true, false, cond, List, Option, Some, None, [], ◌∷◌, ◌++◌, sym, ap, subst, ◌∙◌, refl, arith, inl, inr}
-use Rattle.std.specs.Prelude.{◌==◌, Contains, MatchBool}
+use Rattle.std.proofs.Common.{◌≡◌, ℕ, Bool, true, false, cond, List, Option, Some, None, sym, ap, subst, ◌∙◌, refl, arith, inl, inr}
+use Rattle.std.specs.Prelude.{◌==◌, MatchBool}
 use Rattle.std.specs.FinMap as map
 use Rattle.std.proofs.lemmas.Bool.Decides.{nat_tests}
 use Rattle.host_calls.specs.Folder.{Files}
@@ -9,15 +9,14 @@ use Rattle.sequence_file.specs.Sequence.{temporary_file}
 use Rattle.spool_model.specs.declared.entry.Entry.TheVariants.{Live, Done}
 use Rattle.spool_model.specs.declared.fate.Fate.{Fate}
 use Rattle.spool_model.specs.declared.fate.Fate.TheVariants as fate
-use Rattle.spool_model.specs.declared.job.Job.{Job}
-use Rattle.spool_model.specs.JobTable.{JobEntry, JobState}
+use Rattle.spool_model.specs.JobTable.{JobEntry}
 use Rattle.start_journal.specs.declared.mark.Mark.{Mark}
 use Rattle.start_journal.specs.declared.mark.Mark.TheVariants.{Removed, Started, Ended, Interrupted, Forgotten, Batch}
 use Rattle.start_journal.specs.Journals.{journal_file}
-use Rattle.start_journal.specs.Marks.{decides, is_decided, is_forgotten, names}
+use Rattle.start_journal.specs.Marks.{decides, is_decided, is_forgotten}
 use Rattle.start_journal.proofs.MarkLemmas.{decides_names}
 use Rattle.whole_file.specs.Others.{IsEither}
-use Rattle.spool_shows.specs.ByName.{AreSound, HasFile, IsJobFile, ShowsDone, ShowsEntry, ShowsLive}
+use Rattle.spool_shows.specs.ByName.{IsJobFile, ShowsDone, ShowsEntry, ShowsLive}
 use Rattle.spool_shows.specs.JobFiles.{JobFile, NamedJob, job_named}
 use Rattle.spool_shows.specs.Laws.{AgreeElsewhere}
 use Rattle.spool_shows.specs.Shown.{done_as, done_entry, job_of, live_entry, started_at, state_since}
@@ -52,6 +51,7 @@ job_elsewhere name job named (inr same) = let impossible : None ≡ Some job = s
 pub same_jobs : (one other : Files) → AgreeElsewhere temporary_file journal_file one other → SameJobs one other
 same_jobs one other others name job named = others name (job_elsewhere name job named)
 
+-- a file of a job is one in the other folder too, where its number is not decided there
 pub file_moves : (marks later : List Mark) (one other : Files) → SameJobs one other → (file : JobFile) → IsJobFile marks one file → is_decided file.job.number later ≡ false → IsJobFile later other file
 file_moves marks later one other same file is undecided = record {
   held = same file.name file.job is.named ∙ is.held;
@@ -68,10 +68,12 @@ pub record LeavesEntry (marks : List Mark) (number : ℕ) (entry : JobEntry) (ma
   pub done : (fate : Fate) × (entry ≡ Done fate)
   pub always : (list : List Mark) → is_forgotten number list ≡ false → done_entry list mark ≡ Some (number, entry)
 
+-- what a mark of the number leaves by its fate
 pub leaves_as : (list : List Mark) (other number : ℕ) (fate : Fate) → other ≡ number → is_forgotten number list ≡ false → done_as list other fate ≡ Some (number, Done fate)
 leaves_as list other number fate same remembered =
     ap (λ b. cond b None (Some (other, Done fate))) (ap (λ n. is_forgotten n list) same ∙ remembered) ∙ ap (λ n. Some (n, Done fate)) same
 
+-- what is told by an entry that a mark leaves
 record LeavesAs (marks : List Mark) (other number : ℕ) (entry : JobEntry) (fate : Fate) : Type 0 where
   same : other ≡ number
   remembered : is_forgotten number marks ≡ false
@@ -85,6 +87,7 @@ told_as marks other number fate entry leaves = by_test (is_forgotten other marks
       let same : other ≡ number = ap (λ (row : ℕ × JobEntry). row.0) (some_same leaves) in
       record { same = same; remembered = ap (λ n. is_forgotten n marks) (sym same) ∙ is; is = sym (ap (λ (row : ℕ × JobEntry). row.1) (some_same leaves)) }
 
+-- the entry of a number tells this of the mark that left it
 pub entry_left : (marks : List Mark) (number : ℕ) (entry : JobEntry) (mark : Mark) → done_entry marks mark ≡ Some (number, entry) → LeavesEntry marks number entry mark
 entry_left marks number entry (Removed other) leaves =
     let told = told_as marks other number fate.Removed entry leaves in

@@ -1,5 +1,5 @@
 -- What the entry of a number tells of its marks and of its file, and when a folder stays sound.
-use Rattle.std.proofs.Common.{◌≡◌, ℕ, ℤ, Bool, true, false, List, Option, Some, None, sym, ap, subst, ◌∙◌, refl}
+use Rattle.std.proofs.Common.{◌≡◌, ℕ, ℤ, Bool, true, false, List, Option, Some, None, sym, ap, ◌∙◌, refl}
 use Rattle.std.specs.Prelude.{Contains, MatchBool}
 use Rattle.host_calls.specs.Folder.{Files}
 use Rattle.spool_model.specs.declared.entry.Entry.TheVariants.{Live, Done}
@@ -12,7 +12,7 @@ use Rattle.start_journal.specs.declared.mark.Mark.TheVariants.{Started}
 use Rattle.start_journal.specs.Marks.{is_decided, is_forgotten}
 use Rattle.spool_shows.specs.ByName.{AreSound, HasFile, IsJobFile, ShowsDone, ShowsEntry, ShowsLive}
 use Rattle.spool_shows.specs.JobFiles.{JobFile}
-use Rattle.spool_shows.specs.Shown.{job_of, live_entry, started_at, state_since}
+use Rattle.spool_shows.specs.Shown.{job_of, started_at, state_since}
 use Rattle.spool_shows.proofs.MarkTests.{TellSame}
 use Rattle.spool_shows.proofs.ShownEntries.{LeavesEntry, SameJobs, done_moves, entry_left, file_moves, live_moves, shows_done, shows_live}
 
@@ -35,6 +35,7 @@ pub record IsLiveBy (marks : List Mark) (files : Files) (number : ℕ) (job : Jo
 live_parts : (job other : Job) (state since : JobState) → Live job state ≡ Live other since → (job ≡ other) × (state ≡ since)
 live_parts job other state since same = (cc, cc)
 
+-- the entry of a live job tells this
 pub live_told : (marks : List Mark) (files : Files) (number : ℕ) (job : Job) (state : JobState) → ShowsEntry marks files number (Some (Live job state)) → IsLiveBy marks files number job state
 live_told marks files number job state shows = by_test (is_decided number marks) refl shows where
   by_test : (decided : Bool) → is_decided number marks ≡ decided → MatchBool decided (ShowsDone marks number (Some (Live job state))) (ShowsLive marks files number (Some (Live job state))) → IsLiveBy marks files number job state
@@ -59,6 +60,7 @@ pub record IsDoneBy (marks : List Mark) (number : ℕ) : Type 0 where
   pub decided : is_decided number marks ≡ true
   pub remembered : is_forgotten number marks ≡ false
 
+-- the entry of a job that is done tells this
 pub done_told : (marks : List Mark) (files : Files) (number : ℕ) (fate : Fate) → ShowsEntry marks files number (Some (Done fate)) → IsDoneBy marks number
 done_told marks files number fate shows = by_test (is_decided number marks) refl shows where
   by_test : (decided : Bool) → is_decided number marks ≡ decided → MatchBool decided (ShowsDone marks number (Some (Done fate))) (ShowsLive marks files number (Some (Done fate))) → IsDoneBy marks number
@@ -84,6 +86,7 @@ pub record KeepsSound (marks later : List Mark) (one other : Files) : Type 0 whe
   pub back : (file : JobFile) → IsJobFile later other file → IsJobFile marks one file
   pub started : (number queue : ℕ) (second : ℤ) → Contains later (Started number queue second) → is_decided number later ≡ false → HasFile marks one number queue
 
+-- then the folder is as sound as before
 pub sound_moves : (last : ℕ) (marks later : List Mark) (one other : Files) → KeepsSound marks later one other → AreSound last marks one → AreSound last later other
 sound_moves last marks later one other keeps sound = record {
   each = λ file is. sound.each file (keeps.back file is);

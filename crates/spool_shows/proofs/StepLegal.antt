@@ -3,12 +3,10 @@ use Rattle.std.proofs.Common.{◌≡◌, ◌⊎◌, ℕ, ℤ, Bool, true, false,
 use Rattle.std.specs.Prelude.{◌==◌, ◌||◌}
 use Rattle.std.specs.Option.{option_or}
 use Rattle.host_calls.specs.Folder.{Files}
-use Rattle.spool_model.specs.declared.entry.Entry.TheVariants.{Live}
-use Rattle.spool_model.specs.declared.job.Job.{Job}
 use Rattle.spool_model.specs.declared.state.State.TheVariants.{Pending, Running}
 use Rattle.spool_model.specs.declared.step.Step.{Step}
 use Rattle.spool_model.specs.declared.step.Step.TheVariants.{Draw, Accept, Remove, Start, End, Interrupt, Forget}
-use Rattle.spool_model.specs.JobTable.{IsDone, IsPending, IsRunning, JobTable, entry_at}
+use Rattle.spool_model.specs.JobTable.{IsDone, IsPending, IsRunning, JobTable}
 use Rattle.spool_model.specs.Steps.{IsLegal}
 use Rattle.start_journal.specs.declared.mark.Mark.{Mark}
 use Rattle.start_journal.specs.declared.mark.Mark.TheVariants.{Removed, Started, Ended, Interrupted, Forgotten, Batch}

@@ -13,12 +13,12 @@ use Rattle.spool_model.specs.declared.job.Job.{Job}
 use Rattle.spool_model.specs.declared.state.State.TheVariants.{Pending, Running}
 use Rattle.spool_model.specs.declared.step.Step.{Step}
 use Rattle.spool_model.specs.declared.step.Step.TheVariants.{Draw, Accept, Remove, Start, End, Interrupt, Forget}
-use Rattle.spool_model.specs.JobTable.{IsDone, IsPending, IsRunning, JobEntries, JobEntry, JobState, JobTable, entry_at, is_batch_queue, table_of}
+use Rattle.spool_model.specs.JobTable.{IsDone, IsPending, IsRunning, JobEntries, JobState, JobTable, entry_at, is_batch_queue, table_of}
 use Rattle.spool_model.specs.Steps.{IsLegal, after_step, is_batch_entry, with_state}
 use Rattle.spool_model.proofs.TableLemmas.{get-put_other, get-put_same, get-taken_other, get-taken_same}
 use Rattle.start_journal.specs.declared.mark.Mark.{Mark}
 use Rattle.start_journal.specs.declared.mark.Mark.TheVariants as mark
-use Rattle.start_journal.specs.Marks.{batch_second, decides, first_of_two, forgets, is_decided, is_forgotten, names}
+use Rattle.start_journal.specs.Marks.{batch_second, decides, first_of_two, forgets, is_forgotten, names}
 use Rattle.spool_shows.specs.ByName.{HasFile, ShowsByName, ShowsEntry}
 use Rattle.spool_shows.specs.JobFiles.{JobFile}
 use Rattle.spool_shows.specs.Laws.{AddsMark, HasMarked}
@@ -52,6 +52,7 @@ record DecidesBy (number : ℕ) (fate : Fate) (added : Mark) : Type 0 where
   leaves : (list : List Mark) → is_forgotten number list ≡ false → done_entry list added ≡ Some (number, Done fate)
   no_start : (other queue : ℕ) (second : ℤ) → ¬ (added ≡ mark.Started other queue second)
 
+-- a step whose mark decides a live job is shown
 decided_step : (before after : Files) (table : JobTable) (number : ℕ) (fate : Fate) (added : Mark) (job : Job) (state : JobState) → ShowsByName before table → entry_at table number ≡ Some (Live job state) → DecidesBy number fate added → HasMarked table added before after → ShowsByName after (table_of table.last (map.insert table.entries number (Done fate)) table.last_batch)
 decided_step before after table number fate added job state shows is decides_by marked =
     let marks : List Mark = shows.read.marks in
@@ -61,7 +62,7 @@ decided_step before after table number fate added job state shows is decides_by 
       silent = decides_by.silent;
       kept = λ other differ. get-put_other table.entries number other (Done fate) differ;
       here = subst (ShowsEntry (marks ++ added ∷ []) after number) (sym (get-put_same table.entries number (Done fate)))
-        (decided_shown marks after added number fate decides_by.decides_it decides_by.forgets_not (not_forgotten marks number (marks_legal before table shows) live.undecided) decides_by.leaves);
+          (decided_shown marks after added number fate decides_by.decides_it decides_by.forgets_not (not_forgotten marks number (marks_legal before table shows) live.undecided) decides_by.leaves);
       starts = λ other queue second same. absurd (decides_by.no_start other queue second same);
     })
 
@@ -110,7 +111,7 @@ forget_shown before after table number shows (fate, is) marked =
       silent = silent_other number;
       kept = λ other differ. get-taken_other table.entries number other differ;
       here = subst (ShowsEntry (marks ++ added ∷ []) after number) (sym (get-taken_same table.entries number))
-        (shows_done (marks ++ added ∷ []) after number None (any_without (decides number) marks added refl ∙ done.decided) (any_with (forgets number) marks added (passes_same number number refl)));
+          (shows_done (marks ++ added ∷ []) after number None (any_without (decides number) marks added refl ∙ done.decided) (any_with (forgets number) marks added (passes_same number number refl)));
       starts = λ other queue second same. cc;
     })
 
@@ -156,16 +157,16 @@ start_shown before after table number second job shows is marked =
     let entries_is : entries ≡ map.insert table.entries number (Live job (Running second)) = ap (λ entry. with_state number (Running second) entry table.entries) is in
     let since : started_at number (marks ++ added ∷ []) ≡ Some second = started_since number job.queue second marks (not_started (started_at number marks) live.state_is) in
     let running : ShowsEntry (marks ++ added ∷ []) after number (Some (Live job (Running second))) =
-      shows_live (marks ++ added ∷ []) after number (Some (Live job (Running second))) (any_without (decides number) marks added refl ∙ live.undecided)
-      (live.file, file_moves marks (marks ++ added ∷ []) before after (same_jobs before after marked.others) live.file live.is (any_without (decides live.file.job.number) marks added refl ∙ live.is.undecided), live_is (marks ++ added ∷ []) live.file number job (Running second) live.number_is live.job_is (ap state_since since)) in
+    shows_live (marks ++ added ∷ []) after number (Some (Live job (Running second))) (any_without (decides number) marks added refl ∙ live.undecided)
+    (live.file, file_moves marks (marks ++ added ∷ []) before after (same_jobs before after marked.others) live.file live.is (any_without (decides live.file.job.number) marks added refl ∙ live.is.undecided), live_is (marks ++ added ∷ []) live.file number job (Running second) live.number_is live.job_is (ap state_since since)) in
     step_shown before after table entries (if is_batch_entry (entry_at table number) then Some second else table.last_batch) added number shows marked (record {
       batch = ap (λ entry. if is_batch_entry entry then Some second else table.last_batch) is ∙ batch_since (is_batch_queue job.queue) second table.last_batch;
       silent = silent_other number;
       kept = λ other differ. ap (λ list. map.get list other) entries_is ∙ get-put_other table.entries number other (Live job (Running second)) differ;
       here = subst (ShowsEntry (marks ++ added ∷ []) after number) (sym (ap (λ list. map.get list number) entries_is ∙ get-put_same table.entries number (Live job (Running second)))) running;
       starts = λ other queue since same.
-        let parts : (number ≡ other) × (job.queue ≡ queue) = same_start number other job.queue queue second since same in
-        subst (λ n. HasFile marks before n queue) parts.0 (subst (HasFile marks before number) parts.1 (has_its_file marks before number job Pending live));
+          let parts : (number ≡ other) × (job.queue ≡ queue) = same_start number other job.queue queue second since same in
+          subst (λ n. HasFile marks before n queue) parts.0 (subst (HasFile marks before number) parts.1 (has_its_file marks before number job Pending live));
     })
 
 -- All five.
