@@ -1,5 +1,6 @@
 pub mod AcceptLemmas
 pub mod ByNameLemmas
+pub mod Compacted
 pub mod DeciderLemmas
 pub mod DrawLemmas
 pub mod EntryLemmas
@@ -7,9 +8,15 @@ pub mod EntryLists
 pub mod FileLemmas
 pub mod FreshNumbers
 pub mod JournalReads
+pub mod MarkTests
 pub mod Membership
 pub mod NameLemmas
+pub mod OneMark
 pub mod OtherLemmas
+pub mod ShownEntries
+pub mod ShownStates
 pub mod SoundLemmas
 pub mod Spellings
 pub mod StartLemmas
+pub mod StepLegal
+pub mod StepMarks
