@@ -1,8 +1,7 @@
 -- What a folder shows, and what its names and numbers show, are one.
-use Rattle.std.proofs.Common.{◌≡◌, ◌⊎◌, ℕ, ℤ, Bool, true, false, List, [], ◌∷◌, sym, ap, subst, ◌∙◌, refl, inl, inr, IsTrue}
+use Rattle.std.proofs.Common.{◌≡◌, ℕ, Bool, true, false, List, [], sym, ap, subst, ◌∙◌, refl}
 use Rattle.std.specs.Prelude.{Option, Some, None, Result, Ok, Err, MatchBool}
 use Rattle.std.specs.Cmp.{nat_cmp_total}
-use Rattle.std.specs.Option.{option_or}
 use Rattle.std.specs.Ordering.{nat_cmp}
 use Rattle.std.specs.FinMap as map
 use Rattle.std.specs.FinMap.{entries, from_entries, get-entries, get-from_entries, nat_cmp-IsAntisymmetric, same_map}
@@ -10,21 +9,21 @@ use Rattle.std.specs.FinMap.Entries.{find}
 use Rattle.host_calls.specs.declared.damage.Damage.{Damage}
 use Rattle.host_calls.specs.Folder.{Files, name_cmp}
 use Rattle.sequence_file.specs.Sequence.{sequence_file}
-use Rattle.spool_model.specs.JobTable.{JobEntries, JobEntry, JobTable, entry_at, table_of}
+use Rattle.spool_model.specs.JobTable.{JobEntries, JobEntry, JobTable, table_of}
 use Rattle.start_journal.specs.declared.mark.Mark.{Mark}
 use Rattle.start_journal.specs.declared.mark.Mark.TheVariants.{Started}
 use Rattle.start_journal.specs.Journals.{JournalRead, journal_file, journal_in}
-use Rattle.start_journal.specs.Marks.{AreLegal, is_decided, last_batch}
-use Rattle.spool_shows.specs.ByName.{AreSound, IsJobFile, ShowsByName, ShowsDone, ShowsEntry, ShowsLive}
-use Rattle.spool_shows.specs.JobFiles.{JobFile, files_damage, job_files}
+use Rattle.start_journal.specs.Marks.{AreLegal, is_decided}
+use Rattle.spool_shows.specs.ByName.{AreSound, ShowsByName, ShowsDone, ShowsEntry, ShowsLive}
+use Rattle.spool_shows.specs.JobFiles.{JobFile, files_damage}
 use Rattle.spool_shows.specs.LastNumber.{last_in}
 use Rattle.spool_shows.specs.Laws.{FoldersAreShownByName}
-use Rattle.spool_shows.specs.Shown.{Shows, damage_of_jobs, entries_shown, live_entry, shown_behind_journal, shown_behind_last, shown_by, shown_by_files, starts_damage, table_or_damage, table_shown}
+use Rattle.spool_shows.specs.Shown.{Shows, damage_of_jobs, entries_shown, live_entry, shown_behind_journal, shown_behind_last, shown_by, starts_damage, table_or_damage, table_shown}
 use Rattle.spool_shows.proofs.DeciderLemmas.{one_done_entry}
 use Rattle.spool_shows.proofs.EntryLemmas.{done_decides, shows_found}
 use Rattle.spool_shows.proofs.FileLemmas.{counted_is_file, file_is_counted, files_that_count, names_apart, one_file}
 use Rattle.spool_shows.proofs.JournalReads.{journal_legal}
-use Rattle.spool_shows.proofs.Membership.{Has, contained, has_contained}
+use Rattle.spool_shows.proofs.Membership.{contained, has_contained}
 use Rattle.spool_shows.proofs.SoundLemmas.{AreFine, fine_is_no_damage, fine_is_whole, fine_once, neither_first, no_damage_is_fine, whole_is_fine}
 use Rattle.spool_shows.proofs.StartLemmas.{start_has_file, starts_have_files}
 

@@ -1,7 +1,6 @@
 -- A number is decided once.
-use Rattle.std.proofs.Common.{◌≡◌, ◌⊎◌, ℕ, Bool, true, false, List, [], ◌∷◌, sym, ap, subst, ◌∙◌, refl, inl, inr, IsTrue}
+use Rattle.std.proofs.Common.{◌≡◌, ℕ, true, false, List, [], ◌∷◌, sym, ap, ◌∙◌, refl, inl, inr, IsTrue}
 use Rattle.std.specs.Prelude.{Option, Some}
-use Rattle.std.specs.List.{filter}
 use Rattle.spool_model.specs.JobTable.{JobEntry}
 use Rattle.start_journal.specs.declared.mark.Mark.{Mark}
 use Rattle.start_journal.specs.declared.mark.Mark.TheVariants.{Removed, Started, Ended, Interrupted, Forgotten, Batch}

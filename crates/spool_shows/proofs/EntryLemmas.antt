@@ -1,11 +1,9 @@
 -- The entries of the table that a folder shows.
-use Rattle.std.proofs.Common.{◌≡◌, ◌⊎◌, ℕ, ℤ, Bool, true, false, not, ◌&&◌, List, [], ◌∷◌, ◌++◌, map, sym, ap, subst, ◌∙◌, refl, inl, inr, arith, IsTrue}
+use Rattle.std.proofs.Common.{◌≡◌, ◌⊎◌, ℕ, Bool, true, false, List, sym, ap, subst, ◌∙◌, refl, inl, inr}
 use Rattle.std.specs.Prelude.{◌==◌, Option, Some, None, MatchBool, if◌then◌else◌}
-use Rattle.std.specs.List.{filter, filter_map, list_any}
 use Rattle.std.specs.Cmp.{nat_cmp_total}
 use Rattle.std.specs.Ordering.{nat_cmp}
 use Rattle.std.specs.FinMap.Entries.{find}
-use Rattle.std.proofs.lemmas.Bool.Decides.{nat_tests}
 use Rattle.std.proofs.lemmas.Map.Lookups.{exact_unsigned}
 use Rattle.host_calls.specs.Folder.{Files}
 use Rattle.spool_model.specs.declared.entry.Entry.TheVariants.{Done}
@@ -114,6 +112,6 @@ by_decided marks files number (Some entry) false undecided found =
 pub shows_found : (marks : List Mark) (files : Files) (number : ℕ) → ShowsEntry marks files number (find nat_cmp number (entries_shown marks (files_that_count marks files)))
 shows_found marks files number =
     by_test (is_decided number marks) refl where
-  by_test : (b : Bool) → is_decided number marks ≡ b → MatchBool (is_decided number marks) (ShowsDone marks number (find nat_cmp number (entries_shown marks (files_that_count marks files)))) (ShowsLive marks files number (find nat_cmp number (entries_shown marks (files_that_count marks files))))
-  by_test b is = subst (λ test. MatchBool test (ShowsDone marks number (find nat_cmp number (entries_shown marks (files_that_count marks files)))) (ShowsLive marks files number (find nat_cmp number (entries_shown marks (files_that_count marks files))))) (sym is)
-      (by_decided marks files number (find nat_cmp number (entries_shown marks (files_that_count marks files))) b is refl)
+      by_test : (b : Bool) → is_decided number marks ≡ b → MatchBool (is_decided number marks) (ShowsDone marks number (find nat_cmp number (entries_shown marks (files_that_count marks files)))) (ShowsLive marks files number (find nat_cmp number (entries_shown marks (files_that_count marks files))))
+      by_test b is = subst (λ test. MatchBool test (ShowsDone marks number (find nat_cmp number (entries_shown marks (files_that_count marks files)))) (ShowsLive marks files number (find nat_cmp number (entries_shown marks (files_that_count marks files))))) (sym is)
+          (by_decided marks files number (find nat_cmp number (entries_shown marks (files_that_count marks files))) b is refl)

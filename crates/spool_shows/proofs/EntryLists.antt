@@ -1,5 +1,5 @@
 -- Entries of finite maps, in the order of their keys.
-use Rattle.std.proofs.Common.{◌≡◌, ◌⊎◌, ℕ, Bool, true, false, cond, ◌&&◌, List, [], ◌∷◌, sym, ap, subst, ◌∙◌, refl, inl, inr}
+use Rattle.std.proofs.Common.{◌≡◌, ℕ, Bool, true, false, cond, ◌&&◌, List, [], ◌∷◌, sym, ap, ◌∙◌, refl, inl, inr}
 use Rattle.std.specs.Prelude.{Option, Some, None, T}
 use Rattle.std.specs.List.{cons_option, filter, filter_map}
 use Rattle.std.specs.Cmp.{IsTotalOrder, tied_itself}
@@ -87,13 +87,14 @@ AreApart {X} key (x ∷ later) = ((other : X) → Has later other → ¬ (key ot
 
 pub apart_sorted : {X : Type 0} → (R : List ℕ → List ℕ → Ordering) → IsTotalOrder R → (es : List (List ℕ × X)) → T (is_sorted R es) → AreApart (λ (e : List ℕ × X). e.0) es
 apart_sorted R order [] sorted = tt
-apart_sorted {X} R order (first ∷ later) sorted =
-    (λ other has same.
-        let under : R first.0 other.0 ≡ Less = below R first.0 later other (left _ _ sorted) has in
-        let itself : R first.0 other.0 ≡ Equal = ap (R first.0) same ∙ tied_itself order first.0 in
-        let impossible : Less ≡ Equal = sym under ∙ itself in
-        cc,
-    apart_sorted R order later (right _ _ sorted))
+apart_sorted {X} R order (first ∷ later) sorted = (
+  λ other has same.
+      let under : R first.0 other.0 ≡ Less = below R first.0 later other (left _ _ sorted) has in
+      let itself : R first.0 other.0 ≡ Equal = ap (R first.0) same ∙ tied_itself order first.0 in
+      let impossible : Less ≡ Equal = sym under ∙ itself in
+      cc,
+  apart_sorted R order later (right _ _ sorted),
+)
 
 pub apart_filtered : {X : Type 0} → (key : X → List ℕ) (test : X → Bool) (xs : List X) → AreApart key xs → AreApart key (filter test xs)
 apart_filtered key test [] apart = tt
@@ -107,8 +108,9 @@ apart_given key other_key give keeps [] apart = tt
 apart_given {X = X} {Y = Y} key other_key give keeps (x ∷ later) apart = by_given (give x) refl (apart_given key other_key give keeps later apart.1) where
   by_given : (given : Option Y) → give x ≡ given → AreApart other_key (filter_map give later) → AreApart other_key (cons_option given (filter_map give later))
   by_given None is rest = rest
-  by_given (Some y) is rest =
-      (λ other has same.
-          let from : (z : X) × Has later z × (give z ≡ Some other) = given_has give later other has in
-          apart.0 from.0 from.1 (sym (keeps from.0 other from.2) ∙ same ∙ keeps x y is),
-      rest)
+  by_given (Some y) is rest = (
+    λ other has same.
+        let from : (z : X) × Has later z × (give z ≡ Some other) = given_has give later other has in
+        apart.0 from.0 from.1 (sym (keeps from.0 other from.2) ∙ same ∙ keeps x y is),
+    rest,
+  )

@@ -18,5 +18,6 @@ pub mod ShownStates
 pub mod SoundLemmas
 pub mod Spellings
 pub mod StartLemmas
+pub mod StepLaws
 pub mod StepLegal
 pub mod StepMarks

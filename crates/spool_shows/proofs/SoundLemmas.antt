@@ -1,17 +1,13 @@
 -- Files of jobs without damage.
-use Rattle.std.proofs.Common.{◌≡◌, ◌⊎◌, ℕ, ◌<◌, ◌≤◌, ◌+◌, Bool, true, false, ◌||◌, List, [], ◌∷◌, sym, ap, subst, ◌∙◌, refl, inl, inr, arith}
+use Rattle.std.proofs.Common.{◌≡◌, ℕ, ◌≤◌, Bool, true, false, ◌||◌, List, [], ◌∷◌, sym, ap, subst, ◌∙◌, refl, inl, inr, arith}
 use Rattle.std.specs.Prelude.{◌==◌, Option, Some, None, IsSome, nat_lt, if◌then◌else◌}
 use Rattle.std.specs.List.{list_any}
 use Rattle.std.specs.Option.{option_or}
 use Rattle.std.proofs.lemmas.Bool.Decides.{nat_tests}
-use Rattle.host_calls.specs.declared.damage.Damage.{Damage}
-use Rattle.host_calls.specs.Folder.{Files}
 use Rattle.job_script.specs.HeaderIn.{header_in}
-use Rattle.start_journal.specs.declared.mark.Mark.{Mark}
-use Rattle.spool_shows.specs.ByName.{IsJobFile, IsWhole}
+use Rattle.spool_shows.specs.ByName.{IsWhole}
 use Rattle.spool_shows.specs.JobFiles.{JobFile, damage_of, file_place, files_damage, header_fault_in}
 use Rattle.spool_shows.proofs.EntryLists.{AreApart}
-use Rattle.spool_shows.proofs.FileLemmas.{counted_is_file, file_is_counted, files_that_count, names_apart}
 use Rattle.spool_shows.proofs.Membership.{Has}
 
 -- the files are whole, and each has a number that none before it has
@@ -100,14 +96,15 @@ fine_once last before (file ∷ later) first second fine (inr one) (inr two) sam
 -- files that are whole, with names apart and one name a number, are fine behind numbers that none of them has
 pub whole_is_fine : (last : ℕ) (before : List ℕ) (files : List JobFile) → ((file : JobFile) → Has files file → IsWhole last file) → ((first second : JobFile) → Has files first → Has files second → first.job.number ≡ second.job.number → first.name ≡ second.name) → AreApart (λ (file : JobFile). file.name) files → ((file : JobFile) → Has files file → list_any (λ number. number == file.job.number) before ≡ false) → AreFine last before files
 whole_is_fine last before [] whole once apart fresh = tt
-whole_is_fine last before (file ∷ later) whole once apart fresh =
-    (whole file (inl refl),
-    fresh file (inl refl),
-    whole_is_fine last (file.job.number ∷ before) later
-    (λ other has. whole other (inr has))
-    (λ first second has other same. once first second (inr has) (inr other) same)
-    apart.1
-    (λ other has.
-        let differ : ¬ (file.job.number ≡ other.job.number) = λ same. apart.0 other has (sym (once file other (inl refl) (inr has) same)) in
-        let test : (file.job.number == other.job.number) ≡ false = grind (arith, nat_tests) in
-        rw test (fresh other (inr has))))
+whole_is_fine last before (file ∷ later) whole once apart fresh = (
+  whole file (inl refl),
+  fresh file (inl refl),
+  whole_is_fine last (file.job.number ∷ before) later
+      (λ other has. whole other (inr has))
+      (λ first second has other same. once first second (inr has) (inr other) same)
+      apart.1
+      (λ other has.
+      let differ : ¬ (file.job.number ≡ other.job.number) = λ same. apart.0 other has (sym (once file other (inl refl) (inr has) same)) in
+      let test : (file.job.number == other.job.number) ≡ false = grind (arith, nat_tests) in
+      rw test (fresh other (inr has))),
+)

@@ -1,7 +1,6 @@
 -- Starts without damage: each number that is started and not decided has its file.
-use Rattle.std.proofs.Common.{◌≡◌, ◌⊎◌, ℕ, ℤ, ◌+◌, ◌*◌, Bool, true, false, List, [], ◌∷◌, sym, ap, subst, ◌∙◌, refl, inl, inr, arith}
+use Rattle.std.proofs.Common.{◌≡◌, ℕ, ℤ, ◌+◌, ◌*◌, Bool, true, false, List, [], ◌∷◌, sym, ap, ◌∙◌, refl, inl, inr, arith}
 use Rattle.std.specs.Prelude.{◌==◌, Option, Some, None, if◌then◌else◌}
-use Rattle.std.specs.List.{find}
 use Rattle.std.proofs.lemmas.Bool.Decides.{nat_tests}
 use Rattle.host_calls.specs.declared.damage.Damage.{Damage}
 use Rattle.host_calls.specs.Folder.{Files}
@@ -82,6 +81,7 @@ starts_have_files marks files started once = whole_starts marks (files_that_coun
       let found : file_of number (files_that_count marks files) ≡ Some file.file =
       ap (λ of. file_of of (files_that_count marks files)) (sym file.number_is) ∙ file_found marks files file.file file.is once in
       rw found (queue_fits at queue file.file file.queue_is)
+
   by_mark : (at : ℕ) (mark : Mark) → Has marks mark → mark_damage marks (files_that_count marks files) at mark ≡ None
   by_mark at (Started number queue second) has = by_start at number queue second has (is_decided number marks) refl
   by_mark at (Removed number) has = refl

@@ -1,5 +1,5 @@
 -- What a folder shows, said name by name and number by number (own), with no order of the files.
-use Rattle.std.specs.Prelude.{◌≡◌, ◌≤◌, ℕ, ℤ, Bool, true, false, List, Option, Some, None, Ok, IsSome, MatchBool, Contains}
+use Rattle.std.specs.Prelude.{◌≡◌, ◌≤◌, ℕ, ℤ, true, false, List, Option, Some, None, Ok, IsSome, MatchBool, Contains}
 use Rattle.std.specs.FinMap as map
 use Rattle.host_calls.specs.Folder.{Files}
 use Rattle.job_script.specs.HeaderIn.{header_in}

@@ -1,11 +1,10 @@
 -- Small folders and what they show, by computing.
-use Rattle.std.specs.Prelude.{◌≡◌, ◌++◌, [], ◌∷◌, ℕ, ℤ, pos, List, Option, Some, None, Ok, Err, codes}
+use Rattle.std.specs.Prelude.{◌≡◌, ◌++◌, [], ◌∷◌, ℕ, pos, List, Option, Some, None, Ok, Err, codes}
 use Rattle.std.specs.FinMap.{from_entries}
 use Rattle.host_calls.specs.declared.child.Ending.TheVariants.{Exit}
 use Rattle.host_calls.specs.declared.damage.Damage.{Damage}
 use Rattle.spool_model.specs.declared.entry.Entry.TheVariants.{Live, Done}
 use Rattle.spool_model.specs.declared.fate.Fate.TheVariants.{Finished}
-use Rattle.spool_model.specs.declared.job.Job.{Job}
 use Rattle.spool_model.specs.declared.state.State.TheVariants.{Pending, Running}
 use Rattle.spool_model.specs.JobTable.{JobEntry, JobState, JobTable, table_of}
 use Rattle.start_journal.specs.Journals.{free_slot}

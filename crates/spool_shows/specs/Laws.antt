@@ -1,5 +1,5 @@
 -- What holds of every folder, and of every change that a step of the job table makes to one.
-use Rattle.std.specs.Prelude.{◌≡◌, ◌+◌, ◌++◌, [], ◌∷◌, ℕ, Bool, true, List, Option, Some, None, Ok}
+use Rattle.std.specs.Prelude.{◌≡◌, ◌+◌, ◌++◌, [], ◌∷◌, ℕ, Bool, true, List, Some, None, Ok}
 use Rattle.std.specs.FinMap as map
 use Rattle.host_calls.specs.Folder.{Files}
 use Rattle.job_script.specs.HeaderIn.{header_in}

@@ -2,7 +2,7 @@
 --
 -- The checks go in this order, and the first fault counts: the sequence file, the journal, the files of
 -- jobs in byte order of their names, and the numbers that are started and not decided.
-use Rattle.std.specs.Prelude.{◌+◌, ◌*◌, ◌==◌, ◌&&◌, ◌++◌, ◌≡◌, [], ◌∷◌, ℕ, ℤ, Bool, not, List, Option, Some, None, Result, Ok, Err, map, if◌then◌else◌}
+use Rattle.std.specs.Prelude.{◌+◌, ◌*◌, ◌==◌, ◌++◌, ◌≡◌, [], ◌∷◌, ℕ, ℤ, Bool, List, Option, Some, None, Result, Ok, Err, map, if◌then◌else◌}
 use Rattle.std.specs.FinMap.{entries, find, from_entries}
 use Rattle.std.specs.List.{filter_map}
 use Rattle.std.specs.Option.{option_or}

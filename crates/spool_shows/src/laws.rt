@@ -1,8 +1,40 @@
 //! What holds of every folder, each law as the contract of a function.
 ghost use Rattle.spool_shows.specs.Examples.{SmallFoldersAreDamaged, SmallFoldersShow};
+ghost use Rattle.spool_shows.specs.Laws.{AcceptsAreShown, CompactionsAreShown, DrawsAreShown, FoldersAreShownByName, LegalStepsAddLegalMarks, MarksAreShown, OtherFilesCountForNothing};
 
 /// What small folders show, computed.
 pub fn small_folders()
     ensures show { SmallFoldersShow }
     ensures damaged { SmallFoldersAreDamaged }
+{}
+
+/// What a folder shows is what each of its names and numbers shows.
+pub fn folders_are_shown_by_name()
+    ensures { FoldersAreShownByName }
+{}
+
+/// Files under other names, and those of decided numbers, count for nothing.
+pub fn other_files_count_for_nothing()
+    ensures { OtherFilesCountForNothing }
+{}
+
+/// A sequence file with the next number shows the table after its draw.
+pub fn draws_are_shown()
+    ensures { DrawsAreShown }
+{}
+
+/// The file of a job under the next number shows the table after its draw and its accept.
+pub fn accepts_are_shown()
+    ensures { AcceptsAreShown }
+{}
+
+/// One mark more in the journal shows the table after the step of that mark.
+pub fn marks_are_shown()
+    ensures shown { MarksAreShown }
+    ensures legal { LegalStepsAddLegalMarks }
+{}
+
+/// A compacted journal shows the same table.
+pub fn compactions_are_shown()
+    ensures { CompactionsAreShown }
 {}

@@ -1,6 +1,10 @@
 //! What a spool folder shows: one job table or one damage, as a function of its files, and its laws.
+//! Nothing here runs: the store cites these definitions and lemmas.
 #![tactic(auto)]
 
 mod laws;
 
-pub use laws::small_folders;
+pub use laws::{
+    accepts_are_shown, compactions_are_shown, draws_are_shown, folders_are_shown_by_name,
+    marks_are_shown, other_files_count_for_nothing, small_folders,
+};
