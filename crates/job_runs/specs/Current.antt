@@ -1,0 +1,41 @@
+-- What a store keeps of a folder, and when it is current (own).
+use Rattle.std.specs.Prelude.{◌≡◌, ◌⊎◌, ℕ, List, None, Some, IsSome, true}
+use Rattle.std.specs.FinMap as map
+use Rattle.host_calls.specs.Folder.{Files, Folder, IsImage, reading_of}
+use Rattle.sequence_file.specs.Sequence.{sequence_file, temporary_file}
+use Rattle.spool_model.specs.JobTable.{JobTable}
+use Rattle.start_journal.specs.declared.mark.Mark.{Mark}
+use Rattle.start_journal.specs.Adding.{HoldsJournal}
+use Rattle.start_journal.specs.Journals.{JournalRead, journal_file}
+use Rattle.start_journal.specs.Marks.{is_decided}
+use Rattle.spool_shows.specs.JobFiles.{NamedJob, job_named}
+use Rattle.spool_shows.specs.Shown.{Shows}
+use Rattle.job_runs.specs.Bare.{bare}
+
+-- a name under which the store keeps something: the sequence file, the journal, a file that is being
+-- made, and the files of jobs
+abbrev pub IsSpoolName : List ℕ → Type 0
+IsSpoolName name = (name ≡ sequence_file) ⊎ ((name ≡ journal_file) ⊎ ((name ≡ temporary_file) ⊎ IsSome (job_named name)))
+
+-- each image of the folder shows the table
+abbrev pub EachShows : Folder → JobTable → Type 0
+EachShows folder table = (image : Files) → IsImage folder image → Shows image table
+
+-- what a store keeps: the table without scripts, and the journal
+pub record Kept : Type 0 where
+  pub table : JobTable
+  pub journal : JournalRead
+
+-- no file of a job whose number is decided is there
+abbrev pub HasNoDecidedFile : List Mark → Files → Type 0
+HasNoDecidedFile marks files = (name : List ℕ) (job : NamedJob) →
+    job_named name ≡ Some job → is_decided job.number marks ≡ true → map.get files name ≡ None
+
+-- What is kept is current: each image shows the table, the sequence file and the journal are the same in
+-- each, no image has a file that is being made, and no file of a decided job is left.
+pub record IsCurrent (kept : Kept) (folder : Folder) (table : JobTable) : Type 0 where
+  pub shows : EachShows folder table
+  pub bare_is : kept.table ≡ bare table
+  pub journal : HoldsJournal kept.journal folder
+  pub sequence : (image : Files) → IsImage folder image → map.get image sequence_file ≡ map.get (reading_of folder) sequence_file
+  pub decided : HasNoDecidedFile kept.journal.marks (reading_of folder)

@@ -1,0 +1,2 @@
+//! The store of jobs: a spool folder seen as its job table, each step a call that any crash leaves whole.
+#![tactic(auto)]
