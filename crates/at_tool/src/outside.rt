@@ -1,7 +1,11 @@
 //! The outside in memory: a spool folder, a clock that stands, an input and two sinks.
-ghost use Rattle.std.specs.Prelude.{IfOk};
+ghost use Rattle.std.specs.Prelude.{◌≡◌, ◌∷◌, [], IfOk, None};
 ghost use Rattle.host_calls.specs.Session.{IsOutside};
 ghost use Rattle.memory_host.specs.Host.{memory_session};
+ghost use Rattle.memory_host.specs.ListReadings.{readers_so_far};
+ghost use Rattle.memory_host.specs.MemoryInputs.{contents_given};
+ghost use Rattle.memory_host.specs.Inputs.{given_contents};
+ghost use Rattle.memory_host.specs.Readings.{readings_spelling};
 
 use crate::ann::ann;
 use at_commands::command;
@@ -32,7 +36,9 @@ pub fn made_in_memory(
     input: &[u8],
     plan: Plan,
 ) -> Result<Outside, AllocError>
-    ensures { IfOk result (λ made. IsOutside (memory_session made.host)) }
+    ensures outside { IfOk result (λ made. IsOutside (memory_session made.host)) }
+    ensures clock { IfOk result (λ made. (readers_so_far made.readings).made_as ≡ readings_spelling (now ∷ []) (None ∷ [])) }
+    ensures input { IfOk result (λ made. contents_given made.inputs ≡ given_contents input.now None) }
 {
     Ok(Outside {
         host: spool(alloc, plan)?,

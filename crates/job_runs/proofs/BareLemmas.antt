@@ -1,0 +1,175 @@
+-- Tables without their scripts.
+use Rattle.std.proofs.Common.{◌≡◌, ◌↔◌, ℕ, ℤ, Bool, true, false, cond, List, [], ◌∷◌, map, sym, ap, subst, ◌∙◌, refl}
+use Rattle.std.specs.Prelude.{◌==◌, Option, Some, None, option_map, nat_eq, if◌then◌else◌}
+use Rattle.std.specs.Cmp.{nat_cmp_total}
+use Rattle.std.specs.Ordering.{eq_by_cmp, nat_cmp}
+use Rattle.std.specs.FinMap as map_of
+use Rattle.std.specs.FinMap.{entries, from_entries, get-entries, get-from_entries, get-insert, get-remove, nat_cmp-IsAntisymmetric, same_map}
+use Rattle.std.specs.FinMap.Entries.{find}
+use Rattle.spool_model.specs.declared.entry.Entry.TheVariants.{Live, Done}
+use Rattle.spool_model.specs.declared.fate.Fate.{Fate}
+use Rattle.spool_model.specs.declared.fate.Fate.TheVariants as fate
+use Rattle.spool_model.specs.declared.job.Job.{Job}
+use Rattle.spool_model.specs.declared.state.State.TheVariants.{Pending, Running}
+use Rattle.spool_model.specs.declared.step.Step.{Step}
+use Rattle.spool_model.specs.declared.step.Step.TheVariants.{Draw, Accept, Remove, Start, End, Interrupt, Forget}
+use Rattle.spool_model.specs.JobTable.{IsDone, IsPending, IsRunning, JobEntries, JobEntry, JobState, JobTable, entry_at, is_batch_queue, table_of}
+use Rattle.spool_model.specs.Steps.{IsFree, IsLegal, after_step, entries_after, in_state, is_batch_entry, last_after, last_batch_after, with_state}
+use Rattle.job_runs.specs.Bare.{bare, bare_entries, bare_entry, bare_job, bare_step}
+use Rattle.job_runs.specs.Laws.{EntriesAreBare, LegalAsOnTheTable, StepsAsOnTheTable}
+
+-- what is found without scripts
+find-bare : (list : List (ℕ × JobEntry)) (number : ℕ) → find nat_cmp number (bare_entries list) ≡ option_map bare_entry (find nat_cmp number list)
+find-bare [] number = refl
+find-bare (first ∷ later) number = by_test (eq_by_cmp nat_cmp number first.0) (find-bare later number) where
+  by_test : (b : Bool) → find nat_cmp number (bare_entries later) ≡ option_map bare_entry (find nat_cmp number later) → cond b (Some (bare_entry first.1)) (find nat_cmp number (bare_entries later)) ≡ option_map bare_entry (cond b (Some first.1) (find nat_cmp number later))
+  by_test true rest = refl
+  by_test false rest = rest
+
+pub entries_are_bare : EntriesAreBare
+unfolding bare
+entries_are_bare table number =
+    get-from_entries nat_cmp_total (bare_entries (entries table.entries)) number
+    ∙ find-bare (entries table.entries) number
+    ∙ ap (option_map bare_entry) (sym (get-entries table.entries number))
+
+-- the entries of a table without scripts
+bare_map : JobEntries → JobEntries
+bare_map list = from_entries (bare_entries (entries list))
+
+get-bare_map : (list : JobEntries) (number : ℕ) → map_of.get (bare_map list) number ≡ option_map bare_entry (map_of.get list number)
+unfolding bare_map
+get-bare_map list number = get-from_entries nat_cmp_total (bare_entries (entries list)) number ∙ find-bare (entries list) number ∙ ap (option_map bare_entry) (sym (get-entries list number))
+
+-- an entry that is pending without its script is pending
+pending_of : (found : Option JobEntry) (job : Job) → option_map bare_entry found ≡ Some (Live job Pending) → (whole : Job) × (found ≡ Some (Live whole Pending))
+pending_of None job is = let impossible : ◌≡◌ {A = Option JobEntry} None (Some (Live job Pending)) = is in cc
+pending_of (Some (Done of)) job is = let impossible : ◌≡◌ {A = Option JobEntry} (Some (Done of)) (Some (Live job Pending)) = is in cc
+pending_of (Some (Live whole Pending)) job is = (whole, refl)
+pending_of (Some (Live whole (Running second))) job is = let impossible : ◌≡◌ {A = Option JobEntry} (Some (Live (bare_job whole) (Running second))) (Some (Live job Pending)) = is in cc
+
+running_of : (found : Option JobEntry) (job : Job) (second : ℤ) → option_map bare_entry found ≡ Some (Live job (Running second)) → (whole : Job) × (since : ℤ) × (found ≡ Some (Live whole (Running since)))
+running_of None job second is = let impossible : ◌≡◌ {A = Option JobEntry} None (Some (Live job (Running second))) = is in cc
+running_of (Some (Done of)) job second is = let impossible : ◌≡◌ {A = Option JobEntry} (Some (Done of)) (Some (Live job (Running second))) = is in cc
+running_of (Some (Live whole Pending)) job second is = let impossible : ◌≡◌ {A = Option JobEntry} (Some (Live (bare_job whole) Pending)) (Some (Live job (Running second))) = is in cc
+running_of (Some (Live whole (Running since))) job second is = (whole, since, refl)
+
+done_of : (found : Option JobEntry) (of : Fate) → option_map bare_entry found ≡ Some (Done of) → (same : Fate) × (found ≡ Some (Done same))
+done_of None of is = let impossible : ◌≡◌ {A = Option JobEntry} None (Some (Done of)) = is in cc
+done_of (Some (Done same)) of is = (same, refl)
+done_of (Some (Live whole state)) of is = let impossible : ◌≡◌ {A = Option JobEntry} (Some (Live (bare_job whole) state)) (Some (Done of)) = is in cc
+
+none_of : (found : Option JobEntry) → option_map bare_entry found ≡ None → found ≡ None
+none_of None is = refl
+none_of (Some entry) is = let impossible : ◌≡◌ {A = Option JobEntry} (Some (bare_entry entry)) None = is in cc
+
+pending_alike : (table : JobTable) (number : ℕ) → IsPending (bare table) number ↔ IsPending table number
+pending_alike table number =
+    (λ is. pending_of (entry_at table number) is.0 (sym (entries_are_bare table number) ∙ is.1),
+    λ is. (bare_job is.0, entries_are_bare table number ∙ ap (option_map bare_entry) is.1))
+
+running_alike : (table : JobTable) (number : ℕ) → IsRunning (bare table) number ↔ IsRunning table number
+running_alike table number =
+    (λ is. running_of (entry_at table number) is.0 is.1 (sym (entries_are_bare table number) ∙ is.2),
+    λ is. (bare_job is.0, is.1, entries_are_bare table number ∙ ap (option_map bare_entry) is.2))
+
+done_alike : (table : JobTable) (number : ℕ) → IsDone (bare table) number ↔ IsDone table number
+done_alike table number =
+    (λ is. done_of (entry_at table number) is.0 (sym (entries_are_bare table number) ∙ is.1),
+    λ is. (is.0, entries_are_bare table number ∙ ap (option_map bare_entry) is.1))
+
+last_bare : (table : JobTable) → (bare table).last ≡ table.last
+unfolding bare
+last_bare table = refl
+
+free_alike : (table : JobTable) (number : ℕ) → IsFree (bare table) number ↔ IsFree table number
+free_alike table number =
+    (λ is. record { last = is.last ∙ last_bare table; some = is.some; absent = none_of (entry_at table number) (sym (entries_are_bare table number) ∙ is.absent) },
+    λ is. record { last = is.last ∙ sym (last_bare table); some = is.some; absent = entries_are_bare table number ∙ ap (option_map bare_entry) is.absent })
+
+pub legal_as_on_the_table : LegalAsOnTheTable
+unfolding bare
+legal_as_on_the_table table Draw = (λ is. is, λ is. is)
+legal_as_on_the_table table (Accept number job) = free_alike table number
+legal_as_on_the_table table (Remove number) = pending_alike table number
+legal_as_on_the_table table (Start number second) = pending_alike table number
+legal_as_on_the_table table (End number ending) = running_alike table number
+legal_as_on_the_table table (Interrupt number) = running_alike table number
+legal_as_on_the_table table (Forget number) = done_alike table number
+
+-- an entry more, or one fewer
+put_alike : (list : JobEntries) (number : ℕ) (entry : JobEntry) → bare_map (map_of.insert list number entry) ≡ map_of.insert (bare_map list) number (bare_entry entry)
+put_alike list number entry = same_map nat_cmp_total nat_cmp-IsAntisymmetric _ _ (λ other.
+    get-bare_map (map_of.insert list number entry) other
+    ∙ ap (option_map bare_entry) (get-insert nat_cmp_total list number entry other)
+    ∙ by_test (eq_by_cmp nat_cmp other number) (map_of.get list other)
+    ∙ ap (cond (eq_by_cmp nat_cmp other number) (Some (bare_entry entry))) (sym (get-bare_map list other))
+    ∙ sym (get-insert nat_cmp_total (bare_map list) number (bare_entry entry) other)) where
+  by_test : (b : Bool) (found : Option JobEntry) → option_map bare_entry (cond b (Some entry) found) ≡ cond b (Some (bare_entry entry)) (option_map bare_entry found)
+  by_test true found = refl
+  by_test false found = refl
+
+taken_alike : (list : JobEntries) (number : ℕ) → bare_map (map_of.remove list number) ≡ map_of.remove (bare_map list) number
+taken_alike list number = same_map nat_cmp_total nat_cmp-IsAntisymmetric _ _ (λ other.
+    get-bare_map (map_of.remove list number) other
+    ∙ ap (option_map bare_entry) (get-remove nat_cmp_total list number other)
+    ∙ by_test (eq_by_cmp nat_cmp other number) (map_of.get list other)
+    ∙ ap (cond (eq_by_cmp nat_cmp other number) None) (sym (get-bare_map list other))
+    ∙ sym (get-remove nat_cmp_total (bare_map list) number other)) where
+  by_test : (b : Bool) (found : Option JobEntry) → option_map bare_entry (cond b None found) ≡ cond b None (option_map bare_entry found)
+  by_test true found = refl
+  by_test false found = refl
+
+state_alike : (state : JobState) (entry : JobEntry) → bare_entry (in_state state entry) ≡ in_state state (bare_entry entry)
+state_alike state (Live job other) = refl
+state_alike state (Done of) = refl
+
+with_state_alike : (list : JobEntries) (number : ℕ) (state : JobState) (found : Option JobEntry) → bare_map (with_state number state found list) ≡ with_state number state (option_map bare_entry found) (bare_map list)
+with_state_alike list number state None = refl
+with_state_alike list number state (Some entry) = put_alike list number (in_state state entry) ∙ ap (map_of.insert (bare_map list) number) (state_alike state entry)
+
+entries_alike : (list : JobEntries) (step : Step) → bare_map (entries_after list step) ≡ entries_after (bare_map list) (bare_step step)
+entries_alike list Draw = refl
+entries_alike list (Accept number job) = put_alike list number (Live job Pending)
+entries_alike list (Remove number) = put_alike list number (Done fate.Removed)
+entries_alike list (Start number second) =
+    with_state_alike list number (Running second) (map_of.get list number)
+    ∙ ap (λ found. with_state number (Running second) found (bare_map list)) (sym (get-bare_map list number))
+entries_alike list (End number ending) = put_alike list number (Done (fate.Finished ending))
+entries_alike list (Interrupt number) = put_alike list number (Done fate.Interrupted)
+entries_alike list (Forget number) = taken_alike list number
+
+-- the queue of an entry is that of its job
+batch_alike : (found : Option JobEntry) → is_batch_entry (option_map bare_entry found) ≡ is_batch_entry found
+batch_alike None = refl
+batch_alike (Some (Live job state)) = refl
+batch_alike (Some (Done of)) = refl
+
+last_alike : (last : ℕ) (step : Step) → last_after last (bare_step step) ≡ last_after last step
+last_alike last Draw = refl
+last_alike last (Accept number job) = refl
+last_alike last (Remove number) = refl
+last_alike last (Start number second) = refl
+last_alike last (End number ending) = refl
+last_alike last (Interrupt number) = refl
+last_alike last (Forget number) = refl
+
+-- a table by its parts
+bare_parts : (table : JobTable) → bare table ≡ table_of table.last (bare_map table.entries) table.last_batch
+unfolding bare bare_map
+bare_parts table = refl
+
+last_batch_alike : (table : JobTable) (step : Step) → last_batch_after (bare table) (bare_step step) ≡ last_batch_after table step
+unfolding bare
+last_batch_alike table Draw = refl
+last_batch_alike table (Accept number job) = refl
+last_batch_alike table (Remove number) = refl
+last_batch_alike table (Start number second) =
+    ap (λ b. if b then Some second else table.last_batch) (ap is_batch_entry (entries_are_bare table number) ∙ batch_alike (entry_at table number))
+last_batch_alike table (End number ending) = refl
+last_batch_alike table (Interrupt number) = refl
+last_batch_alike table (Forget number) = refl
+
+pub steps_as_on_the_table : StepsAsOnTheTable
+unfolding bare bare_map
+steps_as_on_the_table table step = λ i. table_of (sym (last_alike table.last step) i) (entries_alike table.entries step i) (sym (last_batch_alike table step) i)

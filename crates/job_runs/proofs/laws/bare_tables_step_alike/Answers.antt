@@ -1,0 +1,11 @@
+use Rattle.job_runs.proofs.BareLemmas.{entries_are_bare, legal_as_on_the_table, steps_as_on_the_table}
+use Rattle.job_runs.proofs.laws.bare_tables_step_alike.Goals as goal
+
+pub returns-clause-entries : goal.returns-clause-entries
+returns-clause-entries c = entries_are_bare
+
+pub returns-clause-legal : goal.returns-clause-legal
+returns-clause-legal c = legal_as_on_the_table
+
+pub returns-clause-steps : goal.returns-clause-steps
+returns-clause-steps c = steps_as_on_the_table
