@@ -1,6 +1,9 @@
+pub mod FormLemmas
+pub mod FrontLemmas
 pub mod HeaderInLemmas
 pub mod HeaderLemmas
 pub mod HeaderScans
+pub mod JobLemmas
 pub mod MeaningLemmas
 pub mod RunLemmas
 pub mod UserRuns

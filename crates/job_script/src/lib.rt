@@ -5,6 +5,7 @@
 mod checks;
 mod context;
 mod fault;
+mod form;
 mod headers;
 mod kept;
 mod laws;
@@ -14,6 +15,7 @@ mod writer;
 pub use checks::{MOST_DIRECTORY, MOST_ENVIRONMENT, check};
 pub use context::Context;
 pub use fault::ScriptFault;
+pub use form::is_job_text;
 pub use headers::{JobHeader, header, header_fault};
 pub use laws::headers_are_read_exactly;
 pub use variables::Variables;
