@@ -5,6 +5,7 @@ pub mod HeaderLemmas
 pub mod HeaderScans
 pub mod JobLemmas
 pub mod MeaningLemmas
+pub mod OneMeaning
 pub mod RunLemmas
 pub mod UserRuns
 pub mod WordLemmas

@@ -4,7 +4,7 @@ ghost use Rattle.job_script.specs.Check.{Written};
 ghost use Rattle.job_script.specs.Variables.{kept};
 ghost use Rattle.job_script.specs.Header.{behind_user};
 ghost use Rattle.job_script.specs.JobText.{quoted, text_for, quoted_part, umask_line, variable_line, variable_lines};
-ghost use Rattle.job_script.specs.Meaning.{MeansFor};
+ghost use Rattle.job_script.specs.Form.{IsJobText, JobMeaning, MeansJob, meaning_for};
 
 use crate::checks::check;
 use crate::kept::is_kept_by_a_job;
@@ -26,7 +26,10 @@ pub fn write(
     requires { context.now.umask < 512 }
     ensures refused { Written context.now commands.now result }
     ensures text { IfOk result (λ text. text ≡ text_for context.now mail commands.now) }
-    ensures means { IfOk result (λ text. MeansFor text context.now mail commands.now) }
+    ensures means { IfOk result (λ text. MeansJob text (meaning_for context.now mail commands.now)) }
+    ensures only { IfOk result (λ text. (job : JobMeaning) → MeansJob text job
+        → job ≡ meaning_for context.now mail commands.now) }
+    ensures form { IfOk result IsJobText }
 {
     check(context)?;
     if commands.len() > MOST_COMMANDS {
