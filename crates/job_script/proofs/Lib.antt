@@ -1,6 +1,7 @@
 pub mod FormLemmas
 pub mod FrontLemmas
 pub mod HeaderInLemmas
+pub mod HeaderInScans
 pub mod HeaderLemmas
 pub mod HeaderScans
 pub mod JobLemmas

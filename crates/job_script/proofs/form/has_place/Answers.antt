@@ -1,6 +1,6 @@
+use Rattle.std.proofs.Common.{◌++◌}
 use Rattle.job_script.proofs.JobLemmas.{place_front, place_read, slash_there}
 use Rattle.job_script.specs.JobText.{behind_directory}
-use Rattle.std.proofs.Common.{◌++◌}
 use Rattle.job_script.proofs.form.has_place.Goals as goal
 
 pub returns-in-Some-behind_quoted : goal.returns-in-Some-behind_quoted
