@@ -1,143 +1,15 @@
 -- What is read from the front of the bytes is their header, or the place of their fault.
-use Rattle.std.proofs.Common.{◌≡◌, ℕ, suc, zero, ◌+◌, ◌-◌, ◌<◌, ◌≤◌, ◌↔◌, Bool, true, false, cond, not, ◌&&◌, eqb, List, [], ◌∷◌, ◌++◌, length, get_or, take, drop, max, refl, sym, ap, subst, arith, ◌∙◌, inl, inr, Option, Some, None, IsTrue}
+use Rattle.std.proofs.Common.{◌≡◌, ℕ, ◌+◌, ◌-◌, ◌<◌, ◌≤◌, ◌↔◌, Bool, true, false, cond, not, ◌&&◌, eqb, List, [], ◌∷◌, ◌++◌, length, take, drop, max, refl, sym, ap, subst, arith, ◌∙◌, inl, inr, Option, Some, None}
 use Rattle.std.specs.Option.{MatchOption}
-use Rattle.std.specs.List.{take_while}
 use Rattle.std.proofs.lemmas.Bool.{and_cases, and_parts, cases_lt, eqb-true, eqb-false, not-true, not-false}
-use Rattle.std.proofs.lemmas.List.{drop-take, get_or-take, take-take}
-use Rattle.std.proofs.lemmas.List.Sums.{take_while-cons}
-use Rattle.spool_model.specs.Users.{IsUserName, is_user_byte}
+use Rattle.std.proofs.lemmas.List.{drop-take}
+use Rattle.spool_model.specs.Users.{IsUserName}
 use Rattle.job_script.specs.Header.{before_user, behind_user, header_text, BeginsWithHeader, HasHeader, IsHeaderFault}
 use Rattle.job_script.specs.HeaderIn.{alike, name_front, user_in, flag_alike, has_user, header_in, header_place}
-use Rattle.job_script.specs.Scan.{Matches, Runs}
+use Rattle.job_script.specs.Scan.{Matches}
 use Rattle.job_script.proofs.HeaderLemmas.{eight_behind, fault_before, one_header}
 use Rattle.job_script.proofs.HeaderScans.{header_read, flag_missing, run_is_name, user_missing}
-
--- one byte more that agrees
-same_before : (x : ℕ) (y : ℕ) (bytes text : List ℕ) (count : ℕ) → x ≡ y → Matches bytes text count
-    → (k : ℕ) → k < suc count → get_or (y ∷ bytes) k 0 ≡ get_or (x ∷ text) k 0
-same_before x y bytes text count same m zero below = sym same
-same_before x y bytes text count same m (suc k) below = m.same k (omega arith)
-
--- one byte more in front of both texts
-alike_before : (x y : ℕ) (bytes text : List ℕ) (count : ℕ) (here : Bool) → eqb x y ≡ here → Matches bytes text count
-    → Matches (y ∷ bytes) (x ∷ text) (cond here (suc count) 0)
-alike_before x y bytes text count true here m = record {
-  in_text = let within : count ≤ length text = m.in_text in omega arith;
-  in_bytes = let within : count ≤ length bytes = m.in_bytes in omega arith;
-  same = same_before x y bytes text count (eqb-true x y here) m;
-  stops = λ short brief. m.stops (omega arith) (omega arith);
-}
-alike_before x y bytes text count false here m = record {
-  in_text = omega arith;
-  in_bytes = omega arith;
-  same = λ k below. absurd (omega arith);
-  stops = λ short brief same. eqb-false x y here (sym same);
-}
-
--- two texts agree as far as is counted, and no farther
-pub alike-matches : (text bytes : List ℕ) → Matches bytes text (alike text bytes)
-unfolding alike
-alike-matches [] bytes = record {
-  in_text = omega arith;
-  in_bytes = omega arith;
-  same = λ k below. absurd (omega arith);
-  stops = λ short brief. absurd (omega arith);
-}
-alike-matches (x ∷ text) [] = record {
-  in_text = omega arith;
-  in_bytes = omega arith;
-  same = λ k below. absurd (omega arith);
-  stops = λ short brief. absurd (omega arith);
-}
-alike-matches (x ∷ text) (y ∷ bytes) =
-    alike_before x y bytes text (alike text bytes) (eqb x y) refl (alike-matches text bytes)
-
--- the longest front of the bytes, of at most so many, that may stand in a user's name
-record IsFront (bytes run : List ℕ) (most : ℕ) : Type 0 where
-  few : length run ≤ most
-  within : length run ≤ length bytes
-  front : run ≡ take (length run) bytes
-  each : (k : ℕ) → k < length run → IsTrue (is_user_byte (get_or bytes k 0))
-  stops : length run < most → length run < length bytes → is_user_byte (get_or bytes (length run) 0) ≡ false
-
--- one byte more of a name at each place
-each_before : (x : ℕ) (bytes run : List ℕ) (most : ℕ) → IsTrue (is_user_byte x) → IsFront bytes run most
-    → (k : ℕ) → k < suc (length run) → IsTrue (is_user_byte (get_or (x ∷ bytes) k 0))
-each_before x bytes run most here f zero below = here
-each_before x bytes run most here f (suc k) below = f.each k (omega arith)
-
--- one byte more in front of such a front
-front_before : (x : ℕ) (bytes run : List ℕ) (most : ℕ) (here : Bool) → is_user_byte x ≡ here → IsFront bytes run most
-    → IsFront (x ∷ bytes) (cond here (x ∷ run) []) (suc most)
-front_before x bytes run most true here f = record {
-  few = let few : length run ≤ most = f.few in omega arith;
-  within = let within : length run ≤ length bytes = f.within in omega arith;
-  front = ap (λ (it : List ℕ). x ∷ it) f.front;
-  each = each_before x bytes run most here f;
-  stops = λ short brief. f.stops (omega arith) (omega arith);
-}
-front_before x bytes run most false here f = record {
-  few = omega arith;
-  within = omega arith;
-  front = refl;
-  each = λ k below. absurd (omega arith);
-  stops = λ short brief. here;
-}
-
--- what is taken is such a front
-taken_front : (most : ℕ) (bytes : List ℕ) → IsFront bytes (take_while is_user_byte (take most bytes)) most
-taken_front zero bytes = record {
-  few = omega arith;
-  within = omega arith;
-  front = refl;
-  each = λ k below. absurd (omega arith);
-  stops = λ short brief. absurd (omega arith);
-}
-taken_front (suc most) [] = record {
-  few = omega arith;
-  within = omega arith;
-  front = refl;
-  each = λ k below. absurd (omega arith);
-  stops = λ short brief. absurd (omega arith);
-}
-taken_front (suc most) (x ∷ bytes) =
-    subst (λ (run : List ℕ). IsFront (x ∷ bytes) run (suc most)) (sym (take_while-cons is_user_byte x (take most bytes)))
-    (front_before x bytes (take_while is_user_byte (take most bytes)) most (is_user_byte x) refl (taken_front most bytes))
-
--- what stands at the front of the bytes as a user's name
-record IsNameFront (bytes run : List ℕ) : Type 0 where
-  runs : Runs bytes (length run)
-  front : run ≡ take (length run) bytes
-
--- the same behind the test for a dash
-no_dash_front : (bytes run : List ℕ) (dash : Bool) → eqb (get_or bytes 0 0) 45 ≡ dash → IsFront bytes run 32
-    → IsNameFront bytes (cond dash [] run)
-no_dash_front bytes run true dash f = record {
-  runs = record {
-    few = omega arith;
-    within = omega arith;
-    each = λ k below. absurd (omega arith);
-    no_dash = λ some. absurd (omega arith);
-    stops = λ short brief. inr (refl, eqb-true (get_or bytes 0 0) 45 dash);
-  };
-  front = refl;
-}
-no_dash_front bytes run false dash f = record {
-  runs = record {
-    few = f.few;
-    within = f.within;
-    each = f.each;
-    no_dash = λ some. eqb-false (get_or bytes 0 0) 45 dash;
-    stops = λ short brief. inl (f.stops short brief);
-  };
-  front = f.front;
-}
-
--- the front is a run of bytes of a user's name
-name_front-runs : (bytes : List ℕ) → IsNameFront bytes (name_front bytes)
-unfolding name_front
-name_front-runs bytes =
-    no_dash_front bytes (take_while is_user_byte (take 32 bytes)) (eqb (get_or bytes 0 0) 45) refl (taken_front 32 bytes)
+use Rattle.job_script.proofs.HeaderInScans.{IsNameFront, alike-matches, alike-take, name_front-runs, name_front-take}
 
 -- what is read from the front of the bytes
 record IsRead (bytes user : List ℕ) (before : ℕ) (flag : Bool → ℕ) : Type 0 where
@@ -273,23 +145,6 @@ header_in-none bytes = (
 -- and there the place is where they leave all headers
 pub header_place-fault : (bytes : List ℕ) → ¬ HasHeader bytes → IsHeaderFault bytes (header_place bytes)
 header_place-fault bytes none = (none_read bytes (header_place bytes) (header_in bytes) (header_in-reads bytes) none).1
-
--- bytes behind the length of a text don't matter to what agrees with it
-alike-take : (text bytes : List ℕ) (count : ℕ) → length text ≤ count → alike text (take count bytes) ≡ alike text bytes
-unfolding alike
-alike-take [] bytes count within = refl
-alike-take (x ∷ text) bytes zero within = absurd (omega arith)
-alike-take (x ∷ text) [] (suc count) within = refl
-alike-take (x ∷ text) (y ∷ bytes) (suc count) within =
-    ap (λ (n : ℕ). cond (eqb x y) (suc n) 0) (alike-take text bytes count (omega arith))
-
--- bytes behind the longest name don't matter to the front of a name
-name_front-take : (bytes : List ℕ) (count : ℕ) → 32 ≤ count → name_front (take count bytes) ≡ name_front bytes
-unfolding name_front
-name_front-take bytes count far =
-    let first : get_or (take count bytes) 0 0 ≡ get_or bytes 0 0 = get_or-take count bytes 0 0 (omega arith) in
-    let few : take 32 (take count bytes) ≡ take 32 bytes = take-take 32 count bytes far in
-    λ i. cond (eqb (first i) 45) [] (take_while is_user_byte (few i))
 
 -- the user among the first 60 bytes is that of all
 user_in-take : (bytes : List ℕ) → user_in (take 60 bytes) ≡ user_in bytes

@@ -1,7 +1,12 @@
+pub mod FormLemmas
+pub mod FrontLemmas
 pub mod HeaderInLemmas
+pub mod HeaderInScans
 pub mod HeaderLemmas
 pub mod HeaderScans
+pub mod JobLemmas
 pub mod MeaningLemmas
+pub mod OneMeaning
 pub mod RunLemmas
 pub mod UserRuns
 pub mod WordLemmas

@@ -1,14 +1,14 @@
 -- A text means one thing at most.
-use Rattle.std.proofs.Common.{◌≡◌, ◌≢◌, ◌<◌, ◌+◌, ◌*◌, ◌/◌, ◌%◌, ℕ, Bool, true, false, not, eqb, ◌&&◌, List, [], ◌∷◌, ◌++◌, IsTrue, refl, sym, ap, subst, ◌∙◌, arith, codes}
+use Rattle.std.proofs.Common.{◌≡◌, ◌≢◌, ◌<◌, ◌+◌, ◌/◌, ◌%◌, ℕ, Bool, not, eqb, List, [], ◌∷◌, ◌++◌, IsTrue, refl, sym, ap, ◌∙◌, arith, codes}
 use Rattle.std.specs.List.{flat_map, list_all}
 use Rattle.std.proofs.lemmas.List.{append_assoc, append_cancel_left}
-use Rattle.job_script.specs.Header.{BeginsWithHeader, header_text}
+use Rattle.job_script.specs.Header.{header_text}
 use Rattle.job_script.specs.JobText.{behind_directory, directory_lines, umask_line, variable_line}
-use Rattle.job_script.specs.Meaning.{Piece, between_quotes, behind_backslash, ArePieces, IsPiece, IsShellWord, Means, SetsVariables, has_no_quote, spelling, stands_for}
+use Rattle.job_script.specs.Meaning.{Piece, between_quotes, behind_backslash, ArePieces, IsPiece, IsShellWord, Means, SetsVariables, spelling, stands_for}
 use Rattle.job_script.specs.Variables.{are_variable_bytes, begins_variable, is_reserved, is_variable_byte, is_variable_name, may_stand}
 use Rattle.std.specs.Prelude.{slice_index}
 use Rattle.job_script.proofs.HeaderLemmas.{one_header}
-use Rattle.job_script.proofs.RunLemmas.{Ends, both_hold, same_run}
+use Rattle.job_script.proofs.RunLemmas.{both_hold, same_run}
 
 -- the text goes on with a byte that no piece of a word begins with
 abbrev pub EndsWord : List ℕ → Type 0
@@ -125,7 +125,7 @@ abbrev pub behind_word : List ℕ → List ℕ
 behind_word commands = behind_directory ++ commands
 
 -- the lines that change the directory and the commands, part by part
-place_parts : (word commands : List ℕ) → directory_lines word ++ commands ≡ codes "cd " ++ (word ++ behind_word commands)
+pub place_parts : (word commands : List ℕ) → directory_lines word ++ commands ≡ codes "cd " ++ (word ++ behind_word commands)
 place_parts word commands = simp append_assoc
 
 -- two texts that change the directory and then have commands are one

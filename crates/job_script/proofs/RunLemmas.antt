@@ -1,5 +1,5 @@
 -- Where a run of bytes that pass a test ends in a text.
-use Rattle.std.proofs.Common.{◌≡◌, ℕ, Bool, true, false, ◌&&◌, List, [], ◌∷◌, ◌++◌, IsTrue, refl, sym, ap}
+use Rattle.std.proofs.Common.{◌≡◌, ◌<◌, ℕ, suc, Bool, true, false, ◌&&◌, List, [], ◌∷◌, ◌++◌, length, get_or, IsTrue, refl, sym, ap, arith}
 use Rattle.std.specs.List.{list_all}
 
 -- both parts of a test that holds
@@ -11,6 +11,13 @@ both_hold false b holds = absurd (cc holds)
 pub hold_both : (a b : Bool) → IsTrue a → IsTrue b → IsTrue (a && b)
 hold_both true b first second = second
 hold_both false b first second = absurd (cc first)
+
+-- bytes that pass each at its place
+pub pass_by_place : (passes : ℕ → Bool) (u : List ℕ) → ((k : ℕ) → k < length u → IsTrue (passes (get_or u k 0))) → IsTrue (list_all passes u)
+pass_by_place passes [] each = refl
+pass_by_place passes (x ∷ xs) each =
+    hold_both (passes x) (list_all passes xs) (each 0 (omega arith))
+    (pass_by_place passes xs (λ k below. each (suc k) (omega arith)))
 
 -- the text begins with no byte that passes
 abbrev pub Ends : (ℕ → Bool) → List ℕ → Type 0

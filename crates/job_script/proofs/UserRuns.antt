@@ -1,14 +1,11 @@
 -- Where a user's name ends in a text.
-use Rattle.std.proofs.Common.{◌≡◌, ℕ, suc, ◌<◌, ◌≤◌, ◌⊎◌, inl, inr, Bool, true, false, ◌&&◌, List, [], ◌∷◌, ◌++◌, length, get_or, IsTrue, refl, ap, arith}
-use Rattle.job_script.proofs.RunLemmas.{Ends, both_hold, hold_both, same_run}
+use Rattle.std.proofs.Common.{◌≡◌, ℕ, ◌<◌, ◌≤◌, ◌⊎◌, inl, inr, List, [], ◌∷◌, ◌++◌, length, get_or, IsTrue, refl, ap, arith}
+use Rattle.job_script.proofs.RunLemmas.{Ends, both_hold, pass_by_place, same_run}
 use Rattle.spool_model.specs.Users.{IsUserName, is_user_byte, are_user_bytes}
 
 -- bytes that may each stand in a user's name
 pub users_by_place : (u : List ℕ) → ((k : ℕ) → k < length u → IsTrue (is_user_byte (get_or u k 0))) → IsTrue (are_user_bytes u)
-users_by_place [] each = refl
-users_by_place (x ∷ xs) each =
-    hold_both (is_user_byte x) (are_user_bytes xs) (each 0 (omega arith))
-    (users_by_place xs (λ k below. each (suc k) (omega arith)))
+users_by_place u each = pass_by_place is_user_byte u each
 
 -- the text begins with no byte of a user's name
 abbrev pub EndsUser : List ℕ → Type 0

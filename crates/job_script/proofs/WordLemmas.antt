@@ -1,14 +1,12 @@
 -- What is written between single quotes is a word of the shell, and stands for what was quoted.
-use Rattle.std.proofs.Common.{◌≡◌, ◌<◌, ℕ, Bool, true, false, nat_eq, List, [], ◌∷◌, ◌++◌, IsTrue, refl, sym, ap, ◌∙◌, arith}
+use Rattle.std.proofs.Common.{◌≡◌, ℕ, Bool, true, false, nat_eq, List, [], ◌∷◌, ◌++◌, IsTrue, refl, sym, ap, ◌∙◌, arith}
 use Rattle.std.specs.List.{flat_map}
 use Rattle.std.proofs.lemmas.List.{append_assoc}
 use Rattle.std.proofs.lemmas.Bool.Decides.{nat_tests}
-use Rattle.spool_model.specs.Users.{IsUserName}
 use Rattle.job_script.specs.Header.{before_user}
-use Rattle.job_script.specs.JobText.{quoted, quoted_part, job_text, behind_directory, variable_lines}
-use Rattle.job_script.specs.Meaning.{Piece, between_quotes, behind_backslash, ArePieces, IsShellWord, Means, SetsVariables, has_no_quote, spelling, stands_for}
-use Rattle.job_script.specs.Variables.{has_no_zero, is_kept, kept, may_stand}
-use Rattle.job_script.proofs.RunLemmas.{both_hold}
+use Rattle.job_script.specs.JobText.{quoted, quoted_part, behind_directory, variable_lines}
+use Rattle.job_script.specs.Meaning.{Piece, between_quotes, behind_backslash, ArePieces, IsShellWord, SetsVariables, has_no_quote, spelling, stands_for}
+use Rattle.job_script.specs.Variables.{may_stand}
 
 -- a word whose first quote is open: the bytes up to the next quote, and the pieces behind it
 record IsOpened (value : List ℕ) : Type 0 where
@@ -63,37 +61,11 @@ abbrev pub MayAllStand : List (List ℕ × List ℕ) → Type 0
 MayAllStand [] = Unit {0}
 MayAllStand (variable ∷ others) = IsTrue (may_stand variable.0) × MayAllStand others
 
--- one variable more before those that are kept
-kept_before : (variable : List ℕ × List ℕ) (others : List (List ℕ × List ℕ)) (here : Bool) → is_kept variable ≡ here
-    → MayAllStand (kept others) → MayAllStand (kept (variable ∷ others))
-kept_before variable others true here stand =
-    rw here ((both_hold (may_stand variable.0) (has_no_zero variable.1) here).0, stand)
-kept_before variable others false here stand = rw here stand
-
--- the variables that are kept may stand in a job
-pub kept_may_stand : (variables : List (List ℕ × List ℕ)) → MayAllStand (kept variables)
-kept_may_stand [] = tt
-kept_may_stand (variable ∷ others) = kept_before variable others (is_kept variable) refl (kept_may_stand others)
-
 -- the lines of variables set them in turn
 pub lines_set : (variables : List (List ℕ × List ℕ)) → MayAllStand variables → SetsVariables (variable_lines variables) variables
 lines_set [] stand = refl
 lines_set (variable ∷ others) stand =
     (stand.0, quoted variable.1, quoted_word variable.1, variable_lines others, refl, lines_set others stand.1)
-
--- a job text means what it was made of
-pub job_text_means : (user : List ℕ) (mail : Bool) (umask : ℕ) (variables : List (List ℕ × List ℕ)) (directory commands : List ℕ)
-    → IsUserName user → umask < 512
-    → Means (job_text user mail umask (kept variables) directory commands) user mail umask (kept variables) directory commands
-job_text_means user mail umask variables directory commands name octal = record {
-  name = name;
-  octal = octal;
-  lines = variable_lines (kept variables);
-  sets = lines_set (kept variables) (kept_may_stand variables);
-  word = quoted directory;
-  goes_to = quoted_word directory;
-  all = refl;
-}
 
 -- the parts of a job text, put one behind the other
 pub put_together : (u b m v q c t2 t3 t4 t5 t6 t7 t8 t9 : List ℕ) → t2 ≡ before_user ++ u → t3 ≡ t2 ++ b → t4 ≡ t3 ++ m → t5 ≡ t4 ++ v

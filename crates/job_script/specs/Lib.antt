@@ -1,4 +1,6 @@
 pub mod Check
+pub mod Form
+pub mod Fronts
 pub mod Header
 pub mod HeaderIn
 pub mod JobText

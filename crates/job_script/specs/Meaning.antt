@@ -4,8 +4,7 @@ use Rattle.std.specs.List.{flat_map, list_all}
 use Rattle.spool_model.specs.Users.{IsUserName}
 use Rattle.job_script.specs.Header.{header_text}
 use Rattle.job_script.specs.JobText.{directory_lines, umask_line, variable_line}
-use Rattle.job_script.specs.Variables.{kept, may_stand}
-use Rattle.job_script.specs.declared.context.Context.{Context}
+use Rattle.job_script.specs.Variables.{may_stand}
 
 -- a piece of a word: bytes between single quotes, or one byte behind a backslash
 pub data Piece : Type 0 where
@@ -62,8 +61,3 @@ pub record Means (text user : List ℕ) (mail : Bool) (umask : ℕ)
   pub word : List ℕ
   pub goes_to : IsShellWord word directory
   pub all : text ≡ header_text user mail ++ (umask_line umask ++ (lines ++ (directory_lines word ++ commands)))
-
--- the text means what a context says, with the variables that a job keeps
-abbrev pub MeansFor : List ℕ → Context → Bool → List ℕ → Type 0
-MeansFor text context mail commands =
-    Means text context.user mail context.umask (kept context.environment) context.directory commands

@@ -33,7 +33,7 @@ fn can_begin(byte: u8) -> bool
     byte.is_ascii_alphabetic() || byte == b'_'
 }
 
-fn can_stand(byte: u8) -> bool
+pub(crate) fn can_stand(byte: u8) -> bool
     ensures { result ≡ is_variable_byte byte }
 {
     byte.is_ascii_alphanumeric() || byte == b'_'

@@ -1,5 +1,6 @@
 //! What is computed of a text is what the relations say of it.
 ghost use Rattle.std.specs.Prelude.{◌≡◌, ◌↔◌, ℕ, List, Bool, Some, None, take};
+ghost use Rattle.job_script.specs.Form.{IsJobText, JobMeaning, MeansJob};
 ghost use Rattle.job_script.specs.Header.{BeginsWithHeader, HasHeader, IsHeaderFault};
 ghost use Rattle.job_script.specs.HeaderIn.{header_in, header_place};
 
@@ -14,4 +15,15 @@ pub fn headers_are_read_exactly(bytes: &[u8])
     ensures place_in_60 { header_place (take 60 bytes.now) ≡ header_place bytes.now }
 {
     let _ = bytes;
+}
+
+/// A text means one thing at most, and of the form of job texts each thing has one text at most.
+pub fn texts_and_meanings_are_one_to_one(text: &[u8], other: &[u8])
+    ensures meaning { (one : JobMeaning) (two : JobMeaning) → MeansJob text.now one
+        → MeansJob text.now two → one ≡ two }
+    ensures text { (job : JobMeaning) → IsJobText text.now → IsJobText other.now
+        → MeansJob text.now job → MeansJob other.now job → text.now ≡ other.now }
+{
+    let _ = text;
+    let _ = other;
 }

@@ -5,6 +5,7 @@
 mod checks;
 mod context;
 mod fault;
+mod form;
 mod headers;
 mod kept;
 mod laws;
@@ -14,8 +15,9 @@ mod writer;
 pub use checks::{MOST_DIRECTORY, MOST_ENVIRONMENT, check};
 pub use context::Context;
 pub use fault::ScriptFault;
+pub use form::is_job_text;
 pub use headers::{JobHeader, header, header_fault};
-pub use laws::headers_are_read_exactly;
+pub use laws::{headers_are_read_exactly, texts_and_meanings_are_one_to_one};
 pub use variables::Variables;
 pub use writer::{MOST_COMMANDS, write};
 

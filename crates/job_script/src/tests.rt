@@ -1,7 +1,9 @@
 //! What is told from what, on examples.
 ghost use Rattle.std.specs.Prelude.{◌≡◌, IfOk};
 
-use crate::{Context, ScriptFault, Variables, check, header, header_fault, write};
+use crate::{
+    Context, MOST_COMMANDS, ScriptFault, Variables, check, header, header_fault, is_job_text, write,
+};
 use host_calls::Text;
 use std::alloc::{AllocError, Global};
 use std::test::Fail;
@@ -87,6 +89,8 @@ fn text_of_the_first_submission(rt: HostRuntime) -> Result<(), Fail> {
         "#!/bin/sh\n# at user=ann mail=0\numask 0022\nHOME='/home/ann'; export HOME\ncd '/home/ann' || {\n\techo 'Execution directory inaccessible' >&2\n\texit 1\n}\necho hi\n";
     assert_eq!(rt; wanted.len(), 155);
     assert_eq!(rt; text.as_slice(), wanted.as_bytes());
+    assert!(rt; is_job_text(wanted.as_bytes()));
+    assert!(rt; !is_job_text(&wanted.as_bytes()[..100]));
     Ok(())
 }
 
@@ -99,5 +103,50 @@ fn quotes_in_a_value(rt: HostRuntime) -> Result<(), Fail> {
     let wanted =
         "#!/bin/sh\n# at user=ann mail=1\numask 0022\nNOTE='it'\\''s $HOME\n'; export NOTE\ncd '/' || {\n\techo 'Execution directory inaccessible' >&2\n\texit 1\n}\n";
     assert_eq!(rt; text.as_slice(), wanted.as_bytes());
+    Ok(())
+}
+
+#[test]
+fn commands_may_take_1_048_576_bytes(rt: HostRuntime) -> Result<(), Fail> {
+    let alloc = rt.alloc();
+    let caller = context(alloc, "ann", "/")?;
+    let mut commands = Vec::new(alloc);
+    for _ in 0..MOST_COMMANDS {
+        commands.push(b'#')?;
+    }
+    assert!(rt; write(alloc, &caller, false, &commands).is_ok());
+    commands.push(b'#')?;
+    assert_eq!(rt;
+        write(alloc, &caller, false, &commands).err(),
+        Some(ScriptFault::TooLong)
+    );
+    Ok(())
+}
+
+#[test]
+fn forms_of_job_texts(rt: HostRuntime) -> Result<(), Fail> {
+    let cases: [(&str, bool); 15] = [
+        ("umask 0022\ncd '/'", true),
+        ("umask 022\ncd '/'", false),
+        ("umask 1022\ncd '/'", false),
+        ("umask 0028\ncd '/'", false),
+        ("umask 0777\ncd '/a'\\''b'", true),
+        ("umask 0022\ncd /", false),
+        ("umask 0022\ncd 'home'", false),
+        ("umask 0022\nA='s'; export A\nA=''; export A\ncd '/'", true),
+        ("umask 0022\nA=''\\'''; export A\ncd '/'", true),
+        ("umask 0022\nA=s; export A\ncd '/'", false),
+        ("umask 0022\nA=''\\''s; export A\ncd '/'", false),
+        ("umask 0022\nA='s''t'; export A\ncd '/'", false),
+        ("umask 0022\nA='s'; export B\ncd '/'", false),
+        ("umask 0022\nTERM='s'; export TERM\ncd '/'", false),
+        ("umask 0022\n1A='s'; export 1A\ncd '/'", false),
+    ];
+    for (lines, is_text) in cases {
+        let text = format!(in rt.alloc();
+            "#!/bin/sh\n# at user=ann mail=0\n{lines} || {{\n\techo 'Execution directory inaccessible' >&2\n\texit 1\n}}\n"
+        )?;
+        assert_eq!(rt; is_job_text(text.as_bytes()), is_text, "{lines}");
+    }
     Ok(())
 }

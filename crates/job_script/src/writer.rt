@@ -4,12 +4,12 @@ ghost use Rattle.job_script.specs.Check.{Written};
 ghost use Rattle.job_script.specs.Variables.{kept};
 ghost use Rattle.job_script.specs.Header.{behind_user};
 ghost use Rattle.job_script.specs.JobText.{quoted, text_for, quoted_part, umask_line, variable_line, variable_lines};
-ghost use Rattle.job_script.specs.Meaning.{MeansFor};
+ghost use Rattle.job_script.specs.Form.{IsJobText, JobMeaning, MeansJob, meaning_for};
 
 use crate::checks::check;
 use crate::kept::is_kept_by_a_job;
-use crate::{Context, ScriptFault, Variables};
-use host_calls::Bytes;
+use crate::{Context, ScriptFault};
+use host_calls::{Bytes, Text};
 use std::alloc::{AllocError, Global};
 
 /// The greatest length of the commands of a job.
@@ -26,7 +26,10 @@ pub fn write(
     requires { context.now.umask < 512 }
     ensures refused { Written context.now commands.now result }
     ensures text { IfOk result (λ text. text ≡ text_for context.now mail commands.now) }
-    ensures means { IfOk result (λ text. MeansFor text context.now mail commands.now) }
+    ensures means { IfOk result (λ text. MeansJob text (meaning_for context.now mail commands.now)) }
+    ensures only { IfOk result (λ text. (job : JobMeaning) → MeansJob text job
+        → job ≡ meaning_for context.now mail commands.now) }
+    ensures form { IfOk result IsJobText }
 {
     check(context)?;
     if commands.len() > MOST_COMMANDS {
@@ -51,7 +54,7 @@ fn text_of(
     text.extend_from_slice(context.user.as_str().as_bytes())?;
     text.extend_from_slice(text_of_flag(mail))?;
     put_umask(&mut text, context.umask)?;
-    put_variables(&mut text, &context.environment)?;
+    put_variables(&mut text, context.environment.as_slice())?;
     text.extend_from_slice(b"cd ")?;
     put_quoted(&mut text, context.directory.as_str())?;
     text.extend_from_slice(b" || {\n\techo 'Execution directory inaccessible' >&2\n\texit 1\n}\n")?;
@@ -77,10 +80,10 @@ fn put_umask(text: &mut Vec<u8>, umask: u16) -> Result<(), AllocError>
     Ok(())
 }
 
-fn put_variables(text: &mut Vec<u8>, variables: &Variables) -> Result<(), AllocError>
+fn put_variables(text: &mut Vec<u8>, variables: &[(Text, Text)]) -> Result<(), AllocError>
     ensures { OnOk result (text.new.items ≡ text.old.items ++ variable_lines (kept variables.now)) }
 {
-    for (name, value) in variables.as_slice() {
+    for (name, value) in variables {
         if is_kept_by_a_job(name.as_str(), value.as_str()) {
             put_variable(text, name.as_str(), value.as_str())?;
         }

@@ -5,4 +5,4 @@ use Rattle.job_script.proofs.writer.put_variables.Given as goal
 
 abbrev pub invariant-loop-name : goal.invariant-loop-name
 invariant-loop-name l =
-    l.text.items ≡ l.fn.text.items ++ variable_lines (kept (take l.name-index l.name-items))
+    l.text.items ≡ l.fn.text.items ++ variable_lines (kept (take l.name-index l.variables))

@@ -16,7 +16,10 @@ returns c =
     ∙ ap (λ (it : List ℕ). before_user ++ it) (c.as_bytes.ensures.value ∙ c.as_str.ensures))
     (c.in_ok-extend_from_slice-2.ensures.items
     ∙ ap (λ (it : List ℕ). c.extend_from_slice.new.self.items ++ it) c.text_of_flag.ensures)
-    c.in_ok-put_umask.ensures c.in_ok-put_variables.ensures c.in_ok-extend_from_slice-3.ensures.items
+    c.in_ok-put_umask.ensures
+    (c.in_ok-put_variables.ensures
+    ∙ ap (λ (it : List (List ℕ × List ℕ)). c.put_umask.new.text.items ++ variable_lines (kept it)) c.as_slice.ensures)
+    c.in_ok-extend_from_slice-3.ensures.items
     (c.in_ok-put_quoted.ensures
     ∙ ap (λ (it : List ℕ). c.extend_from_slice-3.new.self.items ++ quoted it) c.as_str-2.ensures)
     c.in_ok-extend_from_slice-4.ensures.items c.in_ok-extend_from_slice-5.ensures.items
