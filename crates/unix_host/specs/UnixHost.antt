@@ -1,0 +1,9 @@
+-- What a real host tells.
+use Rattle.std.specs.Prelude.{◌++◌, ◌∷◌, ◌+◌, [], ℕ, zero, suc, List, is_some, vec_len}
+use Rattle.host_calls.specs.Session.{Session}
+use Rattle.host_calls.specs.declared.child.Child.{Child}
+
+-- so many children, numbered from 0 in the order of their starts
+abbrev pub first_children : ℕ → List Child
+first_children zero = []
+first_children (suc count) = first_children count ++ record { id = count } ∷ []
