@@ -10,7 +10,7 @@ use std::alloc::Global;
 #[derive(Drop)]
 pub struct UnixErr<R: Eprint + Drop> {
     rt: R,
-    sink_faults: u64,
+    pub(crate) sink_faults: u64,
 }
 
 impl<R: Eprint + Drop> UnixErr<R> {

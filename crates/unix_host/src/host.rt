@@ -1,6 +1,8 @@
 //! A spool folder on a disk.
-ghost use Rattle.std.specs.Prelude.{◌≡◌, ◌≢◌, ◌≤◌, false, is_some, vec_len, IfOk, IsSome};
+ghost use Rattle.std.specs.Prelude.{◌≡◌, ◌≢◌, ◌≤◌, false, is_some, vec_len, IfOk, IfSome, IsSome, OnOk};
 ghost use Rattle.host_calls.specs.Causes.{HasCause};
+ghost use Rattle.unix_host.specs.Changes.{left_by};
+ghost use Rattle.unix_host.specs.LockByte.{amount_of};
 ghost use Rattle.unix_host.specs.Untold.{untold_world};
 ghost use Rattle.unix_host.specs.UnixHost.{first_children};
 
@@ -27,12 +29,17 @@ pub struct UnixHost<R: Runtime<File = File> + Processes> {
     lock: Option<Lock>,
     changes: Changes,
     kids: Vec<process::Child<R::Started>>,
-    counts: Counts,
+    pub(crate) counts: Counts,
 }
 
 impl<R: Runtime<File = File> + Processes> UnixHost<R> {
     /// The host of this folder. It touches no file.
-    pub fn make(rt: R, alloc: Global, spool: Text) -> Result<UnixHost<R>, AllocError> {
+    pub fn make(rt: R, alloc: Global, spool: Text) -> Result<UnixHost<R>, AllocError>
+        ensures outside { IfOk result (λ made. is_some made.lock ≡ false) }
+        ensures children { IfOk result (λ made. vec_len made.kids ≡ 0) }
+        ensures made_as { IfOk result (λ made. made.spool ≡ spool) }
+        ensures counts { IfOk result (λ made. made.counts ≡ record { files = 0; starts = 0; taken = 0 }) }
+    {
         Ok(UnixHost {
             rt,
             paths: Paths::of(alloc, spool.as_str())?,
@@ -60,6 +67,7 @@ fn begin<R: Runtime<File = File>>(rt: &R, paths: &Paths) -> Result<Lock, EnterFa
 fn tell(lock: &mut Option<Lock>, changes: &Changes) -> Result<(), HostFault>
     requires inside { IsSome lock.old }
     ensures inside { IsSome lock.new }
+    ensures told { OnOk result (IfSome lock.new (λ lock. amount_of (left_by changes.now) ≤ amount_of lock.told)) }
 {
     match lock {
         Some(lock) => lock.raise(changes.left()).map_err(|_| HostFault::Failed),

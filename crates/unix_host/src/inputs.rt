@@ -12,7 +12,7 @@ use std::fs::{File, Files};
 #[derive(Drop)]
 pub struct UnixInputs<R: Files<File = File> + Input + Drop> {
     rt: R,
-    input_faults: u64,
+    pub(crate) input_faults: u64,
 }
 
 impl<R: Files<File = File> + Input + Drop> UnixInputs<R> {

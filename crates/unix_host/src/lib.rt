@@ -23,9 +23,11 @@ pub use inputs::UnixInputs;
 pub use out::UnixOut;
 pub use readings::UnixReadings;
 
-
-
-
-
-
-
+#[cfg(test)]
+mod tests;
+#[cfg(test)]
+mod tests_of_jobs;
+#[cfg(test)]
+mod tests_of_streams;
+#[cfg(test)]
+mod tests_of_the_lock;

@@ -23,6 +23,9 @@
 //!
 //! What it doesn't cover: a program that changes the folder without this lock, and a copy of the folder that
 //! is put in its place with its lock file. Remove the lock file then.
+ghost use Rattle.std.specs.Prelude.{◌≡◌, ◌≤◌, OnOk};
+ghost use Rattle.unix_host.specs.LockByte.{amount_of};
+
 use crate::unsynced::Unsynced;
 use host_calls::EnterFault;
 use std::fs::{File, Files, OpenOptions, TryLockError};
@@ -55,12 +58,17 @@ impl Lock {
     }
 
     /// What the byte says.
-    pub fn told(&self) -> Unsynced {
+    pub fn told(&self) -> Unsynced
+        ensures { result ≡ self.now.told }
+    {
         self.told
     }
 
     /// Makes the byte say at least this much.
-    pub fn raise(&mut self, left: Unsynced) -> io::Result<()> {
+    pub fn raise(&mut self, left: Unsynced) -> io::Result<()>
+        ensures covers { OnOk result (amount_of left ≤ amount_of self.new.told) }
+        ensures never_less { amount_of self.old.told ≤ amount_of self.new.told }
+    {
         if !self.told.covers(left) {
             self.file.write_all_at(&[left.byte()], 0)?;
             self.told = left;

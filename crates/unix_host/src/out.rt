@@ -9,7 +9,7 @@ use std::alloc::Global;
 #[derive(Drop)]
 pub struct UnixOut<R: Print + Drop> {
     rt: R,
-    sink_faults: u64,
+    pub(crate) sink_faults: u64,
 }
 
 impl<R: Print + Drop> UnixOut<R> {

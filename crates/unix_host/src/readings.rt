@@ -13,7 +13,7 @@ use std::time::{Clock, Duration};
 #[derive(Drop)]
 pub struct UnixReadings<R: Files<File = File> + Clock + Drop> {
     rt: R,
-    load_faults: u64,
+    pub(crate) load_faults: u64,
 }
 
 impl<R: Files<File = File> + Clock + Drop> UnixReadings<R> {

@@ -1,0 +1,160 @@
+//! Readings, inputs and sinks.
+use crate::front::front;
+use crate::tests::{clear, fresh_spool};
+use crate::{UnixErr, UnixInputs, UnixOut, UnixReadings};
+use host_calls::{InputFault, Inputs, Readings, Sink, SinkFault};
+use std::fmt::Display;
+use std::fs;
+use std::fs::File;
+use std::io;
+use std::io::{PipeWriter, Read, Write};
+use std::test::Fail;
+
+#[test]
+fn the_clock_and_the_load_are_read(rt: HostRuntime) -> Result<(), Fail> {
+    let mut readings = UnixReadings::make(rt);
+    let before = readings.now();
+    readings.rest(0);
+    assert!(rt; before > 1_700_000_000 && readings.now() >= before);
+    assert!(rt; readings.load().is_some());
+    assert_eq!(rt; readings.load_faults, 0);
+    Ok(())
+}
+
+#[test]
+fn the_first_bytes_of_a_file_are_read(rt: HostRuntime) -> Result<(), Fail> {
+    let path = fresh_spool(&rt, "input")?;
+    let alloc = rt.alloc();
+    let long = vec![in alloc; b'x'; 10_000]?;
+    fs::write(&rt, path.as_str(), long.as_slice())?;
+    let mut inputs = UnixInputs::make(rt.clone()?);
+    for (most, count) in [(0, 0), (5, 5), (4096, 4096), (9_999, 9_999), (20_000, 10_000)] {
+        let bytes = inputs.file(alloc, path.as_str(), most)?;
+        assert_eq!(rt; bytes.as_slice().len(), count);
+    }
+    assert!(rt; inputs.standard(alloc, 0)?.as_slice().is_empty());
+    clear(&rt, path.as_str())?;
+    assert_eq!(rt; inputs.file(alloc, path.as_str(), 9).err(), Some(InputFault::Failed));
+    assert_eq!(rt; inputs.file(alloc, "/tmp", 9).err(), Some(InputFault::Failed));
+    assert_eq!(rt; inputs.input_faults, 2);
+    Ok(())
+}
+
+/// A reader that is interrupted, then gives one byte at a time, and then fails or ends.
+#[derive(Drop)]
+struct Slow {
+    turn: u8,
+    fails: bool,
+}
+
+impl Read for Slow {
+    fn read(&mut self, buf: &mut [u8]) -> io::Result<usize> {
+        self.turn = self.turn.saturating_add(1);
+        if self.turn == 2 {
+            return Err(io::Error::from(io::ErrorKind::Interrupted));
+        }
+        if self.turn > 4 && self.fails {
+            return Err(io::Error::from(io::ErrorKind::Other));
+        }
+        if self.turn > 4 || buf.is_empty() {
+            return Ok(0);
+        }
+        buf[0] = b'0' + self.turn;
+        Ok(1)
+    }
+}
+
+#[test]
+fn reads_go_on_after_an_interruption(rt: HostRuntime) -> Result<(), Fail> {
+    let alloc = rt.alloc();
+    let mut whole = Slow { turn: 0, fails: false };
+    let bytes = front(alloc, &mut whole, 9)?;
+    assert_eq!(rt; bytes.as_slice(), b"134".as_slice());
+    let mut failing = Slow { turn: 0, fails: true };
+    assert_eq!(rt; front(alloc, &mut failing, 9).err(), Some(InputFault::Failed));
+    Ok(())
+}
+
+/// A device that is full, in the place of standard output and standard error.
+#[derive(Drop)]
+struct Full(File);
+
+/// A pipe that nobody reads, in their place.
+#[derive(Drop)]
+struct Unread(PipeWriter);
+
+impl Print for Full {
+    fn print<D: Display + Drop>(&self, value: D) -> io::Result<()> {
+        write!(&mut &self.0, "{value}")
+    }
+
+    fn println<D: Display + Drop>(&self, value: D) -> io::Result<()> {
+        writeln!(&mut &self.0, "{value}")
+    }
+
+    fn write_all(&self, bytes: &[u8]) -> io::Result<()> {
+        Write::write_all(&mut &self.0, bytes)
+    }
+}
+
+impl Eprint for Full {
+    fn eprint<D: Display + Drop>(&self, value: D) -> io::Result<()> {
+        self.print(value)
+    }
+
+    fn eprintln<D: Display + Drop>(&self, value: D) -> io::Result<()> {
+        self.println(value)
+    }
+}
+
+impl Print for Unread {
+    fn print<D: Display + Drop>(&self, value: D) -> io::Result<()> {
+        write!(&mut &self.0, "{value}")
+    }
+
+    fn println<D: Display + Drop>(&self, value: D) -> io::Result<()> {
+        writeln!(&mut &self.0, "{value}")
+    }
+
+    fn write_all(&self, bytes: &[u8]) -> io::Result<()> {
+        Write::write_all(&mut &self.0, bytes)
+    }
+}
+
+fn unread_pipe(rt: &HostRuntime) -> Result<Unread, Fail> {
+    let (reader, writer) = io::pipe(rt)?;
+    drop(reader);
+    Ok(Unread(writer))
+}
+
+fn full_device(rt: &HostRuntime) -> Result<Full, Fail> {
+    Ok(Full(File::options().write(true).open(rt, "/dev/full")?))
+}
+
+#[test]
+fn a_full_device_and_an_unread_pipe_are_faults(rt: HostRuntime) -> Result<(), Fail> {
+    let alloc = rt.alloc();
+    let mut out = UnixOut::make(full_device(&rt)?);
+    assert_eq!(rt; out.put(alloc, b"hi\n").err(), Some(SinkFault::Failed));
+    assert_eq!(rt; out.put(alloc, b"hi\n").err(), Some(SinkFault::Failed));
+    assert_eq!(rt; out.sink_faults, 2);
+    let mut err = UnixErr::make(full_device(&rt)?);
+    assert_eq!(rt; err.put(alloc, b"hi\n").err(), Some(SinkFault::Failed));
+    assert_eq!(rt; err.sink_faults, 1);
+    let mut out = UnixOut::make(unread_pipe(&rt)?);
+    assert_eq!(rt; out.put(alloc, b"hi\n").err(), Some(SinkFault::Failed));
+    assert_eq!(rt; out.sink_faults, 1);
+    Ok(())
+}
+
+#[test]
+fn text_alone_goes_to_standard_error(rt: HostRuntime) -> Result<(), Fail> {
+    let alloc = rt.alloc();
+    let mut out = UnixOut::make(rt.clone()?);
+    out.put(alloc, b"\xff\n")?;
+    let mut err = UnixErr::make(rt.clone()?);
+    err.put(alloc, b"at: spool busy\n")?;
+    assert_eq!(rt; err.put(alloc, b"\xff\n").err(), Some(SinkFault::Failed));
+    assert_eq!(rt; (out.sink_faults, err.sink_faults), (0, 1));
+    Ok(())
+}
