@@ -7,12 +7,11 @@ use crate::paths::Paths;
 use crate::unsynced::Unsynced;
 use host_calls::{HostFault, Name};
 use std::alloc::{Alloc, AllocError, Global};
-use std::fs;
 use std::fs::{DirBuilder, DirEntry, File, Files, OpenFile, OpenOptions};
-use std::io;
 use std::io::{ErrorKind, Write};
 use std::os::unix::fs::{DirBuilderExt, FileExt, OpenOptionsExt};
 use std::rt::Runtime;
+use std::{fs, io};
 
 /// Makes the spool folder and the folder of outputs, where they are absent.
 pub fn make_folders<R: Files<File = File>>(rt: &R, paths: &Paths) -> io::Result<()> {

@@ -50,11 +50,7 @@ pub fn fill<R: Read>(reader: &mut R, buffer: &mut [u8]) -> io::Result<usize>
 }
 
 /// The first bytes that a reader gives: all of them, or `most`.
-pub fn front<R: Read>(
-    alloc: Global,
-    reader: &mut R,
-    most: usize,
-) -> Result<Bytes, InputFault>
+pub fn front<R: Read>(alloc: Global, reader: &mut R, most: usize) -> Result<Bytes, InputFault>
     ensures few { IfOk result (λ bytes. length bytes ≤ most) }
 {
     let mut bytes = Vec::new(alloc);

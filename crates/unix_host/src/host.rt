@@ -98,12 +98,12 @@ impl<R: Runtime<File = File> + Processes> Host for UnixHost<R> {
     ghost alone = { false };
 
     ghost session = { λ host. record {
-        inside = is_some host.lock;
-        children = first_children (vec_len host.kids);
-        made_as = host.spool;
-        file_faults = host.counts.files;
-        start_faults = host.counts.starts;
-        taken = host.counts.taken;
+      inside = is_some host.lock;
+      children = first_children (vec_len host.kids);
+      made_as = host.spool;
+      file_faults = host.counts.files;
+      start_faults = host.counts.starts;
+      taken = host.counts.taken;
     } };
 
     ghost world = { λ _. untold_world };

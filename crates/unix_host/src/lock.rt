@@ -29,10 +29,9 @@ ghost use Rattle.unix_host.specs.LockByte.{amount_of};
 use crate::unsynced::Unsynced;
 use host_calls::EnterFault;
 use std::fs::{File, Files, OpenOptions, TryLockError};
-use std::io;
 use std::os::unix::fs::{FileExt, OpenOptionsExt};
-use std::thread;
 use std::time::{Clock, Duration};
+use std::{io, thread};
 
 /// How often a lock is asked for before it counts as taken.
 const TRIES: u32 = 10;

@@ -1,14 +1,13 @@
 //! The calls on a folder, each seen through another call. Each test has a folder of its own.
-ghost use Rattle.std.specs.Prelude.{◌≡◌, false, is_some, IfOk, vec_len};
+ghost use Rattle.std.specs.Prelude.{◌≡◌, false, is_some, is_ok, vec_len, IfOk};
+ghost use Rattle.host_calls.specs.Session.{IsInside, IsOutside};
 
 use crate::UnixHost;
-use host_calls::{EnterFault, Host, HostFault, Name, Text};
-use std::fs;
-use std::fs::File;
-use std::os::unix::fs::MetadataExt;
-use std::process;
+use host_calls::{Host, HostFault, Name, Text};
+use std::alloc::Global;
 use std::process::{Abort, Command};
 use std::test::Fail;
+use std::{fs, process};
 
 /// The path of a folder that no other test has, and that isn't there.
 pub fn fresh_spool(rt: &HostRuntime, test: &str) -> Result<String, Fail> {
@@ -43,97 +42,203 @@ pub fn named(rt: &impl Abort, text: &str) -> Name {
     Name::of(text.as_bytes()).expect(rt, "a name")
 }
 
-/// The mode of a file or a folder, without its kind.
-pub fn mode_of(rt: &HostRuntime, path: &str) -> Result<u32, Fail> {
-    Ok(fs::metadata(rt, path)?.mode() % 0o1000)
+/// Begins a session.
+pub fn begin<H: Host>(alloc: Global, host: &mut H) -> Result<(), HostFault>
+    requires outside { IsOutside (H.session host.old) }
+    ensures inside { (H.session host.new).inside ≡ is_ok result }
+    ensures children { (H.session host.new).children ≡ (H.session host.old).children }
+{
+    host.enter(alloc).map_err(|_| HostFault::Failed)
+}
+
+// A file is made, read, written over, read again in part and behind its end, and synced.
+fn made_and_read<H: Host>(
+    alloc: Global,
+    host: &mut H,
+    job: &Name,
+) -> Result<(u64, Vec<u8>, Vec<u8>, Vec<u8>), HostFault>
+    requires untold { H.tells ≡ false }
+    requires outside { IsOutside (H.session host.old) }
+{
+    begin(alloc, host)?;
+    host.create(alloc, job, b"#!/bin/sh\necho hi\n")?;
+    let length = host.length(alloc, job)?;
+    let whole = host.read(alloc, job, 0, 100)?;
+    host.write(alloc, job, 15, b"yo")?;
+    let part = host.read(alloc, job, 10, 7)?;
+    let behind = host.read(alloc, job, 18, 7)?;
+    host.sync(alloc, job)?;
+    host.sync_names(alloc)?;
+    host.leave();
+    Ok((length, whole, part, behind))
 }
 
 #[test]
 fn what_is_made_is_read(rt: HostRuntime) -> Result<(), Fail> {
     let path = fresh_spool(&rt, "made")?;
-    let alloc = rt.alloc();
-    let job = named(&rt, "a0000101b968a0");
     let mut host = host_of(&rt, path.as_str())?;
-    host.enter(alloc)?;
-    host.create(alloc, &job, b"#!/bin/sh\necho hi\n")?;
-    assert_eq!(rt; host.length(alloc, &job)?, 18);
-    let whole = host.read(alloc, &job, 0, 100)?;
+    let seen = made_and_read(rt.alloc(), &mut host, &named(&rt, "a0000101b968a0"));
+    clear(&rt, path.as_str())?;
+    let (length, whole, part, behind) = seen?;
+    assert_eq!(rt; length, 18);
     assert_eq!(rt; whole.as_slice(), b"#!/bin/sh\necho hi\n".as_slice());
-    host.write(alloc, &job, 15, b"yo")?;
-    let part = host.read(alloc, &job, 10, 7)?;
     assert_eq!(rt; part.as_slice(), b"echo yo".as_slice());
-    let behind = host.read(alloc, &job, 18, 7)?;
     assert!(rt; behind.is_empty());
-    host.sync(alloc, &job)?;
-    host.sync_names(alloc)?;
+    Ok(())
+}
+
+// All names of a session, each behind a blank.
+fn listed<H: Host>(alloc: Global, host: &mut H) -> Result<Vec<u8>, HostFault>
+    requires inside { IsInside (H.session host.old) }
+    ensures inside { IsInside (H.session host.new) }
+{
+    let mut list = Vec::new(alloc);
+    for name in &host.names(alloc)? {
+        list.extend_from_slice(b" ")?;
+        list.extend_from_slice(name.as_bytes())?;
+    }
+    Ok(list)
+}
+
+// Two files are made, one takes the other's name, and it is removed: the names after each, and what was moved.
+fn moved_and_removed<H: Host>(
+    alloc: Global,
+    host: &mut H,
+    temp: &Name,
+    target: &Name,
+) -> Result<(Vec<u8>, Vec<u8>, Vec<u8>, Vec<u8>), HostFault>
+    requires untold { H.tells ≡ false }
+    requires outside { IsOutside (H.session host.old) }
+{
+    begin(alloc, host)?;
+    host.settle(alloc)?;
+    host.create(alloc, temp, b"1\n")?;
+    host.create(alloc, target, b"0\n")?;
+    let both = listed(alloc, host)?;
+    host.rename(alloc, temp, target)?;
+    let one = listed(alloc, host)?;
+    let bytes = host.read(alloc, target, 0, 9)?;
+    host.remove(alloc, target)?;
+    let none = listed(alloc, host)?;
     host.leave();
-    clear(&rt, path.as_str())
+    Ok((both, one, bytes, none))
 }
 
 #[test]
 fn names_are_moved_and_removed(rt: HostRuntime) -> Result<(), Fail> {
     let path = fresh_spool(&rt, "names")?;
-    let alloc = rt.alloc();
-    let (temp, job) = (named(&rt, ".TMP"), named(&rt, ".SEQ"));
+    let (temp, target) = (named(&rt, ".TMP"), named(&rt, ".SEQ"));
     let mut host = host_of(&rt, path.as_str())?;
-    host.enter(alloc)?;
-    host.settle(alloc)?;
-    assert!(rt; host.names(alloc)?.is_empty());
-    host.create(alloc, &temp, b"1\n")?;
-    host.create(alloc, &job, b"0\n")?;
-    let names = host.names(alloc)?;
-    assert!(rt; names.as_slice() == [job, temp].as_slice());
-    host.rename(alloc, &temp, &job)?;
-    let names = host.names(alloc)?;
-    assert!(rt; names.as_slice() == [job].as_slice());
-    let moved = host.read(alloc, &job, 0, 9)?;
-    assert_eq!(rt; moved.as_slice(), b"1\n".as_slice());
-    host.remove(alloc, &job)?;
-    assert!(rt; host.names(alloc)?.is_empty());
-    host.leave();
-    clear(&rt, path.as_str())
+    let seen = moved_and_removed(rt.alloc(), &mut host, &temp, &target);
+    clear(&rt, path.as_str())?;
+    let (both, one, bytes, none) = seen?;
+    assert_eq!(rt; both.as_slice(), b" .SEQ .TMP".as_slice());
+    assert_eq!(rt; one.as_slice(), b" .SEQ".as_slice());
+    assert_eq!(rt; bytes.as_slice(), b"1\n".as_slice());
+    assert!(rt; none.is_empty());
+    Ok(())
 }
+
+// How many of the calls fail that would open the file.
+fn failed_opens<H: Host>(alloc: Global, host: &mut H, name: &Name) -> u8
+    requires untold { H.tells ≡ false }
+    requires inside { IsInside (H.session host.old) }
+    ensures inside { IsInside (H.session host.new) }
+{
+    u8::from(host.length(alloc, name).is_err())
+        + u8::from(host.read(alloc, name, 0, 9).is_err())
+        + u8::from(host.write(alloc, name, 0, b"x").is_err())
+        + u8::from(host.sync(alloc, name).is_err())
+        + u8::from(host.create(alloc, name, b"x").is_err())
+}
+
+// The names, and how many calls on the FIFO fail. No reader and no writer of it ever comes.
+fn plain_names<H: Host>(
+    alloc: Global,
+    host: &mut H,
+    fifo: &Name,
+) -> Result<(Vec<u8>, u8), HostFault>
+    requires untold { H.tells ≡ false }
+    requires outside { IsOutside (H.session host.old) }
+{
+    begin(alloc, host)?;
+    let names = listed(alloc, host)?;
+    let failed = failed_opens(alloc, host, fifo);
+    host.settle(alloc)?;
+    host.leave();
+    Ok((names, failed))
+}
+
+/// Runs a line of the shell, whose `$1` is the path.
+pub fn run_line(rt: &HostRuntime, line: &str, path: &str) -> Result<(), Fail> {
+    let mut command = Command::new(rt.alloc(), "/bin/sh")?;
+    command.arg("-c")?.arg(line)?.arg("sh")?.arg(path)?;
+    command.status(rt)?;
+    Ok(())
+}
+
+/// Makes what is no plain file with a name, and one that is.
+const OTHERS: &str =
+    "mkdir \"$1\" && cd \"$1\" && mkfifo fifo && mkdir folder && touch job 'a b' \"$(printf 'a\\377')\" && ln -s job link";
 
 #[test]
 fn what_is_no_plain_file_is_left_out(rt: HostRuntime) -> Result<(), Fail> {
     let path = fresh_spool(&rt, "plain")?;
-    let alloc = rt.alloc();
-    let (job, fifo) = (named(&rt, "job"), named(&rt, "fifo"));
+    run_line(&rt, OTHERS, path.as_str())?;
     let mut host = host_of(&rt, path.as_str())?;
-    host.enter(alloc)?;
-    let line = "cd \"$1\" && mkfifo fifo && mkdir folder && ln -s job link && touch job 'a b' \"$(printf 'a\\377')\"";
-    let mut command = Command::new(alloc, "/bin/sh")?;
-    command.arg("-c")?.arg(line)?.arg("sh")?.arg(path.as_str())?;
-    assert!(rt; command.status(&rt)?.success());
-    let names = host.names(alloc)?;
-    assert!(rt; names.as_slice() == [job].as_slice());
-    // No reader and no writer of the FIFO ever comes.
-    assert_eq!(rt; host.length(alloc, &fifo).err(), Some(HostFault::Failed));
-    assert_eq!(rt; host.read(alloc, &fifo, 0, 9).err(), Some(HostFault::Failed));
-    assert_eq!(rt; host.write(alloc, &fifo, 0, b"x").err(), Some(HostFault::Failed));
-    assert_eq!(rt; host.sync(alloc, &fifo).err(), Some(HostFault::Failed));
-    assert_eq!(rt; host.counts.files, 4);
-    host.settle(alloc)?;
+    let seen = plain_names(rt.alloc(), &mut host, &named(&rt, "fifo"));
+    clear(&rt, path.as_str())?;
+    let (names, failed) = seen?;
+    assert_eq!(rt; names.as_slice(), b" job".as_slice());
+    assert_eq!(rt; failed, 5);
+    assert_eq!(rt; host.counts.files, 5);
+    Ok(())
+}
+
+// How many of the calls fail that ask for what isn't there, or make what is.
+fn failed_changes<H: Host>(
+    alloc: Global,
+    host: &mut H,
+    job: &Name,
+    none: &Name,
+) -> Result<u8, HostFault>
+    requires untold { H.tells ≡ false }
+    requires outside { IsOutside (H.session host.old) }
+{
+    begin(alloc, host)?;
+    host.create(alloc, job, b"")?;
+    let failed = u8::from(host.create(alloc, job, b"").is_err())
+        + u8::from(host.rename(alloc, none, job).is_err())
+        + u8::from(host.remove(alloc, none).is_err());
     host.leave();
-    clear(&rt, path.as_str())
+    Ok(failed)
 }
 
 #[test]
 fn what_fails_is_counted(rt: HostRuntime) -> Result<(), Fail> {
     let path = fresh_spool(&rt, "fails")?;
-    let alloc = rt.alloc();
-    let (job, none) = (named(&rt, "job"), named(&rt, "none"));
-    File::create(&rt, path.as_str())?;
     let mut host = host_of(&rt, path.as_str())?;
-    assert_eq!(rt; host.enter(alloc).err(), Some(EnterFault::Failed));
-    assert_eq!(rt; host.counts.files, 1);
+    let failed = failed_changes(
+        rt.alloc(),
+        &mut host,
+        &named(&rt, "job"),
+        &named(&rt, "none"),
+    );
     clear(&rt, path.as_str())?;
-    host.enter(alloc)?;
-    host.create(alloc, &job, b"")?;
-    assert_eq!(rt; host.create(alloc, &job, b"").err(), Some(HostFault::Failed));
-    assert_eq!(rt; host.rename(alloc, &none, &job).err(), Some(HostFault::Failed));
-    assert_eq!(rt; host.remove(alloc, &none).err(), Some(HostFault::Failed));
-    assert_eq!(rt; host.counts.files, 4);
-    host.leave();
-    clear(&rt, path.as_str())
+    assert_eq!(rt; failed?, 3);
+    assert_eq!(rt; host.counts.files, 3);
+    Ok(())
+}
+
+#[test]
+fn a_folder_that_cannot_be_made_is_a_fault(rt: HostRuntime) -> Result<(), Fail> {
+    let path = fresh_spool(&rt, "file")?;
+    fs::write(&rt, path.as_str(), "")?;
+    let mut host = host_of(&rt, path.as_str())?;
+    let answer = begin(rt.alloc(), &mut host);
+    clear(&rt, path.as_str())?;
+    assert!(rt; answer.is_err());
+    assert_eq!(rt; host.counts.files, 1);
+    assert_eq!(rt; host.counts.taken, 0);
+    Ok(())
 }

@@ -1,16 +1,19 @@
 //! Jobs that are started, and how they end.
-ghost use Rattle.std.specs.Prelude.{Contains};
-ghost use Rattle.host_calls.specs.Session.{IsInside, StaysInside};
+ghost use Rattle.std.specs.Prelude.{◌≡◌, false, Contains};
+ghost use Rattle.host_calls.specs.Session.{IsInside, IsOutside, StaysInside};
 
-use crate::tests::{clear, fresh_spool, host_of, named};
-use host_calls::{Child, Ending, Host};
-use std::fs;
+use crate::tests::{begin, clear, fresh_spool, host_of, named};
+use host_calls::{Child, Ending, Host, HostFault, Name};
 use std::test::Fail;
-use std::thread;
 use std::time::Duration;
+use std::{fs, thread};
 
 // How the child ends, if it ends within ten seconds.
-fn awaited<H: Host>(rt: &HostRuntime, host: &mut H, child: &Child) -> Result<Option<Ending>, Fail>
+fn awaited<H: Host>(
+    rt: &HostRuntime,
+    host: &mut H,
+    child: &Child,
+) -> Result<Option<Ending>, HostFault>
     requires inside { IsInside (H.session host.old) }
     requires started { Contains (H.session host.old).children child.now }
     ensures inside { StaysInside (H.session host.old) (H.session host.new) }
@@ -24,53 +27,94 @@ fn awaited<H: Host>(rt: &HostRuntime, host: &mut H, child: &Child) -> Result<Opt
     Ok(None)
 }
 
+// Whether a job could be started, and how it ended, asked twice.
+fn ran<H: Host>(
+    rt: &HostRuntime,
+    host: &mut H,
+    name: &Name,
+) -> Result<(Child, Option<Ending>, Option<Ending>), HostFault>
+    requires untold { H.tells ≡ false }
+    requires inside { IsInside (H.session host.old) }
+    ensures inside { IsInside (H.session host.new) }
+{
+    let Ok(child) = host.start(rt.alloc(), 1, name, 2) else {
+        return Err(HostFault::Failed);
+    };
+    let ending = awaited(rt, host, &child)?;
+    let again = host.ended(rt.alloc(), &child)?;
+    Ok((child, ending, again))
+}
+
+// The job with this script, in a session of its own.
+fn job_of<H: Host>(
+    rt: &HostRuntime,
+    host: &mut H,
+    name: &Name,
+    script: &[u8],
+) -> Result<(Child, Option<Ending>, Option<Ending>), HostFault>
+    requires untold { H.tells ≡ false }
+    requires outside { IsOutside (H.session host.old) }
+    ensures outside { IsOutside (H.session host.new) }
+{
+    begin(rt.alloc(), host)?;
+    let made = host.create(rt.alloc(), name, script);
+    let ended = ran(rt, host, name);
+    host.leave();
+    made?;
+    ended
+}
+
 #[test]
 fn what_a_job_writes_lands_in_its_file(rt: HostRuntime) -> Result<(), Fail> {
     let path = fresh_spool(&rt, "hi")?;
-    let alloc = rt.alloc();
-    let job = named(&rt, "a0000101b968a0");
     let mut host = host_of(&rt, path.as_str())?;
-    host.enter(alloc)?;
-    host.create(alloc, &job, b"echo hi\ncat\necho \"<$HOME>\"\n")?;
-    let child = host.start(alloc, 1, &job, 2)?;
-    assert_eq!(rt; awaited(&rt, &mut host, &child)?, Some(Ending::Exit(0)));
-    assert_eq!(rt; host.ended(alloc, &child)?, Some(Ending::Exit(0)));
-    host.leave();
-    let out = format!(in alloc; "{path}.out/a0000101b968a0")?;
-    let written = fs::read_to_string(&rt, out.as_str())?;
-    assert_eq!(rt; written.as_str(), "hi\n<>\n");
-    clear(&rt, path.as_str())
+    let job = named(&rt, "a0000101b968a0");
+    let ended = job_of(&rt, &mut host, &job, b"echo hi\ncat\necho \"<$HOME>\"\n");
+    let out = format!(in rt.alloc(); "{path}.out/a0000101b968a0")?;
+    let written = fs::read_to_string(&rt, out.as_str());
+    clear(&rt, path.as_str())?;
+    let (_, ending, again) = ended?;
+    assert_eq!(rt; ending, Some(Ending::Exit(0)));
+    assert_eq!(rt; again, ending);
+    assert_eq!(rt; written?.as_str(), "hi\n<>\n");
+    Ok(())
 }
 
 #[test]
 fn endings_are_told_apart(rt: HostRuntime) -> Result<(), Fail> {
     let path = fresh_spool(&rt, "endings")?;
-    let alloc = rt.alloc();
-    let (three, killed) = (named(&rt, "three"), named(&rt, "killed"));
     let mut host = host_of(&rt, path.as_str())?;
-    host.enter(alloc)?;
-    host.create(alloc, &three, b"exit 3\n")?;
-    host.create(alloc, &killed, b"kill -9 $$\n")?;
-    let first = host.start(alloc, 1, &three, 0)?;
-    let second = host.start(alloc, 2, &killed, 19)?;
-    assert_eq!(rt; (first.id, second.id), (0, 1));
-    assert_eq!(rt; awaited(&rt, &mut host, &first)?, Some(Ending::Exit(3)));
-    assert_eq!(rt; awaited(&rt, &mut host, &second)?, Some(Ending::Signal(9)));
-    host.leave();
-    clear(&rt, path.as_str())
+    let first = job_of(&rt, &mut host, &named(&rt, "three"), b"exit 3\n");
+    let second = job_of(&rt, &mut host, &named(&rt, "killed"), b"kill -9 $$\n");
+    clear(&rt, path.as_str())?;
+    let (child, ending, again) = first?;
+    assert_eq!(rt; child.id, 0);
+    assert_eq!(rt;
+        (ending, again),
+        (Some(Ending::Exit(3)), Some(Ending::Exit(3)))
+    );
+    let (child, ending, again) = second?;
+    assert_eq!(rt; child.id, 1);
+    assert_eq!(rt;
+        (ending, again),
+        (Some(Ending::Signal(9)), Some(Ending::Signal(9)))
+    );
+    Ok(())
 }
 
 // The shell starts all the same, and finds nothing to run.
 #[test]
 fn a_missing_script_ends_badly(rt: HostRuntime) -> Result<(), Fail> {
     let path = fresh_spool(&rt, "missing")?;
-    let alloc = rt.alloc();
     let mut host = host_of(&rt, path.as_str())?;
-    host.enter(alloc)?;
-    let child = host.start(alloc, 1, &named(&rt, "none"), 0)?;
-    let ending = awaited(&rt, &mut host, &child)?;
-    assert!(rt; matches!(&ending, Some(Ending::Exit(_))), "{ending:?}");
-    assert_ne!(rt; ending, Some(Ending::Exit(0)));
-    host.leave();
-    clear(&rt, path.as_str())
+    let begun = begin(rt.alloc(), &mut host);
+    if begun.is_ok() {
+        let ended = ran(&rt, &mut host, &named(&rt, "none"));
+        host.leave();
+        let (_, ending, _) = ended?;
+        assert!(rt; matches!(&ending, Some(Ending::Exit(status)) if *status != 0));
+    }
+    clear(&rt, path.as_str())?;
+    begun?;
+    Ok(())
 }

@@ -1,14 +1,13 @@
 //! Readings, inputs and sinks.
 use crate::front::front;
-use crate::tests::{clear, fresh_spool};
+use crate::tests::{clear, fresh_spool, run_line};
 use crate::{UnixErr, UnixInputs, UnixOut, UnixReadings};
 use host_calls::{InputFault, Inputs, Readings, Sink, SinkFault};
 use std::fmt::Display;
-use std::fs;
 use std::fs::File;
-use std::io;
-use std::io::{PipeWriter, Read, Write};
+use std::io::{Read, Write};
 use std::test::Fail;
+use std::{fs, io};
 
 #[test]
 fn the_clock_and_the_load_are_read(rt: HostRuntime) -> Result<(), Fail> {
@@ -28,14 +27,26 @@ fn the_first_bytes_of_a_file_are_read(rt: HostRuntime) -> Result<(), Fail> {
     let long = vec![in alloc; b'x'; 10_000]?;
     fs::write(&rt, path.as_str(), long.as_slice())?;
     let mut inputs = UnixInputs::make(rt.clone()?);
-    for (most, count) in [(0, 0), (5, 5), (4096, 4096), (9_999, 9_999), (20_000, 10_000)] {
+    for (most, count) in [
+        (0, 0),
+        (5, 5),
+        (4096, 4096),
+        (9_999, 9_999),
+        (20_000, 10_000),
+    ] {
         let bytes = inputs.file(alloc, path.as_str(), most)?;
         assert_eq!(rt; bytes.as_slice().len(), count);
     }
     assert!(rt; inputs.standard(alloc, 0)?.as_slice().is_empty());
     clear(&rt, path.as_str())?;
-    assert_eq!(rt; inputs.file(alloc, path.as_str(), 9).err(), Some(InputFault::Failed));
-    assert_eq!(rt; inputs.file(alloc, "/tmp", 9).err(), Some(InputFault::Failed));
+    assert_eq!(rt;
+        inputs.file(alloc, path.as_str(), 9).err(),
+        Some(InputFault::Failed)
+    );
+    assert_eq!(rt;
+        inputs.file(alloc, "/tmp", 9).err(),
+        Some(InputFault::Failed)
+    );
     assert_eq!(rt; inputs.input_faults, 2);
     Ok(())
 }
@@ -67,23 +78,28 @@ impl Read for Slow {
 #[test]
 fn reads_go_on_after_an_interruption(rt: HostRuntime) -> Result<(), Fail> {
     let alloc = rt.alloc();
-    let mut whole = Slow { turn: 0, fails: false };
+    let mut whole = Slow {
+        turn: 0,
+        fails: false,
+    };
     let bytes = front(alloc, &mut whole, 9)?;
     assert_eq!(rt; bytes.as_slice(), b"134".as_slice());
-    let mut failing = Slow { turn: 0, fails: true };
-    assert_eq!(rt; front(alloc, &mut failing, 9).err(), Some(InputFault::Failed));
+    let mut failing = Slow {
+        turn: 0,
+        fails: true,
+    };
+    assert_eq!(rt;
+        front(alloc, &mut failing, 9).err(),
+        Some(InputFault::Failed)
+    );
     Ok(())
 }
 
-/// A device that is full, in the place of standard output and standard error.
+/// A file in the place of standard output and standard error.
 #[derive(Drop)]
-struct Full(File);
+struct Stream(File);
 
-/// A pipe that nobody reads, in their place.
-#[derive(Drop)]
-struct Unread(PipeWriter);
-
-impl Print for Full {
+impl Print for Stream {
     fn print<D: Display + Drop>(&self, value: D) -> io::Result<()> {
         write!(&mut &self.0, "{value}")
     }
@@ -97,7 +113,7 @@ impl Print for Full {
     }
 }
 
-impl Eprint for Full {
+impl Eprint for Stream {
     fn eprint<D: Display + Drop>(&self, value: D) -> io::Result<()> {
         self.print(value)
     }
@@ -107,42 +123,32 @@ impl Eprint for Full {
     }
 }
 
-impl Print for Unread {
-    fn print<D: Display + Drop>(&self, value: D) -> io::Result<()> {
-        write!(&mut &self.0, "{value}")
-    }
-
-    fn println<D: Display + Drop>(&self, value: D) -> io::Result<()> {
-        writeln!(&mut &self.0, "{value}")
-    }
-
-    fn write_all(&self, bytes: &[u8]) -> io::Result<()> {
-        Write::write_all(&mut &self.0, bytes)
-    }
-}
-
-fn unread_pipe(rt: &HostRuntime) -> Result<Unread, Fail> {
-    let (reader, writer) = io::pipe(rt)?;
-    drop(reader);
-    Ok(Unread(writer))
-}
-
-fn full_device(rt: &HostRuntime) -> Result<Full, Fail> {
-    Ok(Full(File::options().write(true).open(rt, "/dev/full")?))
+#[test]
+fn a_full_device_is_a_fault(rt: HostRuntime) -> Result<(), Fail> {
+    let device = File::options().write(true).open(&rt, "/dev/full")?;
+    let mut out = UnixOut::make(Stream(device.try_clone()?));
+    let mut err = UnixErr::make(Stream(device));
+    let first = out.put(rt.alloc(), b"hi\n");
+    let second = err.put(rt.alloc(), b"hi\n");
+    assert!(rt; first == Err(SinkFault::Failed) && second == Err(SinkFault::Failed));
+    assert_eq!(rt; (out.sink_faults, err.sink_faults), (1, 1));
+    Ok(())
 }
 
 #[test]
-fn a_full_device_and_an_unread_pipe_are_faults(rt: HostRuntime) -> Result<(), Fail> {
-    let alloc = rt.alloc();
-    let mut out = UnixOut::make(full_device(&rt)?);
-    assert_eq!(rt; out.put(alloc, b"hi\n").err(), Some(SinkFault::Failed));
-    assert_eq!(rt; out.put(alloc, b"hi\n").err(), Some(SinkFault::Failed));
-    assert_eq!(rt; out.sink_faults, 2);
-    let mut err = UnixErr::make(full_device(&rt)?);
-    assert_eq!(rt; err.put(alloc, b"hi\n").err(), Some(SinkFault::Failed));
-    assert_eq!(rt; err.sink_faults, 1);
-    let mut out = UnixOut::make(unread_pipe(&rt)?);
-    assert_eq!(rt; out.put(alloc, b"hi\n").err(), Some(SinkFault::Failed));
+fn a_pipe_that_nobody_reads_is_a_fault(rt: HostRuntime) -> Result<(), Fail> {
+    let path = fresh_spool(&rt, "pipe")?;
+    run_line(&rt, "mkfifo \"$1\"", path.as_str())?;
+    let reader = File::options()
+        .read(true)
+        .write(true)
+        .open(&rt, path.as_str())?;
+    let writer = File::options().write(true).open(&rt, path.as_str())?;
+    drop(reader);
+    let mut out = UnixOut::make(Stream(writer));
+    let answer = out.put(rt.alloc(), b"hi\n");
+    clear(&rt, path.as_str())?;
+    assert!(rt; answer == Err(SinkFault::Failed));
     assert_eq!(rt; out.sink_faults, 1);
     Ok(())
 }

@@ -1,90 +1,174 @@
 //! The lock, its byte, and who may look.
-use crate::tests::{clear, fresh_spool, host_of, mode_of, named};
+ghost use Rattle.std.specs.Prelude.{◌≡◌, false};
+ghost use Rattle.host_calls.specs.Session.{IsInside, IsOutside};
+
+use crate::tests::{begin, clear, fresh_spool, host_of, named};
 use crate::unsynced::Unsynced;
-use host_calls::{EnterFault, Host};
+use host_calls::{EnterFault, Host, HostFault, Name};
+use std::alloc::Global;
 use std::fs;
+use std::os::unix::fs::MetadataExt;
 use std::test::Fail;
+
+// What the second answers while the first is inside, and whether it gets in after that.
+fn two_enter<H: Host>(
+    alloc: Global,
+    first: &mut H,
+    second: &mut H,
+) -> Result<(Option<EnterFault>, bool), HostFault>
+    requires first { IsOutside (H.session first.old) }
+    requires second { IsOutside (H.session second.old) }
+{
+    begin(alloc, first)?;
+    let meanwhile = second.enter(alloc);
+    if meanwhile.is_ok() {
+        return Ok((None, true));
+    }
+    first.leave();
+    let after = second.enter(alloc).is_ok();
+    Ok((meanwhile.err(), after))
+}
 
 #[test]
 fn a_held_lock_is_taken_until_it_is_let_go(rt: HostRuntime) -> Result<(), Fail> {
     let path = fresh_spool(&rt, "lock")?;
-    let alloc = rt.alloc();
     let mut first = host_of(&rt, path.as_str())?;
     let mut second = host_of(&rt, path.as_str())?;
-    first.enter(alloc)?;
-    assert_eq!(rt; second.enter(alloc).err(), Some(EnterFault::Taken));
+    let seen = two_enter(rt.alloc(), &mut first, &mut second);
+    clear(&rt, path.as_str())?;
+    let (meanwhile, after) = seen?;
+    assert!(rt; meanwhile == Some(EnterFault::Taken) && after);
     assert_eq!(rt; second.counts.taken, 1);
     assert_eq!(rt; second.counts.files, 0);
-    first.leave();
-    second.enter(alloc)?;
-    second.leave();
-    clear(&rt, path.as_str())
+    Ok(())
 }
 
-#[test]
-fn only_the_owner_may_look(rt: HostRuntime) -> Result<(), Fail> {
-    let path = fresh_spool(&rt, "modes")?;
-    let alloc = rt.alloc();
-    let mut host = host_of(&rt, path.as_str())?;
-    host.enter(alloc)?;
-    host.create(alloc, &named(&rt, "job"), b"")?;
-    host.leave();
-    for (after, mode) in [("", 0o700), (".out", 0o700), (".lock", 0o600), ("/job", 0o600)] {
-        let made = format!(in alloc; "{path}{after}")?;
-        assert_eq!(rt; mode_of(&rt, made.as_str())?, mode, "{made}");
+/// What one session does, between a settle and its end.
+#[derive(Clone, Copy)]
+enum Work {
+    Nothing,
+    Make,
+    Move,
+    MoveBack,
+    Write,
+    Fail,
+}
+
+// A file is made and synced, moved, moved back with the names synced, or written; or a call fails.
+fn do_work<H: Host>(
+    alloc: Global,
+    host: &mut H,
+    doing: Work,
+    job: &Name,
+    other: &Name,
+) -> Result<(), HostFault>
+    requires untold { H.tells ≡ false }
+    requires inside { IsInside (H.session host.old) }
+    ensures inside { IsInside (H.session host.new) }
+{
+    match doing {
+        Work::Nothing => Ok(()),
+        Work::Make => {
+            host.create(alloc, job, b"x")?;
+            host.sync(alloc, job)
+        }
+        Work::Move => host.rename(alloc, job, other),
+        Work::MoveBack => {
+            host.rename(alloc, other, job)?;
+            host.sync_names(alloc)
+        }
+        Work::Write => host.write(alloc, job, 0, b"y"),
+        Work::Fail => host.remove(alloc, other),
     }
-    clear(&rt, path.as_str())
 }
 
-// What the lock file says.
-fn told(rt: &HostRuntime, path: &str) -> Result<Vec<u8>, Fail> {
+// One session, whose work may fail.
+fn session<H: Host>(
+    alloc: Global,
+    host: &mut H,
+    doing: Work,
+    job: &Name,
+    other: &Name,
+) -> Result<(), HostFault>
+    requires untold { H.tells ≡ false }
+    requires outside { IsOutside (H.session host.old) }
+    ensures outside { IsOutside (H.session host.new) }
+{
+    begin(alloc, host)?;
+    let settled = host.settle(alloc);
+    let _ = do_work(alloc, host, doing, job, other);
+    host.leave();
+    settled
+}
+
+// What the lock file holds after each of these sessions.
+fn bytes_after<H: Host>(
+    rt: &HostRuntime,
+    path: &str,
+    host: &mut H,
+    all: &[Work],
+    names: (&Name, &Name),
+) -> Result<Vec<u8>, Fail>
+    requires untold { H.tells ≡ false }
+    requires outside { IsOutside (H.session host.old) }
+{
     let lock = format!(in rt.alloc(); "{path}.lock")?;
-    Ok(fs::read(rt, lock.as_str())?)
+    let mut bytes = Vec::new(rt.alloc());
+    for doing in all {
+        session(rt.alloc(), host, *doing, names.0, names.1)?;
+        let told = fs::read(rt, lock.as_str())?;
+        bytes.extend_from_slice(told.as_slice())?;
+    }
+    Ok(bytes)
 }
 
 #[test]
 fn the_byte_says_what_is_unsynced(rt: HostRuntime) -> Result<(), Fail> {
     let path = fresh_spool(&rt, "byte")?;
-    let alloc = rt.alloc();
     let (job, other) = (named(&rt, "job"), named(&rt, "other"));
     let mut host = host_of(&rt, path.as_str())?;
-    host.enter(alloc)?;
-    assert_eq!(rt; told(&rt, path.as_str())?.as_slice(), b"".as_slice());
-    host.settle(alloc)?;
-    host.leave();
-    assert_eq!(rt; told(&rt, path.as_str())?.as_slice(), b"c".as_slice());
-    host.enter(alloc)?;
-    host.create(alloc, &job, b"x")?;
-    assert_eq!(rt; told(&rt, path.as_str())?.as_slice(), b"a".as_slice());
-    host.sync(alloc, &job)?;
-    host.leave();
-    assert_eq!(rt; told(&rt, path.as_str())?.as_slice(), b"n".as_slice());
-    host.enter(alloc)?;
-    host.rename(alloc, &job, &other)?;
-    host.sync_names(alloc)?;
-    host.leave();
-    assert_eq!(rt; told(&rt, path.as_str())?.as_slice(), b"c".as_slice());
-    host.enter(alloc)?;
-    host.write(alloc, &other, 0, b"y")?;
-    host.leave();
-    assert_eq!(rt; told(&rt, path.as_str())?.as_slice(), b"a".as_slice());
-    clear(&rt, path.as_str())
+    let all = [
+        Work::Nothing,
+        Work::Make,
+        Work::Move,
+        Work::MoveBack,
+        Work::Write,
+        Work::Nothing,
+        Work::Fail,
+    ];
+    let bytes = bytes_after(&rt, path.as_str(), &mut host, &all, (&job, &other))?;
+    clear(&rt, path.as_str())?;
+    assert_eq!(rt; bytes.as_slice(), b"cnncaca".as_slice());
+    Ok(())
+}
+
+// The modes of the folders, the lock and a file that are made.
+fn modes_after<H: Host>(
+    rt: &HostRuntime,
+    path: &str,
+    host: &mut H,
+    job: &Name,
+) -> Result<Vec<u32>, Fail>
+    requires untold { H.tells ≡ false }
+    requires outside { IsOutside (H.session host.old) }
+{
+    session(rt.alloc(), host, Work::Make, job, job)?;
+    let mut modes = Vec::new(rt.alloc());
+    for after in ["", ".out", ".lock", "/job"] {
+        let made = format!(in rt.alloc(); "{path}{after}")?;
+        modes.push(fs::metadata(rt, made.as_str())?.mode() % 0o1000)?;
+    }
+    Ok(modes)
 }
 
 #[test]
-fn a_failed_call_leaves_the_worst_said(rt: HostRuntime) -> Result<(), Fail> {
-    let path = fresh_spool(&rt, "worst")?;
-    let alloc = rt.alloc();
+fn only_the_owner_may_look(rt: HostRuntime) -> Result<(), Fail> {
+    let path = fresh_spool(&rt, "modes")?;
     let mut host = host_of(&rt, path.as_str())?;
-    host.enter(alloc)?;
-    host.settle(alloc)?;
-    host.leave();
-    host.enter(alloc)?;
-    assert!(rt; host.remove(alloc, &named(&rt, "none")).is_err());
-    host.settle(alloc)?;
-    host.leave();
-    assert_eq!(rt; told(&rt, path.as_str())?.as_slice(), b"a".as_slice());
-    clear(&rt, path.as_str())
+    let modes = modes_after(&rt, path.as_str(), &mut host, &named(&rt, "job"))?;
+    clear(&rt, path.as_str())?;
+    assert_eq!(rt; modes.as_slice(), [0o700, 0o700, 0o600, 0o600].as_slice());
+    Ok(())
 }
 
 #[test]
