@@ -1,9 +1,9 @@
 -- The children of a host, by their numbers.
-use Rattle.std.proofs.Common.{◌≡◌, ◌+◌, ◌<◌, ℕ, zero, suc, List, [], ◌∷◌, ◌++◌, length, ap, sym, ◌∙◌, refl, inl, inr, arith}
+use Rattle.std.proofs.Common.{◌≡◌, ◌+◌, ◌<◌, ℕ, zero, suc, [], ◌∷◌, ◌++◌, ap, sym, ◌∙◌, inl, inr, arith}
 use Rattle.std.specs.Prelude.{Contains}
 use Rattle.std.proofs.lemmas.List.Elements.{Contains-push_cases}
 use Rattle.host_calls.specs.declared.child.Child.{Child}
-use Rattle.unix_host.specs.UnixHost.{first_children}
+use Rattle.unix_host.specs.Children.{first_children}
 
 -- each child has a number below their count
 pub below_count : (count : ℕ) (child : Child) → Contains (first_children count) child → child.id < count

@@ -4,7 +4,7 @@ ghost use Rattle.host_calls.specs.Causes.{HasCause};
 ghost use Rattle.unix_host.specs.Changes.{left_by};
 ghost use Rattle.unix_host.specs.LockByte.{amount_of};
 ghost use Rattle.unix_host.specs.Untold.{untold_world};
-ghost use Rattle.unix_host.specs.UnixHost.{first_children};
+ghost use Rattle.unix_host.specs.Children.{first_children};
 
 use crate::changes::Changes;
 use crate::counts::Counts;

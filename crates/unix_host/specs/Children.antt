@@ -1,6 +1,5 @@
--- What a real host tells.
-use Rattle.std.specs.Prelude.{◌++◌, ◌∷◌, ◌+◌, [], ℕ, zero, suc, List, is_some, vec_len}
-use Rattle.host_calls.specs.Session.{Session}
+-- The children of a host (own).
+use Rattle.std.specs.Prelude.{◌++◌, ◌∷◌, [], ℕ, zero, suc, List}
 use Rattle.host_calls.specs.declared.child.Child.{Child}
 
 -- so many children, numbered from 0 in the order of their starts
