@@ -1,4 +1,4 @@
-// The system calls of a submission over the real host, in C: it prints the microseconds of each.
+// The system calls of a submission over the real host, in C: it makes one and prints its microseconds.
 #define _GNU_SOURCE
 #include <dirent.h>
 #include <fcntl.h>
@@ -72,20 +72,18 @@ static void submit(unsigned number) {
 }
 
 int main(int count, char **words) {
+  struct timespec start, end;
   must(count == 3, "floor FOLDER NUMBER");
-  unsigned most = strtoul(words[2], NULL, 10);
+  unsigned number = strtoul(words[2], NULL, 10);
   snprintf(folder, sizeof folder, "%s", words[1]);
   snprintf(outputs, sizeof outputs, "%s.out", folder);
   snprintf(lock_path, sizeof lock_path, "%s.lock", folder);
   snprintf(temp, sizeof temp, "%s/.TMP", folder);
   snprintf(sequence, sizeof sequence, "%s/.SEQ", folder);
-  for (unsigned number = 0; number < most; number++) {
-    struct timespec start, end;
-    snprintf(job, sizeof job, "%s/a%05x01b968a0", folder, number);
-    clock_gettime(CLOCK_MONOTONIC, &start);
-    submit(number);
-    clock_gettime(CLOCK_MONOTONIC, &end);
-    printf("%ld\n", (end.tv_sec - start.tv_sec) * 1000000 + (end.tv_nsec - start.tv_nsec) / 1000);
-  }
+  snprintf(job, sizeof job, "%s/a%05x01b968a0", folder, number);
+  clock_gettime(CLOCK_MONOTONIC, &start);
+  submit(number);
+  clock_gettime(CLOCK_MONOTONIC, &end);
+  printf("%ld\n", (end.tv_sec - start.tv_sec) * 1000000 + (end.tv_nsec - start.tv_nsec) / 1000);
   return 0;
 }

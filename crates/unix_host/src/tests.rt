@@ -1,5 +1,5 @@
 //! The calls on a folder, each seen through another call. Each test has a folder of its own.
-ghost use Rattle.std.specs.Prelude.{◌≡◌, false, is_some, is_ok, vec_len, IfOk};
+ghost use Rattle.std.specs.Prelude.{◌≡◌, false, is_some, is_ok, IfOk};
 ghost use Rattle.host_calls.specs.Session.{IsInside, IsOutside};
 
 use crate::UnixHost;
@@ -8,6 +8,13 @@ use std::alloc::Global;
 use std::process::{Abort, Command};
 use std::test::Fail;
 use std::{fs, process};
+
+/// What a line of the shell prints, whose `$1` is the path.
+pub fn line(rt: &HostRuntime, text: &str, path: &str) -> Result<Vec<u8>, Fail> {
+    let mut command = Command::new(rt.alloc(), "/bin/sh")?;
+    command.arg("-c")?.arg(text)?.arg("sh")?.arg(path)?;
+    Ok(command.output(rt)?.stdout)
+}
 
 /// The path of a folder that no other test has, and that isn't there.
 pub fn fresh_spool(rt: &HostRuntime, test: &str) -> Result<String, Fail> {
@@ -19,20 +26,12 @@ pub fn fresh_spool(rt: &HostRuntime, test: &str) -> Result<String, Fail> {
 
 /// Removes a folder and what lies beside it.
 pub fn clear(rt: &HostRuntime, path: &str) -> Result<(), Fail> {
-    for after in ["", ".out", ".lock"] {
-        let path = format!(in rt.alloc(); "{path}{after}")?;
-        match fs::symlink_metadata(rt, path.as_str()) {
-            Ok(found) if found.is_dir() => fs::remove_dir_all(rt, path.as_str())?,
-            Ok(_) => fs::remove_file(rt, path.as_str())?,
-            Err(_) => {}
-        }
-    }
+    line(rt, "rm -rf \"$1\" \"$1.out\" \"$1.lock\"", path)?;
     Ok(())
 }
 
 pub fn host_of(rt: &HostRuntime, path: &str) -> Result<UnixHost<HostRuntime>, Fail>
     ensures outside { IfOk result (λ host. is_some host.lock ≡ false) }
-    ensures children { IfOk result (λ host. vec_len host.kids ≡ 0) }
 {
     let spool = Text::of(rt.alloc(), path)?;
     Ok(UnixHost::make(rt.clone()?, rt.alloc(), spool)?)
@@ -46,7 +45,6 @@ pub fn named(rt: &impl Abort, text: &str) -> Name {
 pub fn begin<H: Host>(alloc: Global, host: &mut H) -> Result<(), HostFault>
     requires outside { IsOutside (H.session host.old) }
     ensures inside { (H.session host.new).inside ≡ is_ok result }
-    ensures children { (H.session host.new).children ≡ (H.session host.old).children }
 {
     host.enter(alloc).map_err(|_| HostFault::Failed)
 }
@@ -139,93 +137,86 @@ fn names_are_moved_and_removed(rt: HostRuntime) -> Result<(), Fail> {
     Ok(())
 }
 
-// How many of the calls fail that would open the file.
-fn failed_opens<H: Host>(alloc: Global, host: &mut H, name: &Name) -> u8
+// Whether each call fails that would open the file.
+fn fails_to_open<H: Host>(alloc: Global, host: &mut H, name: &Name) -> bool
     requires untold { H.tells ≡ false }
     requires inside { IsInside (H.session host.old) }
     ensures inside { IsInside (H.session host.new) }
 {
-    u8::from(host.length(alloc, name).is_err())
-        + u8::from(host.read(alloc, name, 0, 9).is_err())
-        + u8::from(host.write(alloc, name, 0, b"x").is_err())
-        + u8::from(host.sync(alloc, name).is_err())
-        + u8::from(host.create(alloc, name, b"x").is_err())
+    let length = host.length(alloc, name);
+    let read = host.read(alloc, name, 0, 9);
+    let write = host.write(alloc, name, 0, b"x");
+    let sync = host.sync(alloc, name);
+    length.is_err() && read.is_err() && write.is_err() && sync.is_err()
 }
 
-// The names, and how many calls on the FIFO fail. No reader and no writer of it ever comes.
+// The names, and whether each call on the FIFO fails. No reader and no writer of it ever comes.
 fn plain_names<H: Host>(
     alloc: Global,
     host: &mut H,
     fifo: &Name,
-) -> Result<(Vec<u8>, u8), HostFault>
+) -> Result<(Vec<u8>, bool), HostFault>
     requires untold { H.tells ≡ false }
     requires outside { IsOutside (H.session host.old) }
 {
     begin(alloc, host)?;
     let names = listed(alloc, host)?;
-    let failed = failed_opens(alloc, host, fifo);
+    let fails = fails_to_open(alloc, host, fifo);
     host.settle(alloc)?;
     host.leave();
-    Ok((names, failed))
+    Ok((names, fails))
 }
 
-/// Runs a line of the shell, whose `$1` is the path.
-pub fn run_line(rt: &HostRuntime, line: &str, path: &str) -> Result<(), Fail> {
-    let mut command = Command::new(rt.alloc(), "/bin/sh")?;
-    command.arg("-c")?.arg(line)?.arg("sh")?.arg(path)?;
-    command.status(rt)?;
-    Ok(())
-}
-
-/// Makes what is no plain file with a name, and one that is.
+/// Makes one plain file with a name, and what is none.
 const OTHERS: &str =
-    "mkdir \"$1\" && cd \"$1\" && mkfifo fifo && mkdir folder && touch job 'a b' \"$(printf 'a\\377')\" && ln -s job link";
+    "mkdir \"$1\" && cd \"$1\" && mkfifo fifo && mkdir folder && ln -s job link && \
+    touch job 'a b' \"$(printf 'a\\377')\"";
 
 #[test]
 fn what_is_no_plain_file_is_left_out(rt: HostRuntime) -> Result<(), Fail> {
     let path = fresh_spool(&rt, "plain")?;
-    run_line(&rt, OTHERS, path.as_str())?;
+    line(&rt, OTHERS, path.as_str())?;
     let mut host = host_of(&rt, path.as_str())?;
     let seen = plain_names(rt.alloc(), &mut host, &named(&rt, "fifo"));
     clear(&rt, path.as_str())?;
-    let (names, failed) = seen?;
+    let (names, fails) = seen?;
     assert_eq!(rt; names.as_slice(), b" job".as_slice());
-    assert_eq!(rt; failed, 5);
-    assert_eq!(rt; host.counts.files, 5);
+    assert!(rt; fails);
+    assert_eq!(rt; host.counts.files, 4);
     Ok(())
 }
 
-// How many of the calls fail that ask for what isn't there, or make what is.
-fn failed_changes<H: Host>(
+// Whether each call fails that asks for what isn't there, or makes what is.
+fn fails_to_change<H: Host>(
     alloc: Global,
     host: &mut H,
     job: &Name,
     none: &Name,
-) -> Result<u8, HostFault>
+) -> Result<bool, HostFault>
     requires untold { H.tells ≡ false }
     requires outside { IsOutside (H.session host.old) }
 {
     begin(alloc, host)?;
     host.create(alloc, job, b"")?;
-    let failed = u8::from(host.create(alloc, job, b"").is_err())
-        + u8::from(host.rename(alloc, none, job).is_err())
-        + u8::from(host.remove(alloc, none).is_err());
+    let again = host.create(alloc, job, b"");
+    let renamed = host.rename(alloc, none, job);
+    let removed = host.remove(alloc, none);
     host.leave();
-    Ok(failed)
+    Ok(again.is_err() && renamed.is_err() && removed.is_err())
 }
 
 #[test]
 fn what_fails_is_counted(rt: HostRuntime) -> Result<(), Fail> {
     let path = fresh_spool(&rt, "fails")?;
     let mut host = host_of(&rt, path.as_str())?;
-    let failed = failed_changes(
+    let fails = fails_to_change(
         rt.alloc(),
         &mut host,
         &named(&rt, "job"),
         &named(&rt, "none"),
     );
     clear(&rt, path.as_str())?;
-    assert_eq!(rt; failed?, 3);
+    assert!(rt; fails?);
     assert_eq!(rt; host.counts.files, 3);
     Ok(())
 }
@@ -233,12 +224,11 @@ fn what_fails_is_counted(rt: HostRuntime) -> Result<(), Fail> {
 #[test]
 fn a_folder_that_cannot_be_made_is_a_fault(rt: HostRuntime) -> Result<(), Fail> {
     let path = fresh_spool(&rt, "file")?;
-    fs::write(&rt, path.as_str(), "")?;
+    line(&rt, "touch \"$1\"", path.as_str())?;
     let mut host = host_of(&rt, path.as_str())?;
     let answer = begin(rt.alloc(), &mut host);
     clear(&rt, path.as_str())?;
-    assert!(rt; answer.is_err());
+    assert!(rt; answer.is_err() && host.counts.taken == 0);
     assert_eq!(rt; host.counts.files, 1);
-    assert_eq!(rt; host.counts.taken, 0);
     Ok(())
 }

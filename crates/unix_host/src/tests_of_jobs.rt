@@ -2,7 +2,7 @@
 ghost use Rattle.std.specs.Prelude.{◌≡◌, false, Contains};
 ghost use Rattle.host_calls.specs.Session.{IsInside, IsOutside, StaysInside};
 
-use crate::tests::{begin, clear, fresh_spool, host_of, named};
+use crate::tests::{begin, clear, fresh_spool, host_of, line, named};
 use host_calls::{Child, Ending, Host, HostFault, Name};
 use std::test::Fail;
 use std::time::Duration;
@@ -45,6 +45,21 @@ fn ran<H: Host>(
     Ok((child, ending, again))
 }
 
+// A job without a script, in a session of its own.
+fn unmade_job<H: Host>(
+    rt: &HostRuntime,
+    host: &mut H,
+    name: &Name,
+) -> Result<(Child, Option<Ending>, Option<Ending>), HostFault>
+    requires untold { H.tells ≡ false }
+    requires outside { IsOutside (H.session host.old) }
+{
+    begin(rt.alloc(), host)?;
+    let ended = ran(rt, host, name);
+    host.leave();
+    ended
+}
+
 // The job with this script, in a session of its own.
 fn job_of<H: Host>(
     rt: &HostRuntime,
@@ -68,15 +83,13 @@ fn job_of<H: Host>(
 fn what_a_job_writes_lands_in_its_file(rt: HostRuntime) -> Result<(), Fail> {
     let path = fresh_spool(&rt, "hi")?;
     let mut host = host_of(&rt, path.as_str())?;
-    let job = named(&rt, "a0000101b968a0");
+    let job = named(&rt, "job");
     let ended = job_of(&rt, &mut host, &job, b"echo hi\ncat\necho \"<$HOME>\"\n");
-    let out = format!(in rt.alloc(); "{path}.out/a0000101b968a0")?;
-    let written = fs::read_to_string(&rt, out.as_str());
+    let written = line(&rt, "cat \"$1.out/job\"", path.as_str())?;
     clear(&rt, path.as_str())?;
     let (_, ending, again) = ended?;
-    assert_eq!(rt; ending, Some(Ending::Exit(0)));
-    assert_eq!(rt; again, ending);
-    assert_eq!(rt; written?.as_str(), "hi\n<>\n");
+    assert!(rt; ending == Some(Ending::Exit(0)) && again == ending);
+    assert_eq!(rt; written.as_slice(), b"hi\n<>\n".as_slice());
     Ok(())
 }
 
@@ -88,17 +101,9 @@ fn endings_are_told_apart(rt: HostRuntime) -> Result<(), Fail> {
     let second = job_of(&rt, &mut host, &named(&rt, "killed"), b"kill -9 $$\n");
     clear(&rt, path.as_str())?;
     let (child, ending, again) = first?;
-    assert_eq!(rt; child.id, 0);
-    assert_eq!(rt;
-        (ending, again),
-        (Some(Ending::Exit(3)), Some(Ending::Exit(3)))
-    );
+    assert!(rt; child.id == 0 && ending == Some(Ending::Exit(3)) && again == ending);
     let (child, ending, again) = second?;
-    assert_eq!(rt; child.id, 1);
-    assert_eq!(rt;
-        (ending, again),
-        (Some(Ending::Signal(9)), Some(Ending::Signal(9)))
-    );
+    assert!(rt; child.id == 1 && ending == Some(Ending::Signal(9)) && again == ending);
     Ok(())
 }
 
@@ -107,14 +112,9 @@ fn endings_are_told_apart(rt: HostRuntime) -> Result<(), Fail> {
 fn a_missing_script_ends_badly(rt: HostRuntime) -> Result<(), Fail> {
     let path = fresh_spool(&rt, "missing")?;
     let mut host = host_of(&rt, path.as_str())?;
-    let begun = begin(rt.alloc(), &mut host);
-    if begun.is_ok() {
-        let ended = ran(&rt, &mut host, &named(&rt, "none"));
-        host.leave();
-        let (_, ending, _) = ended?;
-        assert!(rt; matches!(&ending, Some(Ending::Exit(status)) if *status != 0));
-    }
+    let ended = unmade_job(&rt, &mut host, &named(&rt, "none"));
     clear(&rt, path.as_str())?;
-    begun?;
+    let (_, ending, _) = ended?;
+    assert!(rt; matches!(&ending, Some(Ending::Exit(status)) if *status != 0));
     Ok(())
 }

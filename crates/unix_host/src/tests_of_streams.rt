@@ -1,11 +1,10 @@
 //! Readings, inputs and sinks.
-use crate::front::front;
-use crate::tests::{clear, fresh_spool, run_line};
+use crate::tests::{clear, fresh_spool, line};
 use crate::{UnixErr, UnixInputs, UnixOut, UnixReadings};
 use host_calls::{InputFault, Inputs, Readings, Sink, SinkFault};
 use std::fmt::Display;
 use std::fs::File;
-use std::io::{Read, Write};
+use std::io::Write;
 use std::test::Fail;
 use std::{fs, io};
 
@@ -48,50 +47,6 @@ fn the_first_bytes_of_a_file_are_read(rt: HostRuntime) -> Result<(), Fail> {
         Some(InputFault::Failed)
     );
     assert_eq!(rt; inputs.input_faults, 2);
-    Ok(())
-}
-
-/// A reader that is interrupted, then gives one byte at a time, and then fails or ends.
-#[derive(Drop)]
-struct Slow {
-    turn: u8,
-    fails: bool,
-}
-
-impl Read for Slow {
-    fn read(&mut self, buf: &mut [u8]) -> io::Result<usize> {
-        self.turn = self.turn.saturating_add(1);
-        if self.turn == 2 {
-            return Err(io::Error::from(io::ErrorKind::Interrupted));
-        }
-        if self.turn > 4 && self.fails {
-            return Err(io::Error::from(io::ErrorKind::Other));
-        }
-        if self.turn > 4 || buf.is_empty() {
-            return Ok(0);
-        }
-        buf[0] = b'0' + self.turn;
-        Ok(1)
-    }
-}
-
-#[test]
-fn reads_go_on_after_an_interruption(rt: HostRuntime) -> Result<(), Fail> {
-    let alloc = rt.alloc();
-    let mut whole = Slow {
-        turn: 0,
-        fails: false,
-    };
-    let bytes = front(alloc, &mut whole, 9)?;
-    assert_eq!(rt; bytes.as_slice(), b"134".as_slice());
-    let mut failing = Slow {
-        turn: 0,
-        fails: true,
-    };
-    assert_eq!(rt;
-        front(alloc, &mut failing, 9).err(),
-        Some(InputFault::Failed)
-    );
     Ok(())
 }
 
@@ -138,7 +93,7 @@ fn a_full_device_is_a_fault(rt: HostRuntime) -> Result<(), Fail> {
 #[test]
 fn a_pipe_that_nobody_reads_is_a_fault(rt: HostRuntime) -> Result<(), Fail> {
     let path = fresh_spool(&rt, "pipe")?;
-    run_line(&rt, "mkfifo \"$1\"", path.as_str())?;
+    line(&rt, "mkfifo \"$1\"", path.as_str())?;
     let reader = File::options()
         .read(true)
         .write(true)

@@ -2,12 +2,9 @@
 ghost use Rattle.std.specs.Prelude.{◌≡◌, false};
 ghost use Rattle.host_calls.specs.Session.{IsInside, IsOutside};
 
-use crate::tests::{begin, clear, fresh_spool, host_of, named};
-use crate::unsynced::Unsynced;
+use crate::tests::{begin, clear, fresh_spool, host_of, line, named};
 use host_calls::{EnterFault, Host, HostFault, Name};
 use std::alloc::Global;
-use std::fs;
-use std::os::unix::fs::MetadataExt;
 use std::test::Fail;
 
 // What the second answers while the first is inside, and whether it gets in after that.
@@ -112,11 +109,10 @@ fn bytes_after<H: Host>(
     requires untold { H.tells ≡ false }
     requires outside { IsOutside (H.session host.old) }
 {
-    let lock = format!(in rt.alloc(); "{path}.lock")?;
     let mut bytes = Vec::new(rt.alloc());
     for doing in all {
         session(rt.alloc(), host, *doing, names.0, names.1)?;
-        let told = fs::read(rt, lock.as_str())?;
+        let told = line(rt, "cat \"$1.lock\"", path)?;
         bytes.extend_from_slice(told.as_slice())?;
     }
     Ok(bytes)
@@ -142,44 +138,19 @@ fn the_byte_says_what_is_unsynced(rt: HostRuntime) -> Result<(), Fail> {
     Ok(())
 }
 
-// The modes of the folders, the lock and a file that are made.
-fn modes_after<H: Host>(
-    rt: &HostRuntime,
-    path: &str,
-    host: &mut H,
-    job: &Name,
-) -> Result<Vec<u32>, Fail>
-    requires untold { H.tells ≡ false }
-    requires outside { IsOutside (H.session host.old) }
-{
-    session(rt.alloc(), host, Work::Make, job, job)?;
-    let mut modes = Vec::new(rt.alloc());
-    for after in ["", ".out", ".lock", "/job"] {
-        let made = format!(in rt.alloc(); "{path}{after}")?;
-        modes.push(fs::metadata(rt, made.as_str())?.mode() % 0o1000)?;
-    }
-    Ok(modes)
-}
-
 #[test]
 fn only_the_owner_may_look(rt: HostRuntime) -> Result<(), Fail> {
     let path = fresh_spool(&rt, "modes")?;
+    let job = named(&rt, "job");
     let mut host = host_of(&rt, path.as_str())?;
-    let modes = modes_after(&rt, path.as_str(), &mut host, &named(&rt, "job"))?;
+    let made = session(rt.alloc(), &mut host, Work::Make, &job, &job);
+    let modes = line(
+        &rt,
+        "stat -c %a \"$1\" \"$1.out\" \"$1.lock\" \"$1/job\"",
+        path.as_str(),
+    )?;
     clear(&rt, path.as_str())?;
-    assert_eq!(rt; modes.as_slice(), [0o700, 0o700, 0o600, 0o600].as_slice());
+    assert!(rt; made.is_ok());
+    assert_eq!(rt; modes.as_slice(), b"700\n700\n600\n600\n".as_slice());
     Ok(())
-}
-
-#[test]
-fn unknown_bytes_say_the_worst(rt: HostRuntime) {
-    for (byte, left) in [
-        (b'c', Unsynced::Nothing),
-        (b'n', Unsynced::Names),
-        (b'a', Unsynced::Anything),
-        (0, Unsynced::Anything),
-        (b'C', Unsynced::Anything),
-    ] {
-        assert_eq!(rt; Unsynced::of_byte(byte), left);
-    }
 }
