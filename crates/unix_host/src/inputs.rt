@@ -1,0 +1,58 @@
+//! Standard input, and files by their paths.
+ghost use Rattle.std.specs.Prelude.{◌≡◌, [], false};
+ghost use Rattle.host_calls.specs.Causes.{HasCause};
+ghost use Rattle.unix_host.specs.Untold.{untold_contents};
+
+use crate::front::front;
+use host_calls::{Bytes, InputFault, Inputs};
+use std::alloc::Global;
+use std::fs::{File, Files};
+
+/// The standard input of this process, and the files of the system.
+#[derive(Drop)]
+pub struct UnixInputs<R: Files<File = File> + Input + Drop> {
+    rt: R,
+    pub(crate) input_faults: u64,
+}
+
+impl<R: Files<File = File> + Input + Drop> UnixInputs<R> {
+    pub fn make(rt: R) -> UnixInputs<R>
+        ensures { result.input_faults ≡ 0 }
+    {
+        UnixInputs {
+            rt,
+            input_faults: 0,
+        }
+    }
+}
+
+impl<R: Files<File = File> + Input + Drop> Inputs for UnixInputs<R> {
+    ghost tells = { false };
+
+    ghost contents = { λ _. untold_contents };
+
+    ghost sources = { λ own. record { made_as = []; input_faults = own.input_faults } };
+
+    fn standard(&mut self, alloc: Global, most: usize) -> Result<Bytes, InputFault> {
+        let answer = front(alloc, &mut self.rt.reader(), most);
+        counted(&mut self.input_faults, answer)
+    }
+
+    fn file(&mut self, alloc: Global, path: &str, most: usize) -> Result<Bytes, InputFault> {
+        let answer = match File::open(&self.rt, path) {
+            Ok(mut file) => front(alloc, &mut file, most),
+            Err(_) => Err(InputFault::Failed),
+        };
+        counted(&mut self.input_faults, answer)
+    }
+}
+
+fn counted(faults: &mut u64, answer: Result<Bytes, InputFault>) -> Result<Bytes, InputFault>
+    ensures same { result ≡ answer }
+    ensures cause { HasCause InputFault.Failed faults.old faults.new result }
+{
+    if let Err(InputFault::Failed) = &answer {
+        *faults = faults.saturating_add(1);
+    }
+    answer
+}

@@ -1,0 +1,33 @@
+//! The real outside: a spool folder on a disk, the clock and the load of the machine, and the standard
+//! streams. Nothing here tells content, so what a file or a stream holds is trusted, and not proved.
+#![tactic(auto)]
+
+mod changes;
+mod counts;
+mod err;
+mod folder;
+mod front;
+mod host;
+mod inputs;
+mod job;
+mod lock;
+mod out;
+mod paths;
+mod readings;
+mod torn;
+mod unsynced;
+
+pub use err::UnixErr;
+pub use host::UnixHost;
+pub use inputs::UnixInputs;
+pub use out::UnixOut;
+pub use readings::UnixReadings;
+
+#[cfg(test)]
+mod tests;
+#[cfg(test)]
+mod tests_of_jobs;
+#[cfg(test)]
+mod tests_of_streams;
+#[cfg(test)]
+mod tests_of_the_lock;

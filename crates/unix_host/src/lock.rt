@@ -1,0 +1,110 @@
+//! The lock of a spool folder, and the byte in its file that says whether anything is unsynced.
+//!
+//! `SPOOL.lock` holds one byte, which is read and written only under the lock:
+//!
+//! - `c`: nothing of the folder is unsynced;
+//! - `n`: only changes of names are unsynced;
+//! - any other byte, or none: anything may be unsynced.
+//!
+//! In which order it is written:
+//!
+//! 1. Before a call that changes the folder, it is made to say at least what is unsynced after that call.
+//! 2. After a sync it may say less, but a session writes that only as it ends, in `leave`.
+//! 3. Where any call of a session failed, `leave` writes the worst.
+//!
+//! So at each moment the byte, as programs see it, says at least what is unsynced, and `settle` need sync no
+//! more than it says. Why each crash is safe:
+//!
+//! - A program that is killed leaves the byte as it was last written, which is at least what it left unsynced.
+//!   The cache of the system still holds both the byte and the changes, so the next program sees both.
+//! - After a power cut that cache is gone. What is read then is what the disk holds, so nothing is unsynced,
+//!   and no byte can say too little. This is why the byte itself is never synced. An old byte that says too
+//!   much costs syncs, and nothing else.
+//!
+//! What it doesn't cover: a program that changes the folder without this lock, and a copy of the folder that
+//! is put in its place with its lock file. Remove the lock file then.
+ghost use Rattle.std.specs.Prelude.{◌≡◌, ◌≤◌, OnOk};
+ghost use Rattle.unix_host.specs.LockByte.{amount_of};
+
+use crate::unsynced::Unsynced;
+use host_calls::EnterFault;
+use std::fs::{File, Files, OpenOptions, TryLockError};
+use std::os::unix::fs::{FileExt, OpenOptionsExt};
+use std::time::{Clock, Duration};
+use std::{io, thread};
+
+/// How often a lock is asked for before it counts as taken.
+const TRIES: u32 = 10;
+
+/// A lock that is held, until it is let go or the process ends.
+#[derive(Drop)]
+pub struct Lock {
+    file: File,
+    told: Unsynced,
+}
+
+impl Lock {
+    /// Takes the lock, and waits a second between two tries.
+    pub fn take<R: Files<File = File> + Clock>(rt: &R, path: &str) -> Result<Lock, EnterFault> {
+        let mut options = OpenOptions::new();
+        options.read(true).write(true).create(true).mode(0o600);
+        let Ok(file) = options.open(rt, path) else {
+            return Err(EnterFault::Failed);
+        };
+        wait_for(rt, &file)?;
+        let told = read_byte(&file);
+        Ok(Lock { file, told })
+    }
+
+    /// What the byte says.
+    pub fn told(&self) -> Unsynced
+        ensures { result ≡ self.now.told }
+    {
+        self.told
+    }
+
+    /// Makes the byte say at least this much.
+    pub fn raise(&mut self, left: Unsynced) -> io::Result<()>
+        ensures covers { OnOk result (amount_of left ≤ amount_of self.new.told) }
+        ensures never_less { amount_of self.old.told ≤ amount_of self.new.told }
+    {
+        if !self.told.covers(left) {
+            self.file.write_all_at(&[left.byte()], 0)?;
+            self.told = left;
+        }
+        Ok(())
+    }
+
+    /// Makes the byte say what is left unsynced, and lets the lock go.
+    pub fn release(self, left: Unsynced) {
+        if self.told != left {
+            // A byte that can't be written still says at least what is left.
+            let _ = self.file.write_all_at(&[left.byte()], 0);
+        }
+        // The file is closed here in any case, and that alone frees the lock.
+        let _ = self.file.unlock();
+    }
+}
+
+fn wait_for(rt: &impl Clock, file: &File) -> Result<(), EnterFault> {
+    for turn in 1..=TRIES {
+        match file.try_lock() {
+            Ok(()) => return Ok(()),
+            Err(TryLockError::WouldBlock) if turn < TRIES => {
+                thread::sleep(rt, Duration::from_secs(1));
+            }
+            Err(TryLockError::WouldBlock) => {}
+            Err(TryLockError::Error(_)) => return Err(EnterFault::Failed),
+        }
+    }
+    Err(EnterFault::Taken)
+}
+
+// A byte that can't be read says the worst.
+fn read_byte(file: &File) -> Unsynced {
+    let mut byte = [0];
+    match file.read_exact_at(&mut byte, 0) {
+        Ok(()) => Unsynced::of_byte(byte[0]),
+        Err(_) => Unsynced::Anything,
+    }
+}

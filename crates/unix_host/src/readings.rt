@@ -1,0 +1,59 @@
+//! The clock and the load of the machine.
+ghost use Rattle.std.specs.Prelude.{◌≡◌, [], false};
+ghost use Rattle.unix_host.specs.Untold.{untold_answers};
+
+use crate::front::fill;
+use host_calls::Readings;
+use load_reading::hundredths;
+use std::fs::{File, Files};
+use std::thread;
+use std::time::{Clock, Duration};
+
+/// The system's clock and load. The load comes from `/proc/loadavg`.
+#[derive(Drop)]
+pub struct UnixReadings<R: Files<File = File> + Clock + Drop> {
+    rt: R,
+    pub(crate) load_faults: u64,
+}
+
+impl<R: Files<File = File> + Clock + Drop> UnixReadings<R> {
+    pub fn make(rt: R) -> UnixReadings<R>
+        ensures { result.load_faults ≡ 0 }
+    {
+        UnixReadings { rt, load_faults: 0 }
+    }
+}
+
+impl<R: Files<File = File> + Clock + Drop> Readings for UnixReadings<R> {
+    ghost tells = { false };
+
+    ghost answers = { λ _. untold_answers };
+
+    ghost readers = { λ own. record { made_as = []; load_faults = own.load_faults } };
+
+    fn now(&mut self) -> i64 {
+        match self.rt.since_1970() {
+            Ok(time) => i64::try_from(time.as_secs()).unwrap_or(-1),
+            Err(_) => -1,
+        }
+    }
+
+    fn load(&mut self) -> Option<u32> {
+        let load = load_of(&self.rt);
+        if load.is_none() {
+            self.load_faults = self.load_faults.saturating_add(1);
+        }
+        load
+    }
+
+    fn rest(&mut self, seconds: u32) {
+        thread::sleep(&self.rt, Duration::from_secs(u64::from(seconds)));
+    }
+}
+
+fn load_of<R: Files<File = File>>(rt: &R) -> Option<u32> {
+    let mut file = File::open(rt, "/proc/loadavg").ok()?;
+    let mut text = [0; 64];
+    let count = fill(&mut file, &mut text).ok()?;
+    hundredths(&text[..count])
+}

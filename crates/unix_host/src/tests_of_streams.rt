@@ -1,0 +1,121 @@
+//! Readings, inputs and sinks.
+use crate::tests::{clear, fresh_spool, line};
+use crate::{UnixErr, UnixInputs, UnixOut, UnixReadings};
+use host_calls::{InputFault, Inputs, Readings, Sink, SinkFault};
+use std::fmt::Display;
+use std::fs::File;
+use std::io::Write;
+use std::test::Fail;
+use std::{fs, io};
+
+#[test]
+fn the_clock_and_the_load_are_read(rt: HostRuntime) -> Result<(), Fail> {
+    let mut readings = UnixReadings::make(rt);
+    let before = readings.now();
+    readings.rest(0);
+    assert!(rt; before > 1_700_000_000 && readings.now() >= before);
+    assert!(rt; readings.load().is_some());
+    assert_eq!(rt; readings.load_faults, 0);
+    Ok(())
+}
+
+#[test]
+fn the_first_bytes_of_a_file_are_read(rt: HostRuntime) -> Result<(), Fail> {
+    let path = fresh_spool(&rt, "input")?;
+    let alloc = rt.alloc();
+    let long = vec![in alloc; b'x'; 10_000]?;
+    fs::write(&rt, path.as_str(), long.as_slice())?;
+    let mut inputs = UnixInputs::make(rt.clone()?);
+    for (most, count) in [
+        (0, 0),
+        (5, 5),
+        (4096, 4096),
+        (9_999, 9_999),
+        (20_000, 10_000),
+    ] {
+        let bytes = inputs.file(alloc, path.as_str(), most)?;
+        assert_eq!(rt; bytes.as_slice().len(), count);
+    }
+    assert!(rt; inputs.standard(alloc, 0)?.as_slice().is_empty());
+    clear(&rt, path.as_str())?;
+    assert_eq!(rt;
+        inputs.file(alloc, path.as_str(), 9).err(),
+        Some(InputFault::Failed)
+    );
+    assert_eq!(rt;
+        inputs.file(alloc, "/tmp", 9).err(),
+        Some(InputFault::Failed)
+    );
+    assert_eq!(rt; inputs.input_faults, 2);
+    Ok(())
+}
+
+/// A file in the place of standard output and standard error.
+#[derive(Drop)]
+struct Stream(File);
+
+impl Print for Stream {
+    fn print<D: Display + Drop>(&self, value: D) -> io::Result<()> {
+        write!(&mut &self.0, "{value}")
+    }
+
+    fn println<D: Display + Drop>(&self, value: D) -> io::Result<()> {
+        writeln!(&mut &self.0, "{value}")
+    }
+
+    fn write_all(&self, bytes: &[u8]) -> io::Result<()> {
+        Write::write_all(&mut &self.0, bytes)
+    }
+}
+
+impl Eprint for Stream {
+    fn eprint<D: Display + Drop>(&self, value: D) -> io::Result<()> {
+        self.print(value)
+    }
+
+    fn eprintln<D: Display + Drop>(&self, value: D) -> io::Result<()> {
+        self.println(value)
+    }
+}
+
+#[test]
+fn a_full_device_is_a_fault(rt: HostRuntime) -> Result<(), Fail> {
+    let device = File::options().write(true).open(&rt, "/dev/full")?;
+    let mut out = UnixOut::make(Stream(device.try_clone()?));
+    let mut err = UnixErr::make(Stream(device));
+    let first = out.put(rt.alloc(), b"hi\n");
+    let second = err.put(rt.alloc(), b"hi\n");
+    assert!(rt; first == Err(SinkFault::Failed) && second == Err(SinkFault::Failed));
+    assert_eq!(rt; (out.sink_faults, err.sink_faults), (1, 1));
+    Ok(())
+}
+
+#[test]
+fn a_pipe_that_nobody_reads_is_a_fault(rt: HostRuntime) -> Result<(), Fail> {
+    let path = fresh_spool(&rt, "pipe")?;
+    line(&rt, "mkfifo \"$1\"", path.as_str())?;
+    let reader = File::options()
+        .read(true)
+        .write(true)
+        .open(&rt, path.as_str())?;
+    let writer = File::options().write(true).open(&rt, path.as_str())?;
+    drop(reader);
+    let mut out = UnixOut::make(Stream(writer));
+    let answer = out.put(rt.alloc(), b"hi\n");
+    clear(&rt, path.as_str())?;
+    assert!(rt; answer == Err(SinkFault::Failed));
+    assert_eq!(rt; out.sink_faults, 1);
+    Ok(())
+}
+
+#[test]
+fn text_alone_goes_to_standard_error(rt: HostRuntime) -> Result<(), Fail> {
+    let alloc = rt.alloc();
+    let mut out = UnixOut::make(rt.clone()?);
+    out.put(alloc, b"\xff\n")?;
+    let mut err = UnixErr::make(rt.clone()?);
+    err.put(alloc, b"at: spool busy\n")?;
+    assert_eq!(rt; err.put(alloc, b"\xff\n").err(), Some(SinkFault::Failed));
+    assert_eq!(rt; (out.sink_faults, err.sink_faults), (0, 1));
+    Ok(())
+}
