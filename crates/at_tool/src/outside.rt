@@ -37,7 +37,8 @@ pub fn made_in_memory(
     plan: Plan,
 ) -> Result<Outside, AllocError>
     ensures outside { IfOk result (λ made. IsOutside (memory_session made.host)) }
-    ensures clock { IfOk result (λ made. (readers_so_far made.readings).made_as ≡ readings_spelling (now ∷ []) (None ∷ [])) }
+    ensures clock { IfOk result (λ made.
+        (readers_so_far made.readings).made_as ≡ readings_spelling (now ∷ []) (None ∷ [])) }
     ensures input { IfOk result (λ made. contents_given made.inputs ≡ given_contents input.now None) }
 {
     Ok(Outside {
