@@ -1,2 +1,7 @@
 //! The store of jobs: a spool folder seen as its job table, each step a call that any crash leaves whole.
 #![tactic(auto)]
+
+mod lives;
+
+#[cfg(test)]
+mod tests;
