@@ -1,1 +1,4 @@
 pub mod LifeLemmas
+pub mod LookLemmas
+pub mod SeenLemmas
+pub mod StartLemmas

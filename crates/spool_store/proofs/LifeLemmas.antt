@@ -18,7 +18,7 @@ use Rattle.spool_shows.proofs.ShownEntries.{fails_other, some_same}
 use Rattle.spool_store.specs.declared.lives.Life.{Life}
 use Rattle.spool_store.specs.Lives.{fate_at, fate_given, life_at, life_with, named_by, untold}
 
-or_nothing : {X : Type 0} → (one : Option X) → option_or one None ≡ one
+pub or_nothing : {X : Type 0} → (one : Option X) → option_or one None ≡ one
 or_nothing (Some x) = refl
 or_nothing None = refl
 
