@@ -2,3 +2,4 @@ pub mod LifeLemmas
 pub mod LookLemmas
 pub mod SeenLemmas
 pub mod StartLemmas
+pub mod TableLemmas

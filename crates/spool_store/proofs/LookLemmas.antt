@@ -1,12 +1,12 @@
 -- The look at one file more.
-use Rattle.std.proofs.Common.{◌≡◌, ℕ, zero, suc, ◌+◌, ◌<◌, ◌≤◌, Bool, true, false, cond, List, Option, Some, None, [], ◌∷◌, ◌++◌, length, get_or, take, drop, map, sym, ap, ◌∙◌, refl, arith, rules}
-use Rattle.std.specs.Prelude.{◌==◌, ◌||◌, Result, Ok, Err, is_some, nat_lt, option_map}
+use Rattle.std.proofs.Common.{◌≡◌, ℕ, zero, suc, ◌+◌, ◌<◌, ◌≤◌, Bool, true, false, cond, List, Option, Some, None, [], ◌∷◌, ◌++◌, length, get_or, take, drop, map, sym, ap, subst, ◌∙◌, refl, arith, rules}
+use Rattle.std.specs.Prelude.{◌==◌, ◌||◌, MatchResult, Result, Ok, Err, IsErrAnd, is_some, nat_lt, option_map}
 use Rattle.std.specs.BTreeMap.{BTreeMap, Updates, get, is_at}
-use Rattle.std.specs.Cmp.{nat_cmp_total}
+use Rattle.std.specs.Cmp.{nat_cmp_total, tied_itself}
 use Rattle.std.specs.List.{find, list_any}
 use Rattle.std.specs.Option.{option_or}
 use Rattle.std.specs.Ordering.{eq_by_cmp, is_eq, nat_cmp}
-use Rattle.std.proofs.lemmas.List.{drop_more, get_or-map, take_more}
+use Rattle.std.proofs.lemmas.List.{drop_all, drop_more, get_or-map, length-map, take_all, take_more}
 use Rattle.host_calls.specs.declared.damage.Damage.{Damage}
 use Rattle.spool_model.specs.declared.row.Row.{Row}
 use Rattle.start_journal.specs.declared.mark.Mark.{Mark}
@@ -15,13 +15,18 @@ use Rattle.spool_shows.specs.JobFiles.{JobFile, damage_of, file_of, file_place, 
 use Rattle.job_script.specs.HeaderIn.{header_in}
 use Rattle.spool_shows.proofs.MarkTests.{neither}
 use Rattle.spool_shows.proofs.StartLemmas.{number_is, number_passes}
+use Rattle.spool_store.specs.declared.fault.StoreFault.{StoreFault}
+use Rattle.spool_store.specs.declared.fault.StoreFault.TheVariants.{Damaged}
+use Rattle.spool_store.specs.declared.seen.Seen.{Seen}
+use Rattle.spool_store.specs.Faults.{IsFound}
+use Rattle.spool_store.specs.Seen.{file_seen, files_seen}
 use Rattle.spool_store.specs.Looks.{AreRowsOf, HasLooked, HaveNumbers, IsRowOrDamage, RowMap, numbers_behind, row_of}
 use Rattle.spool_store.proofs.LifeLemmas.{key_is, or_nothing}
 
 -- Keys.
 
-equal_self : (n : ℕ) → is_at (nat_cmp n) n ≡ true
-equal_self n = ?
+pub equal_self : (n : ℕ) → is_at (nat_cmp n) n ≡ true
+equal_self n = ap is_eq (tied_itself nat_cmp_total n)
 
 pub key_differs : (one other : ℕ) → is_at (nat_cmp one) other ≡ false → (one == other) ≡ false
 key_differs one other is = by_test (one == other) refl where
@@ -119,3 +124,25 @@ pub looked_damage : (last : ℕ) (marks : List Mark) (files : List JobFile) (pla
 looked_damage last marks files place rows file damage inside at looked fault =
     next_damage last marks files place rows file inside at looked
     ∙ ap (λ d. option_or d (files_damage last (file.job.number ∷ numbers_behind [] (take place files)) (drop (place + 1) files))) fault
+
+-- all were looked at
+pub looked_all : (last : ℕ) (marks : List Mark) (files : List JobFile) (place : ℕ) (rows : RowMap) → length files ≤ place → HasLooked last marks files place rows → (files_damage last [] files ≡ None) × AreRowsOf marks files rows
+looked_all last marks files place rows behind looked =
+    (looked.damage ∙ ap (files_damage last (numbers_behind [] (take place files))) (drop_all place files behind),
+    λ number. looked.rows_are number ∙ ap (λ fs. option_map (row_of marks) (file_of number fs)) (take_all place files behind))
+
+-- Files as they were seen.
+
+pub seen_inside : (seen : List Seen) (place : ℕ) → place < length seen → place < length (files_seen seen)
+seen_inside seen place inside = omega (arith, length-map seen file_seen)
+
+pub seen_behind : (seen : List Seen) (place : ℕ) → length seen ≤ place → length (files_seen seen) ≤ place
+seen_behind seen place behind = omega (arith, length-map seen file_seen)
+
+pub seen_at : (seen : List Seen) (place : ℕ) (file : Seen) → place < length seen → file ≡ get_or seen place file → get_or (files_seen seen) place (file_seen file) ≡ file_seen file
+seen_at seen place file inside here = get_or-map file_seen seen place file (file_seen file) inside ∙ ap file_seen (sym here)
+
+-- an answer that is this fault is the damage that was found
+pub answer_fault : {T : Type 0} → (P : T → Type 0) (found : Option Damage) (damage : Damage) (result : Result T StoreFault) → IsErrAnd result (λ fault. fault ≡ Damaged damage) → found ≡ Some damage → MatchResult result P (IsFound found)
+answer_fault P found damage (Ok value) is there = absurd is
+answer_fault P found damage (Err fault) is there = subst (IsFound found) (sym is) there

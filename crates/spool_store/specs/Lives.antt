@@ -1,5 +1,5 @@
 -- What marks tell of each number (own): its start, its fate, and whether it was forgotten.
-use Rattle.std.specs.Prelude.{◌≡◌, ◌==◌, ◌||◌, [], ◌∷◌, ℕ, false, List, Option, Some, None, map, unwrap_or, if◌then◌else◌}
+use Rattle.std.specs.Prelude.{◌≡◌, ◌==◌, ◌||◌, [], ◌∷◌, ℕ, false, List, Option, Some, None, option_map, unwrap_or, if◌then◌else◌}
 use Rattle.std.specs.BTreeMap.{get}
 use Rattle.std.specs.List.Sorted.{IsStrictlySortedBy}
 use Rattle.std.specs.Option.{option_or}
@@ -68,6 +68,10 @@ TellLives marks lives = (number : ℕ) → life_in lives number ≡ life_at numb
 -- the fate of a life that is not forgotten
 abbrev pub remembered_fate : Life → Option Fate
 remembered_fate life = if life.forgotten then None else life.fate
+
+-- a number with the fate of its life, unless it was forgotten
+abbrev pub decided_of : ℕ × Life → Option Decided
+decided_of entry = option_map (λ fate. record { number = entry.0; fate = fate }) (remembered_fate entry.1)
 
 -- the fate of the number, unless it was forgotten
 abbrev pub remembered_at : ℕ → List Mark → Option Fate

@@ -6,6 +6,7 @@ mod lives;
 mod looks;
 mod seen;
 mod starts;
+mod tables;
 
 pub use fault::StoreFault;
 

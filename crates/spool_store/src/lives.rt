@@ -1,10 +1,13 @@
 //! What the marks of a journal tell of each number.
 ghost use Rattle.std.specs.Prelude.{◌≡◌, ℕ, None, Some, IfOk, OnOk};
+ghost use Rattle.std.specs.BTreeMap.{IsOrdered};
+ghost use Rattle.std.specs.List.{filter_map};
+ghost use Rattle.std.specs.Ordering.{nat_cmp};
 ghost use Rattle.spool_model.specs.JobTable.{is_batch_queue};
 ghost use Rattle.start_journal.specs.Marks.{last_batch, batch_second};
-ghost use Rattle.spool_store.specs.Lives.{TellLives, life_in, life_with, named_by, remembered_fate};
+ghost use Rattle.spool_store.specs.Lives.{TellLives, life_in, life_with, decided_of, named_by, remembered_fate};
 
-use spool_model::Fate;
+use spool_model::{Decided, Fate};
 use start_journal::Mark;
 use std::alloc::{AllocError, Global};
 use std::collections::BTreeMap;
@@ -76,6 +79,15 @@ impl Lives {
         self.by_number.get(&number).copied().unwrap_or(UNTOLD)
     }
 
+    /// The numbers whose fate is remembered, in their order.
+    pub(crate) fn decided(&self, alloc: Global) -> Result<Vec<Decided>, AllocError>
+        ensures items { IfOk result (λ list. list.items ≡ filter_map decided_of self.now.by_number.entries) }
+        ensures ordered { IsOrdered nat_cmp self.now.by_number }
+    {
+        let lives = self.by_number.iter();
+        lives.filter_map(|(number, life)| decided_of(*number, *life)).collect(alloc)
+    }
+
     // Puts what one mark more tells to what is told.
     fn add(&mut self, mark: Mark) -> Result<(), AllocError>
         ensures { OnOk result ((number : ℕ) → life_in self.new number ≡ life_with number mark (life_in self.old number)) }
@@ -86,6 +98,13 @@ impl Lives {
         }
         Ok(())
     }
+}
+
+fn decided_of(number: u32, life: Life) -> Option<Decided>
+    ensures { result ≡ decided_of (number, life) }
+{
+    let fate = life.remembered()?;
+    Some(Decided { number, fate })
 }
 
 // The number that the mark names, if it names one.
