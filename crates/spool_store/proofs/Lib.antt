@@ -1,4 +1,5 @@
 pub mod LifeLemmas
+pub mod ListLemmas
 pub mod LookLemmas
 pub mod SeenLemmas
 pub mod StartLemmas

@@ -34,7 +34,6 @@ use Rattle.spool_store.specs.declared.lives.Lives.{Lives}
 use Rattle.spool_store.specs.Lives.{Rise, TellLives, decided_of, fate_at, fate_given, life_in, remembered_at, remembered_fate, untold}
 use Rattle.spool_store.specs.Looks.{AreRowsOf, RowMap, row_of}
 use Rattle.spool_store.specs.Rows.{decided_entry, listed_entries, listed_table, row_entry}
-use Rattle.spool_store.specs.Tables.{ListsTable}
 use Rattle.spool_store.proofs.LifeLemmas.{key_is}
 use Rattle.spool_store.proofs.LookLemmas.{equal_self, key_differs}
 
@@ -114,7 +113,7 @@ below_all number [] below = refl
 below_all number (entry ∷ list) below = ap (λ b. cond b (Some entry.1) (lookup (is_at (nat_cmp number)) list)) (ap is_eq below.0) ∙ below_all number list below.1
 
 -- an entry is found under its key
-entry_found : {X : Type 0} → (list : List (ℕ × X)) (key : ℕ) (value : X) → IsStrictlySortedBy nat_cmp (map (λ (e : ℕ × X). e.0) list) → Has list (key, value) → lookup (is_at (nat_cmp key)) list ≡ Some value
+pub entry_found : {X : Type 0} → (list : List (ℕ × X)) (key : ℕ) (value : X) → IsStrictlySortedBy nat_cmp (map (λ (e : ℕ × X). e.0) list) → Has list (key, value) → lookup (is_at (nat_cmp key)) list ≡ Some value
 entry_found [] key value sorted has = absurd has
 entry_found (entry ∷ list) key value sorted (inl same) =
     ap (λ b. cond b (Some entry.1) (lookup (is_at (nat_cmp key)) list)) (ap (is_at (nat_cmp key)) (ap (λ e. e.0) same) ∙ equal_self key) ∙ ap (λ e. Some e.1) same
@@ -253,13 +252,3 @@ decided_rise (entry ∷ list) sorted = by_fate (remembered_fate entry.1) (decide
 -- neither files nor starts are damaged
 pub no_damage : (last : ℕ) (marks : List Mark) (files : List JobFile) → files_damage last [] files ≡ None → None ≡ starts_damage marks files 0 marks → damage_of_jobs last marks files ≡ None
 no_damage last marks files whole starts = ap (λ o. option_or o (starts_damage marks files 0 marks)) whole ∙ sym starts
-
--- lists that are those of the rows and of the lives are those of the table
-pub lists_table : (last : ℕ) (marks : List Mark) (files : List JobFile) (rows : RowMap) (lives : Lives) (row_list : List Row) (decided : List Decided) → TellLives marks lives → AreRowsOf marks files rows → IsOrdered nat_cmp rows → IsOrdered nat_cmp lives.by_number
-    → row_list ≡ values rows → decided ≡ filter_map decided_of lives.by_number.entries → damage_of_jobs last marks files ≡ None → ListsTable last marks files row_list decided
-lists_table last marks files rows lives row_list decided tells are ordered orders rows_is decided_is whole = record {
-  whole = whole;
-  table = ap (λ list. listed_table last list decided (last_batch marks)) rows_is ∙ ap (λ list. listed_table last (values rows) list (last_batch marks)) decided_is ∙ table_same last marks files rows lives tells are ordered orders;
-  rows_rise = subst (λ list. Rise (map (λ (row : Row). row.number) list)) (sym rows_is) (rows_rise marks files rows are ordered);
-  decided_rise = subst (λ list. Rise (map (λ (one : Decided). one.number) list)) (sym decided_is) (decided_rise lives.by_number.entries orders);
-}

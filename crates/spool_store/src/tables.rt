@@ -1,12 +1,13 @@
 //! The table that marks and files show, in its lists.
-ghost use Rattle.std.specs.Prelude.{◌≡◌, ◌<◌, ◌*◌, ◌^◌, ℕ, IfOk, MatchResult, length};
+ghost use Rattle.std.specs.Prelude.{◌≡◌, ◌<◌, ◌*◌, ◌^◌, ℕ, IfOk, IsTrue, MatchResult, length};
 ghost use Rattle.std.specs.BTreeMap.{IsOrdered, values};
 ghost use Rattle.std.specs.Ordering.{nat_cmp};
 ghost use Rattle.spool_shows.specs.Shown.{damage_of_jobs};
+ghost use Rattle.start_journal.specs.Journals.{AreWritable, are_drawn};
 ghost use Rattle.spool_store.specs.Faults.{IsFound};
 ghost use Rattle.spool_store.specs.Lives.{TellLives};
 ghost use Rattle.spool_store.specs.Seen.{files_seen};
-ghost use Rattle.spool_store.specs.Tables.{ListsTable};
+ghost use Rattle.spool_store.specs.Tables.{AreUndecided, ListsTable};
 
 use crate::fault::StoreFault;
 use crate::lives::Lives;
@@ -28,6 +29,9 @@ pub(crate) fn listed(
     seen: &[Seen],
 ) -> Result<(Vec<Row>, Vec<Decided>), StoreFault>
     requires told { TellLives marks.now lives.now }
+    requires undecided { AreUndecided marks.now (files_seen seen.now) }
+    requires writable { AreWritable marks.now }
+    requires drawn { IsTrue (are_drawn last marks.now) }
     requires fits { 32 * length marks.now < 2 ^ 64 }
     ensures { MatchResult result
         (λ lists. ListsTable last marks.now (files_seen seen.now) lists.0.items lists.1.items)
