@@ -1,2 +1,14 @@
 //! The store of jobs: a spool folder seen as its job table, each step a call that any crash leaves whole.
 #![tactic(auto)]
+
+mod fault;
+mod lives;
+mod looks;
+mod seen;
+mod starts;
+mod tables;
+
+pub use fault::StoreFault;
+
+#[cfg(test)]
+mod tests;

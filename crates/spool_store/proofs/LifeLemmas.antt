@@ -1,0 +1,69 @@
+-- What one mark more tells of each number.
+use Rattle.std.proofs.Common.{◌≡◌, ℕ, ℤ, zero, suc, ◌+◌, ◌<◌, Bool, true, false, cond, List, Option, Some, None, [], ◌∷◌, ◌++◌, length, get_or, take, sym, ap, ◌∙◌, refl, arith}
+use Rattle.std.specs.Prelude.{◌==◌, ◌||◌, unwrap_or}
+use Rattle.std.specs.declared.cmp.Ordering.{Ordering}
+use Rattle.std.specs.declared.cmp.Ordering.TheVariants.{Less, Equal, Greater}
+use Rattle.std.specs.BTreeMap.{BTreeMap, Updates, get, is_at}
+use Rattle.std.specs.Option.{option_or}
+use Rattle.std.specs.Ordering.{is_eq, nat_cmp}
+use Rattle.std.proofs.lemmas.List.{take_more}
+use Rattle.std.proofs.lemmas.Map.Lookups.{exact_unsigned}
+use Rattle.spool_model.specs.declared.fate.Fate.{Fate}
+use Rattle.start_journal.specs.declared.mark.Mark.{Mark}
+use Rattle.start_journal.specs.declared.mark.Mark.TheVariants.{Removed, Started, Ended, Interrupted, Forgotten, Batch}
+use Rattle.start_journal.specs.Marks.{batch_second, first_of_two, forgets, last_batch}
+use Rattle.start_journal.proofs.MarkLemmas.{or_false}
+use Rattle.spool_shows.proofs.MarkTests.{any_more, batch_more, started_more}
+use Rattle.spool_shows.proofs.ShownEntries.{fails_other, some_same}
+use Rattle.spool_store.specs.declared.lives.Life.{Life}
+use Rattle.spool_store.specs.Lives.{fate_at, fate_given, life_at, life_with, named_by, untold}
+
+pub or_nothing : {X : Type 0} → (one : Option X) → option_or one None ≡ one
+or_nothing (Some x) = refl
+or_nothing None = refl
+
+or_grouped : {X : Type 0} → (one other third : Option X) → option_or one (option_or other third) ≡ option_or (option_or one other) third
+or_grouped (Some x) other third = refl
+or_grouped None other third = refl
+
+fate_more : (number : ℕ) (before : List Mark) (mark : Mark) → fate_at number (before ++ mark ∷ []) ≡ option_or (fate_at number before) (fate_given number mark)
+fate_more number [] mark = or_nothing (fate_given number mark)
+fate_more number (first ∷ before) mark =
+    ap (option_or (fate_given number first)) (fate_more number before mark)
+    ∙ or_grouped (fate_given number first) (fate_at number before) (fate_given number mark)
+
+-- a life by its parts
+same_life : (one other : Life) → one.started ≡ other.started → one.fate ≡ other.fate → one.forgotten ≡ other.forgotten → one ≡ other
+same_life one other starts fates forgot = λ i. record { started = starts i; fate = fates i; forgotten = forgot i }
+
+life_more : (number : ℕ) (before : List Mark) (mark : Mark) → life_at number (before ++ mark ∷ []) ≡ life_with number mark (life_at number before)
+life_more number before mark =
+    same_life _ _ (started_more number before mark) (fate_more number before mark) (any_more (forgets number) before mark)
+
+-- what is told so far, and by one mark more
+pub life_pass : (number : ℕ) (marks : List Mark) (place : ℕ) (other : Mark) (old new : Life) → place < length marks → old ≡ life_at number (take place marks) → new ≡ life_with number (get_or marks place other) old → new ≡ life_at number (take (place + 1) marks)
+life_pass number marks place other old new inside before is =
+    is ∙ ap (λ life. life_with number (get_or marks place other) life) before
+    ∙ sym (ap (life_at number) (take_more marks place other inside) ∙ life_more number (take place marks) (get_or marks place other))
+
+-- Keys of maps.
+
+is_equal : (order : Ordering) → is_eq order ≡ true → order ≡ Equal
+is_equal Less is = cc
+is_equal Equal is = refl
+is_equal Greater is = cc
+
+pub key_is : (one other : ℕ) → is_at (nat_cmp one) other ≡ true → one ≡ other
+key_is one other is = exact_unsigned one other (is_equal (nat_cmp one other) is)
+
+-- The last batch start.
+
+or_first : (one other : Option ℤ) → option_or one other ≡ first_of_two one other
+or_first None other = refl
+or_first (Some second) other = refl
+
+pub batch_pass : (marks : List Mark) (place : ℕ) (other : Mark) (found last answer : Option ℤ) → place < length marks → found ≡ batch_second (get_or marks place other) → last ≡ last_batch (take place marks) → answer ≡ option_or found last → answer ≡ last_batch (take (place + 1) marks)
+batch_pass marks place other found last answer inside here before is =
+    is ∙ or_first found last
+    ∙ sym (ap last_batch (take_more marks place other inside) ∙ batch_more (take place marks) (get_or marks place other)
+    ∙ ap (λ one. first_of_two one (last_batch (take place marks))) (sym here) ∙ ap (first_of_two found) (sym before))

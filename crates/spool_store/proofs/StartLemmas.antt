@@ -1,0 +1,89 @@
+-- The check of starts, mark by mark.
+use Rattle.std.proofs.Common.{◌≡◌, ℕ, ℤ, ◌+◌, ◌*◌, ◌<◌, Bool, true, false, cond, List, Option, Some, None, [], ◌∷◌, length, get_or, drop, sym, ap, ◌∙◌, refl, arith}
+use Rattle.std.specs.Prelude.{◌==◌, ◌||◌, is_some, option_map}
+use Rattle.std.specs.BTreeMap.{get}
+use Rattle.std.specs.Option.{option_or}
+use Rattle.std.specs.Ordering.{nat_cmp}
+use Rattle.std.proofs.lemmas.List.{drop_more}
+use Rattle.host_calls.specs.declared.damage.Damage.{Damage}
+use Rattle.spool_model.specs.declared.fate.Fate.{Fate}
+use Rattle.spool_model.specs.declared.row.Row.{Row}
+use Rattle.start_journal.specs.declared.mark.Mark.{Mark}
+use Rattle.start_journal.specs.declared.mark.Mark.TheVariants.{Removed, Started, Ended, Interrupted, Forgotten, Batch}
+use Rattle.start_journal.specs.Journals.{journal_file}
+use Rattle.start_journal.specs.Marks.{decides, is_decided}
+use Rattle.spool_shows.specs.JobFiles.{JobFile, file_of}
+use Rattle.spool_shows.specs.Shown.{mark_damage, start_damage, starts_damage}
+use Rattle.spool_shows.proofs.ShownEntries.{fails_other, some_same}
+use Rattle.spool_store.specs.declared.lives.Life.{Life}
+use Rattle.spool_store.specs.declared.lives.Lives.{Lives}
+use Rattle.spool_store.specs.Lives.{TellLives, fate_at, fate_given, life_in}
+use Rattle.spool_store.specs.Looks.{AreRowsOf, RowMap, row_of}
+
+some_if : (same : Bool) (fate : Fate) → same ≡ is_some (cond same (Some fate) None)
+some_if true fate = refl
+some_if false fate = refl
+
+decides_given : (number : ℕ) (mark : Mark) → decides number mark ≡ is_some (fate_given number mark)
+decides_given number (Removed other) = some_if (other == number) _
+decides_given number (Ended other ending) = some_if (other == number) _
+decides_given number (Interrupted other) = some_if (other == number) _
+decides_given number (Started other queue second) = refl
+decides_given number (Forgotten other) = refl
+decides_given number (Batch second) = refl
+
+some_or : {X : Type 0} → (one other : Option X) → (is_some one || is_some other) ≡ is_some (option_or one other)
+some_or None other = refl
+some_or (Some x) other = refl
+
+-- a number is decided where it has a fate
+pub decided_has_fate : (number : ℕ) (marks : List Mark) → is_decided number marks ≡ is_some (fate_at number marks)
+decided_has_fate number [] = refl
+decided_has_fate number (mark ∷ later) =
+    ap (λ b. b || is_decided number later) (decides_given number mark) ∙ ap (λ b. is_some (fate_given number mark) || b) (decided_has_fate number later)
+    ∙ some_or (fate_given number mark) (fate_at number later)
+
+-- what is kept of a number tells whether it is decided
+pub life_decides : (marks : List Mark) (lives : Lives) (number : ℕ) (life : Life) (test : Bool) → TellLives marks lives → life ≡ life_in lives number → is_some life.fate ≡ test → is_decided number marks ≡ test
+life_decides marks lives number life test tells is fated =
+    decided_has_fate number marks ∙ ap (λ (l : Life). is_some l.fate) (sym (is ∙ tells number)) ∙ fated
+
+pub start_decided : (marks : List Mark) (files : List JobFile) (place number queue : ℕ) (second : ℤ) → is_decided number marks ≡ true → None ≡ mark_damage marks files place (Started number queue second)
+start_decided marks files place number queue second is = sym (ap (λ b. cond b None (start_damage place queue (file_of number files))) is)
+
+pub start_open : (marks : List Mark) (files : List JobFile) (place number queue : ℕ) (second : ℤ) → is_decided number marks ≡ false → start_damage place queue (file_of number files) ≡ mark_damage marks files place (Started number queue second)
+start_open marks files place number queue second is = sym (ap (λ b. cond b None (start_damage place queue (file_of number files))) is)
+
+-- no row, no file
+pub start_lost : (marks : List Mark) (place queue : ℕ) (found : Option JobFile) → None ≡ option_map (row_of marks) found → ◌≡◌ {A = Option Damage} (Some (record { name = journal_file; offset = 32 * place; byte = Some 43 })) (start_damage place queue found)
+start_lost marks place queue None is = refl
+start_lost marks place queue (Some file) is = cc
+
+-- a row of another queue
+pub start_elsewhere : (marks : List Mark) (place queue : ℕ) (found : Option JobFile) (row : Row) → Some row ≡ option_map (row_of marks) found → ¬ (row.queue ≡ queue) → ◌≡◌ {A = Option Damage} (Some (record { name = journal_file; offset = 32 * place + 10; byte = Some queue })) (start_damage place queue found)
+start_elsewhere marks place queue None row is differ = cc
+start_elsewhere marks place queue (Some file) row is differ =
+    let other : (file.job.queue == queue) ≡ false = fails_other file.job.queue queue (λ same. differ (ap (λ (r : Row). r.queue) (some_same is) ∙ same)) in
+    sym (ap (λ b. cond {A = Option Damage} b None (Some (record { name = journal_file; offset = 32 * place + 10; byte = Some queue }))) other)
+
+-- the damage of starts, with the next mark first
+next_start : (marks : List Mark) (files : List JobFile) (place : ℕ) (mark : Mark) → place < length marks → starts_damage marks files place (drop place marks) ≡ option_or (mark_damage marks files place (get_or marks place mark)) (starts_damage marks files (place + 1) (drop (place + 1) marks))
+next_start marks files place mark inside = ap (starts_damage marks files place) (drop_more marks place mark inside)
+
+some_first : {X : Type 0} → (one other : Option X) → is_some one ≡ true → option_or one other ≡ one
+some_first None other is = cc
+some_first (Some x) other is = refl
+
+none_first : {X : Type 0} → (one other : Option X) → is_some one ≡ false → option_or one other ≡ other
+none_first None other is = refl
+none_first (Some x) other is = cc
+
+pub starts_found : (marks : List Mark) (files : List JobFile) (place : ℕ) (mark : Mark) (fault : Option Damage) → place < length marks → fault ≡ mark_damage marks files place (get_or marks place mark) → is_some fault ≡ true
+    → starts_damage marks files 0 marks ≡ starts_damage marks files place (drop place marks) → fault ≡ starts_damage marks files 0 marks
+starts_found marks files place mark fault inside is some before =
+    sym (before ∙ next_start marks files place mark inside ∙ ap (λ d. option_or d (starts_damage marks files (place + 1) (drop (place + 1) marks))) (sym is) ∙ some_first fault _ some)
+
+pub starts_pass : (marks : List Mark) (files : List JobFile) (place : ℕ) (mark : Mark) (fault : Option Damage) → place < length marks → fault ≡ mark_damage marks files place (get_or marks place mark) → is_some fault ≡ false
+    → starts_damage marks files 0 marks ≡ starts_damage marks files place (drop place marks) → starts_damage marks files 0 marks ≡ starts_damage marks files (place + 1) (drop (place + 1) marks)
+starts_pass marks files place mark fault inside is none before =
+    before ∙ next_start marks files place mark inside ∙ ap (λ d. option_or d (starts_damage marks files (place + 1) (drop (place + 1) marks))) (sym is) ∙ none_first fault _ none

@@ -1,0 +1,20 @@
+-- Why a call of the store did not succeed (own).
+use Rattle.std.specs.Prelude.{◌≡◌, Option, Some}
+use Rattle.host_calls.specs.declared.damage.Damage.{Damage}
+use Rattle.host_calls.specs.declared.fault.HostFault.{HostFault}
+use Rattle.host_calls.specs.declared.fault.HostFault.TheVariants.{Failed as HostFailed, Memory as HostMemory}
+use Rattle.spool_store.specs.declared.fault.StoreFault.{StoreFault}
+use Rattle.spool_store.specs.declared.fault.StoreFault.TheVariants.{Damaged, FileFault, Memory, NumbersUsedUp, QueueFull}
+
+-- a fault of the host, as this one
+abbrev pub fault_of : HostFault → StoreFault
+fault_of HostFailed = FileFault
+fault_of HostMemory = Memory
+
+-- the fault is this damage, which was found, or want of memory
+abbrev pub IsFound : Option Damage → StoreFault → Type 0
+IsFound found (Damaged damage) = found ≡ Some damage
+IsFound found Memory = Unit {0}
+IsFound found FileFault = ⊥
+IsFound found QueueFull = ⊥
+IsFound found NumbersUsedUp = ⊥

@@ -1,0 +1,54 @@
+//! The table that marks and files show, in its lists.
+ghost use Rattle.std.specs.Prelude.{◌≡◌, ◌<◌, ◌*◌, ◌^◌, ℕ, IfOk, IsTrue, MatchResult, length};
+ghost use Rattle.std.specs.BTreeMap.{IsOrdered, values};
+ghost use Rattle.std.specs.Ordering.{nat_cmp};
+ghost use Rattle.spool_shows.specs.Shown.{damage_of_jobs};
+ghost use Rattle.start_journal.specs.Journals.{AreWritable, are_drawn};
+ghost use Rattle.spool_store.specs.Faults.{IsFound};
+ghost use Rattle.spool_store.specs.Lives.{TellLives};
+ghost use Rattle.spool_store.specs.Seen.{files_seen};
+ghost use Rattle.spool_store.specs.Tables.{AreUndecided, ListsTable};
+
+use crate::fault::StoreFault;
+use crate::lives::Lives;
+use crate::looks::look_at;
+use crate::seen::Seen;
+use crate::starts::starts_fault;
+use spool_model::{Decided, Row};
+use start_journal::Mark;
+use std::alloc::{AllocError, Global};
+use std::collections::BTreeMap;
+
+/// The rows and the decided numbers of the table that the marks and the files show, or their first
+/// damage.
+pub(crate) fn listed(
+    alloc: Global,
+    last: u32,
+    marks: &[Mark],
+    lives: &Lives,
+    seen: &[Seen],
+) -> Result<(Vec<Row>, Vec<Decided>), StoreFault>
+    requires told { TellLives marks.now lives.now }
+    requires undecided { AreUndecided marks.now (files_seen seen.now) }
+    requires writable { AreWritable marks.now }
+    requires drawn { IsTrue (are_drawn last marks.now) }
+    requires fits { 32 * length marks.now < 2 ^ 64 }
+    ensures { MatchResult result
+        (λ lists. ListsTable last marks.now (files_seen seen.now) lists.0.items lists.1.items)
+        (IsFound (damage_of_jobs last marks.now (files_seen seen.now))) }
+{
+    let by_number = look_at(alloc, last, lives, seen)?;
+    if let Some(damage) = starts_fault(marks, lives, &by_number) {
+        return Err(StoreFault::Damaged(damage));
+    }
+    let rows = rows_in_order(alloc, &by_number)?;
+    let decided = lives.decided(alloc)?;
+    Ok((rows, decided))
+}
+
+fn rows_in_order(alloc: Global, rows: &BTreeMap<u32, Row>) -> Result<Vec<Row>, AllocError>
+    ensures items { IfOk result (λ list. list.items ≡ values rows.now) }
+    ensures ordered { IsOrdered nat_cmp rows.now }
+{
+    rows.values().copied().collect(alloc)
+}
