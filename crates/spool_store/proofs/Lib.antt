@@ -1,6 +1,9 @@
+pub mod Edits
 pub mod LifeLemmas
 pub mod ListLemmas
+pub mod Listing
 pub mod LookLemmas
+pub mod Places
 pub mod SeenLemmas
 pub mod StartLemmas
 pub mod TableLemmas

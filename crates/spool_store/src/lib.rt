@@ -2,13 +2,16 @@
 #![tactic(auto)]
 
 mod fault;
+mod jobs;
 mod lives;
 mod looks;
 mod seen;
+mod sorted;
 mod starts;
 mod tables;
 
 pub use fault::StoreFault;
+pub(crate) use jobs::Jobs;
 
 #[cfg(test)]
 mod tests;

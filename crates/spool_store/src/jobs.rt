@@ -1,0 +1,209 @@
+//! What a store keeps of its jobs.
+ghost use Rattle.std.specs.Prelude.{◌≡◌, ◌↔◌, OnOk, OnErr, IsTrue, IfSome, IfNone, Some, map, if◌then◌else◌};
+ghost use Rattle.std.specs.FinMap as finite;
+ghost use Rattle.spool_model.specs.declared.entry.Entry.TheVariants.{Live, Done};
+ghost use Rattle.spool_model.specs.declared.state.State.TheVariants.{Pending};
+ghost use Rattle.spool_model.specs.declared.step.Step.TheVariants.{Draw, Accept, Remove, Start, End, Interrupt, Forget};
+ghost use Rattle.spool_model.specs.JobTable.{entry_at, is_batch_queue, table_of, IsDone};
+ghost use Rattle.spool_model.specs.Steps.{IsFree, IsLegal, after_step};
+ghost use Rattle.spool_store.specs.Listed.{AreListed, IsLive, ListsDecided, ListsLive, row_job};
+ghost use Rattle.spool_store.specs.Rows.{decided_entry, listed_table, row_entry};
+
+use crate::sorted;
+use host_calls::Ending;
+use spool_model::{Decided, Fate, Row};
+use std::alloc::AllocError;
+use std::marker::Model;
+
+/// The job table without scripts: the last number, the rows of the live jobs and the decided
+/// numbers, both in the order of their numbers, and the second of the last batch start.
+#[derive(Drop)]
+pub(crate) struct Jobs {
+    last: u32,
+    last_batch: Option<i64>,
+    rows: Vec<Row>,
+    decided: Vec<Decided>,
+}
+
+impl Model for Jobs {
+    ghost use Rattle.std.specs.Prelude.{map};
+    ghost use Rattle.spool_model.specs.Codes.{table_code};
+    ghost use Rattle.spool_model.specs.JobTable.{JobTable};
+    ghost use Rattle.spool_store.specs.Listed.{AreListed};
+    ghost use Rattle.spool_store.specs.Rows.{decided_entry, listed_table, row_entry};
+
+    ghost Value = { JobTable };
+
+    ghost coded = { table_code };
+
+    ghost view = { λ jobs. listed_table jobs.last jobs.rows.items jobs.decided.items jobs.last_batch };
+
+    ghost invariant = { λ jobs. AreListed jobs.last (map row_entry jobs.rows.items) (map decided_entry jobs.decided.items) };
+}
+
+impl Jobs {
+    /// The jobs of these rows and decided numbers, both in the order of their numbers.
+    pub(crate) fn of(
+        last: u32,
+        last_batch: Option<i64>,
+        rows: Vec<Row>,
+        decided: Vec<Decided>,
+    ) -> Jobs
+        requires { AreListed last (map row_entry rows.items) (map decided_entry decided.items) }
+        ensures { result ≡ listed_table last rows.items decided.items last_batch }
+    {
+        Jobs {
+            last,
+            last_batch,
+            rows,
+            decided,
+        }
+    }
+
+    /// The number that was drawn last, 0 before the first.
+    pub(crate) fn last(&self) -> u32
+        ensures { result ≡ self.now.last }
+    {
+        self.last
+    }
+
+    /// The second of the last start in a batch queue, if there was one.
+    pub(crate) fn last_batch(&self) -> Option<i64>
+        ensures { result ≡ self.now.last_batch }
+    {
+        self.last_batch
+    }
+
+    /// The live jobs, by number.
+    pub(crate) fn rows(&self) -> &[Row]
+        ensures { ListsLive self.now result.now }
+    {
+        self.rows.as_slice()
+    }
+
+    /// The jobs that are done, by number.
+    pub(crate) fn decided(&self) -> &[Decided]
+        ensures { ListsDecided self.now result.now }
+    {
+        self.decided.as_slice()
+    }
+
+    /// The live job of this number.
+    pub(crate) fn row(&self, number: u32) -> Option<&Row>
+        ensures found { IfSome result (λ row. entry_at self.now number ≡ Some (row_entry row.now).1) }
+        ensures number { IfSome result (λ row. row.now.number ≡ number) }
+        ensures absent { IfNone result (IsLive self.now number → ⊥) }
+    {
+        let row = self.rows.get(sorted::row_place(&self.rows, number))?;
+        if row.number == number {
+            Some(row)
+        } else {
+            None
+        }
+    }
+
+    /// Whether the job of this number is done.
+    pub(crate) fn is_decided(&self, number: u32) -> bool
+        ensures { IsTrue result ↔ IsDone self.now number }
+    {
+        match self
+            .decided
+            .get(sorted::decided_place(&self.decided, number))
+        {
+            Some(done) => done.number == number,
+            None => false,
+        }
+    }
+
+    /// Draws the next number.
+    pub(crate) fn draw(&mut self)
+        requires { IsLegal self.old Draw }
+        ensures { self.new ≡ after_step self.old Draw }
+    {
+        self.last += 1;
+    }
+
+    /// Accepts a pending job under the number that was drawn. Where memory is wanting nothing
+    /// changes.
+    pub(crate) fn accept(&mut self, row: Row) -> Result<(), AllocError>
+        requires free { IsLegal self.old (Accept row.number (row_job row)) }
+        requires pending { row.state ≡ Pending }
+        ensures taken { OnOk result (self.new ≡ after_step self.old (Accept row.number (row_job row))) }
+        ensures kept { OnErr result (self.new ≡ self.old) }
+    {
+        self.rows.push(row)?;
+        Ok(())
+    }
+
+    /// Takes the pending job of this number back. Where memory is wanting nothing changes.
+    pub(crate) fn remove(&mut self, number: u32) -> Result<(), AllocError>
+        requires { IsLegal self.old (Remove number) }
+        ensures taken { OnOk result (self.new ≡ after_step self.old (Remove number)) }
+        ensures kept { OnErr result (self.new ≡ self.old) }
+    {
+        self.decide(number, Fate::Removed)
+    }
+
+    /// Starts the pending job of this number at this second.
+    pub(crate) fn start(&mut self, number: u32, second: i64)
+        requires { IsLegal self.old (Start number second) }
+        ensures { self.new ≡ after_step self.old (Start number second) }
+    {
+        let row = sorted::start_row(&mut self.rows, number, second);
+        self.last_batch = last_batch_after(self.last_batch, row.queue, second);
+    }
+
+    /// Ends the running job of this number. Where memory is wanting nothing changes.
+    pub(crate) fn end(&mut self, number: u32, ending: Ending) -> Result<(), AllocError>
+        requires { IsLegal self.old (End number ending) }
+        ensures taken { OnOk result (self.new ≡ after_step self.old (End number ending)) }
+        ensures kept { OnErr result (self.new ≡ self.old) }
+    {
+        self.decide(number, Fate::Finished(ending))
+    }
+
+    /// Gives the running job of this number up. Where memory is wanting nothing changes.
+    pub(crate) fn interrupt(&mut self, number: u32) -> Result<(), AllocError>
+        requires { IsLegal self.old (Interrupt number) }
+        ensures taken { OnOk result (self.new ≡ after_step self.old (Interrupt number)) }
+        ensures kept { OnErr result (self.new ≡ self.old) }
+    {
+        self.decide(number, Fate::Interrupted)
+    }
+
+    /// Forgets the fate of the job of this number, which is done.
+    pub(crate) fn forget(&mut self, number: u32)
+        requires { IsLegal self.old (Forget number) }
+        ensures { self.new ≡ after_step self.old (Forget number) }
+    {
+        sorted::remove_decided(&mut self.decided, number);
+    }
+
+    /// Puts the fate of the live job of this number in the place of its row.
+    fn decide(&mut self, number: u32, fate: Fate) -> Result<(), AllocError>
+        requires { IsLive self.old number }
+        ensures decided { OnOk result (self.new ≡ table_of self.old.last (finite.insert self.old.entries number (Done fate)) self.old.last_batch) }
+        ensures kept { OnErr result (self.new ≡ self.old) }
+    {
+        sorted::insert_decided(&mut self.decided, Decided { number, fate })?;
+        sorted::remove_row(&mut self.rows, number);
+        Ok(())
+    }
+}
+
+/// The second of the last batch start once a job of this queue has started at this second.
+fn last_batch_after(last_batch: Option<i64>, queue: u8, second: i64) -> Option<i64>
+    ensures { result ≡ if is_batch_queue queue then Some second else last_batch }
+{
+    if is_batch(queue) {
+        Some(second)
+    } else {
+        last_batch
+    }
+}
+
+fn is_batch(queue: u8) -> bool
+    ensures { result ≡ is_batch_queue queue }
+{
+    queue == b'b' || queue.is_ascii_uppercase()
+}
