@@ -6,7 +6,8 @@ use crate::slot::{LAST_SECOND, SLOT};
 
 /// How many of the first bytes of the slot some mark's slot has too.
 pub(crate) fn right_front(slot: &[u8; SLOT]) -> usize
-    ensures { result ≡ right_front slot.now }
+    ensures front { result ≡ right_front slot.now }
+    ensures few { result ≤ 32 }
 {
     for place in 0..SLOT {
         if !may_stand(slot, place) {
@@ -17,6 +18,7 @@ pub(crate) fn right_front(slot: &[u8; SLOT]) -> usize
 }
 
 /// Whether the byte at this place is one of some mark's slot, behind those before it.
+#[tactic(auto, unfolding(crate::specs::SlotBytes::may_stand))]
 fn may_stand(slot: &[u8; SLOT], place: usize) -> bool
     requires { place < 32 }
     ensures { result ≡ may_stand slot.now place }
