@@ -1,8 +1,11 @@
 pub mod ByteLemmas
+pub mod ChangeLemmas
 pub mod FrontLemmas
 pub mod JournalLemmas
+pub mod KeepLemmas
 pub mod LifeLemmas
 pub mod MarkLemmas
 pub mod ReadLemmas
 pub mod SlotLemmas
+pub mod TextLemmas
 pub mod WriteLemmas

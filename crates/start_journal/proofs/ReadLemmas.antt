@@ -190,3 +190,8 @@ read_whole last place rest bytes slots read cut behind past left none =
 pub absent_read : (last : ℕ) (held : Option (List ℕ)) (marks : List Mark) → held ≡ None → marks ≡ [] → journal_in last held ≡ Ok (record { marks = marks; free = 0 })
 unfolding journal_in
 absent_read last held marks absent none = ap (journal_in last) absent ∙ ap (λ list. Ok (record { marks = list; free = 0 })) (sym none)
+
+-- a journal with one mark more
+pub added_sound : (marks more : List Mark) (mark : Mark) → are_sound marks ≡ true → IsLegalAfter marks mark → IsWritable mark → more ≡ marks ++ mark ∷ [] → are_sound more ≡ true
+added_sound marks more mark sound legal writable is =
+    ap are_sound is ∙ sound_tested (marks ++ mark ∷ []) (sound_more marks mark (sound_is marks sound) (legal_tested marks mark legal) (writable_tested mark writable))

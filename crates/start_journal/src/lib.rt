@@ -2,10 +2,12 @@
 //! in their order. Each is one slot of the file `.JRN`.
 #![tactic(auto)]
 
+mod changing;
 mod fault;
 mod fields;
 mod front;
 mod journal;
+mod keeping;
 mod laws;
 mod legality;
 mod mark;
@@ -13,6 +15,7 @@ mod names;
 mod reading;
 mod slot;
 mod stage;
+mod text;
 
 pub use fault::JournalFault;
 pub use fields::Fields;
