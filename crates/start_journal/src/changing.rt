@@ -1,5 +1,5 @@
 //! Adding a mark, and compacting the journal.
-ghost use Rattle.std.specs.Prelude.{◌≡◌, ◌≤◌, IfOk, IsTrue, OnOk};
+ghost use Rattle.std.specs.Prelude.{◌≡◌, ◌≤◌, [], IfOk, IsTrue, OnOk};
 ghost use Rattle.host_calls.specs.Causes.{HasCause};
 ghost use Rattle.host_calls.specs.Folder.{IsInNoImage};
 ghost use Rattle.host_calls.specs.Session.{IsInside, StaysInside};
@@ -22,12 +22,7 @@ const FREE_SLOTS: u64 = 256;
 
 impl Journal {
     /// Adds the mark. Once it is added it stands in every image. A fault consumes the journal.
-    pub fn add<H: Host>(
-        self,
-        alloc: Global,
-        host: &mut H,
-        mark: Mark,
-    ) -> Result<Journal, HostFault>
+    pub fn add<H: Host>(self, alloc: Global, host: &mut H, mark: Mark) -> Result<Journal, HostFault>
         requires inside { IsInside (H.session host.old) }
         requires free { 1 ≤ self.free }
         requires writable { IsWritable mark }
@@ -61,6 +56,7 @@ impl Journal {
             (H.world host.old) (H.world host.new) }
         ensures compacted { IsTrue H.tells → OnOk result (IsChanged (compacted self)
             (H.world host.old).now.folder (H.world host.new).now.folder) }
+        ensures certain { IsTrue H.tells → OnOk result ((H.world host.new).now.folder.pending ≡ []) }
     {
         let journal = self.kept(alloc)?;
         journal.replace(alloc, host)?;
@@ -104,6 +100,7 @@ impl Journal {
             (H.world host.old) (H.world host.new) }
         ensures replaced { IsTrue H.tells → OnOk result (IsChanged self.now
             (H.world host.old).now.folder (H.world host.new).now.folder) }
+        ensures certain { IsTrue H.tells → OnOk result ((H.world host.new).now.folder.pending ≡ []) }
     {
         let text = journal_text(alloc, self.marks.as_slice(), self.free)?;
         place(alloc, host, &temp_name(), &journal_name(), text.as_slice())

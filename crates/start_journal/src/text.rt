@@ -7,11 +7,7 @@ use crate::{Mark, mark_text};
 use std::alloc::{AllocError, Global};
 
 /// The slots of these marks, and so many free slots behind them.
-pub(crate) fn journal_text(
-    alloc: Global,
-    marks: &[Mark],
-    free: u64,
-) -> Result<Vec<u8>, AllocError>
+pub(crate) fn journal_text(alloc: Global, marks: &[Mark], free: u64) -> Result<Vec<u8>, AllocError>
     requires { AreWritable marks.now }
     ensures { IfOk result (λ text. SpellsJournal text.items marks.now free) }
 {
