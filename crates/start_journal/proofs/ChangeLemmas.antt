@@ -1,9 +1,9 @@
 -- What a crash leaves of the journal while it changes.
-use Rattle.std.proofs.Common.{◌≡◌, ◌⊎◌, ℕ, List, Some, sym, ap, subst, ◌∙◌, inl, inr, true, Result, Ok, Err}
+use Rattle.std.proofs.Common.{◌≡◌, ℕ, List, Some, sym, subst, ◌∙◌, inl, inr, true, Result, Ok, Err}
 use Rattle.std.specs.Prelude.{OnOk}
 use Rattle.std.specs.FinMap as map
 use Rattle.host_calls.specs.declared.fault.HostFault.{HostFault}
-use Rattle.host_calls.specs.Folder.{Files, Folder, IsImage, reading_of}
+use Rattle.host_calls.specs.Folder.{Files, Folder, reading_of}
 use Rattle.host_calls.specs.World.{World}
 use Rattle.host_calls.proofs.FolderLemmas.{reading_is_image}
 use Rattle.host_calls.proofs.WorldLemmas.{leaves_weaker}

@@ -1,6 +1,6 @@
 -- What a compaction keeps can be written, and the last batch start is found in one pass.
-use Rattle.std.proofs.Common.{◌≡◌, ℕ, ℤ, ◌+◌, ◌<◌, Bool, true, false, List, [], ◌∷◌, ◌++◌, Option, Some, None, length, take, get_or, cond, sym, ap, subst, ◌∙◌, refl, arith}
-use Rattle.std.specs.Prelude.{◌&&◌, if◌then◌else◌}
+use Rattle.std.proofs.Common.{◌≡◌, ℕ, ℤ, ◌+◌, ◌<◌, Bool, true, false, List, [], ◌∷◌, ◌++◌, Option, Some, None, length, take, get_or, cond, sym, ap, subst, ◌∙◌, refl}
+use Rattle.std.specs.Prelude.{if◌then◌else◌}
 use Rattle.std.specs.Option.{option_or}
 use Rattle.std.specs.List.{filter, list_all}
 use Rattle.std.proofs.lemmas.List.{take_more}
@@ -12,7 +12,7 @@ use Rattle.start_journal.specs.Marks.{batch_mark, batch_second, first_of_two, is
 use Rattle.start_journal.specs.SlotBytes.{can_write, is_second}
 use Rattle.start_journal.proofs.ByteLemmas.{and_then, both}
 use Rattle.start_journal.proofs.MarkLemmas.{kept_marks_are_legal}
-use Rattle.start_journal.proofs.ReadLemmas.{IsSound, legal_tests, sound_is, sound_legal, sound_tested}
+use Rattle.start_journal.proofs.ReadLemmas.{legal_tests, sound_is, sound_legal, sound_tested}
 
 -- the last batch start of a list and one mark more
 pub last_more : (marks : List Mark) (mark : Mark) → last_batch (marks ++ mark ∷ []) ≡ first_of_two (batch_second mark) (last_batch marks)

@@ -1,6 +1,7 @@
 pub mod ByteLemmas
 pub mod ChangeLemmas
 pub mod FrontLemmas
+pub mod GivesLemmas
 pub mod JournalLemmas
 pub mod KeepLemmas
 pub mod LifeLemmas

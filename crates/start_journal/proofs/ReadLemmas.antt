@@ -1,16 +1,16 @@
 -- The slots of a journal, read one by one.
-use Rattle.std.proofs.Common.{◌≡◌, ℕ, zero, suc, ◌+◌, ◌*◌, ◌/◌, ◌%◌, ◌<◌, ◌≤◌, Bool, true, false, List, [], ◌∷◌, ◌++◌, Option, Some, None, length, take, drop, All, sym, ap, subst, ◌∙◌, refl, arith, eq-eqb, append_assoc, get_or, drop-cons}
-use Rattle.std.specs.Prelude.{◌==◌, ◌&&◌, not, Result, Ok, Err, slice_index, nat_le, if◌then◌else◌, IfNone}
+use Rattle.std.proofs.Common.{◌≡◌, ℕ, suc, ◌+◌, ◌*◌, ◌/◌, ◌%◌, ◌<◌, ◌≤◌, Bool, true, false, List, [], ◌∷◌, ◌++◌, Option, Some, None, length, drop, sym, ap, subst, ◌∙◌, refl, eq-eqb, append_assoc, get_or, drop-cons}
+use Rattle.std.specs.Prelude.{◌==◌, ◌&&◌, Result, Ok, Err, slice_index, if◌then◌else◌}
 use Rattle.std.specs.List.{list_all}
 use Rattle.std.specs.Simd.{first_chunks}
 use Rattle.std.proofs.lemmas.List.{append-nil, at_drop_all}
 use Rattle.host_calls.specs.declared.damage.Damage.{Damage}
 use Rattle.start_journal.specs.declared.mark.Mark.{Mark}
-use Rattle.start_journal.specs.Journals.{AreWritable, JournalRead, all_slots, are_drawn, are_legal_after, are_sound, damage_at, go_on, is_drawn, is_legal_after, journal_in, nothing_read, one_slot, open_slot, whole_journal, with_slot}
+use Rattle.start_journal.specs.Journals.{JournalRead, all_slots, are_drawn, are_legal_after, are_sound, damage_at, go_on, is_drawn, is_legal_after, journal_in, nothing_read, one_slot, open_slot, whole_journal, with_slot}
 use Rattle.start_journal.specs.Marks.{AreLegal, AreLegalAfter, IsLegalAfter}
 use Rattle.start_journal.specs.SlotBytes.{can_write, mark_in, right_front}
 use Rattle.start_journal.specs.Slots.{IsWritable, SpellsMark}
-use Rattle.start_journal.proofs.ByteLemmas.{and_then, both, given, spells, writable_is, writable_tested}
+use Rattle.start_journal.proofs.ByteLemmas.{and_then, both, given, spells, writable_tested}
 use Rattle.start_journal.proofs.JournalLemmas.{legal_is, legal_tested}
 
 -- a slot that spells no mark gives none

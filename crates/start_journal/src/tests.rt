@@ -1,5 +1,6 @@
 //! Slots of the journal, and journals, by the tables of their format.
 use crate::reading::read;
+use crate::text::journal_text;
 use crate::{JournalFault, Mark, mark_text, read_mark};
 use host_calls::Ending;
 use std::test::Fail;
@@ -120,4 +121,27 @@ fn journals_that_are_damaged(rt: HostRuntime) {
         assert_eq!(rt; damage.offset, offset);
         assert_eq!(rt; damage.byte, Some(byte));
     }
+}
+
+#[test]
+fn a_job_started_and_ended(rt: HostRuntime) -> Result<(), Fail> {
+    let marks = [
+        Mark::Started {
+            number: 1,
+            queue: b'a',
+            second: 1_735_689_600,
+        },
+        Mark::Ended {
+            number: 1,
+            ending: Ending::Exit(0),
+        },
+    ];
+    let text = journal_text(rt.alloc(), &marks, 254)?;
+    assert_eq!(rt; text.len(), 8192);
+    assert_eq!(rt;
+        text[..64],
+        *b"+S00000001a-000000000067748580.\n+E00000001-x000000000000000000.\n"
+    );
+    assert_eq!(rt; text[8160..], *b"-..............................\n");
+    Ok(())
 }

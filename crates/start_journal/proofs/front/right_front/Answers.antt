@@ -1,4 +1,4 @@
-use Rattle.std.proofs.Common.{sym, ◌∙◌, arith}
+use Rattle.std.proofs.Common.{sym, arith}
 use Rattle.start_journal.proofs.FrontLemmas.{front_is}
 use Rattle.start_journal.proofs.front.right_front.Goals as goal
 

@@ -1,4 +1,4 @@
-use Rattle.std.proofs.Common.{◌≡◌, ◌∙◌, true, false, sym, ap}
+use Rattle.std.proofs.Common.{◌∙◌, sym, ap}
 use Rattle.std.specs.Prelude.{◌&&◌}
 use Rattle.start_journal.specs.Journals.{JournalRead, is_drawn, is_legal_after}
 use Rattle.start_journal.proofs.MarkLemmas.{and_false}

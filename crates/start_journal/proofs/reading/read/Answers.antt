@@ -1,4 +1,4 @@
-use Rattle.std.proofs.Common.{◌*◌, arith}
+use Rattle.std.proofs.Common.{arith}
 use Rattle.start_journal.specs.Journals.{JournalRead}
 use Rattle.start_journal.proofs.ReadLemmas.{end_sound, read_whole, rest_damaged, slot_damaged}
 use Rattle.start_journal.proofs.reading.read.Goals as goal

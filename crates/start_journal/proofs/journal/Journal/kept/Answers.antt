@@ -1,4 +1,4 @@
-use Rattle.std.proofs.Common.{◌≡◌, ◌∙◌, true, sym, ap}
+use Rattle.std.proofs.Common.{◌∙◌, ap}
 use Rattle.start_journal.specs.Journals.{are_sound}
 use Rattle.start_journal.specs.Marks.{kept_marks}
 use Rattle.start_journal.proofs.KeepLemmas.{kept_sound}

@@ -1,5 +1,4 @@
-use Rattle.std.proofs.Common.{◌≡◌, ◌∙◌, true, List, [], ◌∷◌, ◌++◌, sym, ap, subst}
-use Rattle.start_journal.specs.Journals.{are_sound}
+use Rattle.std.proofs.Common.{sym, subst}
 use Rattle.start_journal.specs.Marks.{IsLegalAfter}
 use Rattle.start_journal.proofs.ReadLemmas.{added_sound}
 use Rattle.start_journal.proofs.journal.Journal.with_mark.Goals as goal
