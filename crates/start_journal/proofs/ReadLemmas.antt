@@ -1,16 +1,16 @@
 -- The slots of a journal, read one by one.
-use Rattle.std.proofs.Common.{◌≡◌, ℕ, suc, ◌+◌, ◌*◌, ◌/◌, ◌%◌, ◌<◌, ◌≤◌, Bool, true, false, List, [], ◌∷◌, ◌++◌, Option, Some, None, length, drop, sym, ap, subst, ◌∙◌, refl, eq-eqb, append_assoc, get_or, drop-cons}
+use Rattle.std.proofs.Common.{◌≡◌, ℕ, zero, suc, ◌+◌, ◌*◌, ◌/◌, ◌%◌, ◌<◌, ◌≤◌, Bool, true, false, List, [], ◌∷◌, ◌++◌, Option, Some, None, length, drop, sym, ap, subst, ◌∙◌, refl, arith, eq-eqb, append_assoc, get_or, drop-cons}
 use Rattle.std.specs.Prelude.{◌==◌, ◌&&◌, Result, Ok, Err, slice_index, if◌then◌else◌}
 use Rattle.std.specs.List.{list_all}
 use Rattle.std.specs.Simd.{first_chunks}
 use Rattle.std.proofs.lemmas.List.{append-nil, at_drop_all}
 use Rattle.host_calls.specs.declared.damage.Damage.{Damage}
 use Rattle.start_journal.specs.declared.mark.Mark.{Mark}
-use Rattle.start_journal.specs.Journals.{JournalRead, all_slots, are_drawn, are_legal_after, are_sound, damage_at, go_on, is_drawn, is_legal_after, journal_in, nothing_read, one_slot, open_slot, whole_journal, with_slot}
+use Rattle.start_journal.specs.Journals.{AreWritable, JournalRead, all_slots, are_drawn, are_legal_after, are_sound, damage_at, go_on, is_drawn, is_legal_after, journal_in, nothing_read, one_slot, open_slot, whole_journal, with_slot}
 use Rattle.start_journal.specs.Marks.{AreLegal, AreLegalAfter, IsLegalAfter}
 use Rattle.start_journal.specs.SlotBytes.{can_write, mark_in, right_front}
 use Rattle.start_journal.specs.Slots.{IsWritable, SpellsMark}
-use Rattle.start_journal.proofs.ByteLemmas.{and_then, both, given, spells, writable_tested}
+use Rattle.start_journal.proofs.ByteLemmas.{and_then, both, given, spells, writable_is, writable_tested}
 use Rattle.start_journal.proofs.JournalLemmas.{legal_is, legal_tested}
 
 -- a slot that spells no mark gives none
@@ -195,3 +195,9 @@ absent_read last held marks absent none = ap (journal_in last) absent ∙ ap (λ
 pub added_sound : (marks more : List Mark) (mark : Mark) → are_sound marks ≡ true → IsLegalAfter marks mark → IsWritable mark → more ≡ marks ++ mark ∷ [] → are_sound more ≡ true
 added_sound marks more mark sound legal writable is =
     ap are_sound is ∙ sound_tested (marks ++ mark ∷ []) (sound_more marks mark (sound_is marks sound) (legal_tested marks mark legal) (writable_tested mark writable))
+
+-- marks that pass the test can be written
+pub all_writable : (marks : List Mark) → list_all can_write marks ≡ true → AreWritable marks
+all_writable [] all place other inside = absurd (omega arith)
+all_writable (mark ∷ later) all zero other inside = writable_is mark (both _ _ all).0
+all_writable (mark ∷ later) all (suc place) other inside = all_writable later (both _ _ all).1 place other (omega arith)
