@@ -58,7 +58,7 @@ pub(crate) fn clear_sequence<H: Host>(alloc: Global, host: &mut H) -> Result<boo
     }
 }
 
-fn temp_name() -> Name
+pub(crate) fn temp_name() -> Name
     ensures { result ≡ codes ".TMP" }
 {
     Name::of(b".TMP").unwrap()

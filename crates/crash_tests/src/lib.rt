@@ -5,4 +5,8 @@
 #[cfg(test)]
 mod calls;
 #[cfg(test)]
+mod journal_calls;
+#[cfg(test)]
+mod journal_tests;
+#[cfg(test)]
 mod tests;

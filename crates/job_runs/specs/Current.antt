@@ -5,7 +5,7 @@ use Rattle.host_calls.specs.Folder.{Files, Folder, IsImage, reading_of}
 use Rattle.sequence_file.specs.Sequence.{sequence_file, temporary_file}
 use Rattle.spool_model.specs.JobTable.{JobTable}
 use Rattle.start_journal.specs.declared.mark.Mark.{Mark}
-use Rattle.start_journal.specs.Adding.{HoldsJournal}
+use Rattle.start_journal.specs.Changing.{HoldsJournal}
 use Rattle.start_journal.specs.Journals.{JournalRead, journal_file}
 use Rattle.start_journal.specs.Marks.{is_decided}
 use Rattle.spool_shows.specs.JobFiles.{NamedJob, job_named}

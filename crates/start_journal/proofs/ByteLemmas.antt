@@ -1,20 +1,20 @@
 -- Digits, and the mark that the bytes of a slot give.
 use Rattle.std.proofs.Common.{◌≡◌, ℕ, zero, suc, ℤ, pos, negsuc, ◌≤ℤ◌, ◌+◌, ◌-◌, ◌*◌, ◌/◌, ◌^◌, ◌<◌, ◌≤◌, Bool, true, false, List, [], ◌∷◌, ◌++◌, Option, Some, None, length, sym, ap, subst, ◌∙◌, refl, arith, eq-eqb, append_assoc}
-use Rattle.std.specs.Prelude.{◌==◌, ◌&&◌, ◌||◌, fold, slice_index, slice_range, nat_le, nat_lt, if◌then◌else◌}
+use Rattle.std.specs.Prelude.{◌==◌, ◌&&◌, fold, slice_index, slice_range, nat_le, if◌then◌else◌}
 use Rattle.std.specs.Char.{is_ascii_alphabetic}
 use Rattle.std.specs.List.{list_all}
 use Rattle.std.proofs.lemmas.Bool.Decides.{nat_tests}
 use Rattle.std.proofs.lemmas.Int.{ints}
 use Rattle.std.proofs.lemmas.List.{append-nil}
 use Rattle.std.proofs.lemmas.Nat.{mod_below}
-use Rattle.hex_digits.specs.Digits.{SpellsNumber, digit_at, digit_byte}
+use Rattle.hex_digits.specs.Digits.{SpellsNumber, digit_byte}
 use Rattle.hex_digits.proofs.DigitLemmas.{one_number, spells_more}
 use Rattle.start_journal.specs.declared.fields.Fields.{Fields}
 use Rattle.start_journal.specs.declared.mark.Mark.{Mark}
 use Rattle.start_journal.specs.declared.mark.Mark.TheVariants.{Removed, Started, Ended, Interrupted, Forgotten, Batch}
-use Rattle.start_journal.specs.JournalLaws.{GivesItsMark, SlotsGiveTheirMarks}
+use Rattle.start_journal.specs.JournalLaws.{SlotsGiveTheirMarks}
 use Rattle.start_journal.specs.SlotBytes.{are_digits, are_same_fields, can_write, digit_value, fields_in, has_form, is_digit, is_second, mark_in, mark_saying, value_of}
-use Rattle.start_journal.specs.Slots.{IsSecond, IsStart, IsWritable, SpellsFields, SpellsMark, fields_of, mark_with}
+use Rattle.start_journal.specs.Slots.{IsSecond, IsWritable, SpellsFields, SpellsMark, fields_of, mark_with}
 use Rattle.start_journal.proofs.MarkLemmas.{same_number}
 use Rattle.start_journal.proofs.SlotLemmas.{mark_again, one_fields}
 

@@ -1,16 +1,15 @@
 -- What the bytes of a journal give.
-use Rattle.std.proofs.Common.{◌≡◌, ℕ, zero, suc, ◌+◌, ◌*◌, ◌/◌, ◌%◌, ◌<◌, ◌≤◌, Bool, true, false, List, [], ◌∷◌, ◌++◌, Option, Some, None, length, take, drop, replicate, sym, ap, subst, ◌∙◌, refl, arith, eq-eqb, append_assoc, length-append, zero-add}
-use Rattle.std.specs.Prelude.{◌==◌, ◌&&◌, not, Result, Ok, Err, slice_index, nat_le, if◌then◌else◌}
-use Rattle.std.specs.List.{concat, list_all}
+use Rattle.std.proofs.Common.{◌≡◌, ℕ, zero, suc, ◌+◌, ◌*◌, ◌/◌, ◌%◌, Bool, true, false, List, [], ◌∷◌, ◌++◌, Some, length, drop, replicate, sym, ap, subst, ◌∙◌, refl, arith, eq-eqb, append_assoc, length-append, zero-add}
+use Rattle.std.specs.Prelude.{◌==◌, ◌&&◌, not, Result, Ok, Err, slice_index, if◌then◌else◌}
+use Rattle.std.specs.List.{concat}
 use Rattle.std.specs.Simd.{first_chunks}
 use Rattle.std.proofs.lemmas.List.{append-nil, drop_at, take_at}
 use Rattle.std.proofs.lemmas.List.Folds.{concat-append}
-use Rattle.host_calls.specs.declared.damage.Damage.{Damage}
 use Rattle.start_journal.specs.declared.mark.Mark.{Mark}
 use Rattle.start_journal.specs.declared.mark.Mark.TheVariants.{Removed, Started, Ended, Interrupted, Forgotten, Batch}
 use Rattle.start_journal.specs.JournalLaws.{JournalsReadBack}
-use Rattle.start_journal.specs.Journals.{JournalRead, SpellMarks, SpellsJournal, all_slots, are_drawn, damage_at, free_slot, go_on, is_drawn, is_legal_after, journal_in, nothing_read, one_slot, open_slot, whole_journal}
-use Rattle.start_journal.specs.Marks.{AreLegal, AreLegalAfter, IsLegalAfter, is_decided, is_ended, is_forgotten, is_named, is_started}
+use Rattle.start_journal.specs.Journals.{JournalRead, SpellMarks, all_slots, are_drawn, damage_at, free_slot, go_on, is_drawn, is_legal_after, journal_in, nothing_read, one_slot, open_slot, whole_journal}
+use Rattle.start_journal.specs.Marks.{AreLegalAfter, IsLegalAfter, is_decided, is_ended, is_forgotten, is_named, is_started}
 use Rattle.start_journal.specs.SlotBytes.{mark_in, right_front}
 use Rattle.start_journal.specs.Slots.{SpellsMark}
 use Rattle.start_journal.proofs.ByteLemmas.{and_then, both, given}

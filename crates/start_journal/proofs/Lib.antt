@@ -1,6 +1,12 @@
 pub mod ByteLemmas
+pub mod ChangeLemmas
+pub mod FrontLemmas
+pub mod GivesLemmas
 pub mod JournalLemmas
+pub mod KeepLemmas
 pub mod LifeLemmas
 pub mod MarkLemmas
+pub mod ReadLemmas
 pub mod SlotLemmas
+pub mod TextLemmas
 pub mod WriteLemmas

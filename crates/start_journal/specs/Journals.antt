@@ -1,12 +1,12 @@
 -- The journal (own): the marks that the bytes of `.JRN` give, slot by slot of 32 bytes.
-use Rattle.std.specs.Prelude.{◌≡◌, ◌==◌, ◌&&◌, ◌+◌, ◌*◌, ◌/◌, ◌%◌, ◌++◌, ℕ, Bool, true, false, not, List, [], ◌∷◌, Option, Some, None, Result, Ok, Err, IsTrue, All, codes, length, replicate, slice_get, slice_index, nat_le, if◌then◌else◌}
+use Rattle.std.specs.Prelude.{◌≡◌, ◌==◌, ◌&&◌, ◌+◌, ◌*◌, ◌/◌, ◌%◌, ◌++◌, ℕ, Bool, true, not, List, [], ◌∷◌, Option, Some, None, Result, Ok, Err, All, codes, length, replicate, slice_get, slice_index, nat_le, if◌then◌else◌}
 use Rattle.std.specs.List.{concat, list_all}
 use Rattle.std.specs.Simd.{first_chunks}
 use Rattle.host_calls.specs.declared.damage.Damage.{Damage}
 use Rattle.start_journal.specs.declared.mark.Mark.{Mark}
 use Rattle.start_journal.specs.declared.mark.Mark.TheVariants.{Removed, Started, Ended, Interrupted, Forgotten, Batch}
 use Rattle.start_journal.specs.Marks.{is_decided, is_ended, is_forgotten, is_named, is_started}
-use Rattle.start_journal.specs.SlotBytes.{mark_in, right_front}
+use Rattle.start_journal.specs.SlotBytes.{can_write, mark_in, right_front}
 use Rattle.start_journal.specs.Slots.{IsWritable, SpellsMark}
 
 -- the name of the journal
@@ -29,6 +29,15 @@ is_legal_after before (Ended number ending) = is_started number before && not (i
 is_legal_after before (Interrupted number) = is_started number before && not (is_ended number before)
 is_legal_after before (Forgotten number) = is_decided number before && not (is_forgotten number before)
 is_legal_after before (Batch second) = true
+
+-- each mark is legal behind those before it, as a test
+abbrev pub are_legal_after : List Mark → List Mark → Bool
+are_legal_after before [] = true
+are_legal_after before (mark ∷ later) = is_legal_after before mark && are_legal_after (before ++ mark ∷ []) later
+
+-- the marks are legal, and each of them can be written
+abbrev pub are_sound : List Mark → Bool
+are_sound marks = are_legal_after [] marks && list_all can_write marks
 
 -- the number that the mark names, if it names one, was drawn: it is at most the last
 abbrev pub is_drawn : ℕ → Mark → Bool
@@ -78,6 +87,11 @@ one_slot last read slot =
     if slice_index slot 0 == 43
     then (if read.free == 0 then open_slot last read (mark_in slot) (right_front slot) else Err 0)
     else Ok (with_free read)
+
+-- what was read so far and one slot more, by its mark, if it is open
+abbrev pub with_slot : JournalRead → Option Mark → JournalRead
+with_slot read (Some mark) = with_mark read mark
+with_slot read None = with_free read
 
 -- what comes behind a slot, or the offset of its fault
 abbrev pub go_on : ℕ → (JournalRead → Result JournalRead ℕ) → Result JournalRead ℕ → Result JournalRead ℕ

@@ -1,4 +1,4 @@
-pub mod Adding
+pub mod Changing
 pub mod JournalFaults
 pub mod JournalLaws
 pub mod Journals

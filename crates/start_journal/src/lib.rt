@@ -2,20 +2,30 @@
 //! in their order. Each is one slot of the file `.JRN`.
 #![tactic(auto)]
 
+mod changing;
 mod fault;
 mod fields;
+mod front;
+mod journal;
+mod keeping;
 mod laws;
+mod legality;
 mod mark;
+mod names;
+mod reading;
 mod slot;
 mod stage;
+mod text;
 
 pub use fault::JournalFault;
 pub use fields::Fields;
+pub use journal::Journal;
 pub use laws::{
     journals_read_back, kept_marks_are_legal, kept_marks_keep_what_counts, marks_have_one_spelling,
     numbers_live_once, slots_give_their_marks,
 };
 pub use mark::Mark;
+pub use names::journal_name;
 pub use slot::{LAST_SECOND, SLOT, mark_text, read_mark};
 pub use stage::Stage;
 

@@ -1,6 +1,9 @@
-//! Slots of the journal, by the table of their format.
-use crate::{Mark, mark_text, read_mark};
+//! Slots of the journal, and journals, by the tables of their format.
+use crate::reading::read;
+use crate::text::journal_text;
+use crate::{JournalFault, Mark, mark_text, read_mark};
 use host_calls::Ending;
+use std::test::Fail;
 
 #[test]
 fn slots_of_marks(rt: HostRuntime) {
@@ -64,4 +67,80 @@ fn slots_that_spell_no_mark(rt: HostRuntime) {
     ] {
         assert_eq!(rt; read_mark(slot), None);
     }
+}
+
+#[test]
+fn journals_and_what_they_give(rt: HostRuntime) -> Result<(), Fail> {
+    let started = Mark::Started {
+        number: 1,
+        queue: b'a',
+        second: 1_735_689_600,
+    };
+    let ended = Mark::Ended {
+        number: 1,
+        ending: Ending::Exit(0),
+    };
+    let bytes =
+        b"+S00000001a-000000000067748580.\n+E00000001-x000000000000000000.\n-0123456789012345678901234567890................................";
+    let journal = read(rt.alloc(), bytes, 1)?;
+    assert_eq!(rt; journal.marks(), [started, ended].as_slice());
+    assert_eq!(rt; journal.free(), 2);
+    let none = read(rt.alloc(), b"", 0)?;
+    assert!(rt; none.marks().is_empty());
+    assert_eq!(rt; none.free(), 0);
+    Ok(())
+}
+
+#[test]
+fn journals_that_are_damaged(rt: HostRuntime) {
+    let cases: [(&[u8], u64, u8); 10] = [
+        (
+            b"-..............................\n+R00000001--000000000000000000.\n",
+            32,
+            b'+',
+        ),
+        (b"+Z00000001--000000000000000000.\n", 1, b'Z'),
+        (b"+S00000000a-000000000067748580.\n", 9, b'0'),
+        (b".................................", 32, b'.'),
+        (b"+R00000001--000000000000000000.\n+R00000002", 32, b'+'),
+        (b"+E00000001-x000000000000000000.\n", 0, b'+'),
+        (
+            b"+S00000001a-000000000067748580.\n+S00000001a-000000000067748580.\n",
+            32,
+            b'+',
+        ),
+        (b"+R00000003--000000000000000000.\n", 0, b'+'),
+        (b"+B00000000--000000003afe130e00.\n", 27, b'e'),
+        (b"+E00000001-n010000000000000000.\n", 13, b'1'),
+    ];
+    for (bytes, offset, byte) in cases {
+        let Err(JournalFault::Damaged(damage)) = read(rt.alloc(), bytes, 2) else {
+            panic!(rt; "no damage at {offset}");
+        };
+        assert_eq!(rt; damage.name.as_bytes(), b".JRN".as_slice());
+        assert_eq!(rt; damage.offset, offset);
+        assert_eq!(rt; damage.byte, Some(byte));
+    }
+}
+
+#[test]
+fn a_job_started_and_ended(rt: HostRuntime) -> Result<(), Fail> {
+    let marks = [
+        Mark::Started {
+            number: 1,
+            queue: b'a',
+            second: 1_735_689_600,
+        },
+        Mark::Ended {
+            number: 1,
+            ending: Ending::Exit(0),
+        },
+    ];
+    let text = journal_text(rt.alloc(), &marks, 254)?;
+    assert_eq!(rt; text.len(), 8192);
+    let first = b"+S00000001a-000000000067748580.\n+E00000001-x000000000000000000.\n";
+    let free = b"-..............................\n";
+    assert!(rt; text.as_slice().starts_with(first));
+    assert!(rt; text.as_slice().ends_with(free));
+    Ok(())
 }

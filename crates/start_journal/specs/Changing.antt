@@ -26,6 +26,11 @@ pub record HoldsJournal (journal : JournalRead) (folder : Folder) : Type 0 where
   pub gives : Gives (map.get (reading_of folder) journal_file) journal
   pub no_temp : IsInNoImage folder temporary_file
 
+-- the image has the journal file that one image of the start has, or one that gives this journal
+pub record IsReplacing (journal : JournalRead) (start : Folder) (image : Files) : Type 0 where
+  pub alone : LeavesOthers (IsEither temporary_file journal_file) start image
+  pub gives : (map.get image journal_file ≡ map.get alone.from journal_file) ⊎ Gives (map.get image journal_file) journal
+
 -- the image gives the one journal or the other, and other files are left alone
 pub record IsChanging (before after : JournalRead) (start : Folder) (image : Files) : Type 0 where
   pub alone : LeavesOthers (IsEither temporary_file journal_file) start image

@@ -1,0 +1,101 @@
+//! The journal after a crash at each host call that changes it, with several picks of what survived.
+ghost use Rattle.std.specs.Prelude.{IfOk};
+ghost use Rattle.host_calls.specs.Session.{IsOutside};
+ghost use Rattle.memory_host.specs.Host.{memory_session};
+
+use crate::journal_calls::{add_batch, compact};
+use host_calls::{Host, Name};
+use memory_host::{CallList, ChildPlans, FailingList, Files, MemoryHost, Plan};
+use start_journal::{Journal, Mark};
+use std::alloc::{AllocError, Global};
+use std::test::Fail;
+
+const PICKS: [u64; 4] = [0, 1, 255, u64::MAX];
+
+/// A journal of one job that was removed, another that was forgotten, two batch starts and a free slot.
+const JOURNAL: &[u8] = b"+R00000001--000000000000000000.\n+B00000000--000000000000000005.\n+B00000000--000000000000000007.\n-..............................\n";
+
+/// A folder with a journal, where no call gets through from the fuse on.
+fn spool(alloc: Global, fuse: Option<u64>) -> Result<MemoryHost, AllocError>
+    ensures { IfOk result (λ host. IsOutside (memory_session host)) }
+{
+    let mut files = Files::new(alloc);
+    if let Some(name) = Name::of(b".JRN") {
+        files.put(alloc, name, JOURNAL)?;
+    }
+    let plan = Plan {
+        failing: FailingList::new(alloc),
+        taken: CallList::new(alloc),
+        failing_starts: CallList::new(alloc),
+        fuse,
+        children: ChildPlans::new(alloc),
+    };
+    MemoryHost::make(alloc, files, plan)
+}
+
+// The calls are enter, settle, names, three that read the journal, create, sync, rename and sync_names.
+#[test]
+fn an_added_mark_stays(rt: HostRuntime) -> Result<(), Fail> {
+    let alloc = rt.alloc();
+    let old = [Mark::Removed(1), Mark::Batch(5), Mark::Batch(7)];
+    let new = [Mark::Removed(1), Mark::Batch(5), Mark::Batch(7), Mark::Batch(9)];
+    for fuse in 1..11 {
+        for pick in PICKS {
+            let mut host = spool(alloc, Some(fuse))?;
+            host.enter(alloc).ok().expect(&rt, "a session");
+            let added = add_batch(alloc, &mut host, 9).ok().flatten();
+            assert_eq!(rt; added.is_some(), fuse == 10);
+            host.reboot(alloc, pick, None)?;
+            host.enter(alloc).ok().expect(&rt, "a session");
+            let journal = Journal::recall(alloc, &mut host, 1)?;
+            let is_new = fuse == 10 || fuse == 9 && pick % 4 == 3;
+            let marks = if is_new { new.as_slice() } else { old.as_slice() };
+            assert_eq!(rt; journal.marks(), marks, "fuse {fuse}, pick {pick}");
+            assert_eq!(rt; journal.free(), if is_new { 0 } else { 1 });
+        }
+    }
+    Ok(())
+}
+
+#[test]
+fn a_compaction_drops_what_counts_no_more(rt: HostRuntime) -> Result<(), Fail> {
+    let alloc = rt.alloc();
+    let old = [Mark::Removed(1), Mark::Batch(5), Mark::Batch(7)];
+    let new = [Mark::Removed(1), Mark::Batch(7)];
+    for fuse in 1..11 {
+        for pick in PICKS {
+            let mut host = spool(alloc, Some(fuse))?;
+            host.enter(alloc).ok().expect(&rt, "a session");
+            let compacted = compact(alloc, &mut host).ok().flatten();
+            assert_eq!(rt; compacted.is_some(), fuse == 10);
+            host.reboot(alloc, pick, None)?;
+            host.enter(alloc).ok().expect(&rt, "a session");
+            let journal = Journal::recall(alloc, &mut host, 1)?;
+            let is_new = fuse == 10 || fuse == 9 && pick % 4 == 3;
+            let marks = if is_new { new.as_slice() } else { old.as_slice() };
+            assert_eq!(rt; journal.marks(), marks, "fuse {fuse}, pick {pick}");
+            assert_eq!(rt; journal.free(), if is_new { 256 } else { 1 });
+        }
+    }
+    Ok(())
+}
+
+#[test]
+fn a_full_journal_is_compacted(rt: HostRuntime) -> Result<(), Fail> {
+    let alloc = rt.alloc();
+    let mut host = spool(alloc, None)?;
+    host.enter(alloc).ok().expect(&rt, "a session");
+    compact(alloc, &mut host)?;
+    for second in 0..256 {
+        let journal = add_batch(alloc, &mut host, second)?;
+        assert_eq!(rt; journal.expect(&rt, "a free slot").free(), 255 - second as u64);
+    }
+    let name = Name::of(b".JRN").expect(&rt, "a name");
+    let bytes = host.reading(&name).expect(&rt, "a journal");
+    assert_eq!(rt; bytes.len(), 258 * 32);
+    assert!(rt; add_batch(alloc, &mut host, 256)?.is_none());
+    let journal = compact(alloc, &mut host)?.expect(&rt, "no file that is being made");
+    assert_eq!(rt; journal.marks(), [Mark::Removed(1), Mark::Batch(255)].as_slice());
+    assert_eq!(rt; journal.free(), 256);
+    Ok(())
+}

@@ -1,0 +1,85 @@
+-- What a crash leaves of the journal while it changes.
+use Rattle.std.proofs.Common.{◌≡◌, ℕ, List, Some, sym, subst, ◌∙◌, inl, inr, true, Result, Ok, Err}
+use Rattle.std.specs.Prelude.{OnOk}
+use Rattle.std.specs.FinMap as map
+use Rattle.host_calls.specs.declared.fault.HostFault.{HostFault}
+use Rattle.host_calls.specs.Folder.{Files, Folder, reading_of}
+use Rattle.host_calls.specs.World.{World}
+use Rattle.host_calls.proofs.FolderLemmas.{reading_is_image}
+use Rattle.host_calls.proofs.WorldLemmas.{leaves_weaker}
+use Rattle.whole_file.specs.Others.{ChangesFiles}
+use Rattle.whole_file.specs.Placing.{IsPlaced, IsPlacing}
+use Rattle.start_journal.specs.declared.mark.Mark.{Mark}
+use Rattle.start_journal.specs.Changing.{Gives, HoldsJournal, IsChanged, IsChanging, IsReplacing}
+use Rattle.start_journal.specs.Journals.{JournalRead, SpellsJournal, are_sound, journal_file, temporary_file}
+use Rattle.start_journal.proofs.JournalLemmas.{journals_read_back}
+use Rattle.start_journal.proofs.ReadLemmas.{sound_legal}
+
+-- a journal that is written whole gives its marks
+pub text_gives : (text : List ℕ) (journal : JournalRead) → SpellsJournal text journal.marks journal.free → are_sound journal.marks ≡ true → Gives (Some text) journal
+text_gives text journal spelled sound = λ last drawn. journals_read_back last text journal.marks journal.free spelled (sound_legal journal.marks sound) drawn
+
+-- a call with another done in its place
+changes_weaker : (P Q : Files → Type 0) (old new : World) → ((image : Files) → P image → Q image) → ChangesFiles P old new → ChangesFiles Q old new
+changes_weaker P Q old new weaker changes = record {
+  handed = changes.handed;
+  asked = changes.asked;
+  leaves = leaves_weaker _ _ old new (λ image handed is. (weaker image is.0, is.1)) changes.leaves;
+}
+
+-- while the text is placed
+placing_replaces : (text : List ℕ) (journal : JournalRead) (start : Folder) (image : Files) → Gives (Some text) journal → IsPlacing temporary_file journal_file text start image → IsReplacing journal start image
+placing_replaces text journal start image gives placing = record {
+  alone = placing.alone;
+  gives = elim placing.placed [
+    | inl same ↦ inl same
+    | inr new ↦ inr (subst (λ content. Gives content journal) (sym new) gives)
+  ];
+}
+
+pub replacing : (temp target text : List ℕ) (journal : JournalRead) (old new : World) → temp ≡ temporary_file → target ≡ journal_file → Gives (Some text) journal → ChangesFiles (IsPlacing temp target text old.now.folder) old new → ChangesFiles (IsReplacing journal old.now.folder) old new
+replacing temp target text journal old new is_temp is_target gives changes =
+    let start : Folder = old.now.folder in
+    let named : (image : Files) → IsPlacing temp target text start image → IsPlacing temporary_file journal_file text start image =
+    λ image placing. subst (λ name. IsPlacing temporary_file name text start image) is_target (subst (λ name. IsPlacing name target text start image) is_temp placing) in
+    changes_weaker _ _ old new (λ image placing. placing_replaces text journal start image gives (named image placing)) changes
+
+-- once the text is placed
+placed_holds : (text : List ℕ) (journal : JournalRead) (old new : Folder) → Gives (Some text) journal → IsPlaced temporary_file journal_file text old new → IsChanged journal old new
+placed_holds text journal old new gives placed =
+    let reads : map.get (reading_of new) journal_file ≡ Some text = placed.placed (reading_of new) (reading_is_image new) in
+    record {
+      holds = record {
+        same = λ image is. placed.placed image is ∙ sym reads;
+        gives = subst (λ content. Gives content journal) (sym reads) gives;
+        no_temp = placed.no_temp;
+      };
+      others = placed.others;
+      certain = λ none. placed.certain;
+    }
+
+pub replaced : {T : Type 0} (temp target text : List ℕ) (journal : JournalRead) (old new : Folder) (result : Result T HostFault) → temp ≡ temporary_file → target ≡ journal_file → Gives (Some text) journal → OnOk result (IsPlaced temp target text old new) → OnOk result (IsChanged journal old new)
+replaced temp target text journal old new (Ok value) is_temp is_target gives placed =
+    placed_holds text journal old new gives (subst (λ name. IsPlaced temporary_file name text old new) is_target (subst (λ name. IsPlaced name target text old new) is_temp placed))
+replaced temp target text journal old new (Err fault) is_temp is_target gives placed = tt
+
+-- a journal that is put in place of the one that the folder holds
+replacing_changes : (before after : JournalRead) (start : Folder) (image : Files) → HoldsJournal before start → IsReplacing after start image → IsChanging before after start image
+replacing_changes before after start image holds replacing = record {
+  alone = replacing.alone;
+  gives = elim replacing.gives [
+    | inl same ↦ inl (subst (λ content. Gives content before) (sym (same ∙ holds.same replacing.alone.from replacing.alone.was)) holds.gives)
+    | inr new ↦ inr new
+  ];
+}
+
+pub changing : (before after journal : JournalRead) (old new : World) → journal ≡ after → HoldsJournal before old.now.folder → ChangesFiles (IsReplacing journal old.now.folder) old new → ChangesFiles (IsChanging before after old.now.folder) old new
+changing before after journal old new is holds changes =
+    let replaces : ChangesFiles (IsReplacing after old.now.folder) old new = subst (λ read. ChangesFiles (IsReplacing read old.now.folder) old new) is changes in
+    changes_weaker _ _ old new (λ image replacing. replacing_changes before after old.now.folder image holds replacing) replaces
+
+-- the text that was made of a journal gives it
+pub made_gives : (text bytes : List ℕ) (marks : List Mark) (inside journal : JournalRead) → bytes ≡ text → marks ≡ inside.marks → SpellsJournal text marks inside.free → are_sound inside.marks ≡ true → inside ≡ journal → Gives (Some bytes) journal
+made_gives text bytes marks inside journal is same spelled sound seen =
+    let of_inside : SpellsJournal text inside.marks inside.free = subst (λ list. SpellsJournal text list inside.free) same spelled in
+    subst (λ read. Gives (Some bytes) read) seen (subst (λ list. Gives (Some list) inside) (sym is) (text_gives text inside of_inside sound))

@@ -1,0 +1,114 @@
+//! Reading the journal.
+ghost use Rattle.std.specs.Prelude.{◌≡◌, ◌≢◌, ◌≤◌, Ok, Err, Some, IfOk, IfErr, MatchResult, IsTrue, length};
+ghost use Rattle.std.specs.FinMap as map;
+ghost use Rattle.host_calls.specs.Causes.{HasCause};
+ghost use Rattle.host_calls.specs.Session.{IsInside, StaysInside};
+ghost use Rattle.host_calls.specs.World.{reading};
+ghost use Rattle.start_journal.specs.JournalFaults.{IfDamaged};
+ghost use Rattle.start_journal.specs.Journals.{damage_at, is_drawn, is_legal_after, journal_file, journal_in, one_slot, with_slot};
+
+use crate::front::right_front;
+use crate::legality::is_legal_after;
+use crate::names::journal_name;
+use crate::slot::SLOT;
+use crate::{Journal, JournalFault, Mark, read_mark};
+use host_calls::{Damage, Host};
+use std::alloc::Global;
+use whole_file::content;
+
+impl Journal {
+    /// The journal of the folder, where this number was drawn last.
+    pub fn recall<H: Host>(alloc: Global, host: &mut H, last: u32) -> Result<Journal, JournalFault>
+        requires { IsInside (H.session host.old) }
+        ensures inside { StaysInside (H.session host.old) (H.session host.new) }
+        ensures cause { HasCause JournalFault.Failed
+            (H.session host.old).file_faults (H.session host.new).file_faults result }
+        ensures looks { IsTrue H.tells → H.world host.new ≡ H.world host.old }
+        ensures journal { IsTrue H.tells → IfOk result (λ journal.
+            journal_in last (map.get (reading (H.world host.old)) journal_file) ≡ Ok journal) }
+        ensures damaged { IsTrue H.tells → IfDamaged (λ damage.
+            journal_in last (map.get (reading (H.world host.old)) journal_file) ≡ Err damage) result }
+    {
+        match content(alloc, host, &journal_name())? {
+            Some(bytes) => read(alloc, bytes.as_slice(), last),
+            None => Ok(Journal {
+                marks: Vec::new(alloc),
+                free: 0,
+            }),
+        }
+    }
+}
+
+/// The journal that these bytes give, or the place where they break its form.
+pub(crate) fn read(alloc: Global, bytes: &[u8], last: u32) -> Result<Journal, JournalFault>
+    ensures journal { IfOk result (λ journal. journal_in last (Some bytes.now) ≡ Ok journal) }
+    ensures damaged { IfDamaged (λ damage. journal_in last (Some bytes.now) ≡ Err damage) result }
+    ensures no_fault { result ≢ Err JournalFault.Failed }
+{
+    let (slots, rest) = bytes.as_chunks::<SLOT>();
+    let mut marks = Vec::new(alloc);
+    let mut free: u64 = 0;
+    for (place, slot) in slots.iter().enumerate() {
+        match next(marks.as_slice(), free, slot, last) {
+            Ok(Some(mark)) => marks.push(mark).map_err(|_| JournalFault::Memory)?,
+            Ok(None) => free += 1,
+            Err(offset) => {
+                return Err(JournalFault::Damaged(damage(bytes, place * SLOT + offset)));
+            }
+        }
+    }
+    if !rest.is_empty() {
+        return Err(JournalFault::Damaged(damage(bytes, slots.len() * SLOT)));
+    }
+    Ok(Journal { marks, free })
+}
+
+/// The mark of a slot behind these marks and free slots, `None` where its gate is closed, or the place
+/// in the slot where it breaks the form of a journal.
+fn next(marks: &[Mark], free: u64, slot: &[u8; SLOT], last: u32) -> Result<Option<Mark>, usize>
+    ensures few { IfErr result (λ place. place ≤ 32) }
+    ensures slot { MatchResult result
+        (λ found. one_slot last (record { marks = marks.now; free = free }) slot.now
+        ≡ Ok (with_slot (record { marks = marks.now; free = free }) found))
+        (λ place. one_slot last (record { marks = marks.now; free = free }) slot.now ≡ Err place) }
+{
+    if slot[0] != b'+' {
+        return Ok(None);
+    }
+    if free != 0 {
+        return Err(0);
+    }
+    match read_mark(slot) {
+        None => Err(right_front(slot)),
+        Some(mark) => {
+            if is_legal_after(marks, &mark) && is_drawn(last, &mark) {
+                Ok(Some(mark))
+            } else {
+                Err(0)
+            }
+        }
+    }
+}
+
+fn damage(bytes: &[u8], offset: usize) -> Damage
+    ensures { result ≡ damage_at bytes.now offset }
+{
+    Damage {
+        name: journal_name(),
+        offset: offset as u64,
+        byte: bytes.get(offset).copied(),
+    }
+}
+
+fn is_drawn(last: u32, mark: &Mark) -> bool
+    ensures { result ≡ is_drawn last mark.now }
+{
+    match *mark {
+        Mark::Removed(number) => number <= last,
+        Mark::Started { number, .. } => number <= last,
+        Mark::Ended { number, .. } => number <= last,
+        Mark::Interrupted(number) => number <= last,
+        Mark::Forgotten(number) => number <= last,
+        Mark::Batch(_) => true,
+    }
+}
