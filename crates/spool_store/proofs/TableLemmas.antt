@@ -67,10 +67,10 @@ find_live number marks [] = refl
 find_live number marks (file ∷ files) =
     ap (λ b. cond b (Some (live_entry marks file).1) (find_entry nat_cmp number (map (live_entry marks) files))) (same_test number file.job.number)
     ∙ by_test (file.job.number == number) (find_live number marks files) where
-  by_test : (at : Bool) → find_entry nat_cmp number (map (live_entry marks) files) ≡ option_map (λ f. (live_entry marks f).1) (file_of number files)
-      → cond at (Some (live_entry marks file).1) (find_entry nat_cmp number (map (live_entry marks) files)) ≡ option_map (λ f. (live_entry marks f).1) (cond at (Some file) (file_of number files))
-  by_test true rest = refl
-  by_test false rest = rest
+      by_test : (at : Bool) → find_entry nat_cmp number (map (live_entry marks) files) ≡ option_map (λ f. (live_entry marks f).1) (file_of number files)
+          → cond at (Some (live_entry marks file).1) (find_entry nat_cmp number (map (live_entry marks) files)) ≡ option_map (λ f. (live_entry marks f).1) (cond at (Some file) (file_of number files))
+      by_test true rest = refl
+      by_test false rest = rest
 
 -- The decided numbers of marks.
 
@@ -152,10 +152,10 @@ find_rows number [] keyed = refl
 find_rows number (entry ∷ list) keyed =
     ap (λ n. cond (is_at (nat_cmp number) n) (Some (row_entry entry.1).1) (find_entry nat_cmp number (map row_entry (map (λ (e : ℕ × Row). e.1) list)))) (keyed entry.0 entry.1 (inl refl))
     ∙ by_test (is_at (nat_cmp number) entry.0) (find_rows number list (λ key row has. keyed key row (inr has))) where
-  by_test : (at : Bool) → find_entry nat_cmp number (map row_entry (map (λ (e : ℕ × Row). e.1) list)) ≡ option_map (λ row. (row_entry row).1) (lookup (is_at (nat_cmp number)) list)
-      → cond at (Some (row_entry entry.1).1) (find_entry nat_cmp number (map row_entry (map (λ (e : ℕ × Row). e.1) list))) ≡ option_map (λ row. (row_entry row).1) (cond at (Some entry.1) (lookup (is_at (nat_cmp number)) list))
-  by_test true rest = refl
-  by_test false rest = rest
+      by_test : (at : Bool) → find_entry nat_cmp number (map row_entry (map (λ (e : ℕ × Row). e.1) list)) ≡ option_map (λ row. (row_entry row).1) (lookup (is_at (nat_cmp number)) list)
+          → cond at (Some (row_entry entry.1).1) (find_entry nat_cmp number (map row_entry (map (λ (e : ℕ × Row). e.1) list))) ≡ option_map (λ row. (row_entry row).1) (cond at (Some entry.1) (lookup (is_at (nat_cmp number)) list))
+      by_test true rest = refl
+      by_test false rest = rest
 
 -- a row stands under the number of its file
 row_keyed : (marks : List Mark) (files : List JobFile) (key : ℕ) (row : Row) (found : Option JobFile) → file_of key files ≡ found → option_map (row_of marks) found ≡ Some row → row.number ≡ key

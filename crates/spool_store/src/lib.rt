@@ -9,6 +9,3 @@ mod starts;
 mod tables;
 
 pub use fault::StoreFault;
-
-#[cfg(test)]
-mod tests;
