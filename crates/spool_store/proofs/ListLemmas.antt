@@ -1,8 +1,8 @@
 -- The lists of rows and decided numbers: their numbers, and what they are.
-use Rattle.std.proofs.Common.{◌≡◌, ◌⊎◌, ℕ, ◌≤◌, Bool, true, false, cond, List, Option, Some, None, [], ◌∷◌, map, sym, ap, subst, ◌∙◌, refl, arith, inl, inr}
+use Rattle.std.proofs.Common.{◌≡◌, ℕ, ◌≤◌, Bool, true, false, cond, List, Option, Some, None, [], ◌∷◌, map, sym, ap, subst, ◌∙◌, refl, arith, inl, inr}
 use Rattle.std.specs.Prelude.{◌==◌, ◌&&◌, Contains, is_some, nat_le, option_map}
 use Rattle.std.specs.BTreeMap.{IsOrdered, get, values}
-use Rattle.std.specs.List.{filter_map, list_all, list_any}
+use Rattle.std.specs.List.{filter_map, list_all}
 use Rattle.std.specs.Ordering.{nat_cmp}
 use Rattle.std.specs.Prelude.{unwrap_or}
 use Rattle.std.proofs.lemmas.Bool.Decides.{nat_tests}
@@ -24,7 +24,7 @@ use Rattle.spool_shows.proofs.StartLemmas.{number_is}
 use Rattle.spool_store.specs.declared.lives.Life.{Life}
 use Rattle.spool_store.specs.declared.lives.Lives.{Lives}
 use Rattle.spool_store.specs.declared.seen.Seen.{Seen}
-use Rattle.spool_store.specs.Lives.{Rise, TellLives, decided_of, fate_at, life_in, remembered_fate, untold}
+use Rattle.spool_store.specs.Lives.{Rise, TellLives, decided_of, remembered_fate, untold}
 use Rattle.spool_store.specs.Looks.{AreRowsOf, RowMap, row_of}
 use Rattle.spool_store.specs.Rows.{listed_table}
 use Rattle.spool_store.specs.Seen.{file_seen, files_seen}

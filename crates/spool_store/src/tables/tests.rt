@@ -69,14 +69,14 @@ fn shows_damage(
 )
     requires { length marks.now < 10 }
 {
-    match lists(rt, alloc, 1, marks, files) {
-        Err(StoreFault::Damaged(damage)) => {
-            assert_eq!(rt; damage.name.as_bytes(), name.as_bytes());
-            assert_eq!(rt; damage.offset, offset);
-            assert_eq!(rt; damage.byte, byte);
-        }
-        _ => assert!(rt; false, "{name} is not damaged"),
-    }
+    let fault = lists(rt, alloc, 1, marks, files).err();
+    let Some(StoreFault::Damaged(damage)) = fault else {
+        assert!(rt; false, "{name} is not damaged");
+        return;
+    };
+    assert_eq!(rt; damage.name.as_bytes(), name.as_bytes());
+    assert_eq!(rt; damage.offset, offset);
+    assert_eq!(rt; damage.byte, byte);
 }
 
 #[test]
