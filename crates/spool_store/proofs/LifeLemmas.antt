@@ -1,22 +1,17 @@
 -- What one mark more tells of each number.
-use Rattle.std.proofs.Common.{◌≡◌, ℕ, ℤ, zero, suc, ◌+◌, ◌<◌, Bool, true, false, cond, List, Option, Some, None, [], ◌∷◌, ◌++◌, length, get_or, take, sym, ap, ◌∙◌, refl, arith}
-use Rattle.std.specs.Prelude.{◌==◌, ◌||◌, unwrap_or}
+use Rattle.std.proofs.Common.{◌≡◌, ℕ, ℤ, ◌+◌, ◌<◌, true, List, Option, Some, None, [], ◌∷◌, ◌++◌, length, get_or, take, sym, ap, ◌∙◌, refl}
 use Rattle.std.specs.declared.cmp.Ordering.{Ordering}
 use Rattle.std.specs.declared.cmp.Ordering.TheVariants.{Less, Equal, Greater}
-use Rattle.std.specs.BTreeMap.{BTreeMap, Updates, get, is_at}
+use Rattle.std.specs.BTreeMap.{is_at}
 use Rattle.std.specs.Option.{option_or}
 use Rattle.std.specs.Ordering.{is_eq, nat_cmp}
 use Rattle.std.proofs.lemmas.List.{take_more}
 use Rattle.std.proofs.lemmas.Map.Lookups.{exact_unsigned}
-use Rattle.spool_model.specs.declared.fate.Fate.{Fate}
 use Rattle.start_journal.specs.declared.mark.Mark.{Mark}
-use Rattle.start_journal.specs.declared.mark.Mark.TheVariants.{Removed, Started, Ended, Interrupted, Forgotten, Batch}
 use Rattle.start_journal.specs.Marks.{batch_second, first_of_two, forgets, last_batch}
-use Rattle.start_journal.proofs.MarkLemmas.{or_false}
 use Rattle.spool_shows.proofs.MarkTests.{any_more, batch_more, started_more}
-use Rattle.spool_shows.proofs.ShownEntries.{fails_other, some_same}
 use Rattle.spool_store.specs.declared.lives.Life.{Life}
-use Rattle.spool_store.specs.Lives.{fate_at, fate_given, life_at, life_with, named_by, untold}
+use Rattle.spool_store.specs.Lives.{fate_at, fate_given, life_at, life_with}
 
 pub or_nothing : {X : Type 0} → (one : Option X) → option_or one None ≡ one
 or_nothing (Some x) = refl

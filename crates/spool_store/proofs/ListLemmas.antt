@@ -1,8 +1,8 @@
 -- The lists of rows and decided numbers: their numbers, and what they are.
-use Rattle.std.proofs.Common.{◌≡◌, ◌⊎◌, ℕ, ◌≤◌, Bool, true, false, cond, List, Option, Some, None, [], ◌∷◌, map, sym, ap, subst, ◌∙◌, refl, arith, inl, inr}
+use Rattle.std.proofs.Common.{◌≡◌, ℕ, ◌≤◌, Bool, true, false, cond, List, Option, Some, None, [], ◌∷◌, map, sym, ap, subst, ◌∙◌, refl, arith, inl, inr}
 use Rattle.std.specs.Prelude.{◌==◌, ◌&&◌, Contains, is_some, nat_le, option_map}
 use Rattle.std.specs.BTreeMap.{IsOrdered, get, values}
-use Rattle.std.specs.List.{filter_map, list_all, list_any}
+use Rattle.std.specs.List.{filter_map, list_all}
 use Rattle.std.specs.Ordering.{nat_cmp}
 use Rattle.std.specs.Prelude.{unwrap_or}
 use Rattle.std.proofs.lemmas.Bool.Decides.{nat_tests}
@@ -15,20 +15,20 @@ use Rattle.start_journal.specs.declared.mark.Mark.TheVariants.{Removed, Started,
 use Rattle.start_journal.specs.Journals.{AreWritable, are_drawn, is_drawn}
 use Rattle.start_journal.specs.Marks.{decides, is_decided, last_batch}
 use Rattle.start_journal.specs.Slots.{IsWritable}
-use Rattle.spool_shows.specs.JobFiles.{JobFile, file_of}
+use Rattle.spool_shows.specs.JobFiles.{JobFile, file_of, files_damage}
 use Rattle.spool_shows.specs.Shown.{damage_of_jobs}
 use Rattle.spool_shows.proofs.Membership.{Has, contained, found_has, given_has, has_contained, made_has, one_passes}
 use Rattle.spool_shows.proofs.ShownEntries.{some_same}
-use Rattle.spool_shows.proofs.SoundLemmas.{fine_is_whole, neither_first, no_damage_is_fine}
+use Rattle.spool_shows.proofs.SoundLemmas.{fine_is_whole, no_damage_is_fine}
 use Rattle.spool_shows.proofs.StartLemmas.{number_is}
 use Rattle.spool_store.specs.declared.lives.Life.{Life}
 use Rattle.spool_store.specs.declared.lives.Lives.{Lives}
 use Rattle.spool_store.specs.declared.seen.Seen.{Seen}
-use Rattle.spool_store.specs.Lives.{Rise, TellLives, decided_of, fate_at, life_in, remembered_fate, untold}
+use Rattle.spool_store.specs.Lives.{Rise, TellLives, decided_of, remembered_fate, untold}
 use Rattle.spool_store.specs.Looks.{AreRowsOf, RowMap, row_of}
 use Rattle.spool_store.specs.Rows.{listed_table}
 use Rattle.spool_store.specs.Seen.{file_seen, files_seen}
-use Rattle.spool_store.specs.Tables.{AreUndecided, IsDrawn, ListsTable}
+use Rattle.spool_store.specs.Tables.{AreUndecided, IsDrawn, ListsDrawn, ListsTable}
 use Rattle.spool_store.proofs.StartLemmas.{decided_has_fate}
 use Rattle.spool_store.proofs.TableLemmas.{decided_rise, entry_found, rows_rise, table_same}
 
@@ -110,19 +110,25 @@ seen_number seen file has =
 
 -- lists that are those of the rows and of the lives are those of the table
 pub lists_table : (last : ℕ) (marks : List Mark) (files : List JobFile) (rows : RowMap) (lives : Lives) (row_list : List Row) (decided : List Decided) → TellLives marks lives → AreRowsOf marks files rows → IsOrdered nat_cmp rows → IsOrdered nat_cmp lives.by_number
-    → row_list ≡ values rows → decided ≡ filter_map decided_of lives.by_number.entries → damage_of_jobs last marks files ≡ None → AreUndecided marks files → AreWritable marks → are_drawn last marks ≡ true → ((file : JobFile) → Has files file → 1 ≤ file.job.number) → ListsTable last marks files row_list decided
-lists_table last marks files rows lives row_list decided tells are ordered orders rows_is decided_is whole undecided writable drawn named = record {
+    → row_list ≡ values rows → decided ≡ filter_map decided_of lives.by_number.entries → damage_of_jobs last marks files ≡ None → ListsTable last marks files row_list decided
+lists_table last marks files rows lives row_list decided tells are ordered orders rows_is decided_is whole = record {
   whole = whole;
   table = ap (λ list. listed_table last list decided (last_batch marks)) rows_is ∙ ap (λ list. listed_table last (values rows) list (last_batch marks)) decided_is ∙ table_same last marks files rows lives tells are ordered orders;
   rows_rise = subst (λ list. Rise (map (λ (row : Row). row.number) list)) (sym rows_is) (rows_rise marks files rows are ordered);
   decided_rise = subst (λ list. Rise (map (λ (one : Decided). one.number) list)) (sym decided_is) (decided_rise lives.by_number.entries orders);
+}
+
+-- and their numbers were drawn
+pub lists_drawn : (last : ℕ) (marks : List Mark) (files : List JobFile) (rows : RowMap) (lives : Lives) (row_list : List Row) (decided : List Decided) → TellLives marks lives → AreRowsOf marks files rows → IsOrdered nat_cmp rows → IsOrdered nat_cmp lives.by_number
+    → row_list ≡ values rows → decided ≡ filter_map decided_of lives.by_number.entries → files_damage last [] files ≡ None → AreUndecided marks files → AreWritable marks → are_drawn last marks ≡ true → ((file : JobFile) → Has files file → 1 ≤ file.job.number) → ListsDrawn last row_list decided
+lists_drawn last marks files rows lives row_list decided tells are ordered orders rows_is decided_is whole undecided writable drawn named = record {
   rows_drawn = λ row has.
       let of = row_file marks files rows are ordered row (in_list row_list (values rows) row rows_is has) in
-      subst (IsDrawn last) of.2 (named of.0 of.1, (fine_is_whole last [] files of.0 (no_damage_is_fine last [] files (neither_first _ _ whole).0) of.1).drawn);
+      subst (IsDrawn last) of.2 (named of.0 of.1, (fine_is_whole last [] files of.0 (no_damage_is_fine last [] files whole) of.1).drawn);
   decided_drawn = λ one has. number_drawn last marks one.number writable drawn (decided_is_decided marks lives tells orders one (in_list decided _ one decided_is has));
   apart = λ row one has also same.
       let of = row_file marks files rows are ordered row (in_list row_list (values rows) row rows_is has) in
       let impossible : true ≡ false =
-          sym (decided_is_decided marks lives tells orders one (in_list decided _ one decided_is also)) ∙ ap (λ n. is_decided n marks) (sym (of.2 ∙ same)) ∙ undecided of.0 (contained files of.0 of.1) in
+      sym (decided_is_decided marks lives tells orders one (in_list decided _ one decided_is also)) ∙ ap (λ n. is_decided n marks) (sym (of.2 ∙ same)) ∙ undecided of.0 (contained files of.0 of.1) in
       cc;
 }

@@ -1,11 +1,11 @@
 -- The look at one file more.
-use Rattle.std.proofs.Common.{◌≡◌, ℕ, zero, suc, ◌+◌, ◌<◌, ◌≤◌, Bool, true, false, cond, List, Option, Some, None, [], ◌∷◌, ◌++◌, length, get_or, take, drop, map, sym, ap, subst, ◌∙◌, refl, arith, rules}
+use Rattle.std.proofs.Common.{◌≡◌, ℕ, ◌+◌, ◌<◌, ◌≤◌, Bool, true, false, cond, List, Option, Some, None, [], ◌∷◌, ◌++◌, length, get_or, take, drop, sym, ap, subst, ◌∙◌, refl, arith}
 use Rattle.std.specs.Prelude.{◌==◌, ◌||◌, MatchResult, Result, Ok, Err, IsErrAnd, is_some, nat_lt, option_map}
-use Rattle.std.specs.BTreeMap.{BTreeMap, Updates, get, is_at}
+use Rattle.std.specs.BTreeMap.{Updates, get, is_at}
 use Rattle.std.specs.Cmp.{nat_cmp_total, tied_itself}
 use Rattle.std.specs.List.{find, list_any}
 use Rattle.std.specs.Option.{option_or}
-use Rattle.std.specs.Ordering.{eq_by_cmp, is_eq, nat_cmp}
+use Rattle.std.specs.Ordering.{is_eq, nat_cmp}
 use Rattle.std.proofs.lemmas.List.{drop_all, drop_more, get_or-map, length-map, take_all, take_more}
 use Rattle.host_calls.specs.declared.damage.Damage.{Damage}
 use Rattle.spool_model.specs.declared.row.Row.{Row}
@@ -83,19 +83,20 @@ new_number last before file is = by_test (nat_lt last file.job.number || list_an
 rows_more : (marks : List Mark) (files : List JobFile) (file : JobFile) (rows new : RowMap) (row : Row) → AreRowsOf marks files rows → row ≡ row_of marks file → file_of file.job.number files ≡ None → Updates nat_cmp rows new row.number (Some row) → AreRowsOf marks (files ++ file ∷ []) new
 rows_more marks files file rows new row are is none updates number =
     by_test (is_at (nat_cmp row.number) number) refl ∙ ap (option_map (row_of marks)) (sym (find_last (λ (f : JobFile). f.job.number == number) files file)) where
-  number_same : row.number ≡ file.job.number
-  number_same = ap (λ (r : Row). r.number) is
-  by_test : (at : Bool) → is_at (nat_cmp row.number) number ≡ at → get nat_cmp new number ≡ option_map (row_of marks) (option_or (file_of number files) (cond (file.job.number == number) (Some file) None))
-  by_test true at =
-      let same : file.job.number ≡ number = sym number_same ∙ key_is row.number number at in
-      updates.0 number ∙ ap (λ b. cond b (Some row) (get nat_cmp rows number)) at ∙ ap Some is
-      ∙ sym (ap (λ o. option_map (row_of marks) (option_or o (cond (file.job.number == number) (Some file) None))) (ap (λ n. file_of n files) (sym same) ∙ none)
-      ∙ ap (λ b. option_map (row_of marks) (cond b (Some file) None)) (number_passes file.job.number number same))
-  by_test false at =
-      let differ : (file.job.number == number) ≡ false = ap (λ n. n == number) (sym number_same) ∙ key_differs row.number number at in
-      updates.2 number at ∙ are number
-      ∙ sym (ap (λ b. option_map (row_of marks) (option_or (file_of number files) (cond b (Some file) None))) differ
-      ∙ ap (option_map (row_of marks)) (or_nothing (file_of number files)))
+      number_same : row.number ≡ file.job.number
+      number_same = ap (λ (r : Row). r.number) is
+
+      by_test : (at : Bool) → is_at (nat_cmp row.number) number ≡ at → get nat_cmp new number ≡ option_map (row_of marks) (option_or (file_of number files) (cond (file.job.number == number) (Some file) None))
+      by_test true at =
+          let same : file.job.number ≡ number = sym number_same ∙ key_is row.number number at in
+          updates.0 number ∙ ap (λ b. cond b (Some row) (get nat_cmp rows number)) at ∙ ap Some is
+          ∙ sym (ap (λ o. option_map (row_of marks) (option_or o (cond (file.job.number == number) (Some file) None))) (ap (λ n. file_of n files) (sym same) ∙ none)
+          ∙ ap (λ b. option_map (row_of marks) (cond b (Some file) None)) (number_passes file.job.number number same))
+      by_test false at =
+          let differ : (file.job.number == number) ≡ false = ap (λ n. n == number) (sym number_same) ∙ key_differs row.number number at in
+          updates.2 number at ∙ are number
+          ∙ sym (ap (λ b. option_map (row_of marks) (option_or (file_of number files) (cond b (Some file) None))) differ
+          ∙ ap (option_map (row_of marks)) (or_nothing (file_of number files)))
 
 -- The look.
 
@@ -110,7 +111,7 @@ pub looked_more : (last : ℕ) (marks : List Mark) (files : List JobFile) (place
 looked_more last marks files place rows new file row inside at looked whole updates =
     let more : take (place + 1) files ≡ take place files ++ file ∷ [] = take_more files place file inside ∙ ap (λ f. take place files ++ f ∷ []) at in
     let none : file_of file.job.number (take place files) ≡ None =
-        not_some _ (sym (any_behind file.job.number [] (take place files) ∙ or_false (is_some (file_of file.job.number (take place files)))) ∙ new_number last _ file whole.0) in
+    not_some _ (sym (any_behind file.job.number [] (take place files) ∙ or_false (is_some (file_of file.job.number (take place files)))) ∙ new_number last _ file whole.0) in
     record {
       damage =
           next_damage last marks files place rows file inside at looked
@@ -127,9 +128,10 @@ looked_damage last marks files place rows file damage inside at looked fault =
 
 -- all were looked at
 pub looked_all : (last : ℕ) (marks : List Mark) (files : List JobFile) (place : ℕ) (rows : RowMap) → length files ≤ place → HasLooked last marks files place rows → (files_damage last [] files ≡ None) × AreRowsOf marks files rows
-looked_all last marks files place rows behind looked =
-    (looked.damage ∙ ap (files_damage last (numbers_behind [] (take place files))) (drop_all place files behind),
-    λ number. looked.rows_are number ∙ ap (λ fs. option_map (row_of marks) (file_of number fs)) (take_all place files behind))
+looked_all last marks files place rows behind looked = (
+  looked.damage ∙ ap (files_damage last (numbers_behind [] (take place files))) (drop_all place files behind),
+  λ number. looked.rows_are number ∙ ap (λ fs. option_map (row_of marks) (file_of number fs)) (take_all place files behind),
+)
 
 -- Files as they were seen.
 

@@ -1,9 +1,7 @@
 -- The check of starts, mark by mark.
-use Rattle.std.proofs.Common.{◌≡◌, ℕ, ℤ, ◌+◌, ◌*◌, ◌<◌, Bool, true, false, cond, List, Option, Some, None, [], ◌∷◌, length, get_or, drop, sym, ap, ◌∙◌, refl, arith}
+use Rattle.std.proofs.Common.{◌≡◌, ℕ, ℤ, ◌+◌, ◌*◌, ◌<◌, Bool, true, false, cond, List, Option, Some, None, [], ◌∷◌, length, get_or, drop, sym, ap, ◌∙◌, refl}
 use Rattle.std.specs.Prelude.{◌==◌, ◌||◌, is_some, option_map}
-use Rattle.std.specs.BTreeMap.{get}
 use Rattle.std.specs.Option.{option_or}
-use Rattle.std.specs.Ordering.{nat_cmp}
 use Rattle.std.proofs.lemmas.List.{drop_more}
 use Rattle.host_calls.specs.declared.damage.Damage.{Damage}
 use Rattle.spool_model.specs.declared.fate.Fate.{Fate}
@@ -18,7 +16,7 @@ use Rattle.spool_shows.proofs.ShownEntries.{fails_other, some_same}
 use Rattle.spool_store.specs.declared.lives.Life.{Life}
 use Rattle.spool_store.specs.declared.lives.Lives.{Lives}
 use Rattle.spool_store.specs.Lives.{TellLives, fate_at, fate_given, life_in}
-use Rattle.spool_store.specs.Looks.{AreRowsOf, RowMap, row_of}
+use Rattle.spool_store.specs.Looks.{row_of}
 
 some_if : (same : Bool) (fate : Fate) → same ≡ is_some (cond same (Some fate) None)
 some_if true fate = refl

@@ -1,11 +1,9 @@
 -- The table of the rows and decided numbers, number by number.
-use Rattle.std.proofs.Common.{◌≡◌, ◌⊎◌, ℕ, ℤ, zero, suc, ◌+◌, ◌<◌, ◌≤◌, Bool, true, false, cond, List, Option, Some, None, [], ◌∷◌, ◌++◌, map, sym, ap, subst, ◌∙◌, refl, arith, inl, inr}
-use Rattle.std.specs.Prelude.{◌==◌, is_some, option_map, unwrap_or}
-use Rattle.std.specs.declared.cmp.Ordering.{Ordering}
-use Rattle.std.specs.declared.cmp.Ordering.TheVariants.{Less, Equal, Greater}
-use Rattle.std.specs.BTreeMap.{BTreeMap, IsOrdered, get, is_at, values}
+use Rattle.std.proofs.Common.{◌≡◌, ℕ, Bool, true, false, cond, List, Option, Some, None, [], ◌∷◌, ◌++◌, map, sym, ap, subst, ◌∙◌, refl, inl, inr}
+use Rattle.std.specs.Prelude.{◌==◌, option_map, unwrap_or}
+use Rattle.std.specs.declared.cmp.Ordering.TheVariants.{Less}
+use Rattle.std.specs.BTreeMap.{IsOrdered, get, is_at, values}
 use Rattle.std.specs.Cmp.{nat_cmp_total}
-use Rattle.std.specs.FinMap as finite
 use Rattle.std.specs.FinMap.{entries, from_entries, find as find_entry, get-entries, get-from_entries, nat_cmp-IsAntisymmetric, same_map}
 use Rattle.std.specs.List.{AllByRecursion, cons_option, filter_map}
 use Rattle.std.specs.List.Sorted.{IsStrictlySortedBy}
@@ -14,7 +12,7 @@ use Rattle.std.specs.Option.{option_and_then, option_or}
 use Rattle.std.specs.Ordering.{eq_by_cmp, is_eq, nat_cmp}
 use Rattle.std.proofs.lemmas.Map.Keys.{sorted_head, sorted_tail}
 use Rattle.spool_model.specs.declared.decided.Decided.{Decided}
-use Rattle.spool_model.specs.declared.entry.Entry.TheVariants.{Live, Done}
+use Rattle.spool_model.specs.declared.entry.Entry.TheVariants.{Done}
 use Rattle.spool_model.specs.declared.fate.Fate.{Fate}
 use Rattle.spool_model.specs.declared.fate.Fate.TheVariants as fate
 use Rattle.spool_model.specs.declared.row.Row.{Row}
@@ -22,7 +20,6 @@ use Rattle.spool_model.specs.JobTable.{JobEntry, table_of}
 use Rattle.start_journal.specs.declared.mark.Mark.{Mark}
 use Rattle.start_journal.specs.declared.mark.Mark.TheVariants.{Removed, Started, Ended, Interrupted, Forgotten, Batch}
 use Rattle.start_journal.specs.Marks.{is_forgotten, last_batch}
-use Rattle.start_journal.proofs.MarkLemmas.{same_number}
 use Rattle.spool_shows.specs.JobFiles.{JobFile, file_of, files_damage}
 use Rattle.spool_shows.specs.Shown.{damage_of_jobs, done_as, done_entry, entries_shown, live_entry, starts_damage, table_shown}
 use Rattle.spool_shows.proofs.Membership.{Has, found_has}
@@ -31,11 +28,11 @@ use Rattle.spool_shows.proofs.StartLemmas.{number_is, number_passes}
 use Rattle.job_runs.specs.Bare.{bare, bare_entries, bare_entry}
 use Rattle.spool_store.specs.declared.lives.Life.{Life}
 use Rattle.spool_store.specs.declared.lives.Lives.{Lives}
-use Rattle.spool_store.specs.Lives.{Rise, TellLives, decided_of, fate_at, fate_given, life_in, remembered_at, remembered_fate, untold}
+use Rattle.spool_store.specs.Lives.{Rise, TellLives, decided_of, fate_at, remembered_at, remembered_fate, untold}
 use Rattle.spool_store.specs.Looks.{AreRowsOf, RowMap, row_of}
 use Rattle.spool_store.specs.Rows.{decided_entry, listed_entries, listed_table, row_entry}
 use Rattle.spool_store.proofs.LifeLemmas.{key_is}
-use Rattle.spool_store.proofs.LookLemmas.{equal_self, key_differs}
+use Rattle.spool_store.proofs.LookLemmas.{equal_self}
 
 -- a number, as a key and as a test
 same_test : (one other : ℕ) → eq_by_cmp nat_cmp one other ≡ (other == one)
@@ -67,10 +64,10 @@ find_live number marks [] = refl
 find_live number marks (file ∷ files) =
     ap (λ b. cond b (Some (live_entry marks file).1) (find_entry nat_cmp number (map (live_entry marks) files))) (same_test number file.job.number)
     ∙ by_test (file.job.number == number) (find_live number marks files) where
-  by_test : (at : Bool) → find_entry nat_cmp number (map (live_entry marks) files) ≡ option_map (λ f. (live_entry marks f).1) (file_of number files)
-      → cond at (Some (live_entry marks file).1) (find_entry nat_cmp number (map (live_entry marks) files)) ≡ option_map (λ f. (live_entry marks f).1) (cond at (Some file) (file_of number files))
-  by_test true rest = refl
-  by_test false rest = rest
+      by_test : (at : Bool) → find_entry nat_cmp number (map (live_entry marks) files) ≡ option_map (λ f. (live_entry marks f).1) (file_of number files)
+          → cond at (Some (live_entry marks file).1) (find_entry nat_cmp number (map (live_entry marks) files)) ≡ option_map (λ f. (live_entry marks f).1) (cond at (Some file) (file_of number files))
+      by_test true rest = refl
+      by_test false rest = rest
 
 -- The decided numbers of marks.
 
@@ -152,10 +149,10 @@ find_rows number [] keyed = refl
 find_rows number (entry ∷ list) keyed =
     ap (λ n. cond (is_at (nat_cmp number) n) (Some (row_entry entry.1).1) (find_entry nat_cmp number (map row_entry (map (λ (e : ℕ × Row). e.1) list)))) (keyed entry.0 entry.1 (inl refl))
     ∙ by_test (is_at (nat_cmp number) entry.0) (find_rows number list (λ key row has. keyed key row (inr has))) where
-  by_test : (at : Bool) → find_entry nat_cmp number (map row_entry (map (λ (e : ℕ × Row). e.1) list)) ≡ option_map (λ row. (row_entry row).1) (lookup (is_at (nat_cmp number)) list)
-      → cond at (Some (row_entry entry.1).1) (find_entry nat_cmp number (map row_entry (map (λ (e : ℕ × Row). e.1) list))) ≡ option_map (λ row. (row_entry row).1) (cond at (Some entry.1) (lookup (is_at (nat_cmp number)) list))
-  by_test true rest = refl
-  by_test false rest = rest
+      by_test : (at : Bool) → find_entry nat_cmp number (map row_entry (map (λ (e : ℕ × Row). e.1) list)) ≡ option_map (λ row. (row_entry row).1) (lookup (is_at (nat_cmp number)) list)
+          → cond at (Some (row_entry entry.1).1) (find_entry nat_cmp number (map row_entry (map (λ (e : ℕ × Row). e.1) list))) ≡ option_map (λ row. (row_entry row).1) (cond at (Some entry.1) (lookup (is_at (nat_cmp number)) list))
+      by_test true rest = refl
+      by_test false rest = rest
 
 -- a row stands under the number of its file
 row_keyed : (marks : List Mark) (files : List JobFile) (key : ℕ) (row : Row) (found : Option JobFile) → file_of key files ≡ found → option_map (row_of marks) found ≡ Some row → row.number ≡ key

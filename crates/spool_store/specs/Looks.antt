@@ -1,5 +1,5 @@
 -- What a look at the files of jobs finds, file by file, and the rows that it makes (own).
-use Rattle.std.specs.Prelude.{◌≡◌, ◌==◌, [], ◌∷◌, ℕ, List, Option, Some, None, Result, Ok, Err, drop, is_some, option_map, take}
+use Rattle.std.specs.Prelude.{◌≡◌, ◌==◌, [], ◌∷◌, ℕ, List, Some, None, Result, Ok, Err, drop, is_some, option_map, take}
 use Rattle.std.specs.BTreeMap.{BTreeMap, get}
 use Rattle.std.specs.List.{list_any}
 use Rattle.std.specs.Ordering.{nat_cmp}
@@ -9,8 +9,6 @@ use Rattle.spool_model.specs.declared.row.Row.{Row}
 use Rattle.start_journal.specs.declared.mark.Mark.{Mark}
 use Rattle.spool_shows.specs.JobFiles.{JobFile, damage_of, file_of, file_place, files_damage}
 use Rattle.spool_shows.specs.Shown.{started_at, state_since, user_of}
-use Rattle.spool_store.specs.declared.seen.Seen.{Seen}
-use Rattle.spool_store.specs.Seen.{files_seen}
 
 -- the row of a file
 abbrev pub row_of : List Mark → JobFile → Row

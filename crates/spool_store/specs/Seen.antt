@@ -1,7 +1,7 @@
 -- A job's file as it was seen (own): by its name and its first bytes.
-use Rattle.std.specs.Prelude.{◌≡◌, ℕ, List, Bool, Option, Some, None, Result, Ok, Err, map}
+use Rattle.std.specs.Prelude.{◌≡◌, ℕ, List, Some, None, Result, Ok, Err, map}
 use Rattle.job_name.specs.declared.job.JobName.{JobName}
-use Rattle.job_script.specs.HeaderIn.{header_in, header_place}
+use Rattle.job_script.specs.HeaderIn.{header_in}
 use Rattle.spool_shows.specs.JobFiles.{JobFile, NamedJob, header_fault_in}
 use Rattle.spool_shows.specs.Shown.{user_of}
 use Rattle.spool_store.specs.declared.seen.Seen.{Seen}

@@ -85,7 +85,9 @@ impl Lives {
         ensures ordered { IsOrdered nat_cmp self.now.by_number }
     {
         let lives = self.by_number.iter();
-        lives.filter_map(|(number, life)| decided_of(*number, *life)).collect(alloc)
+        lives
+            .filter_map(|(number, life)| decided_of(*number, *life))
+            .collect(alloc)
     }
 
     // Puts what one mark more tells to what is told.

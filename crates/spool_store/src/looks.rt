@@ -20,7 +20,12 @@ use std::alloc::{AllocError, Global};
 use std::collections::BTreeMap;
 
 /// The rows of the files, by their numbers, or the first damage of the files.
-pub(crate) fn look_at(alloc: Global, last: u32, lives: &Lives, seen: &[Seen]) -> Result<BTreeMap<u32, Row>, StoreFault>
+pub(crate) fn look_at(
+    alloc: Global,
+    last: u32,
+    lives: &Lives,
+    seen: &[Seen],
+) -> Result<BTreeMap<u32, Row>, StoreFault>
     ensures { (marks : List Mark) → TellLives marks lives.now → MatchResult result
         (λ rows. (files_damage last [] (files_seen seen.now) ≡ None) × AreRowsOf marks (files_seen seen.now) rows)
         (IsFound (files_damage last [] (files_seen seen.now))) }

@@ -18,7 +18,11 @@ use std::collections::BTreeMap;
 const QUEUE: u64 = 10;
 
 /// The damage of the first start whose number is not decided and has no row, or one of another queue.
-pub(crate) fn starts_fault(marks: &[Mark], lives: &Lives, rows: &BTreeMap<u32, Row>) -> Option<Damage>
+pub(crate) fn starts_fault(
+    marks: &[Mark],
+    lives: &Lives,
+    rows: &BTreeMap<u32, Row>,
+) -> Option<Damage>
     requires { 32 * length marks.now < 2 ^ 64 }
     ensures { (files : List JobFile) → TellLives marks.now lives.now → AreRowsOf marks.now files rows.now
         → result ≡ starts_damage marks.now files 0 marks.now }

@@ -7,7 +7,7 @@ ghost use Rattle.start_journal.specs.Journals.{AreWritable, are_drawn};
 ghost use Rattle.spool_store.specs.Faults.{IsFound};
 ghost use Rattle.spool_store.specs.Lives.{TellLives};
 ghost use Rattle.spool_store.specs.Seen.{files_seen};
-ghost use Rattle.spool_store.specs.Tables.{AreUndecided, ListsTable};
+ghost use Rattle.spool_store.specs.Tables.{AreUndecided, ListsDrawn, ListsTable};
 
 use crate::fault::StoreFault;
 use crate::lives::Lives;
@@ -29,13 +29,12 @@ pub(crate) fn listed(
     seen: &[Seen],
 ) -> Result<(Vec<Row>, Vec<Decided>), StoreFault>
     requires told { TellLives marks.now lives.now }
-    requires undecided { AreUndecided marks.now (files_seen seen.now) }
-    requires writable { AreWritable marks.now }
-    requires drawn { IsTrue (are_drawn last marks.now) }
     requires fits { 32 * length marks.now < 2 ^ 64 }
-    ensures { MatchResult result
+    ensures table { MatchResult result
         (λ lists. ListsTable last marks.now (files_seen seen.now) lists.0.items lists.1.items)
         (IsFound (damage_of_jobs last marks.now (files_seen seen.now))) }
+    ensures drawn { AreUndecided marks.now (files_seen seen.now) → AreWritable marks.now → IsTrue (are_drawn last marks.now)
+        → IfOk result (λ lists. ListsDrawn last lists.0.items lists.1.items) }
 {
     let by_number = look_at(alloc, last, lives, seen)?;
     if let Some(damage) = starts_fault(marks, lives, &by_number) {
@@ -52,3 +51,6 @@ fn rows_in_order(alloc: Global, rows: &BTreeMap<u32, Row>) -> Result<Vec<Row>, A
 {
     rows.values().copied().collect(alloc)
 }
+
+#[cfg(test)]
+mod tests;
