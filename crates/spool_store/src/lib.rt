@@ -6,3 +6,5 @@ mod sorted;
 
 pub(crate) use jobs::Jobs;
 
+#[cfg(test)]
+mod tests;
