@@ -1,8 +1,8 @@
 -- Lists in the order of their numbers: what is under a number, and one element put, changed or taken out.
 use Rattle.std.proofs.Common.{◌≡◌, ℕ, zero, suc, ◌<◌, ◌≤◌, Bool, true, false, cond, not, ◌&&◌, List, [], ◌∷◌, ◌++◌, length, map, set, get_or, refl, sym, ap, subst, ◌∙◌, inl, inr, arith}
-use Rattle.std.specs.Prelude.{Option, Some, None, IsSome, IsTrue, T, nat_eq}
+use Rattle.std.specs.Prelude.{Some, None, IsSome, IsTrue, T}
 use Rattle.std.specs.List.{AllWithin, insert, remove}
-use Rattle.std.specs.Cmp.{nat_cmp_total, nat_cmp_is, tied_itself, eq_by_cmp_equiv, ranked, unsigned_tied}
+use Rattle.std.specs.Cmp.{nat_cmp_total, nat_cmp_is, eq_by_cmp_equiv, ranked, unsigned_tied}
 use Rattle.std.specs.Ordering.{eq_by_cmp, is_eq, is_lt, nat_cmp}
 use Rattle.std.specs.FinMap.Entries.{below_all, by_order, find, find-put, find-where_key, is_sorted, is_sorted-put, is_sorted-where_key, put, where_key}
 use Rattle.std.specs.declared.cmp.Ordering.{Ordering}

@@ -11,10 +11,7 @@ mod starts;
 mod tables;
 
 pub use fault::StoreFault;
-<<<<<<< HEAD
 pub(crate) use jobs::Jobs;
 
 #[cfg(test)]
 mod tests;
-=======
->>>>>>> b4b4a01182f041a3b2b65e48344bd2a54596f852

@@ -1,0 +1,2 @@
+//! The kept jobs, a step after another.
+mod jobs;
