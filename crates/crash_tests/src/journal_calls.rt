@@ -32,10 +32,7 @@ pub(crate) fn add_batch<H: Host>(
 }
 
 /// Compacts the journal. Its host calls are those of `add_batch`.
-pub(crate) fn compact<H: Host>(
-    alloc: Global,
-    host: &mut H,
-) -> Result<Option<Journal>, JournalFault>
+pub(crate) fn compact<H: Host>(alloc: Global, host: &mut H) -> Result<Option<Journal>, JournalFault>
     requires { IsInside (H.session host.old) }
     ensures { StaysInside (H.session host.old) (H.session host.new) }
 {

@@ -13,7 +13,8 @@ use std::test::Fail;
 const PICKS: [u64; 4] = [0, 1, 255, u64::MAX];
 
 /// A journal of one job that was removed, another that was forgotten, two batch starts and a free slot.
-const JOURNAL: &[u8] = b"+R00000001--000000000000000000.\n+B00000000--000000000000000005.\n+B00000000--000000000000000007.\n-..............................\n";
+const JOURNAL: &[u8] =
+    b"+R00000001--000000000000000000.\n+B00000000--000000000000000005.\n+B00000000--000000000000000007.\n-..............................\n";
 
 /// A folder with a journal, where no call gets through from the fuse on.
 fn spool(alloc: Global, fuse: Option<u64>) -> Result<MemoryHost, AllocError>
@@ -38,7 +39,12 @@ fn spool(alloc: Global, fuse: Option<u64>) -> Result<MemoryHost, AllocError>
 fn an_added_mark_stays(rt: HostRuntime) -> Result<(), Fail> {
     let alloc = rt.alloc();
     let old = [Mark::Removed(1), Mark::Batch(5), Mark::Batch(7)];
-    let new = [Mark::Removed(1), Mark::Batch(5), Mark::Batch(7), Mark::Batch(9)];
+    let new = [
+        Mark::Removed(1),
+        Mark::Batch(5),
+        Mark::Batch(7),
+        Mark::Batch(9),
+    ];
     for fuse in 1..11 {
         for pick in PICKS {
             let mut host = spool(alloc, Some(fuse))?;
@@ -49,7 +55,11 @@ fn an_added_mark_stays(rt: HostRuntime) -> Result<(), Fail> {
             host.enter(alloc).ok().expect(&rt, "a session");
             let journal = Journal::recall(alloc, &mut host, 1)?;
             let is_new = fuse == 10 || fuse == 9 && pick % 4 == 3;
-            let marks = if is_new { new.as_slice() } else { old.as_slice() };
+            let marks = if is_new {
+                new.as_slice()
+            } else {
+                old.as_slice()
+            };
             assert_eq!(rt; journal.marks(), marks, "fuse {fuse}, pick {pick}");
             assert_eq!(rt; journal.free(), if is_new { 0 } else { 1 });
         }
@@ -72,7 +82,11 @@ fn a_compaction_drops_what_counts_no_more(rt: HostRuntime) -> Result<(), Fail> {
             host.enter(alloc).ok().expect(&rt, "a session");
             let journal = Journal::recall(alloc, &mut host, 1)?;
             let is_new = fuse == 10 || fuse == 9 && pick % 4 == 3;
-            let marks = if is_new { new.as_slice() } else { old.as_slice() };
+            let marks = if is_new {
+                new.as_slice()
+            } else {
+                old.as_slice()
+            };
             assert_eq!(rt; journal.marks(), marks, "fuse {fuse}, pick {pick}");
             assert_eq!(rt; journal.free(), if is_new { 256 } else { 1 });
         }
@@ -88,14 +102,20 @@ fn a_full_journal_is_compacted(rt: HostRuntime) -> Result<(), Fail> {
     compact(alloc, &mut host)?;
     for second in 0..256 {
         let journal = add_batch(alloc, &mut host, second)?;
-        assert_eq!(rt; journal.expect(&rt, "a free slot").free(), 255 - second as u64);
+        assert_eq!(rt;
+            journal.expect(&rt, "a free slot").free(),
+            255 - second as u64
+        );
     }
     let name = Name::of(b".JRN").expect(&rt, "a name");
     let bytes = host.reading(&name).expect(&rt, "a journal");
     assert_eq!(rt; bytes.len(), 258 * 32);
     assert!(rt; add_batch(alloc, &mut host, 256)?.is_none());
     let journal = compact(alloc, &mut host)?.expect(&rt, "no file that is being made");
-    assert_eq!(rt; journal.marks(), [Mark::Removed(1), Mark::Batch(255)].as_slice());
+    assert_eq!(rt;
+        journal.marks(),
+        [Mark::Removed(1), Mark::Batch(255)].as_slice()
+    );
     assert_eq!(rt; journal.free(), 256);
     Ok(())
 }
