@@ -182,7 +182,8 @@ impl Jobs {
     /// Puts the fate of the live job of this number in the place of its row.
     fn decide(&mut self, number: u32, fate: Fate) -> Result<(), AllocError>
         requires { IsLive self.old number }
-        ensures decided { OnOk result (self.new ≡ table_of self.old.last (finite.insert self.old.entries number (Done fate)) self.old.last_batch) }
+        ensures decided { OnOk result (self.new
+            ≡ table_of self.old.last (finite.insert self.old.entries number (Done fate)) self.old.last_batch) }
         ensures kept { OnErr result (self.new ≡ self.old) }
     {
         sorted::insert_decided(&mut self.decided, Decided { number, fate })?;

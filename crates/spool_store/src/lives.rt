@@ -92,7 +92,8 @@ impl Lives {
 
     // Puts what one mark more tells to what is told.
     fn add(&mut self, mark: Mark) -> Result<(), AllocError>
-        ensures { OnOk result ((number : ℕ) → life_in self.new number ≡ life_with number mark (life_in self.old number)) }
+        ensures { OnOk result ((number : ℕ)
+            → life_in self.new number ≡ life_with number mark (life_in self.old number)) }
     {
         if let Some(number) = number_of(mark) {
             let life = self.get(number).with(mark);

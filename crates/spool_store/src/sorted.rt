@@ -42,7 +42,8 @@ pub(crate) fn start_row(rows: &mut Vec<Row>, number: u32, second: i64) -> Row
     requires order { Rises (map row_entry rows.old.items) }
     requires present { IsSome (entry_in (map row_entry rows.old.items) number) }
     ensures was { entry_in (map row_entry rows.old.items) number ≡ Some (row_entry result).1 }
-    ensures started { IsEdited (map row_entry rows.old.items) (map row_entry rows.new.items) number (Some (Live (row_job result) (Running second))) }
+    ensures started { IsEdited (map row_entry rows.old.items) (map row_entry rows.new.items) number
+        (Some (Live (row_job result) (Running second))) }
 {
     let place = row_place(rows, number);
     let row = rows[place];
@@ -57,7 +58,8 @@ pub(crate) fn start_row(rows: &mut Vec<Row>, number: u32, second: i64) -> Row
 pub(crate) fn insert_decided(decided: &mut Vec<Decided>, done: Decided) -> Result<(), AllocError>
     requires order { Rises (map decided_entry decided.old.items) }
     requires absent { entry_in (map decided_entry decided.old.items) done.number ≡ None }
-    ensures ok { OnOk result (IsEdited (map decided_entry decided.old.items) (map decided_entry decided.new.items) done.number (Some (Done done.fate))) }
+    ensures ok { OnOk result (IsEdited (map decided_entry decided.old.items) (map decided_entry decided.new.items)
+        done.number (Some (Done done.fate))) }
     ensures err { OnErr result (decided.new.items ≡ decided.old.items) }
 {
     let place = decided_place(decided, done.number);

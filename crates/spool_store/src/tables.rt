@@ -33,8 +33,8 @@ pub(crate) fn listed(
     ensures table { MatchResult result
         (λ lists. ListsTable last marks.now (files_seen seen.now) lists.0.items lists.1.items)
         (IsFound (damage_of_jobs last marks.now (files_seen seen.now))) }
-    ensures drawn { AreUndecided marks.now (files_seen seen.now) → AreWritable marks.now → IsTrue (are_drawn last marks.now)
-        → IfOk result (λ lists. ListsDrawn last lists.0.items lists.1.items) }
+    ensures drawn { AreUndecided marks.now (files_seen seen.now) → AreWritable marks.now
+        → IsTrue (are_drawn last marks.now) → IfOk result (λ lists. ListsDrawn last lists.0.items lists.1.items) }
 {
     let by_number = look_at(alloc, last, lives, seen)?;
     if let Some(damage) = starts_fault(marks, lives, &by_number) {
