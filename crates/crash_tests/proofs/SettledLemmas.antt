@@ -8,6 +8,9 @@ use Rattle.host_calls.specs.World.{FileCall, World, reading}
 use Rattle.host_calls.proofs.FolderLemmas.{settled_image, reading_of-settled}
 use Rattle.sequence_file.specs.Drawing.{EachGives}
 use Rattle.sequence_file.specs.Sequence.{Gives, sequence_file}
+use Rattle.start_journal.specs.Changing.{HoldsJournal}
+use Rattle.start_journal.specs.Journals.{JournalRead, journal_file, journal_in, temporary_file}
+use Rattle.start_journal.proofs.GivesLemmas.{recalled_gives}
 
 abbrev pub done_ok : Result Unit HostFault
 done_ok = Ok tt
@@ -27,3 +30,11 @@ absent old settled_world new name call same none = subst (λ world. IsInNoImage 
 pub each_gives : (old settled_world new : World) (number : ℕ) → FileCall IsSettled IsSyncedInPart old settled_world done_ok → new ≡ settled_world → Gives (finite.get (reading settled_world) sequence_file) number → EachGives number new.now.folder
 each_gives old settled_world new number call same gives = subst (λ world. EachGives number world.now.folder) (sym same)
     (λ image is. subst (λ files. Gives (finite.get files sequence_file) number) (sym (only_reading old settled_world call image is)) gives)
+
+-- the journal that was recalled is the one that the folder holds
+pub holds_journal : (old settled_world new : World) (last : ℕ) (journal : JournalRead) → FileCall IsSettled IsSyncedInPart old settled_world done_ok → new ≡ settled_world → None ≡ finite.get (reading settled_world) temporary_file → journal_in last (finite.get (reading settled_world) journal_file) ≡ Ok journal → HoldsJournal journal new.now.folder
+holds_journal old settled_world new last journal call same none answer = subst (λ world. HoldsJournal journal world.now.folder) (sym same) (record {
+  same = λ image is. ap (λ files. finite.get files journal_file) (only_reading old settled_world call image is);
+  gives = recalled_gives last (finite.get (reading settled_world) journal_file) journal answer;
+  no_temp = λ image is. ap (λ files. finite.get files temporary_file) (only_reading old settled_world call image is) ∙ sym none;
+})

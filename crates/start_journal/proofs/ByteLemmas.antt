@@ -75,7 +75,7 @@ second_tested : (second : ℤ) → IsSecond second → is_second second ≡ true
 second_tested (pos second) is = let to : pos second ≤ℤ pos 253370764799 = is.to in grind (arith, ints, nat_tests)
 second_tested (negsuc second) is = let from : pos 0 ≤ℤ negsuc second = is.from in grind (arith, ints)
 
-second_is : (second : ℤ) → is_second second ≡ true → IsSecond second
+pub second_is : (second : ℤ) → is_second second ≡ true → IsSecond second
 second_is (pos second) is = let at_most : second ≤ 253370764799 = grind (arith, nat_tests) in record { from = grind (arith, ints); to = grind (arith, ints) }
 second_is (negsuc second) is = cc
 

@@ -7,6 +7,9 @@ pub mod KeepLemmas
 pub mod LifeLemmas
 pub mod MarkLemmas
 pub mod ReadLemmas
+pub mod RightLemmas
 pub mod SlotLemmas
+pub mod StandLemmas
 pub mod TextLemmas
+pub mod WholeLemmas
 pub mod WriteLemmas

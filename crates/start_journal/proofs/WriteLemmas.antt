@@ -13,10 +13,10 @@ put_long : (from count : ℕ) (list part : List ℕ) → from + count ≤ length
 put_long from count list part inside counted = simp (length-append, length-drop, length-take) (omega arith)
 
 -- lists with the same front have the same bytes there
-front_index : (count place : ℕ) (one other : List ℕ) → place < count → take count one ≡ take count other → slice_index one place ≡ slice_index other place
+pub front_index : (count place : ℕ) (one other : List ℕ) → place < count → take count one ≡ take count other → slice_index one place ≡ slice_index other place
 front_index count place one other before same = sym (get_or-take count one place 0 before) ∙ ap (λ list. slice_index list place) same ∙ get_or-take count other place 0 before
 
-front_range : (from to : ℕ) (one other : List ℕ) → take to one ≡ take to other → slice_range one from to ≡ slice_range other from to
+pub front_range : (from to : ℕ) (one other : List ℕ) → take to one ≡ take to other → slice_range one from to ≡ slice_range other from to
 front_range from to one other same = between_is one from to ∙ ap (drop from) same ∙ sym (between_is other from to)
 
 -- a part has as many bytes as its places

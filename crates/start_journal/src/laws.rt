@@ -1,5 +1,5 @@
 //! What holds of every legal list of marks and of every slot, each law as the contract of a function.
-ghost use Rattle.start_journal.specs.JournalLaws.{JournalsReadBack, SlotsGiveTheirMarks};
+ghost use Rattle.start_journal.specs.JournalLaws.{JournalsReadBack, RightFrontsAreLongest, SlotsGiveTheirMarks};
 ghost use Rattle.start_journal.specs.Laws.{KeptMarksAreLegal, KeptMarksKeepWhatCounts, MarksHaveOneSlot, NumbersLiveOnce, SlotsSpellOneMark};
 
 /// A slot spells one mark, and a mark has one slot.
@@ -31,4 +31,9 @@ pub fn slots_give_their_marks()
 /// A journal that was placed whole reads back.
 pub fn journals_read_back()
     ensures { JournalsReadBack }
+{}
+
+/// The right front of a slot is its longest front that some mark's slot has too.
+pub fn right_fronts_are_longest()
+    ensures { RightFrontsAreLongest }
 {}

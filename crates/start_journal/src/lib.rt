@@ -22,7 +22,7 @@ pub use fields::Fields;
 pub use journal::Journal;
 pub use laws::{
     journals_read_back, kept_marks_are_legal, kept_marks_keep_what_counts, marks_have_one_spelling,
-    numbers_live_once, slots_give_their_marks,
+    numbers_live_once, right_fronts_are_longest, slots_give_their_marks,
 };
 pub use mark::Mark;
 pub use names::journal_name;
