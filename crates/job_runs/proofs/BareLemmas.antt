@@ -64,28 +64,32 @@ none_of None is = refl
 none_of (Some entry) is = let impossible : ◌≡◌ {A = Option JobEntry} (Some (bare_entry entry)) None = is in cc
 
 pending_alike : (table : JobTable) (number : ℕ) → IsPending (bare table) number ↔ IsPending table number
-pending_alike table number =
-    (λ is. pending_of (entry_at table number) is.0 (sym (entries_are_bare table number) ∙ is.1),
-    λ is. (bare_job is.0, entries_are_bare table number ∙ ap (option_map bare_entry) is.1))
+pending_alike table number = (
+  λ is. pending_of (entry_at table number) is.0 (sym (entries_are_bare table number) ∙ is.1),
+  λ is. (bare_job is.0, entries_are_bare table number ∙ ap (option_map bare_entry) is.1),
+)
 
 running_alike : (table : JobTable) (number : ℕ) → IsRunning (bare table) number ↔ IsRunning table number
-running_alike table number =
-    (λ is. running_of (entry_at table number) is.0 is.1 (sym (entries_are_bare table number) ∙ is.2),
-    λ is. (bare_job is.0, is.1, entries_are_bare table number ∙ ap (option_map bare_entry) is.2))
+running_alike table number = (
+  λ is. running_of (entry_at table number) is.0 is.1 (sym (entries_are_bare table number) ∙ is.2),
+  λ is. (bare_job is.0, is.1, entries_are_bare table number ∙ ap (option_map bare_entry) is.2),
+)
 
 done_alike : (table : JobTable) (number : ℕ) → IsDone (bare table) number ↔ IsDone table number
-done_alike table number =
-    (λ is. done_of (entry_at table number) is.0 (sym (entries_are_bare table number) ∙ is.1),
-    λ is. (is.0, entries_are_bare table number ∙ ap (option_map bare_entry) is.1))
+done_alike table number = (
+  λ is. done_of (entry_at table number) is.0 (sym (entries_are_bare table number) ∙ is.1),
+  λ is. (is.0, entries_are_bare table number ∙ ap (option_map bare_entry) is.1),
+)
 
 last_bare : (table : JobTable) → (bare table).last ≡ table.last
 unfolding bare
 last_bare table = refl
 
 free_alike : (table : JobTable) (number : ℕ) → IsFree (bare table) number ↔ IsFree table number
-free_alike table number =
-    (λ is. record { last = is.last ∙ last_bare table; some = is.some; absent = none_of (entry_at table number) (sym (entries_are_bare table number) ∙ is.absent) },
-    λ is. record { last = is.last ∙ sym (last_bare table); some = is.some; absent = entries_are_bare table number ∙ ap (option_map bare_entry) is.absent })
+free_alike table number = (
+  λ is. record { last = is.last ∙ last_bare table; some = is.some; absent = none_of (entry_at table number) (sym (entries_are_bare table number) ∙ is.absent) },
+  λ is. record { last = is.last ∙ sym (last_bare table); some = is.some; absent = entries_are_bare table number ∙ ap (option_map bare_entry) is.absent },
+)
 
 pub legal_as_on_the_table : LegalAsOnTheTable
 unfolding bare
@@ -105,9 +109,9 @@ put_alike list number entry = same_map nat_cmp_total nat_cmp-IsAntisymmetric _ _
     ∙ by_test (eq_by_cmp nat_cmp other number) (map_of.get list other)
     ∙ ap (cond (eq_by_cmp nat_cmp other number) (Some (bare_entry entry))) (sym (get-bare_map list other))
     ∙ sym (get-insert nat_cmp_total (bare_map list) number (bare_entry entry) other)) where
-  by_test : (b : Bool) (found : Option JobEntry) → option_map bare_entry (cond b (Some entry) found) ≡ cond b (Some (bare_entry entry)) (option_map bare_entry found)
-  by_test true found = refl
-  by_test false found = refl
+      by_test : (b : Bool) (found : Option JobEntry) → option_map bare_entry (cond b (Some entry) found) ≡ cond b (Some (bare_entry entry)) (option_map bare_entry found)
+      by_test true found = refl
+      by_test false found = refl
 
 taken_alike : (list : JobEntries) (number : ℕ) → bare_map (map_of.remove list number) ≡ map_of.remove (bare_map list) number
 taken_alike list number = same_map nat_cmp_total nat_cmp-IsAntisymmetric _ _ (λ other.
@@ -116,9 +120,9 @@ taken_alike list number = same_map nat_cmp_total nat_cmp-IsAntisymmetric _ _ (λ
     ∙ by_test (eq_by_cmp nat_cmp other number) (map_of.get list other)
     ∙ ap (cond (eq_by_cmp nat_cmp other number) None) (sym (get-bare_map list other))
     ∙ sym (get-remove nat_cmp_total (bare_map list) number other)) where
-  by_test : (b : Bool) (found : Option JobEntry) → option_map bare_entry (cond b None found) ≡ cond b None (option_map bare_entry found)
-  by_test true found = refl
-  by_test false found = refl
+      by_test : (b : Bool) (found : Option JobEntry) → option_map bare_entry (cond b None found) ≡ cond b None (option_map bare_entry found)
+      by_test true found = refl
+      by_test false found = refl
 
 state_alike : (state : JobState) (entry : JobEntry) → bare_entry (in_state state entry) ≡ in_state state (bare_entry entry)
 state_alike state (Live job other) = refl
