@@ -1,9 +1,14 @@
 pub mod Edits
+pub mod FrontLemmas
+pub mod KindLemmas
 pub mod LifeLemmas
 pub mod ListLemmas
+pub mod ListedLemmas
 pub mod Listing
 pub mod LookLemmas
 pub mod Places
+pub mod SeeLemmas
 pub mod SeenLemmas
+pub mod ShownLemmas
 pub mod StartLemmas
 pub mod TableLemmas

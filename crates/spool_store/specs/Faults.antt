@@ -1,8 +1,12 @@
 -- Why a call of the store did not succeed (own).
-use Rattle.std.specs.Prelude.{◌≡◌, Option, Some}
+use Rattle.std.specs.Prelude.{◌≡◌, Option, Some, Result, Ok, Err}
 use Rattle.host_calls.specs.declared.damage.Damage.{Damage}
 use Rattle.host_calls.specs.declared.fault.HostFault.{HostFault}
 use Rattle.host_calls.specs.declared.fault.HostFault.TheVariants.{Failed as HostFailed, Memory as HostMemory}
+use Rattle.sequence_file.specs.declared.fault.SequenceFault.{SequenceFault}
+use Rattle.sequence_file.specs.declared.fault.SequenceFault.TheVariants as sequence
+use Rattle.start_journal.specs.declared.fault.JournalFault.{JournalFault}
+use Rattle.start_journal.specs.declared.fault.JournalFault.TheVariants as journal
 use Rattle.spool_store.specs.declared.fault.StoreFault.{StoreFault}
 use Rattle.spool_store.specs.declared.fault.StoreFault.TheVariants.{Damaged, FileFault, Memory, NumbersUsedUp, QueueFull}
 
@@ -10,6 +14,35 @@ use Rattle.spool_store.specs.declared.fault.StoreFault.TheVariants.{Damaged, Fil
 abbrev pub fault_of : HostFault → StoreFault
 fault_of HostFailed = FileFault
 fault_of HostMemory = Memory
+
+-- a fault of the sequence file's reading, as this one
+abbrev pub fault_of_sequence : SequenceFault → StoreFault
+fault_of_sequence sequence.Failed = FileFault
+fault_of_sequence sequence.Memory = Memory
+fault_of_sequence (sequence.Damaged damage) = Damaged damage
+
+-- a fault of the journal's reading, as this one
+abbrev pub fault_of_journal : JournalFault → StoreFault
+fault_of_journal journal.Failed = FileFault
+fault_of_journal journal.Memory = Memory
+fault_of_journal (journal.Damaged damage) = Damaged damage
+
+-- where the answer is a damage, it has P
+abbrev pub IfDamaged : {T : Type 0} → (Damage → Type 0) → Result T StoreFault → Type 0
+IfDamaged P (Ok value) = Unit {0}
+IfDamaged P (Err (Damaged damage)) = P damage
+IfDamaged P (Err Memory) = Unit {0}
+IfDamaged P (Err FileFault) = Unit {0}
+IfDamaged P (Err QueueFull) = Unit {0}
+IfDamaged P (Err NumbersUsedUp) = Unit {0}
+
+-- the fault is one of reading: the queue is not full, and the numbers are not used up
+abbrev pub IsOfReading : StoreFault → Type 0
+IsOfReading (Damaged damage) = Unit {0}
+IsOfReading Memory = Unit {0}
+IsOfReading FileFault = Unit {0}
+IsOfReading QueueFull = ⊥
+IsOfReading NumbersUsedUp = ⊥
 
 -- the fault is this damage, which was found, or want of memory
 abbrev pub IsFound : Option Damage → StoreFault → Type 0

@@ -2,6 +2,7 @@
 use Rattle.std.specs.Prelude.{◌≡◌, ◌≤◌, ℕ, List, None, Contains, map, false}
 use Rattle.spool_model.specs.declared.decided.Decided.{Decided}
 use Rattle.spool_model.specs.declared.row.Row.{Row}
+use Rattle.spool_model.specs.JobTable.{JobTable}
 use Rattle.start_journal.specs.declared.mark.Mark.{Mark}
 use Rattle.start_journal.specs.Marks.{is_decided, last_batch}
 use Rattle.spool_shows.specs.JobFiles.{JobFile}
@@ -31,3 +32,7 @@ pub record ListsDrawn (last : ℕ) (rows : List Row) (decided : List Decided) : 
   pub rows_drawn : (row : Row) → Contains rows row → IsDrawn last row.number
   pub decided_drawn : (one : Decided) → Contains decided one → IsDrawn last one.number
   pub apart : (row : Row) (one : Decided) → Contains rows row → Contains decided one → ¬ (row.number ≡ one.number)
+
+-- there is no damage, and this is the table that is shown, without scripts
+abbrev pub IsTableShown : ℕ → List Mark → List JobFile → JobTable → Type 0
+IsTableShown last marks files table = (damage_of_jobs last marks files ≡ None) × (table ≡ bare (table_shown last marks files))

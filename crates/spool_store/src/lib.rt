@@ -2,8 +2,10 @@
 #![tactic(auto)]
 
 mod fault;
+mod fronts;
 mod jobs;
 mod lives;
+mod look;
 mod looks;
 mod seen;
 mod sorted;

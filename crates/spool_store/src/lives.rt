@@ -110,8 +110,8 @@ fn decided_of(number: u32, life: Life) -> Option<Decided>
     Some(Decided { number, fate })
 }
 
-// The number that the mark names, if it names one.
-fn number_of(mark: Mark) -> Option<u32>
+/// The number that the mark names, if it names one.
+pub(crate) fn number_of(mark: Mark) -> Option<u32>
     ensures { result ≡ named_by mark }
 {
     match mark {

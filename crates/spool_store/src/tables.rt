@@ -7,10 +7,11 @@ ghost use Rattle.start_journal.specs.Journals.{AreWritable, are_drawn};
 ghost use Rattle.spool_store.specs.Faults.{IsFound};
 ghost use Rattle.spool_store.specs.Lives.{TellLives};
 ghost use Rattle.spool_store.specs.Seen.{files_seen};
-ghost use Rattle.spool_store.specs.Tables.{AreUndecided, ListsDrawn, ListsTable};
+ghost use Rattle.spool_store.specs.Tables.{AreUndecided, IsTableShown, ListsDrawn, ListsTable};
 
 use crate::fault::StoreFault;
-use crate::lives::Lives;
+use crate::jobs::Jobs;
+use crate::lives::{Lives, last_batch};
 use crate::looks::look_at;
 use crate::seen::Seen;
 use crate::starts::starts_fault;
@@ -43,6 +44,27 @@ pub(crate) fn listed(
     let rows = rows_in_order(alloc, &by_number)?;
     let decided = lives.decided(alloc)?;
     Ok((rows, decided))
+}
+
+/// The jobs that the marks and the files show, without scripts, or their first damage.
+pub(crate) fn jobs_shown(
+    alloc: Global,
+    last: u32,
+    marks: &[Mark],
+    lives: &Lives,
+    seen: &[Seen],
+) -> Result<Jobs, StoreFault>
+    requires told { TellLives marks.now lives.now }
+    requires undecided { AreUndecided marks.now (files_seen seen.now) }
+    requires writable { AreWritable marks.now }
+    requires drawn { IsTrue (are_drawn last marks.now) }
+    requires fits { 32 * length marks.now < 2 ^ 64 }
+    ensures { MatchResult result
+        (IsTableShown last marks.now (files_seen seen.now))
+        (IsFound (damage_of_jobs last marks.now (files_seen seen.now))) }
+{
+    let (rows, decided) = listed(alloc, last, marks, lives, seen)?;
+    Ok(Jobs::of(last, last_batch(marks), rows, decided))
 }
 
 fn rows_in_order(alloc: Global, rows: &BTreeMap<u32, Row>) -> Result<Vec<Row>, AllocError>

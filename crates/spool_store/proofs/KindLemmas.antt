@@ -1,0 +1,59 @@
+-- What a name is, by the marks.
+use Rattle.std.proofs.Common.{◌≡◌, ℕ, Bool, true, false, not, List, Option, Some, None, sym, ap, ◌∙◌, refl, arith}
+use Rattle.std.specs.Prelude.{◌||◌, is_some, nat_eq}
+use Rattle.std.specs.Cmp.Lexicographic.{pointwise, unequal}
+use Rattle.job_name.specs.declared.job.JobName.{JobName}
+use Rattle.job_name.specs.JobName.{SpellsJobName}
+use Rattle.sequence_file.specs.Sequence.{temporary_file}
+use Rattle.start_journal.specs.declared.mark.Mark.{Mark}
+use Rattle.start_journal.specs.Marks.{is_decided}
+use Rattle.start_journal.proofs.MarkLemmas.{or_true}
+use Rattle.spool_shows.specs.JobFiles.{NamedJob, counts_as, job_named}
+use Rattle.spool_shows.proofs.Spellings.{name_given, name_spelled}
+use Rattle.spool_store.specs.declared.fronts.Kind.TheVariants.{Counts, LeftOver, Other}
+use Rattle.spool_store.specs.declared.lives.Life.{Life}
+use Rattle.spool_store.specs.declared.lives.Lives.{Lives}
+use Rattle.spool_store.specs.Lives.{TellLives, life_in}
+use Rattle.spool_store.specs.Looking.{IsKind, is_decided_job}
+use Rattle.spool_store.specs.Seen.{job_of_name}
+use Rattle.spool_store.proofs.StartLemmas.{decided_has_fate}
+
+-- a number is decided where its life has a fate
+decided_as : (marks : List Mark) (lives : Lives) (number : ℕ) (life : Life) (fated : Bool) → TellLives marks lives → life ≡ life_in lives number → fated ≡ is_some life.fate → is_decided number marks ≡ fated
+decided_as marks lives number life fated tells is fate =
+    decided_has_fate number marks ∙ sym (ap (λ (l : Life). is_some l.fate) (is ∙ tells number)) ∙ sym fate
+
+-- the name of a job is not that of a file that is being made
+not_temporary : (name : List ℕ) (job : NamedJob) → job_named name ≡ Some job → pointwise nat_eq name temporary_file ≡ false
+not_temporary name job is = unequal nat_eq name temporary_file (λ same. absurd (omega (arith, same, (name_spelled name job is).counted)))
+
+pub decided_kind : (marks : List Mark) (lives : Lives) (name : List ℕ) (job : JobName) (life : Life) → TellLives marks lives → SpellsJobName name job.queue job.number job.minute → life ≡ life_in lives job.number → true ≡ is_some life.fate → IsKind marks name LeftOver
+decided_kind marks lives name job life tells spelled is fate =
+    let named : job_named name ≡ Some (job_of_name job) = name_given name job.queue job.number job.minute spelled in
+    let decided : is_decided job.number marks ≡ true = decided_as marks lives job.number life true tells is fate in (
+      ap (counts_as marks) named ∙ ap not decided,
+      ap (λ one. pointwise nat_eq name temporary_file || is_decided_job marks one) named ∙ ap (λ b. pointwise nat_eq name temporary_file || b) decided ∙ or_true (pointwise nat_eq name temporary_file),
+    )
+
+pub counted_kind : (marks : List Mark) (lives : Lives) (name : List ℕ) (job : JobName) (life : Life) → TellLives marks lives → SpellsJobName name job.queue job.number job.minute → life ≡ life_in lives job.number → false ≡ is_some life.fate → IsKind marks name (Counts job)
+counted_kind marks lives name job life tells spelled is fate =
+    let named : job_named name ≡ Some (job_of_name job) = name_given name job.queue job.number job.minute spelled in
+    let decided : is_decided job.number marks ≡ false = decided_as marks lives job.number life false tells is fate in (
+      ap (counts_as marks) named ∙ ap not decided,
+      ap (λ one. pointwise nat_eq name temporary_file || is_decided_job marks one) named ∙ ap (λ b. pointwise nat_eq name temporary_file || b) decided ∙ ap (λ b. b || false) (not_temporary name (job_of_name job) named),
+      named,
+    )
+
+-- a name that spells no job
+none_named : (name : List ℕ) → ((queue number minute : ℕ) → ¬ (SpellsJobName name queue number minute)) → job_named name ≡ None
+none_named name none = by_named (job_named name) refl where
+  by_named : (named : Option NamedJob) → job_named name ≡ named → named ≡ None
+  by_named None is = refl
+  by_named (Some job) is = absurd (none job.queue job.number job.minute (name_spelled name job is))
+
+pub other_kind : (marks : List Mark) (name : List ℕ) → ((queue number minute : ℕ) → ¬ (SpellsJobName name queue number minute)) → false ≡ pointwise nat_eq name temporary_file → IsKind marks name Other
+other_kind marks name none other =
+    let named : job_named name ≡ None = none_named name none in (
+      ap (counts_as marks) named,
+      ap (λ one. pointwise nat_eq name temporary_file || is_decided_job marks one) named ∙ ap (λ b. b || false) (sym other),
+    )

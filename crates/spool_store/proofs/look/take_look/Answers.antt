@@ -1,0 +1,58 @@
+use Rattle.std.proofs.Common.{◌≡◌, sym, ap, subst, ◌∙◌, refl}
+use Rattle.std.specs.Prelude.{Ok, Err}
+use Rattle.std.specs.FinMap as finite
+use Rattle.std.specs.FinMap.{entries}
+use Rattle.host_calls.specs.World.{reading}
+use Rattle.sequence_file.specs.Faults.{IsDamage}
+use Rattle.sequence_file.specs.Sequence.{sequence_file}
+use Rattle.start_journal.specs.Journals.{JournalRead, journal_file, journal_in}
+use Rattle.spool_shows.specs.Shown.{damage_of_jobs, shown_by}
+use Rattle.spool_shows.proofs.Spellings.{last_given}
+use Rattle.spool_store.specs.Lives.{TellLives}
+use Rattle.spool_store.specs.Looking.{AreFronts}
+use Rattle.spool_store.specs.Seen.{files_seen}
+use Rattle.spool_store.specs.Tables.{AreUndecided}
+use Rattle.spool_store.proofs.FrontLemmas.{last_damage}
+use Rattle.spool_store.proofs.ShownLemmas.{found_damage, is_look, jobs_damage, journal_damage, number_damage, same_damage, sequence_damage}
+use Rattle.spool_store.proofs.look.take_look.Goals as goal
+
+pub returns-in_err-number-clause-damaged : goal.returns-in_err-number-clause-damaged
+returns-in_err-number-clause-damaged g c = λ tells.
+    let files = reading (g.H.Host.world c.args.host.now) in
+    sequence_damage (λ damage. shown_by files ≡ Err damage) (IsDamage (finite.get files sequence_file)) c.in_err-number.field-0.0 c.from_residual.result c.from_residual.ensures.1 (c.in_err-number.ensures.damaged tells)
+    (λ damage is. number_damage files damage (last_damage (finite.get files sequence_file) damage is))
+
+pub returns-in_err-journal-clause-damaged : goal.returns-in_err-journal-clause-damaged
+returns-in_err-journal-clause-damaged g c = λ tells.
+    let files = reading (g.H.Host.world c.args.host.now) in
+    same_damage JournalRead (λ damage. shown_by files ≡ Err damage) _ c.in_err-journal.field-0.0 c.from_residual-in_err-journal.result c.from_residual-in_err-journal.ensures.1 (c.in_err-journal.ensures.damaged tells)
+    (λ damage is. journal_damage files c.in_ok-number.number damage (last_given _ _ (c.in_ok-number.ensures.number tells))
+    (ap (λ w. journal_in c.in_ok-number.number (finite.get (reading w) journal_file)) (sym (c.in_ok-number.ensures.looks tells)) ∙ is))
+
+pub jobs_shown-requires-clause-undecided : goal.jobs_shown-requires-clause-undecided
+jobs_shown-requires-clause-undecided g c =
+    subst (λ marks. AreUndecided marks (files_seen c.as_slice.result.now)) (c.marks.ensures.marks ∙ sym c.marks-2.ensures.marks)
+    (subst (λ seen. AreUndecided c.marks.result.now (files_seen seen)) (sym c.as_slice.ensures.value) (c.in_ok-seen.ensures.undecided c.marks.result.now c.in_ok-lives.ensures))
+
+pub returns-in_err-jobs-clause-damaged : goal.returns-in_err-jobs-clause-damaged
+returns-in_err-jobs-clause-damaged g c = λ tells.
+    let files = reading (g.H.Host.world c.args.host.now) in
+    let last = c.in_ok-number.number in
+    let journal = c.in_ok-journal.journal in
+    let read : journal_in last (finite.get files journal_file) ≡ Ok journal = ap (λ w. journal_in last (finite.get (reading w) journal_file)) (sym (c.in_ok-number.ensures.looks tells)) ∙ c.in_ok-journal.ensures.journal tells in
+    let are : AreFronts journal.marks (entries files) c.in_ok-seen.field-0 =
+    subst (λ w. AreFronts journal.marks (entries (reading w)) c.in_ok-seen.field-0) (c.in_ok-journal.ensures.looks tells ∙ c.in_ok-number.ensures.looks tells)
+    (c.in_ok-seen.ensures.fronts tells journal.marks (subst (λ marks. TellLives marks c.in_ok-lives.lives) c.marks.ensures.marks c.in_ok-lives.ensures)) in
+    found_damage (λ damage. shown_by files ≡ Err damage) (damage_of_jobs last c.marks-2.result.now (files_seen c.as_slice.result.now)) c.in_err-jobs.field-0.0 c.from_residual-in_err-jobs.result c.from_residual-in_err-jobs.ensures.1 c.in_err-jobs.ensures
+    (jobs_damage files last journal c.in_ok-seen.field-0 c.marks-2.result.now c.as_slice.result.now (last_given _ _ (c.in_ok-number.ensures.number tells)) read are c.marks-2.ensures.marks c.as_slice.ensures.value)
+
+pub returns-clause-shown : goal.returns-clause-shown
+returns-clause-shown g c = λ tells.
+    let files = reading (g.H.Host.world c.args.host.now) in
+    let last = c.in_ok-number.number in
+    let journal = c.in_ok-journal.journal in
+    let read : journal_in last (finite.get files journal_file) ≡ Ok journal = ap (λ w. journal_in last (finite.get (reading w) journal_file)) (sym (c.in_ok-number.ensures.looks tells)) ∙ c.in_ok-journal.ensures.journal tells in
+    let are : AreFronts journal.marks (entries files) c.in_ok-seen.field-0 =
+    subst (λ w. AreFronts journal.marks (entries (reading w)) c.in_ok-seen.field-0) (c.in_ok-journal.ensures.looks tells ∙ c.in_ok-number.ensures.looks tells)
+    (c.in_ok-seen.ensures.fronts tells journal.marks (subst (λ marks. TellLives marks c.in_ok-lives.lives) c.marks.ensures.marks c.in_ok-lives.ensures)) in
+    is_look files last journal c.in_ok-seen.field-0 c.marks-2.result.now c.as_slice.result.now (last_given _ _ (c.in_ok-number.ensures.number tells)) read are c.marks-2.ensures.marks c.as_slice.ensures.value _ refl refl c.in_ok-jobs.ensures
