@@ -33,7 +33,8 @@ pub(crate) struct Look {
 pub(crate) fn take_look<H: Host>(alloc: Global, host: &mut H) -> Result<Look, StoreFault>
     requires { IsInside (H.session host.old) }
     ensures inside { StaysInside (H.session host.old) (H.session host.new) }
-    ensures cause { HasCause StoreFault.FileFault (H.session host.old).file_faults (H.session host.new).file_faults result }
+    ensures cause { HasCause StoreFault.FileFault
+        (H.session host.old).file_faults (H.session host.new).file_faults result }
     ensures of_reading { IfErr result IsOfReading }
     ensures looks { IsTrue H.tells → H.world host.new ≡ H.world host.old }
     ensures shown { IsTrue H.tells → IfOk result (IsLook (reading (H.world host.old))) }
@@ -57,7 +58,8 @@ pub(crate) fn take_look<H: Host>(alloc: Global, host: &mut H) -> Result<Look, St
 fn recall<H: Host>(alloc: Global, host: &mut H, last: u32) -> Result<Journal, StoreFault>
     requires { IsInside (H.session host.old) }
     ensures inside { StaysInside (H.session host.old) (H.session host.new) }
-    ensures cause { HasCause StoreFault.FileFault (H.session host.old).file_faults (H.session host.new).file_faults result }
+    ensures cause { HasCause StoreFault.FileFault
+        (H.session host.old).file_faults (H.session host.new).file_faults result }
     ensures of_reading { IfErr result IsOfReading }
     ensures looks { IsTrue H.tells → H.world host.new ≡ H.world host.old }
     ensures drawn { IfOk result (λ journal. IsTrue (are_drawn last journal.marks)) }
