@@ -100,12 +100,9 @@ fn a_full_journal_is_compacted(rt: HostRuntime) -> Result<(), Fail> {
     let mut host = spool(alloc, None)?;
     host.enter(alloc).ok().expect(&rt, "a session");
     compact(alloc, &mut host)?;
-    for second in 0..256 {
-        let journal = add_batch(alloc, &mut host, second)?;
-        assert_eq!(rt;
-            journal.expect(&rt, "a free slot").free(),
-            255 - second as u64
-        );
+    for used in 0..256_u64 {
+        let journal = add_batch(alloc, &mut host, used as i64)?;
+        assert_eq!(rt; journal.expect(&rt, "a free slot").free(), 255 - used);
     }
     let name = Name::of(b".JRN").expect(&rt, "a name");
     let bytes = host.reading(&name).expect(&rt, "a journal");
