@@ -16,7 +16,7 @@ use Rattle.spool_model.specs.declared.step.Step.TheVariants.{Draw, Accept, Remov
 use Rattle.spool_model.specs.JobTable.{IsDone, IsPending, IsRunning, JobEntries, JobEntry, JobState, JobTable, entry_at, is_batch_queue, table_of}
 use Rattle.spool_model.specs.Steps.{IsFree, IsLegal, after_step, entries_after, in_state, is_batch_entry, last_after, last_batch_after, with_state}
 use Rattle.job_runs.specs.Bare.{bare, bare_entries, bare_entry, bare_job, bare_step}
-use Rattle.job_runs.specs.Laws.{EntriesAreBare, LegalAsOnTheTable, StepsAsOnTheTable}
+use Rattle.job_runs.specs.Laws.{EntriesAreBare, LegalAsOnTheTable, ScriptsAreGone, StepsAsOnTheTable}
 
 -- what is found without scripts
 find-bare : (list : List (ℕ × JobEntry)) (number : ℕ) → find nat_cmp number (bare_entries list) ≡ option_map bare_entry (find nat_cmp number list)
@@ -32,6 +32,18 @@ entries_are_bare table number =
     get-from_entries nat_cmp_total (bare_entries (entries table.entries)) number
     ∙ find-bare (entries table.entries) number
     ∙ ap (option_map bare_entry) (sym (get-entries table.entries number))
+
+-- an entry without its script has none
+no_script : (found : Option JobEntry) (job : Job) (state : JobState) → option_map bare_entry found ≡ Some (Live job state) → job.script ≡ []
+no_script None job state is = let impossible : ◌≡◌ {A = Option JobEntry} None (Some (Live job state)) = is in cc
+no_script (Some (Done of)) job state is = let impossible : ◌≡◌ {A = Option JobEntry} (Some (Done of)) (Some (Live job state)) = is in cc
+no_script (Some (Live whole other)) job state is =
+    let entries_are : ◌≡◌ {A = Option JobEntry} (Some (Live (bare_job whole) other)) (Some (Live job state)) = is in
+    let jobs_are : bare_job whole ≡ job = cc in
+    ap (λ (of : Job). of.script) (sym jobs_are)
+
+pub scripts_are_gone : ScriptsAreGone
+scripts_are_gone table number job state is = no_script (entry_at table number) job state (sym (entries_are_bare table number) ∙ is)
 
 -- the entries of a table without scripts
 bare_map : JobEntries → JobEntries

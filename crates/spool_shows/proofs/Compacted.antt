@@ -15,7 +15,8 @@ use Rattle.start_journal.proofs.MarkLemmas.{decides_names, kept_marks_keep_what_
 use Rattle.spool_shows.specs.ByName.{AreSound, HasFile, IsJobFile, ShowsByName, ShowsDone, ShowsEntry, ShowsLive}
 use Rattle.spool_shows.specs.JobFiles.{JobFile}
 use Rattle.spool_shows.specs.Laws.{HasCompacted, HasNoForgotten}
-use Rattle.spool_shows.proofs.MarkTests.{forgotten_was_decided, neither, tell_same}
+use Rattle.spool_shows.proofs.MarkTests.{neither, tell_same}
+use Rattle.start_journal.proofs.MarkLemmas.{forgotten_was_decided}
 use Rattle.spool_shows.proofs.OneMark.{had_same, last_moves, marks_legal}
 use Rattle.spool_shows.proofs.ShownEntries.{SameJobs, entry_left, file_moves, passes_same, same_back, same_jobs, shows_live}
 use Rattle.spool_shows.proofs.ShownStates.{entry_moves, sound_moves}

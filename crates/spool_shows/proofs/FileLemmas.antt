@@ -8,6 +8,7 @@ use Rattle.std.specs.FinMap.{entries, entries_sorted}
 use Rattle.host_calls.specs.Folder.{Files, name_cmp}
 use Rattle.start_journal.specs.declared.mark.Mark.{Mark}
 use Rattle.start_journal.specs.Marks.{is_decided}
+use Rattle.start_journal.proofs.MarkLemmas.{not_true}
 use Rattle.spool_shows.specs.ByName.{IsJobFile}
 use Rattle.spool_shows.specs.JobFiles.{JobFile, NamedJob, counts, counts_as, file_named, job_file, job_files, job_named}
 use Rattle.spool_shows.proofs.EntryLists.{AreApart, apart_filtered, apart_given, apart_sorted, entry_is_file, file_is_entry}
@@ -16,10 +17,6 @@ use Rattle.spool_shows.proofs.Membership.{Has, filtered_has, given_has, has_filt
 -- the files that count, of a folder
 abbrev pub files_that_count : List Mark → Files → List JobFile
 files_that_count marks files = job_files marks (entries files)
-
-not_true : (b : Bool) → not b ≡ true → b ≡ false
-not_true true is = sym is
-not_true false is = refl
 
 -- the file of a name says what stands there
 pub file_says : (name bytes : List ℕ) (named : Option NamedJob) (file : JobFile) → file_named name bytes named ≡ Some file → (file.name ≡ name) × (file.bytes ≡ bytes) × (named ≡ Some file.job)

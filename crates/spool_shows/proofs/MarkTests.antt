@@ -10,7 +10,8 @@ use Rattle.std.proofs.lemmas.Map.Views.{any-filter_same}
 use Rattle.start_journal.specs.declared.mark.Mark.{Mark}
 use Rattle.start_journal.specs.declared.mark.Mark.TheVariants.{Removed, Started, Ended, Interrupted, Forgotten, Batch}
 use Rattle.start_journal.specs.Marks.{AreLegal, AreLegalAfter, IsLegalAfter, batch_second, decides, first_of_two, forgets, is_decided, is_forgotten, last_batch, marks_of, names}
-use Rattle.start_journal.proofs.MarkLemmas.{decides_names, either, forgets_names, or_false, or_true, same_number}
+use Rattle.start_journal.proofs.LifeLemmas.{any_more}
+use Rattle.start_journal.proofs.MarkLemmas.{decides_names, forgets_names, forgotten_was_decided}
 use Rattle.spool_shows.specs.Shown.{start_second, started_at}
 
 -- none of the two holds
@@ -19,16 +20,6 @@ neither true other is = cc
 neither false other is = (refl, is)
 
 -- One mark more.
-
--- a test over one mark more
-pub any_more : (test : Mark → Bool) (before : List Mark) (mark : Mark) → list_any test (before ++ mark ∷ []) ≡ (list_any test before || test mark)
-any_more test before mark = list_any-append test before (mark ∷ []) ∙ ap (λ b. list_any test before || b) (or_false (test mark))
-
-pub any_with : (test : Mark → Bool) (before : List Mark) (mark : Mark) → test mark ≡ true → list_any test (before ++ mark ∷ []) ≡ true
-any_with test before mark is = any_more test before mark ∙ ap (λ b. list_any test before || b) is ∙ or_true (list_any test before)
-
-pub any_without : (test : Mark → Bool) (before : List Mark) (mark : Mark) → test mark ≡ false → list_any test (before ++ mark ∷ []) ≡ list_any test before
-any_without test before mark is = any_more test before mark ∙ ap (λ b. list_any test before || b) is ∙ or_false (list_any test before)
 
 -- what one mark more does not pass, none passed before
 pub none_before : (test : Mark → Bool) (before : List Mark) (mark : Mark) → list_any test (before ++ mark ∷ []) ≡ false → list_any test before ≡ false
@@ -134,23 +125,6 @@ tell_same number one other same = record {
   from_its {mark} there = All-contains (Contains other) (marks_of number other) mark (All-filter (names number) (Contains other) other (All-contains_itself other)) there
 
 -- Legal marks.
-
--- a mark that forgets a number stands behind one that decides it
-decided_before : (number : ℕ) (before : List Mark) (mark : Mark) → IsLegalAfter before mark → forgets number mark ≡ true → is_decided number before ≡ true
-decided_before number before (Forgotten other) legal is = subst (λ n. is_decided n before ≡ true) (same_number other number is) legal.0
-decided_before number before (Removed other) legal is = cc
-decided_before number before (Started other queue second) legal is = cc
-decided_before number before (Ended other ending) legal is = cc
-decided_before number before (Interrupted other) legal is = cc
-decided_before number before (Batch second) legal is = cc
-
--- so a number that is forgotten was decided
-pub forgotten_was_decided : (number : ℕ) (before later : List Mark) → AreLegalAfter before later → is_forgotten number later ≡ true → is_decided number (before ++ later) ≡ true
-forgotten_was_decided number before [] legal is = cc
-forgotten_was_decided number before (mark ∷ later) legal is = elim (either (forgets number mark) (is_forgotten number later) is) [
-  | inl here ↦ list_any-append (decides number) before (mark ∷ later) ∙ ap (λ b. b || is_decided number (mark ∷ later)) (decided_before number before mark legal.0 here)
-  | inr behind ↦ subst (λ list. is_decided number list ≡ true) (append_assoc before (mark ∷ []) later) (forgotten_was_decided number (before ++ mark ∷ []) later legal.1 behind)
-]
 
 -- a number that is not decided is not forgotten
 pub not_forgotten : (marks : List Mark) (number : ℕ) → AreLegal marks → is_decided number marks ≡ false → is_forgotten number marks ≡ false

@@ -8,6 +8,7 @@ use Rattle.job_script.specs.HeaderIn.{header_in}
 use Rattle.spool_shows.specs.ByName.{IsWhole}
 use Rattle.spool_shows.specs.JobFiles.{JobFile, damage_of, file_place, files_damage, header_fault_in}
 use Rattle.spool_shows.proofs.EntryLists.{AreApart}
+use Rattle.spool_shows.proofs.MarkTests.{neither}
 use Rattle.spool_shows.proofs.Membership.{Has}
 
 -- the files are whole, and each has a number that none before it has
@@ -20,10 +21,6 @@ AreFine last before (file ∷ later) =
 pub neither_first : {X : Type 0} → (one other : Option X) → option_or one other ≡ None → (one ≡ None) × (other ≡ None)
 neither_first None other is = (refl, is)
 neither_first (Some x) other is = let impossible : Some x ≡ None = is in cc
-
-either_false : (a b : Bool) → (a || b) ≡ false → (a ≡ false) × (b ≡ false)
-either_false true b is = let impossible : true ≡ false = is in cc
-either_false false b is = (refl, is)
 
 no_place : (file : JobFile) (place : Option ℕ) → damage_of file place ≡ None → place ≡ None
 no_place file None is = refl
@@ -43,7 +40,7 @@ no_fault last before file is = by_test (nat_lt last file.job.number || list_any 
   by_test : (b : Bool) → (nat_lt last file.job.number || list_any (λ number. number == file.job.number) before) ≡ b → (if b then Some 0 else header_fault_in file.bytes (header_in file.bytes)) ≡ None → IsWhole last file × (list_any (λ number. number == file.job.number) before ≡ false)
   by_test true test none = let impossible : ◌≡◌ {A = Option ℕ} (Some 0) None = none in cc
   by_test false test none =
-      let both : (nat_lt last file.job.number ≡ false) × (list_any (λ number. number == file.job.number) before ≡ false) = either_false _ _ test in
+      let both : (nat_lt last file.job.number ≡ false) × (list_any (λ number. number == file.job.number) before ≡ false) = neither _ _ test in
       let late : nat_lt last file.job.number ≡ false = both.0 in
       (record { drawn = grind (arith, nat_tests); header = header_there file.bytes (header_in file.bytes) none }, both.1)
 
@@ -76,11 +73,11 @@ fresh_of : (last : ℕ) (before : List ℕ) (files : List JobFile) (file : JobFi
 fresh_of last before [] file fine has = absurd has
 fresh_of last before (first ∷ later) file fine (inl same) = ap (λ (of : JobFile). list_any (λ number. number == of.job.number) before) (sym same) ∙ fine.1
 fresh_of last before (first ∷ later) file fine (inr has) =
-    (either_false (first.job.number == file.job.number) _ (fresh_of last (first.job.number ∷ before) later file fine.2 has)).1
+    (neither (first.job.number == file.job.number) _ (fresh_of last (first.job.number ∷ before) later file fine.2 has)).1
 
 differs_from : (last : ℕ) (before : List ℕ) (first : JobFile) (later : List JobFile) (file : JobFile) → AreFine last (first.job.number ∷ before) later → Has later file → ¬ (first.job.number ≡ file.job.number)
 differs_from last before first later file fine has same =
-    let fresh : (first.job.number == file.job.number) ≡ false = (either_false (first.job.number == file.job.number) _ (fresh_of last (first.job.number ∷ before) later file fine has)).0 in
+    let fresh : (first.job.number == file.job.number) ≡ false = (neither (first.job.number == file.job.number) _ (fresh_of last (first.job.number ∷ before) later file fine has)).0 in
     grind (arith, nat_tests)
 
 -- no number has two files

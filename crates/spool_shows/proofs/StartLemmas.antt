@@ -8,6 +8,7 @@ use Rattle.start_journal.specs.declared.mark.Mark.{Mark}
 use Rattle.start_journal.specs.declared.mark.Mark.TheVariants.{Removed, Started, Ended, Interrupted, Forgotten, Batch}
 use Rattle.start_journal.specs.Journals.{journal_file}
 use Rattle.start_journal.specs.Marks.{is_decided}
+use Rattle.start_journal.proofs.MarkLemmas.{same_number}
 use Rattle.spool_shows.specs.ByName.{HasFile, IsJobFile}
 use Rattle.spool_shows.specs.JobFiles.{JobFile, file_of}
 use Rattle.spool_shows.specs.Shown.{mark_damage, start_damage, starts_damage}
@@ -18,9 +19,6 @@ use Rattle.spool_shows.proofs.SoundLemmas.{neither_first}
 -- the test of a number
 pub number_passes : (one other : ℕ) → one ≡ other → (one == other) ≡ true
 number_passes one other same = grind (arith, nat_tests)
-
-pub number_is : (one other : ℕ) → (one == other) ≡ true → one ≡ other
-number_is one other test = grind (arith, nat_tests)
 
 -- each mark shows no damage, at some place
 starts_whole : (marks : List Mark) (files : List JobFile) (place : ℕ) (list : List Mark) (mark : Mark) → starts_damage marks files place list ≡ None → Has list mark → (at : ℕ) × (mark_damage marks files at mark ≡ None)
@@ -46,7 +44,7 @@ file_there : (place queue : ℕ) (found : Option JobFile) → start_damage place
 file_there place queue None is = let impossible : ◌≡◌ {A = Option Damage} (Some (record { name = journal_file; offset = 32 * place; byte = Some 43 })) None = is in cc
 file_there place queue (Some file) is = by_test (file.job.queue == queue) refl is where
   by_test : (b : Bool) → (file.job.queue == queue) ≡ b → (if b then None else Some (queue_damage place queue)) ≡ None → (of : JobFile) × (Some file ≡ Some of) × (of.job.queue ≡ queue)
-  by_test true test none = (file, refl, number_is _ _ test)
+  by_test true test none = (file, refl, same_number _ _ test)
   by_test false test none = let impossible : Some (queue_damage place queue) ≡ None = none in cc
 
 -- the file of a start
@@ -57,7 +55,7 @@ start_has_file marks files number queue second none has undecided =
     sym (ap (λ b. if b then None else start_damage whole.0 queue (file_of number (files_that_count marks files))) undecided) ∙ whole.1 in
     let found : (file : JobFile) × (file_of number (files_that_count marks files) ≡ Some file) × (file.job.queue ≡ queue) = file_there whole.0 queue _ here in
     let stands : Has (files_that_count marks files) found.0 × ((found.0.job.number == number) ≡ true) = found_has (λ (file : JobFile). file.job.number == number) (files_that_count marks files) found.0 found.1 in
-    record { file = found.0; is = counted_is_file marks files found.0 stands.0; number_is = number_is _ _ stands.1; queue_is = found.2 }
+    record { file = found.0; is = counted_is_file marks files found.0 stands.0; number_is = same_number _ _ stands.1; queue_is = found.2 }
 
 -- the file of a number is found, where no number has two
 pub file_found : (marks : List Mark) (files : Files) (file : JobFile) → IsJobFile marks files file → ((first second : JobFile) → IsJobFile marks files first → IsJobFile marks files second → first.job.number ≡ second.job.number → first ≡ second) → file_of file.job.number (files_that_count marks files) ≡ Some file
@@ -66,7 +64,7 @@ file_found marks files file is once = by_found (file_of file.job.number (files_t
   by_found None none = absurd (not_found (λ (of : JobFile). of.job.number == file.job.number) (files_that_count marks files) file none (file_is_counted marks files file is) (number_passes _ _ refl))
   by_found (Some other) found =
       let stands : Has (files_that_count marks files) other × ((other.job.number == file.job.number) ≡ true) = found_has (λ (of : JobFile). of.job.number == file.job.number) (files_that_count marks files) other found in
-      found ∙ ap Some (once other file (counted_is_file marks files other stands.0) is (number_is _ _ stands.1))
+      found ∙ ap Some (once other file (counted_is_file marks files other stands.0) is (same_number _ _ stands.1))
 
 queue_fits : (place queue : ℕ) (file : JobFile) → file.job.queue ≡ queue → start_damage place queue (Some file) ≡ None
 queue_fits place queue file same = rw (number_passes file.job.queue queue same) refl

@@ -23,7 +23,8 @@ use Rattle.spool_shows.specs.ByName.{HasFile, ShowsByName, ShowsEntry}
 use Rattle.spool_shows.specs.JobFiles.{JobFile}
 use Rattle.spool_shows.specs.Laws.{AddsMark, HasMarked}
 use Rattle.spool_shows.specs.Shown.{done_entry, job_of, live_entry, start_second, started_at, state_since}
-use Rattle.spool_shows.proofs.MarkTests.{any_with, any_without, not_forgotten, started_more}
+use Rattle.spool_shows.proofs.MarkTests.{not_forgotten, started_more}
+use Rattle.start_journal.proofs.LifeLemmas.{any_with, any_without}
 use Rattle.spool_shows.proofs.OneMark.{decided_shown, marks_legal, step_shown}
 use Rattle.spool_shows.proofs.ShownEntries.{fails_other, file_moves, leaves_as, passes_same, same_jobs, shows_done, shows_live}
 use Rattle.spool_shows.proofs.ShownStates.{IsDoneBy, IsLiveBy, done_told, live_told, not_started}

@@ -1,5 +1,5 @@
 -- What one mark more tells of each number.
-use Rattle.std.proofs.Common.{◌≡◌, ℕ, ℤ, ◌+◌, ◌<◌, true, List, Option, Some, None, [], ◌∷◌, ◌++◌, length, get_or, take, sym, ap, ◌∙◌, refl}
+use Rattle.std.proofs.Common.{◌≡◌, ℕ, ◌+◌, ◌<◌, true, List, Option, Some, None, [], ◌∷◌, ◌++◌, length, get_or, take, sym, ap, ◌∙◌, refl}
 use Rattle.std.specs.declared.cmp.Ordering.{Ordering}
 use Rattle.std.specs.declared.cmp.Ordering.TheVariants.{Less, Equal, Greater}
 use Rattle.std.specs.BTreeMap.{is_at}
@@ -8,8 +8,9 @@ use Rattle.std.specs.Ordering.{is_eq, nat_cmp}
 use Rattle.std.proofs.lemmas.List.{take_more}
 use Rattle.std.proofs.lemmas.Map.Lookups.{exact_unsigned}
 use Rattle.start_journal.specs.declared.mark.Mark.{Mark}
-use Rattle.start_journal.specs.Marks.{batch_second, first_of_two, forgets, last_batch}
-use Rattle.spool_shows.proofs.MarkTests.{any_more, batch_more, started_more}
+use Rattle.start_journal.specs.Marks.{forgets}
+use Rattle.spool_shows.proofs.MarkTests.{started_more}
+use Rattle.start_journal.proofs.LifeLemmas.{any_more}
 use Rattle.spool_store.specs.declared.lives.Life.{Life}
 use Rattle.spool_store.specs.Lives.{fate_at, fate_given, life_at, life_with}
 
@@ -52,13 +53,3 @@ pub key_is : (one other : ℕ) → is_at (nat_cmp one) other ≡ true → one �
 key_is one other is = exact_unsigned one other (is_equal (nat_cmp one other) is)
 
 -- The last batch start.
-
-or_first : (one other : Option ℤ) → option_or one other ≡ first_of_two one other
-or_first None other = refl
-or_first (Some second) other = refl
-
-pub batch_pass : (marks : List Mark) (place : ℕ) (other : Mark) (found last answer : Option ℤ) → place < length marks → found ≡ batch_second (get_or marks place other) → last ≡ last_batch (take place marks) → answer ≡ option_or found last → answer ≡ last_batch (take (place + 1) marks)
-batch_pass marks place other found last answer inside here before is =
-    is ∙ or_first found last
-    ∙ sym (ap last_batch (take_more marks place other inside) ∙ batch_more (take place marks) (get_or marks place other)
-    ∙ ap (λ one. first_of_two one (last_batch (take place marks))) (sym here) ∙ ap (first_of_two found) (sym before))

@@ -20,7 +20,7 @@ use Rattle.spool_shows.specs.Shown.{damage_of_jobs}
 use Rattle.spool_shows.proofs.Membership.{Has, contained, found_has, given_has, has_contained, made_has, one_passes}
 use Rattle.spool_shows.proofs.ShownEntries.{some_same}
 use Rattle.spool_shows.proofs.SoundLemmas.{fine_is_whole, no_damage_is_fine}
-use Rattle.spool_shows.proofs.StartLemmas.{number_is}
+use Rattle.start_journal.proofs.MarkLemmas.{same_number}
 use Rattle.spool_store.specs.declared.lives.Life.{Life}
 use Rattle.spool_store.specs.declared.lives.Lives.{Lives}
 use Rattle.spool_store.specs.declared.seen.Seen.{Seen}
@@ -85,7 +85,7 @@ all_pass test (first ∷ later) mark all (inr has) = all_pass test later mark (o
 all_pass test [] mark all has = absurd has
 
 up_to : (last other number : ℕ) → (other == number) ≡ true → nat_le other last ≡ true → 1 ≤ other → IsDrawn last number
-up_to last other number same below some = let is : other ≡ number = number_is other number same in (omega arith, let le : other ≤ last = grind (arith, nat_tests) in omega arith)
+up_to last other number same below some = let is : other ≡ number = same_number other number same in (omega arith, let le : other ≤ last = grind (arith, nat_tests) in omega arith)
 
 decider_drawn : (last number : ℕ) (mark : Mark) → decides number mark ≡ true → is_drawn last mark ≡ true → IsWritable mark → IsDrawn last number
 decider_drawn last number (Removed other) same drawn some = up_to last other number same drawn some

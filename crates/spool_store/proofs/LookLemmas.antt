@@ -14,7 +14,8 @@ use Rattle.start_journal.proofs.MarkLemmas.{or_false, or_true}
 use Rattle.spool_shows.specs.JobFiles.{JobFile, damage_of, file_of, file_place, files_damage, header_fault_in}
 use Rattle.job_script.specs.HeaderIn.{header_in}
 use Rattle.spool_shows.proofs.MarkTests.{neither}
-use Rattle.spool_shows.proofs.StartLemmas.{number_is, number_passes}
+use Rattle.spool_shows.proofs.StartLemmas.{number_passes}
+use Rattle.start_journal.proofs.MarkLemmas.{same_number}
 use Rattle.spool_store.specs.declared.fault.StoreFault.{StoreFault}
 use Rattle.spool_store.specs.declared.fault.StoreFault.TheVariants.{Damaged}
 use Rattle.spool_store.specs.declared.seen.Seen.{Seen}
@@ -31,7 +32,7 @@ equal_self n = ap is_eq (tied_itself nat_cmp_total n)
 pub key_differs : (one other : ℕ) → is_at (nat_cmp one) other ≡ false → (one == other) ≡ false
 key_differs one other is = by_test (one == other) refl where
   by_test : (same : Bool) → (one == other) ≡ same → (one == other) ≡ false
-  by_test true same = let impossible : true ≡ false = sym (equal_self one) ∙ ap (is_at (nat_cmp one)) (number_is one other same) ∙ is in cc
+  by_test true same = let impossible : true ≡ false = sym (equal_self one) ∙ ap (is_at (nat_cmp one)) (same_number one other same) ∙ is in cc
   by_test false same = same
 
 -- Files and numbers.

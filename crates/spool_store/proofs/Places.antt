@@ -1,6 +1,6 @@
 -- The place of a number, as a search for it gives it.
 use Rattle.std.proofs.Common.{◌≡◌, ℕ, ◌<◌, ◌≤◌, true, false, ltb, List, length, map, get_or, refl, sym, ap, subst, ◌∙◌, add-one, arith, Contains}
-use Rattle.std.specs.Prelude.{Option, Some, None, IfNone, IsSome, T, nat_eq}
+use Rattle.std.specs.Prelude.{Option, Some, None, IfNone, IsSome, T}
 use Rattle.std.specs.Cmp.{nat_cmp_total}
 use Rattle.spool_shows.proofs.EntryLists.{has_key}
 use Rattle.spool_shows.proofs.Membership.{has_contained, has_made}
@@ -50,10 +50,6 @@ module _ {X V : Type 0} (entry : X → ℕ × V) where
       let lengths : length slice ≡ length xs = ap length same in
       let inside : place < length xs = there.0 in
       omega arith
-
--- what a test of two numbers says
-pub same_number : (a b : ℕ) → nat_eq a b ≡ true → a ≡ b
-same_number a b is = grind (arith, nat_tests)
 
 -- a fact that holds also where there is nothing
 pub if_none : {X : Type 0} → (given : Option X) (P : Type 0) → P → IfNone given P

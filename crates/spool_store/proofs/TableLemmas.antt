@@ -24,7 +24,8 @@ use Rattle.spool_shows.specs.JobFiles.{JobFile, file_of, files_damage}
 use Rattle.spool_shows.specs.Shown.{damage_of_jobs, done_as, done_entry, entries_shown, live_entry, starts_damage, table_shown}
 use Rattle.spool_shows.proofs.Membership.{Has, found_has}
 use Rattle.spool_shows.proofs.ShownEntries.{fails_other, some_same}
-use Rattle.spool_shows.proofs.StartLemmas.{number_is, number_passes}
+use Rattle.spool_shows.proofs.StartLemmas.{number_passes}
+use Rattle.start_journal.proofs.MarkLemmas.{same_number}
 use Rattle.job_runs.specs.Bare.{bare, bare_entries, bare_entry}
 use Rattle.spool_store.specs.declared.lives.Life.{Life}
 use Rattle.spool_store.specs.declared.lives.Lives.{Lives}
@@ -82,11 +83,11 @@ one_given marks number other is given rest before = by_test (is_forgotten other 
   by_test : (forgotten : Bool) → is_forgotten other marks ≡ forgotten → (same : Bool) → (other == number) ≡ same
       → find_entry nat_cmp number (cons_option (cond forgotten None (Some (other, Done is))) rest) ≡ option_map Done (cond (is_forgotten number marks) None (option_or (cond same (Some is) None) given))
   by_test true gone true same =
-      let gone_too : is_forgotten number marks ≡ true = ap (λ n. is_forgotten n marks) (sym (number_is other number same)) ∙ gone in
+      let gone_too : is_forgotten number marks ≡ true = ap (λ n. is_forgotten n marks) (sym (same_number other number same)) ∙ gone in
       before ∙ ap (λ b. option_map Done (cond b None given)) gone_too ∙ sym (ap (λ b. option_map Done (cond b None (Some is))) gone_too)
   by_test true gone false same = before
   by_test false kept true same =
-      let kept_too : is_forgotten number marks ≡ false = ap (λ n. is_forgotten n marks) (sym (number_is other number same)) ∙ kept in
+      let kept_too : is_forgotten number marks ≡ false = ap (λ n. is_forgotten n marks) (sym (same_number other number same)) ∙ kept in
       ap (λ b. cond b (Some (Done is)) (find_entry nat_cmp number rest)) (same_test number other ∙ same) ∙ sym (ap (λ b. option_map Done (cond b None (Some is))) kept_too)
   by_test false kept false same = ap (λ b. cond b (Some (Done is)) (find_entry nat_cmp number rest)) (same_test number other ∙ same) ∙ before
 
@@ -158,7 +159,7 @@ find_rows number (entry ∷ list) keyed =
 row_keyed : (marks : List Mark) (files : List JobFile) (key : ℕ) (row : Row) (found : Option JobFile) → file_of key files ≡ found → option_map (row_of marks) found ≡ Some row → row.number ≡ key
 row_keyed marks files key row None is made = cc
 row_keyed marks files key row (Some file) is made =
-    ap (λ (r : Row). r.number) (sym (some_same made)) ∙ number_is file.job.number key (found_has (λ (f : JobFile). f.job.number == key) files file is).1
+    ap (λ (r : Row). r.number) (sym (some_same made)) ∙ same_number file.job.number key (found_has (λ (f : JobFile). f.job.number == key) files file is).1
 
 pub rows_keyed : (marks : List Mark) (files : List JobFile) (rows : RowMap) → AreRowsOf marks files rows → IsOrdered nat_cmp rows → (key : ℕ) (row : Row) → Has rows.entries (key, row) → row.number ≡ key
 rows_keyed marks files rows are ordered key row has =

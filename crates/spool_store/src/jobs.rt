@@ -11,6 +11,7 @@ ghost use Rattle.spool_store.specs.Rows.{decided_entry, listed_table, row_entry}
 
 use crate::sorted;
 use host_calls::Ending;
+use queue_rules::is_batch;
 use spool_model::{Decided, Fate, Row};
 use std::alloc::AllocError;
 use std::marker::Model;
@@ -201,10 +202,4 @@ fn last_batch_after(last_batch: Option<i64>, queue: u8, second: i64) -> Option<i
     } else {
         last_batch
     }
-}
-
-fn is_batch(queue: u8) -> bool
-    ensures { result ≡ is_batch_queue queue }
-{
-    queue == b'b' || queue.is_ascii_uppercase()
 }

@@ -3,8 +3,6 @@ ghost use Rattle.std.specs.Prelude.{◌≡◌, ℕ, None, Some, IfOk, OnOk};
 ghost use Rattle.std.specs.BTreeMap.{IsOrdered};
 ghost use Rattle.std.specs.List.{filter_map};
 ghost use Rattle.std.specs.Ordering.{nat_cmp};
-ghost use Rattle.spool_model.specs.JobTable.{is_batch_queue};
-ghost use Rattle.start_journal.specs.Marks.{last_batch, batch_second};
 ghost use Rattle.spool_store.specs.Lives.{TellLives, life_in, life_with, decided_of, named_by, remembered_fate};
 
 use spool_model::{Decided, Fate};
@@ -119,31 +117,4 @@ pub(crate) fn number_of(mark: Mark) -> Option<u32>
         Mark::Started { number, .. } | Mark::Ended { number, .. } => Some(number),
         Mark::Batch(_) => None,
     }
-}
-
-/// The second of the last start of a job of a batch queue.
-pub(crate) fn last_batch(marks: &[Mark]) -> Option<i64>
-    ensures { result ≡ last_batch marks.now }
-{
-    let mut last = None;
-    for mark in marks {
-        last = batch_second(*mark).or(last);
-    }
-    last
-}
-
-fn batch_second(mark: Mark) -> Option<i64>
-    ensures { result ≡ batch_second mark }
-{
-    match mark {
-        Mark::Started { queue, second, .. } if is_batch(queue) => Some(second),
-        Mark::Batch(second) => Some(second),
-        _ => None,
-    }
-}
-
-fn is_batch(queue: u8) -> bool
-    ensures { result ≡ is_batch_queue queue }
-{
-    queue == b'b' || queue.is_ascii_uppercase()
 }

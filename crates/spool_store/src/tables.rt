@@ -11,12 +11,12 @@ ghost use Rattle.spool_store.specs.Tables.{AreUndecided, IsTableShown, ListsDraw
 
 use crate::fault::StoreFault;
 use crate::jobs::Jobs;
-use crate::lives::{Lives, last_batch};
+use crate::lives::Lives;
 use crate::looks::look_at;
 use crate::seen::Seen;
 use crate::starts::starts_fault;
 use spool_model::{Decided, Row};
-use start_journal::Mark;
+use start_journal::{Mark, last_batch};
 use std::alloc::{AllocError, Global};
 use std::collections::BTreeMap;
 

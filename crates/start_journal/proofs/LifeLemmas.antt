@@ -46,13 +46,13 @@ record Reaches (number : ℕ) (before : List Mark) (stage : Stage) : Type 0 wher
   not_ended : was_decided stage ≡ false → is_ended number before ≡ false
 
 -- a test over one mark more
-any_more : (test : Mark → Bool) (before : List Mark) (mark : Mark) → list_any test (before ++ mark ∷ []) ≡ (list_any test before || test mark)
+pub any_more : (test : Mark → Bool) (before : List Mark) (mark : Mark) → list_any test (before ++ mark ∷ []) ≡ (list_any test before || test mark)
 any_more test before mark = list_any-append test before (mark ∷ []) ∙ ap (λ b. list_any test before || b) (or_false (test mark))
 
-any_with : (test : Mark → Bool) (before : List Mark) (mark : Mark) → test mark ≡ true → list_any test (before ++ mark ∷ []) ≡ true
+pub any_with : (test : Mark → Bool) (before : List Mark) (mark : Mark) → test mark ≡ true → list_any test (before ++ mark ∷ []) ≡ true
 any_with test before mark is = any_more test before mark ∙ ap (λ b. list_any test before || b) is ∙ or_true (list_any test before)
 
-any_without : (test : Mark → Bool) (before : List Mark) (mark : Mark) → test mark ≡ false → list_any test (before ++ mark ∷ []) ≡ list_any test before
+pub any_without : (test : Mark → Bool) (before : List Mark) (mark : Mark) → test mark ≡ false → list_any test (before ++ mark ∷ []) ≡ list_any test before
 any_without test before mark is = any_more test before mark ∙ ap (λ b. list_any test before || b) is ∙ or_false (list_any test before)
 
 -- a test of another number

@@ -132,11 +132,11 @@ test_gone marks number test of_number is =
     ∙ test_forgotten marks marks number test of_number is
 
 -- a mark that forgets a number stands behind one that decides it
-decided_before : (number : ℕ) (before : List Mark) (mark : Mark) → IsLegalAfter before mark → forgets number mark ≡ true → is_decided number before ≡ true
+pub decided_before : (number : ℕ) (before : List Mark) (mark : Mark) → IsLegalAfter before mark → forgets number mark ≡ true → is_decided number before ≡ true
 decided_before number before (Forgotten other) legal is = subst (λ n. is_decided n before ≡ true) (same_number other number is) legal.0
 decided_before number before _ legal is = cc
 
-forgotten_was_decided : (number : ℕ) (before later : List Mark) → AreLegalAfter before later → is_forgotten number later ≡ true → is_decided number (before ++ later) ≡ true
+pub forgotten_was_decided : (number : ℕ) (before later : List Mark) → AreLegalAfter before later → is_forgotten number later ≡ true → is_decided number (before ++ later) ≡ true
 forgotten_was_decided number before [] legal is = cc
 forgotten_was_decided number before (mark ∷ later) legal is = elim (either (forgets number mark) (is_forgotten number later) is) [
   | inl here ↦ list_any-append (decides number) before (mark ∷ later) ∙ ap (λ b. b || is_decided number (mark ∷ later)) (decided_before number before mark legal.0 here)

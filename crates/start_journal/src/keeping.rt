@@ -43,7 +43,7 @@ fn is_kept(marks: &[Mark], mark: &Mark) -> bool
 }
 
 /// The second of the last mark that starts a job of a batch queue.
-fn last_batch(marks: &[Mark]) -> Option<i64>
+pub fn last_batch(marks: &[Mark]) -> Option<i64>
     ensures { result ≡ last_batch marks.now }
 {
     let mut last = None;

@@ -20,6 +20,7 @@ mod text;
 pub use fault::JournalFault;
 pub use fields::Fields;
 pub use journal::Journal;
+pub use keeping::last_batch;
 pub use laws::{
     journals_read_back, kept_marks_are_legal, kept_marks_keep_what_counts, marks_have_one_spelling,
     numbers_live_once, right_fronts_are_longest, slots_give_their_marks,

@@ -1,8 +1,11 @@
-use Rattle.job_runs.proofs.BareLemmas.{entries_are_bare, legal_as_on_the_table, steps_as_on_the_table}
+use Rattle.job_runs.proofs.BareLemmas.{entries_are_bare, legal_as_on_the_table, scripts_are_gone, steps_as_on_the_table}
 use Rattle.job_runs.proofs.laws.bare_tables_step_alike.Goals as goal
 
 pub returns-clause-entries : goal.returns-clause-entries
 returns-clause-entries c = entries_are_bare
+
+pub returns-clause-scripts : goal.returns-clause-scripts
+returns-clause-scripts c = scripts_are_gone
 
 pub returns-clause-legal : goal.returns-clause-legal
 returns-clause-legal c = legal_as_on_the_table

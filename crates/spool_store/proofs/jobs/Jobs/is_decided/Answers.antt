@@ -6,7 +6,8 @@ use Rattle.spool_store.specs.Listed.{entry_in}
 use Rattle.spool_store.specs.Rows.{decided_entry}
 use Rattle.spool_store.proofs.Edits.{test_from}
 use Rattle.spool_store.proofs.Listing.{decided_is_done, done_is_decided}
-use Rattle.spool_store.proofs.Places.{found_at, none_at, other_at, same_number}
+use Rattle.start_journal.proofs.MarkLemmas.{same_number}
+use Rattle.spool_store.proofs.Places.{found_at, none_at, other_at}
 use Rattle.spool_store.proofs.jobs.Jobs.is_decided.Goals as goal
 
 pub returns-in-Some : goal.returns-in-Some
