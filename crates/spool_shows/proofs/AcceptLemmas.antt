@@ -22,7 +22,7 @@ use Rattle.spool_shows.specs.JobFiles.{JobFile, NamedJob, job_named}
 use Rattle.spool_shows.specs.Laws.{HasAccepted}
 use Rattle.spool_shows.specs.Shown.{job_of, live_entry, state_since, user_of}
 use Rattle.spool_shows.proofs.FreshNumbers.{fresh_not_started, fresh_undecided}
-use Rattle.spool_shows.proofs.JournalReads.{journal_drawn, journal_more}
+use Rattle.start_journal.proofs.JournalReads.{journal_drawn, journal_more}
 use Rattle.spool_shows.proofs.NameLemmas.{KeepFiles, entry_kept, is_there, job_name_apart, job_name_differs, journal_apart, journal_no_job, sequence_no_job, temporary_no_job, whole_more}
 
 -- the file of the job

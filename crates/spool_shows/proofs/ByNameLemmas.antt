@@ -22,7 +22,7 @@ use Rattle.spool_shows.specs.Shown.{Shows, damage_of_jobs, entries_shown, live_e
 use Rattle.spool_shows.proofs.DeciderLemmas.{one_done_entry}
 use Rattle.spool_shows.proofs.EntryLemmas.{done_decides, shows_found}
 use Rattle.spool_shows.proofs.FileLemmas.{counted_is_file, file_is_counted, files_that_count, names_apart, one_file}
-use Rattle.spool_shows.proofs.JournalReads.{journal_legal}
+use Rattle.start_journal.proofs.JournalReads.{journal_legal}
 use Rattle.spool_shows.proofs.Membership.{contained, has_contained}
 use Rattle.spool_shows.proofs.SoundLemmas.{AreFine, fine_is_no_damage, fine_is_whole, fine_once, neither_first, no_damage_is_fine, whole_is_fine}
 use Rattle.spool_shows.proofs.StartLemmas.{start_has_file, starts_have_files}

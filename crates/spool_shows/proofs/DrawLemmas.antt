@@ -9,7 +9,7 @@ use Rattle.spool_model.specs.Steps.{after_step}
 use Rattle.start_journal.specs.Journals.{journal_file, journal_in}
 use Rattle.spool_shows.specs.ByName.{ShowsByName}
 use Rattle.spool_shows.specs.Laws.{HasDrawn}
-use Rattle.spool_shows.proofs.JournalReads.{journal_more}
+use Rattle.start_journal.proofs.JournalReads.{journal_more}
 use Rattle.spool_shows.proofs.NameLemmas.{AgreeOnNames, agreeing_keep, entry_kept, job_name_apart, journal_apart, sequence_no_job, sound_kept, temporary_no_job}
 
 pub drawn_by_name : (before after : Files) (table : JobTable) → ShowsByName before table → HasDrawn table before after → ShowsByName after (after_step table Draw)

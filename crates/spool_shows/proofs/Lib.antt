@@ -7,12 +7,12 @@ pub mod EntryLemmas
 pub mod EntryLists
 pub mod FileLemmas
 pub mod FreshNumbers
-pub mod JournalReads
 pub mod MarkTests
 pub mod Membership
 pub mod NameLemmas
 pub mod OneMark
 pub mod OtherLemmas
+pub mod RewriteLemmas
 pub mod ShownEntries
 pub mod ShownStates
 pub mod SoundLemmas

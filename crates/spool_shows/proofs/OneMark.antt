@@ -20,7 +20,7 @@ use Rattle.spool_shows.specs.JobFiles.{JobFile}
 use Rattle.spool_shows.specs.Laws.{AgreeElsewhere, HasMarked, HasMarks}
 use Rattle.spool_shows.specs.LastNumber.{last_in}
 use Rattle.spool_shows.specs.Shown.{done_entry}
-use Rattle.spool_shows.proofs.JournalReads.{journal_legal}
+use Rattle.start_journal.proofs.JournalReads.{journal_legal}
 use Rattle.spool_shows.proofs.MarkTests.{batch_more, marks_of_other, none_before, tell_same}
 use Rattle.start_journal.proofs.LifeLemmas.{any_with, any_without}
 use Rattle.spool_shows.proofs.ShownEntries.{SameJobs, file_moves, same_back, same_jobs, shows_done}

@@ -2,12 +2,13 @@
 use Rattle.host_calls.specs.Folder.{Files}
 use Rattle.spool_model.specs.JobTable.{JobTable}
 use Rattle.spool_shows.specs.ByName.{ShowsByName}
-use Rattle.spool_shows.specs.Laws.{AcceptsAreShown, CompactionsAreShown, DrawsAreShown, LegalStepsAddLegalMarks, MarksAreShown}
+use Rattle.spool_shows.specs.Laws.{AcceptsAreShown, CompactionsAreShown, DrawsAreShown, LegalStepsAddLegalMarks, MarksAreShown, RewritesAreShown}
 use Rattle.spool_shows.specs.Shown.{Shows}
 use Rattle.spool_shows.proofs.AcceptLemmas.{accepted_by_name}
 use Rattle.spool_shows.proofs.ByNameLemmas.{folders_are_shown_by_name}
 use Rattle.spool_shows.proofs.Compacted.{compacted_by_name}
 use Rattle.spool_shows.proofs.DrawLemmas.{drawn_by_name}
+use Rattle.spool_shows.proofs.RewriteLemmas.{rewritten_by_name}
 use Rattle.spool_shows.proofs.StepLegal.{legal_marks_by_name}
 use Rattle.spool_shows.proofs.StepMarks.{marked_by_name}
 
@@ -32,3 +33,6 @@ legal_steps_add_legal_marks files table step added marks shows has legal adds = 
 
 pub compactions_are_shown : CompactionsAreShown
 compactions_are_shown before after table shows compacted = shown after table (compacted_by_name before after table (by_name before table shows) compacted)
+
+pub rewrites_are_shown : RewritesAreShown
+rewrites_are_shown before after table shows rewritten = shown after table (rewritten_by_name before after table (by_name before table shows) rewritten)

@@ -38,7 +38,7 @@ silent_mark number (Interrupted other) undecided remembered none = undecided
 silent_mark number (Forgotten other) undecided remembered none = remembered
 silent_mark number (Batch second) undecided remembered none = refl
 
-unnamed : (number : ℕ) (marks : List Mark) → is_decided number marks ≡ false → is_forgotten number marks ≡ false → started_at number marks ≡ None → is_named number marks ≡ false
+pub unnamed : (number : ℕ) (marks : List Mark) → is_decided number marks ≡ false → is_forgotten number marks ≡ false → started_at number marks ≡ None → is_named number marks ≡ false
 unnamed number [] undecided remembered none = refl
 unnamed number (mark ∷ later) undecided remembered none =
     let first : (decides number mark ≡ false) × (is_decided number later ≡ false) = neither (decides number mark) (is_decided number later) undecided in
@@ -59,7 +59,7 @@ start_tells number (Interrupted other) = inr refl
 start_tells number (Forgotten other) = inr refl
 start_tells number (Batch second) = inr refl
 
-is_started_since : (number : ℕ) (marks : List Mark) (second : ℤ) → started_at number marks ≡ Some second → is_started number marks ≡ true
+pub is_started_since : (number : ℕ) (marks : List Mark) (second : ℤ) → started_at number marks ≡ Some second → is_started number marks ≡ true
 is_started_since number [] second since = cc
 is_started_since number (mark ∷ later) second since = elim (start_tells number mark) [
   | inl here ↦ ap (λ b. b || is_started number later) here

@@ -124,3 +124,15 @@ pub record HasCompacted (table : JobTable) (before after : Files) : Type 0 where
 abbrev pub CompactionsAreShown : Type 0
 CompactionsAreShown = (before after : Files) (table : JobTable) → Shows before table → HasCompacted table before after →
     Shows after table
+
+-- the journal was written anew, with the same marks
+pub record HasRewritten (table : JobTable) (before after : Files) : Type 0 where
+  pub marks : List Mark
+  pub free : ℕ
+  pub had : HasMarks before marks
+  pub journal : journal_in table.last (map.get after journal_file) ≡ Ok (record { marks = marks; free = free })
+  pub others : AgreeElsewhere temporary_file journal_file before after
+
+abbrev pub RewritesAreShown : Type 0
+RewritesAreShown = (before after : Files) (table : JobTable) → Shows before table → HasRewritten table before after →
+    Shows after table

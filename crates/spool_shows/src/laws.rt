@@ -1,6 +1,6 @@
 //! What holds of every folder, each law as the contract of a function.
 ghost use Rattle.spool_shows.specs.Examples.{SmallFoldersAreDamaged, SmallFoldersShow};
-ghost use Rattle.spool_shows.specs.Laws.{AcceptsAreShown, CompactionsAreShown, DrawsAreShown, FoldersAreShownByName, LegalStepsAddLegalMarks, MarksAreShown, OtherFilesCountForNothing};
+ghost use Rattle.spool_shows.specs.Laws.{AcceptsAreShown, CompactionsAreShown, DrawsAreShown, FoldersAreShownByName, LegalStepsAddLegalMarks, MarksAreShown, OtherFilesCountForNothing, RewritesAreShown};
 
 /// What small folders show, computed.
 pub fn small_folders()
@@ -37,4 +37,9 @@ pub fn marks_are_shown()
 /// A compacted journal shows the same table.
 pub fn compactions_are_shown()
     ensures { CompactionsAreShown }
+{}
+
+/// A journal that was written anew with the same marks shows the same table.
+pub fn rewrites_are_shown()
+    ensures { RewritesAreShown }
 {}

@@ -6,5 +6,5 @@ mod laws;
 
 pub use laws::{
     accepts_are_shown, compactions_are_shown, draws_are_shown, folders_are_shown_by_name,
-    marks_are_shown, other_files_count_for_nothing, small_folders,
+    marks_are_shown, other_files_count_for_nothing, rewrites_are_shown, small_folders,
 };

@@ -1,6 +1,6 @@
--- What a compaction keeps can be written, and the last batch start is found in one pass.
+-- What a compaction keeps can be written, and the forgotten numbers and the last batch start are found in one pass.
 use Rattle.std.proofs.Common.{◌≡◌, ℕ, ℤ, ◌+◌, ◌<◌, Bool, true, false, List, [], ◌∷◌, ◌++◌, Option, Some, None, length, take, get_or, cond, sym, ap, subst, ◌∙◌, refl}
-use Rattle.std.specs.Prelude.{if◌then◌else◌}
+use Rattle.std.specs.Prelude.{◌||◌, if◌then◌else◌}
 use Rattle.std.specs.Option.{option_or}
 use Rattle.std.specs.List.{filter, list_all}
 use Rattle.std.proofs.lemmas.List.{take_more}
@@ -8,9 +8,10 @@ use Rattle.spool_model.specs.JobTable.{is_batch_queue}
 use Rattle.start_journal.specs.declared.mark.Mark.{Mark}
 use Rattle.start_journal.specs.declared.mark.Mark.TheVariants.{Removed, Started, Ended, Interrupted, Forgotten, Batch}
 use Rattle.start_journal.specs.Journals.{are_sound}
-use Rattle.start_journal.specs.Marks.{batch_mark, batch_second, first_of_two, is_kept, kept_marks, last_batch}
+use Rattle.start_journal.specs.Marks.{batch_mark, batch_second, first_of_two, forgets, is_forgotten, is_kept, kept_marks, last_batch}
 use Rattle.start_journal.specs.SlotBytes.{can_write, is_second}
 use Rattle.start_journal.proofs.ByteLemmas.{and_then, both}
+use Rattle.start_journal.proofs.LifeLemmas.{any_more}
 use Rattle.start_journal.proofs.MarkLemmas.{kept_marks_are_legal}
 use Rattle.start_journal.proofs.ReadLemmas.{legal_tests, sound_is, sound_legal, sound_tested}
 
@@ -36,6 +37,12 @@ pass_more marks place other found last answer inside here before is =
     is ∙ or_first found last
     ∙ sym (ap last_batch (take_more marks place other inside) ∙ last_more (take place marks) (get_or marks place other)
     ∙ ap (λ one. first_of_two one (last_batch (take place marks))) (sym here) ∙ ap (first_of_two found) (sym before))
+
+-- the forgotten numbers of a list and one mark more
+pub forgotten_pass : (number : ℕ) (marks : List Mark) (place : ℕ) (other : Mark) (old new : Bool) → place < length marks → old ≡ is_forgotten number (take place marks) → new ≡ (old || forgets number (get_or marks place other)) → new ≡ is_forgotten number (take (place + 1) marks)
+forgotten_pass number marks place other old new inside before is =
+    is ∙ ap (λ b. b || forgets number (get_or marks place other)) before
+    ∙ sym (ap (is_forgotten number) (take_more marks place other inside) ∙ any_more (forgets number) (take place marks) (get_or marks place other))
 
 -- what is kept can be written
 all_filtered : (test keep : Mark → Bool) (marks : List Mark) → list_all test marks ≡ true → list_all test (filter keep marks) ≡ true

@@ -3,12 +3,14 @@ pub mod ChangeLemmas
 pub mod FrontLemmas
 pub mod GivesLemmas
 pub mod JournalLemmas
+pub mod JournalReads
 pub mod KeepLemmas
 pub mod LifeLemmas
 pub mod MarkLemmas
 pub mod ReadLemmas
 pub mod RightLemmas
 pub mod SlotLemmas
+pub mod StageLemmas
 pub mod StandLemmas
 pub mod TextLemmas
 pub mod WholeLemmas

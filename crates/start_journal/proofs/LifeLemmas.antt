@@ -9,41 +9,8 @@ use Rattle.start_journal.specs.declared.stage.Stage.{Stage}
 use Rattle.start_journal.specs.declared.stage.Stage.TheVariants.{Fresh, Open, Closed, Gone}
 use Rattle.start_journal.specs.Laws.{NumbersLiveOnce}
 use Rattle.start_journal.specs.Marks.{AreLegalAfter, IsLegalAfter, decides, ends, forgets, is_decided, is_ended, is_forgotten, is_named, is_started, marks_of, names, starts}
-use Rattle.start_journal.specs.Stages.{GoThrough, allows, stage_behind}
+use Rattle.start_journal.specs.Stages.{GoThrough, Reaches, allows, is_running, stage_behind, was_decided, was_forgotten, was_named}
 use Rattle.start_journal.proofs.MarkLemmas.{and_false, decides_names, ends_names, forgets_names, or_false, or_true, same_number, starts_names}
-
--- what a stage says of the marks of its number
-abbrev was_named : Stage → Bool
-was_named Fresh = false
-was_named Open = true
-was_named Closed = true
-was_named Gone = true
-
-abbrev was_decided : Stage → Bool
-was_decided Fresh = false
-was_decided Open = false
-was_decided Closed = true
-was_decided Gone = true
-
-abbrev was_forgotten : Stage → Bool
-was_forgotten Fresh = false
-was_forgotten Open = false
-was_forgotten Closed = false
-was_forgotten Gone = true
-
-abbrev is_running : Stage → Bool
-is_running Fresh = false
-is_running Open = true
-is_running Closed = false
-is_running Gone = false
-
--- the marks bring their number to the stage
-record Reaches (number : ℕ) (before : List Mark) (stage : Stage) : Type 0 where
-  named : is_named number before ≡ was_named stage
-  decided : is_decided number before ≡ was_decided stage
-  forgotten : is_forgotten number before ≡ was_forgotten stage
-  running : (is_started number before && not (is_ended number before)) ≡ is_running stage
-  not_ended : was_decided stage ≡ false → is_ended number before ≡ false
 
 -- a test over one mark more
 pub any_more : (test : Mark → Bool) (before : List Mark) (mark : Mark) → list_any test (before ++ mark ∷ []) ≡ (list_any test before || test mark)
@@ -63,7 +30,7 @@ not_of number test mark of_number other = by_test (test mark) refl where
   by_test false is = is
 
 -- marks of other numbers leave the stage
-reaches_other : (number : ℕ) (before : List Mark) (stage : Stage) (mark : Mark) → names number mark ≡ false → Reaches number before stage → Reaches number (before ++ mark ∷ []) stage
+pub reaches_other : (number : ℕ) (before : List Mark) (stage : Stage) (mark : Mark) → names number mark ≡ false → Reaches number before stage → Reaches number (before ++ mark ∷ []) stage
 reaches_other number before stage mark other reached =
     let started : is_started number (before ++ mark ∷ []) ≡ is_started number before = any_without (starts number) before mark (not_of number (starts number) mark (starts_names number mark) other) in
     let ended : is_ended number (before ++ mark ∷ []) ≡ is_ended number before = any_without (ends number) before mark (not_of number (ends number) mark (ends_names number mark) other) in
@@ -191,6 +158,13 @@ reaches_next number before (Forgotten other) stage is reached =
       not_ended = λ undecided. cc;
     }
 reaches_next number before (Batch second) stage is reached = cc
+
+-- a legal mark of the number brings it from its stage to the next
+pub reaches_same : (number : ℕ) (before : List Mark) (mark : Mark) (stage : Stage) → names number mark ≡ true → Reaches number before stage → IsLegalAfter before mark → Reaches number (before ++ mark ∷ []) (stage_behind stage mark)
+reaches_same number before mark stage named reached legal =
+    let here : stage ≡ stage_for mark stage = at_its_stage number before stage mark named reached legal in
+    subst (λ at. Reaches number (before ++ mark ∷ []) (stage_behind at mark)) (sym here)
+    (reaches_next number before mark stage named (subst (Reaches number before) here reached))
 
 -- the marks behind a stage go on from it
 goes_on : (number : ℕ) (before later : List Mark) (stage : Stage) → Reaches number before stage → AreLegalAfter before later → GoThrough stage (marks_of number later)

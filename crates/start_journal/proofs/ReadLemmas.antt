@@ -75,7 +75,7 @@ sound_is marks is = let tests : (are_legal_after [] marks ≡ true) × (list_all
 pub sound_tested : (marks : List Mark) → IsSound marks → are_sound marks ≡ true
 sound_tested marks sound = and_then (are_legal_after [] marks) _ sound.legal sound.writable
 
-legal_list : (before later : List Mark) → are_legal_after before later ≡ true → AreLegalAfter before later
+pub legal_list : (before later : List Mark) → are_legal_after before later ≡ true → AreLegalAfter before later
 legal_list before [] is = tt
 legal_list before (mark ∷ later) is =
     let tests : (is_legal_after before mark ≡ true) × (are_legal_after (before ++ mark ∷ []) later ≡ true) = both _ _ is in
@@ -89,9 +89,12 @@ pub sound_legal : (marks : List Mark) → are_sound marks ≡ true → AreLegal 
 sound_legal marks is = legal_list [] marks (sound_is marks is).legal
 
 -- marks that were read are sound and drawn
-record IsRead (last : ℕ) (marks : List Mark) : Type 0 where
-  sound : IsSound marks
-  drawn : are_drawn last marks ≡ true
+pub record IsRead (last : ℕ) (marks : List Mark) : Type 0 where
+  pub sound : IsSound marks
+  pub drawn : are_drawn last marks ≡ true
+
+pub none_yet : {last : ℕ} → IsRead last []
+none_yet = record { sound = record { legal = refl; writable = refl }; drawn = refl }
 
 one_read : (last : ℕ) (read more : JournalRead) (slot : List ℕ) → IsRead last read.marks → one_slot last read slot ≡ Ok more → IsRead last more.marks
 one_read last read more slot is answer = by_gate (slice_index slot 0 == 43) refl where
@@ -130,7 +133,7 @@ one_read last read more slot is answer = by_gate (slice_index slot 0 == 43) refl
       let same : with_slot read None ≡ more = cc in
       subst (λ r. IsRead last r.marks) same is
 
-all_read : (last offset : ℕ) (read more : JournalRead) (slots : List (List ℕ)) → IsRead last read.marks → all_slots last offset read slots ≡ Ok more → IsRead last more.marks
+pub all_read : (last offset : ℕ) (read more : JournalRead) (slots : List (List ℕ)) → IsRead last read.marks → all_slots last offset read slots ≡ Ok more → IsRead last more.marks
 all_read last offset read more [] is answer = let same : read ≡ more = cc in subst (λ r. IsRead last r.marks) same is
 all_read last offset read more (slot ∷ later) is answer = by_one (λ next. all_read last (offset + 32) next more later) (one_slot last read slot) refl where
   by_one : ((next : JournalRead) → IsRead last next.marks → all_slots last (offset + 32) next later ≡ Ok more → IsRead last more.marks) → (one : Result JournalRead ℕ) → one_slot last read slot ≡ one → IsRead last more.marks
@@ -142,7 +145,7 @@ all_read last offset read more (slot ∷ later) is answer = by_one (λ next. all
 
 pub read_sound : (last : ℕ) (read : JournalRead) (slots : List (List ℕ)) → all_slots last 0 nothing_read slots ≡ Ok read → are_sound read.marks ≡ true
 read_sound last read slots answer =
-    sound_tested read.marks (all_read last 0 nothing_read read slots (record { sound = record { legal = refl; writable = refl }; drawn = refl }) answer).sound
+    sound_tested read.marks (all_read last 0 nothing_read read slots none_yet answer).sound
 
 -- what was read of the slots before a place, and what is left of them
 abbrev pub IsBehind : ℕ → List (List ℕ) → ℕ → JournalRead → Type 0
@@ -153,6 +156,23 @@ broken : (last place offset : ℕ) (slots : List (List ℕ)) (read : JournalRead
 broken last place offset slots read other behind inside wrong =
     behind ∙ ap (all_slots last (place * 32) read) (drop-cons slots place other inside)
     ∙ ap (go_on (place * 32) (λ more. all_slots last (place * 32 + 32) more (drop (suc place) slots))) wrong
+
+-- one slot more
+pub one_behind : (last place : ℕ) (slots : List (List ℕ)) (read next : JournalRead) (other : List ℕ) → IsBehind last slots place read → place < length slots → one_slot last read (get_or slots place other) ≡ Ok next → IsBehind last slots (place + 1) next
+one_behind last place slots read next other behind inside is =
+    let offset : place * 32 + 32 ≡ (place + 1) * 32 = omega arith in
+    let count : suc place ≡ place + 1 = omega arith in
+    behind ∙ ap (all_slots last (place * 32) read) (drop-cons slots place other inside)
+    ∙ ap (go_on (place * 32) (λ more. all_slots last (place * 32 + 32) more (drop (suc place) slots))) is
+    ∙ ap (λ at. all_slots last at next (drop (suc place) slots)) offset
+    ∙ ap (λ n. all_slots last ((place + 1) * 32) next (drop n slots)) count
+
+-- by its mark, or without one
+pub marked : (read : JournalRead) (found : Option Mark) (mark : Mark) (marks : List Mark) (free : ℕ) → found ≡ Some mark → marks ≡ read.marks ++ mark ∷ [] → free ≡ read.free → with_slot read found ≡ record { marks = marks; free = free }
+marked read found mark marks free is more same = ap (with_slot read) is ∙ (λ i. record { marks = sym more i; free = sym same i })
+
+pub unmarked : (read : JournalRead) (found : Option Mark) (marks : List Mark) (free : ℕ) → found ≡ None → marks ≡ read.marks → free ≡ read.free + 1 → with_slot read found ≡ record { marks = marks; free = free }
+unmarked read found marks free is same more = ap (with_slot read) is ∙ (λ i. record { marks = sym same i; free = sym more i })
 
 pub slot_damaged : (last place offset : ℕ) (bytes : List ℕ) (slots : List (List ℕ)) (read : JournalRead) (marks : List Mark) (other : List ℕ) (damage : Damage) → slots ≡ first_chunks 32 (length bytes / 32) bytes → IsBehind last slots place read → place < length slots → marks ≡ read.marks → one_slot last (record { marks = marks; free = read.free }) (get_or slots place other) ≡ Err offset → damage ≡ damage_at bytes (place * 32 + offset) → journal_in last (Some bytes) ≡ Err damage
 unfolding journal_in

@@ -2,6 +2,7 @@ pub mod Changing
 pub mod JournalFaults
 pub mod JournalLaws
 pub mod Journals
+pub mod Keeping
 pub mod Laws
 pub mod Marks
 pub mod SlotBytes

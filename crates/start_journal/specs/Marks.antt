@@ -6,6 +6,15 @@ use Rattle.spool_model.specs.JobTable.{is_batch_queue}
 use Rattle.start_journal.specs.declared.mark.Mark.{Mark}
 use Rattle.start_journal.specs.declared.mark.Mark.TheVariants.{Removed, Started, Ended, Interrupted, Forgotten, Batch}
 
+-- the number that the mark names, if it names one
+abbrev pub number_of : Mark → Option ℕ
+number_of (Removed number) = Some number
+number_of (Started number queue second) = Some number
+number_of (Ended number ending) = Some number
+number_of (Interrupted number) = Some number
+number_of (Forgotten number) = Some number
+number_of (Batch second) = None
+
 -- the mark names the number
 abbrev pub names : ℕ → Mark → Bool
 names number (Removed other) = other == number

@@ -1,12 +1,13 @@
 //! What a compaction keeps of the marks.
-ghost use Rattle.std.specs.Prelude.{◌≡◌, IfOk};
+ghost use Rattle.std.specs.Prelude.{◌≡◌, ◌||◌, ℕ, IfOk, OnOk};
 ghost use Rattle.std.specs.List.{filter};
 ghost use Rattle.spool_model.specs.JobTable.{is_batch_queue};
-ghost use Rattle.start_journal.specs.Marks.{batch_second, is_kept, kept_marks, last_batch};
+ghost use Rattle.start_journal.specs.Keeping.{AreForgotten, has_number, is_kept_beside};
+ghost use Rattle.start_journal.specs.Marks.{batch_second, forgets, is_kept, kept_marks, last_batch};
 
 use crate::Mark;
-use crate::legality::is_forgotten;
 use std::alloc::{AllocError, Global};
+use std::collections::BTreeSet;
 
 /// The marks of numbers that are not forgotten, and the last start of a batch job.
 pub(crate) fn kept_marks(alloc: Global, marks: &[Mark]) -> Result<Vec<Mark>, AllocError>
@@ -22,23 +23,41 @@ pub(crate) fn kept_marks(alloc: Global, marks: &[Mark]) -> Result<Vec<Mark>, All
 fn marks_of_kept(alloc: Global, marks: &[Mark]) -> Result<Vec<Mark>, AllocError>
     ensures { IfOk result (λ kept. kept.items ≡ filter (is_kept marks.now) marks.now) }
 {
+    let gone = forgotten(alloc, marks)?;
     marks
         .iter()
-        .filter(|mark| is_kept(marks, mark))
+        .filter(|mark| is_kept(&gone, **mark))
         .copied()
         .collect(alloc)
 }
 
-fn is_kept(marks: &[Mark], mark: &Mark) -> bool
-    ensures { result ≡ is_kept marks.now mark.now }
+/// The numbers that the marks forget.
+fn forgotten(alloc: Global, marks: &[Mark]) -> Result<BTreeSet<u32>, AllocError>
+    ensures { IfOk result (AreForgotten marks.now) }
 {
-    match *mark {
-        Mark::Removed(number) => !is_forgotten(number, marks),
-        Mark::Started { number, .. } => !is_forgotten(number, marks),
-        Mark::Ended { number, .. } => !is_forgotten(number, marks),
-        Mark::Interrupted(number) => !is_forgotten(number, marks),
-        Mark::Forgotten(number) => !is_forgotten(number, marks),
-        Mark::Batch(_) => false,
+    let mut gone = BTreeSet::new(alloc);
+    for mark in marks {
+        forget(&mut gone, *mark)?;
+    }
+    Ok(gone)
+}
+
+fn forget(gone: &mut BTreeSet<u32>, mark: Mark) -> Result<(), AllocError>
+    ensures { OnOk result ((number : ℕ)
+        → has_number gone.new number ≡ (has_number gone.old number || forgets number mark)) }
+{
+    if let Mark::Forgotten(number) = mark {
+        gone.insert(number)?;
+    }
+    Ok(())
+}
+
+fn is_kept(gone: &BTreeSet<u32>, mark: Mark) -> bool
+    ensures { result ≡ is_kept_beside gone.now mark }
+{
+    match mark.number() {
+        Some(number) => !gone.contains(&number),
+        None => false,
     }
 }
 

@@ -9,12 +9,12 @@ mod front;
 mod journal;
 mod keeping;
 mod laws;
-mod legality;
 mod mark;
 mod names;
 mod reading;
 mod slot;
 mod stage;
+mod stages;
 mod text;
 
 pub use fault::JournalFault;

@@ -1,4 +1,7 @@
 //! A mark of the journal.
+ghost use Rattle.std.specs.Prelude.{◌≡◌};
+ghost use Rattle.start_journal.specs.Marks.{number_of};
+
 use host_calls::Ending;
 
 /// What became of a number, or when a batch job was started last.
@@ -16,4 +19,19 @@ pub enum Mark {
     Forgotten(u32),
     /// A job of a batch queue was started at this second.
     Batch(i64),
+}
+
+impl Mark {
+    /// The number that it names, if it names one.
+    pub(crate) fn number(self) -> Option<u32>
+        ensures { result ≡ number_of self }
+    {
+        match self {
+            Mark::Removed(number) | Mark::Interrupted(number) | Mark::Forgotten(number) => {
+                Some(number)
+            }
+            Mark::Started { number, .. } | Mark::Ended { number, .. } => Some(number),
+            Mark::Batch(_) => None,
+        }
+    }
 }

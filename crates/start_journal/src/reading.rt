@@ -1,19 +1,22 @@
 //! Reading the journal.
-ghost use Rattle.std.specs.Prelude.{◌≡◌, ◌≢◌, ◌≤◌, Ok, Err, Some, IfOk, IfErr, MatchResult, IsTrue, length};
+ghost use Rattle.std.specs.Prelude.{◌≡◌, ◌≢◌, ◌≤◌, ◌++◌, [], ◌∷◌, Ok, Err, Some, IfOk, IfErr, IfSome, List, OnOk, MatchResult, IsTrue, length};
 ghost use Rattle.std.specs.FinMap as map;
 ghost use Rattle.host_calls.specs.Causes.{HasCause};
 ghost use Rattle.host_calls.specs.Session.{IsInside, StaysInside};
 ghost use Rattle.host_calls.specs.World.{reading};
 ghost use Rattle.start_journal.specs.JournalFaults.{IfDamaged};
-ghost use Rattle.start_journal.specs.Journals.{damage_at, is_drawn, is_legal_after, journal_file, journal_in, one_slot, with_slot};
+ghost use Rattle.start_journal.specs.Journals.{are_drawn, damage_at, is_drawn, journal_file, journal_in, one_slot, with_slot};
+ghost use Rattle.start_journal.specs.Marks.{IsLegalAfter};
+ghost use Rattle.start_journal.specs.Stages.{TellStages};
+ghost use Rattle.start_journal.specs.declared.mark.Mark.{Mark};
 
 use crate::front::right_front;
-use crate::legality::is_legal_after;
 use crate::names::journal_name;
 use crate::slot::SLOT;
+use crate::stages::Stages;
 use crate::{Journal, JournalFault, Mark, read_mark};
 use host_calls::{Damage, Host};
-use std::alloc::Global;
+use std::alloc::{AllocError, Global};
 use whole_file::content;
 
 impl Journal {
@@ -24,6 +27,7 @@ impl Journal {
         ensures cause { HasCause JournalFault.Failed
             (H.session host.old).file_faults (H.session host.new).file_faults result }
         ensures looks { IsTrue H.tells → H.world host.new ≡ H.world host.old }
+        ensures drawn { IfOk result (λ journal. IsTrue (are_drawn last journal.marks)) }
         ensures journal { IsTrue H.tells → IfOk result (λ journal.
             journal_in last (map.get (reading (H.world host.old)) journal_file) ≡ Ok journal) }
         ensures damaged { IsTrue H.tells → IfDamaged (λ damage.
@@ -47,14 +51,18 @@ pub(crate) fn read(alloc: Global, bytes: &[u8], last: u32) -> Result<Journal, Jo
 {
     let (slots, rest) = bytes.as_chunks::<SLOT>();
     let mut marks = Vec::new(alloc);
+    let mut stages = Stages::new(alloc);
     let mut free: u64 = 0;
     for (place, slot) in slots.iter().enumerate() {
-        match next(marks.as_slice(), free, slot, last) {
-            Ok(Some(mark)) => marks.push(mark).map_err(|_| JournalFault::Memory)?,
-            Ok(None) => free += 1,
+        let found = match next(&stages, free, slot, last) {
+            Ok(found) => found,
             Err(offset) => {
                 return Err(JournalFault::Damaged(damage(bytes, place * SLOT + offset)));
             }
+        };
+        match found {
+            Some(mark) => put(&mut marks, &mut stages, mark)?,
+            None => free += 1,
         }
     }
     if !rest.is_empty() {
@@ -63,14 +71,26 @@ pub(crate) fn read(alloc: Global, bytes: &[u8], last: u32) -> Result<Journal, Jo
     Ok(Journal { marks, free })
 }
 
-/// The mark of a slot behind these marks and free slots, `None` where its gate is closed, or the place
-/// in the slot where it breaks the form of a journal.
-fn next(marks: &[Mark], free: u64, slot: &[u8; SLOT], last: u32) -> Result<Option<Mark>, usize>
+fn put(marks: &mut Vec<Mark>, stages: &mut Stages, mark: Mark) -> Result<(), AllocError>
+    ensures marks { OnOk result (marks.new.items ≡ marks.old.items ++ mark ∷ []) }
+    ensures stages { OnOk result (TellStages marks.old.items stages.old
+        → IsLegalAfter marks.old.items mark → TellStages marks.new.items stages.new) }
+{
+    stages.add(mark)?;
+    marks.push(mark)?;
+    Ok(())
+}
+
+/// The mark of a slot behind marks with these stages and behind free slots, `None` where its gate is
+/// closed, or the place in the slot where it breaks the form of a journal.
+fn next(stages: &Stages, free: u64, slot: &[u8; SLOT], last: u32) -> Result<Option<Mark>, usize>
     ensures few { IfErr result (λ place. place ≤ 32) }
-    ensures slot { MatchResult result
-        (λ found. one_slot last (record { marks = marks.now; free = free }) slot.now
-        ≡ Ok (with_slot (record { marks = marks.now; free = free }) found))
-        (λ place. one_slot last (record { marks = marks.now; free = free }) slot.now ≡ Err place) }
+    ensures legal { (marks : List Mark) → TellStages marks stages.now
+        → IfOk result (λ found. IfSome found (IsLegalAfter marks)) }
+    ensures slot { (marks : List Mark) → TellStages marks stages.now → MatchResult result
+        (λ found. one_slot last (record { marks = marks; free = free }) slot.now
+        ≡ Ok (with_slot (record { marks = marks; free = free }) found))
+        (λ place. one_slot last (record { marks = marks; free = free }) slot.now ≡ Err place) }
 {
     if slot[0] != b'+' {
         return Ok(None);
@@ -81,7 +101,7 @@ fn next(marks: &[Mark], free: u64, slot: &[u8; SLOT], last: u32) -> Result<Optio
     match read_mark(slot) {
         None => Err(right_front(slot)),
         Some(mark) => {
-            if is_legal_after(marks, &mark) && is_drawn(last, &mark) {
+            if stages.allow(mark) && is_drawn(last, mark) {
                 Ok(Some(mark))
             } else {
                 Err(0)
@@ -100,15 +120,11 @@ fn damage(bytes: &[u8], offset: usize) -> Damage
     }
 }
 
-fn is_drawn(last: u32, mark: &Mark) -> bool
-    ensures { result ≡ is_drawn last mark.now }
+fn is_drawn(last: u32, mark: Mark) -> bool
+    ensures { result ≡ is_drawn last mark }
 {
-    match *mark {
-        Mark::Removed(number) => number <= last,
-        Mark::Started { number, .. } => number <= last,
-        Mark::Ended { number, .. } => number <= last,
-        Mark::Interrupted(number) => number <= last,
-        Mark::Forgotten(number) => number <= last,
-        Mark::Batch(_) => true,
+    match mark.number() {
+        Some(number) => number <= last,
+        None => true,
     }
 }

@@ -1,4 +1,8 @@
 //! How far a number has come.
+ghost use Rattle.std.specs.Prelude.{◌≡◌};
+ghost use Rattle.start_journal.specs.Stages.{allows, stage_behind};
+
+use crate::Mark;
 
 /// How far the marks of a number have come.
 #[derive(Clone, Copy, Debug, PartialEq, Eq)]
@@ -11,4 +15,30 @@ pub enum Stage {
     Closed,
     /// What became of it is no longer kept.
     Gone,
+}
+
+impl Stage {
+    /// Whether the mark may come at this stage of its number.
+    pub(crate) fn allows(self, mark: Mark) -> bool
+        ensures { result ≡ allows self mark }
+    {
+        match mark {
+            Mark::Removed(_) | Mark::Started { .. } => self == Stage::Fresh,
+            Mark::Ended { .. } | Mark::Interrupted(_) => self == Stage::Open,
+            Mark::Forgotten(_) => self == Stage::Closed,
+            Mark::Batch(_) => true,
+        }
+    }
+
+    /// The stage to which the mark brings its number.
+    pub(crate) fn behind(self, mark: Mark) -> Stage
+        ensures { result ≡ stage_behind self mark }
+    {
+        match mark {
+            Mark::Started { .. } => Stage::Open,
+            Mark::Removed(_) | Mark::Ended { .. } | Mark::Interrupted(_) => Stage::Closed,
+            Mark::Forgotten(_) => Stage::Gone,
+            Mark::Batch(_) => self,
+        }
+    }
 }

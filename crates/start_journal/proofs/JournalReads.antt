@@ -1,18 +1,16 @@
 -- What is known of the marks that a journal gives.
-use Rattle.std.proofs.Common.{◌≡◌, ◌≤◌, ◌+◌, ◌*◌, ◌==◌, ℕ, Bool, true, false, List, [], ◌∷◌, ◌++◌, sym, ap, subst, ◌∙◌, refl, arith}
-use Rattle.std.specs.Prelude.{◌&&◌, Option, Some, None, Result, Ok, Err, length, slice_index, ◌%◌, ◌/◌, if◌then◌else◌}
+use Rattle.std.proofs.Common.{◌≡◌, ◌≤◌, ◌+◌, ◌*◌, ◌==◌, ℕ, Bool, true, false, List, [], ◌∷◌, sym, ap, subst, ◌∙◌, refl, arith}
+use Rattle.std.specs.Prelude.{◌&&◌, Option, Some, None, Result, Ok, Err, IfOk, IsTrue, length, slice_index, ◌%◌, ◌/◌, if◌then◌else◌}
 use Rattle.std.specs.Simd.{first_chunks}
 use Rattle.std.proofs.lemmas.Bool.Decides.{nat_tests}
-use Rattle.std.proofs.lemmas.List.{append-nil, append_assoc}
-use Rattle.std.proofs.lemmas.List.Folds.{list_all-append}
 use Rattle.host_calls.specs.declared.damage.Damage.{Damage}
 use Rattle.start_journal.specs.declared.mark.Mark.{Mark}
 use Rattle.start_journal.specs.declared.mark.Mark.TheVariants.{Removed, Started, Ended, Interrupted, Forgotten, Batch}
 use Rattle.start_journal.specs.Journals.{JournalRead, all_slots, are_drawn, damage_at, go_on, is_drawn, is_legal_after, journal_in, nothing_read, one_slot, open_slot, whole_journal, with_free, with_mark}
-use Rattle.start_journal.specs.Marks.{AreLegal, AreLegalAfter, IsLegalAfter}
+use Rattle.start_journal.specs.Marks.{AreLegal}
 use Rattle.start_journal.specs.SlotBytes.{mark_in, right_front}
 use Rattle.start_journal.proofs.ByteLemmas.{and_then, both}
-use Rattle.start_journal.proofs.JournalLemmas.{legal_is}
+use Rattle.start_journal.proofs.ReadLemmas.{IsRead, all_read, legal_list, none_yet}
 
 -- what is drawn stays so under a greater last number
 drawn_more : (last more : ℕ) (mark : Mark) → last ≤ more → is_drawn last mark ≡ true → is_drawn more mark ≡ true
@@ -83,39 +81,6 @@ journal_more last more (Some bytes) read least is =
     let slots : List (List ℕ) = first_chunks 32 (length bytes / 32) bytes in
     whole_more bytes (all_slots last 0 nothing_read slots) (all_slots more 0 nothing_read slots) read (λ end. slots_more last more 0 nothing_read end slots least) is
 
--- a mark that is legal behind legal ones
-pub legal_behind : (before later : List Mark) (mark : Mark) → AreLegalAfter before later → IsLegalAfter (before ++ later) mark → AreLegalAfter before (later ++ mark ∷ [])
-legal_behind before [] mark legal is = (subst (λ list. IsLegalAfter list mark) (append-nil before) is, tt)
-legal_behind before (first ∷ later) mark legal is =
-    (legal.0, legal_behind (before ++ first ∷ []) later mark legal.1 (subst (λ list. IsLegalAfter list mark) (sym (append_assoc before (first ∷ []) later)) is))
-
--- the marks are legal, and each names a number that was drawn
-pub record AreGood (last : ℕ) (marks : List Mark) : Type 0 where
-  pub legal : AreLegal marks
-  pub drawn : are_drawn last marks ≡ true
-
-good_more : (last : ℕ) (read next : JournalRead) (mark : Mark) → AreGood last read.marks → IsAdded last read next mark → AreGood last next.marks
-good_more last read next mark good added =
-    let is : next.marks ≡ read.marks ++ mark ∷ [] = ap (λ (end : JournalRead). end.marks) added.is in
-    subst (AreGood last) (sym is) (record {
-      legal = legal_behind [] read.marks mark good.legal (legal_is read.marks mark added.legal);
-      drawn = list_all-append (is_drawn last) read.marks (mark ∷ []) ∙ and_then (are_drawn last read.marks) _ good.drawn (and_then (is_drawn last mark) true added.drawn refl);
-    })
-
-slot_good : (last : ℕ) (read next : JournalRead) (gate first : Bool) (found : Option Mark) (front : ℕ) → AreGood last read.marks → slot_by last read gate first found front ≡ Ok next → AreGood last next.marks
-slot_good last read next false first found front good is = subst (AreGood last) (let same : read.marks ≡ next.marks = cc in same) good
-slot_good last read next true false found front good is = cc
-slot_good last read next true true None front good is = cc
-slot_good last read next true true (Some mark) front good is = good_more last read next mark good (added_by last read next mark front is)
-
-slots_good : (last offset : ℕ) (read end : JournalRead) (slots : List (List ℕ)) → AreGood last read.marks → all_slots last offset read slots ≡ Ok end → AreGood last end.marks
-slots_good last offset read end [] good is = subst (AreGood last) (let same : read.marks ≡ end.marks = cc in same) good
-slots_good last offset read end (slot ∷ later) good is =
-    by_slot (one_slot last read slot) refl is (λ next. slots_good last (offset + 32) next end later) where
-      by_slot : (one : Result JournalRead ℕ) → one_slot last read slot ≡ one → go_on offset (λ next. all_slots last (offset + 32) next later) one ≡ Ok end → ((next : JournalRead) → AreGood last next.marks → all_slots last (offset + 32) next later ≡ Ok end → AreGood last end.marks) → AreGood last end.marks
-      by_slot (Ok next) one rest go = go next (slot_good last read next (slice_index slot 0 == 43) (read.free == 0) (mark_in slot) (right_front slot) good one) rest
-      by_slot (Err place) one rest go = cc
-
 -- a journal of whole slots
 abbrev rest_tested : List ℕ → Bool → JournalRead → Result JournalRead Damage
 rest_tested bytes none end = if none then Ok end else Err (damage_at bytes (length bytes / 32 * 32))
@@ -127,17 +92,21 @@ whole_is bytes (Ok end) read is = ap Ok (by_rest (length bytes % 32 == 0) is) wh
   by_rest false is = cc
 whole_is bytes (Err place) read is = cc
 
-good_in : (last : ℕ) (content : Option (List ℕ)) (read : JournalRead) → journal_in last content ≡ Ok read → AreGood last read.marks
+read_in : (last : ℕ) (content : Option (List ℕ)) (read : JournalRead) → journal_in last content ≡ Ok read → IsRead last read.marks
 unfolding journal_in
-good_in last None read is = subst (AreGood last) (let same : [] ≡ read.marks = cc in same) (record { legal = tt; drawn = refl })
-good_in last (Some bytes) read is =
+read_in last None read is = subst (IsRead last) (let same : [] ≡ read.marks = cc in same) none_yet
+read_in last (Some bytes) read is =
     let slots : List (List ℕ) = first_chunks 32 (length bytes / 32) bytes in
-    slots_good last 0 nothing_read read slots (record { legal = tt; drawn = refl }) (whole_is bytes (all_slots last 0 nothing_read slots) read is)
+    all_read last 0 nothing_read read slots none_yet (whole_is bytes (all_slots last 0 nothing_read slots) read is)
 
 -- the marks that a journal gives are legal
 pub journal_legal : (last : ℕ) (content : Option (List ℕ)) (read : JournalRead) → journal_in last content ≡ Ok read → AreLegal read.marks
-journal_legal last content read is = (good_in last content read is).legal
+journal_legal last content read is = legal_list [] read.marks (read_in last content read is).sound.legal
 
 -- and name only numbers that were drawn
 pub journal_drawn : (last : ℕ) (content : Option (List ℕ)) (read : JournalRead) → journal_in last content ≡ Ok read → are_drawn last read.marks ≡ true
-journal_drawn last content read is = (good_in last content read is).drawn
+journal_drawn last content read is = (read_in last content read is).drawn
+
+pub answer_drawn : {F : Type 0} (last : ℕ) (content : Option (List ℕ)) (answer : Result JournalRead F) → IfOk answer (λ read. journal_in last content ≡ Ok read) → IfOk answer (λ read. IsTrue (are_drawn last read.marks))
+answer_drawn last content (Ok read) is = journal_drawn last content read is
+answer_drawn last content (Err fault) is = tt

@@ -1,0 +1,23 @@
+-- The numbers that marks forget, as a set (own), and what is kept beside it.
+use Rattle.std.specs.Prelude.{◌≡◌, ℕ, Bool, false, not, List, Option, Some, None}
+use Rattle.std.specs.BTreeSet.{BTreeSet, contains}
+use Rattle.std.specs.Ordering.{nat_cmp}
+use Rattle.start_journal.specs.declared.mark.Mark.{Mark}
+use Rattle.start_journal.specs.Marks.{is_forgotten, number_of}
+
+-- the set has the number
+abbrev pub has_number : BTreeSet ℕ → ℕ → Bool
+has_number gone number = contains nat_cmp gone number
+
+-- the set has the numbers that the marks forget
+abbrev pub AreForgotten : List Mark → BTreeSet ℕ → Type 0
+AreForgotten marks gone = (number : ℕ) → has_number gone number ≡ is_forgotten number marks
+
+-- there is a number, and the set lacks it
+abbrev pub is_other : BTreeSet ℕ → Option ℕ → Bool
+is_other gone (Some number) = not (has_number gone number)
+is_other gone None = false
+
+-- the mark names a number that the set lacks
+abbrev pub is_kept_beside : BTreeSet ℕ → Mark → Bool
+is_kept_beside gone mark = is_other gone (number_of mark)
