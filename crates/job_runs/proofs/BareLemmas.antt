@@ -1,6 +1,6 @@
 -- Tables without their scripts.
-use Rattle.std.proofs.Common.{◌≡◌, ◌↔◌, ℕ, ℤ, Bool, true, false, cond, List, [], ◌∷◌, map, sym, ap, subst, ◌∙◌, refl}
-use Rattle.std.specs.Prelude.{◌==◌, Option, Some, None, option_map, nat_eq, if◌then◌else◌}
+use Rattle.std.proofs.Common.{◌≡◌, ◌↔◌, ℕ, ℤ, Bool, true, false, cond, List, [], ◌∷◌, sym, ap, ◌∙◌, refl}
+use Rattle.std.specs.Prelude.{Option, Some, None, option_map, if◌then◌else◌}
 use Rattle.std.specs.Cmp.{nat_cmp_total}
 use Rattle.std.specs.Ordering.{eq_by_cmp, nat_cmp}
 use Rattle.std.specs.FinMap as map_of
@@ -13,8 +13,8 @@ use Rattle.spool_model.specs.declared.job.Job.{Job}
 use Rattle.spool_model.specs.declared.state.State.TheVariants.{Pending, Running}
 use Rattle.spool_model.specs.declared.step.Step.{Step}
 use Rattle.spool_model.specs.declared.step.Step.TheVariants.{Draw, Accept, Remove, Start, End, Interrupt, Forget}
-use Rattle.spool_model.specs.JobTable.{IsDone, IsPending, IsRunning, JobEntries, JobEntry, JobState, JobTable, entry_at, is_batch_queue, table_of}
-use Rattle.spool_model.specs.Steps.{IsFree, IsLegal, after_step, entries_after, in_state, is_batch_entry, last_after, last_batch_after, with_state}
+use Rattle.spool_model.specs.JobTable.{IsDone, IsPending, IsRunning, JobEntries, JobEntry, JobState, JobTable, entry_at, table_of}
+use Rattle.spool_model.specs.Steps.{IsFree, entries_after, in_state, is_batch_entry, last_after, last_batch_after, with_state}
 use Rattle.job_runs.specs.Bare.{bare, bare_entries, bare_entry, bare_job, bare_step}
 use Rattle.job_runs.specs.Laws.{EntriesAreBare, LegalAsOnTheTable, ScriptsAreGone, StepsAsOnTheTable}
 

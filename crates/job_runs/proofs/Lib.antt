@@ -1,1 +1,4 @@
+pub mod AttemptLemmas
 pub mod BareLemmas
+pub mod HandsLemmas
+pub mod RunLemmas

@@ -1,11 +1,11 @@
 -- What a call of the store leaves (own): the table before it, or after a front of its steps.
-use Rattle.std.specs.Prelude.{◌≡◌, ◌⊎◌, [], ◌∷◌, ℕ, List, Result, IfOk}
+use Rattle.std.specs.Prelude.{◌≡◌, ℕ, List, Result, IfOk}
 use Rattle.std.specs.FinMap as map
-use Rattle.host_calls.specs.Folder.{Files, Folder, IsImage}
+use Rattle.host_calls.specs.Folder.{Files, Folder, IsImage, reading_of}
 use Rattle.host_calls.specs.World.{World}
 use Rattle.spool_model.specs.declared.step.Step.{Step}
 use Rattle.spool_model.specs.JobTable.{JobTable}
-use Rattle.spool_model.specs.Steps.{IsFront, after_step, after_steps}
+use Rattle.spool_model.specs.Steps.{IsFront, after_steps}
 use Rattle.whole_file.specs.Others.{ChangesFiles, LeavesOthers}
 use Rattle.spool_shows.specs.Shown.{Shows, shown_by}
 use Rattle.job_runs.specs.Current.{IsCurrent, IsSpoolName, Kept}
@@ -17,11 +17,17 @@ pub record IsSteppingOn (table : JobTable) (steps : List Step) (start : Folder) 
   pub shows : Shows image (after_steps table front)
   pub others : LeavesOthers IsSpoolName start image
 
+-- the names of other files read as before
+abbrev pub KeepsOthers : Folder → Folder → Type 0
+KeepsOthers old new =
+    (name : List ℕ) → ¬ (IsSpoolName name) → map.get (reading_of new) name ≡ map.get (reading_of old) name
+
 -- A call of the store that makes steps: a crash at each of its moments leaves the table after a front of
 -- them, nothing is handed over, and what is handed back on Ok is current after all of them.
 pub record StoreCall {E : Type 0} (table : JobTable) (steps : List Step) (old new : World) (result : Result Kept E) : Type 0 where
   pub files : ChangesFiles (IsSteppingOn table steps old.now.folder) old new
   pub current : IfOk result (λ kept. IsCurrent kept new.now.folder (after_steps table steps))
+  pub others : IfOk result (λ kept. KeepsOthers old.now.folder new.now.folder)
 
 -- the image shows what an image of the start shows, and has its other files
 pub record ShowsAsBefore (start : Folder) (image : Files) : Type 0 where

@@ -1,11 +1,20 @@
--- What holds of every table without its scripts.
-use Rattle.std.specs.Prelude.{◌≡◌, ◌↔◌, [], ℕ, Some, option_map}
+-- What holds of every table without its scripts, and of every run of steps.
+use Rattle.std.specs.Prelude.{◌≡◌, ◌↔◌, ◌++◌, [], ◌∷◌, ℕ, List, Some, option_map, Ok}
+use Rattle.host_calls.specs.declared.child.Handed.{Handed}
+use Rattle.host_calls.specs.World.{World, reading}
 use Rattle.spool_model.specs.declared.entry.Entry.TheVariants.{Live}
 use Rattle.spool_model.specs.declared.job.Job.{Job}
 use Rattle.spool_model.specs.declared.step.Step.{Step}
 use Rattle.spool_model.specs.JobTable.{JobState, JobTable, entry_at}
-use Rattle.spool_model.specs.Steps.{IsLegal, after_step}
+use Rattle.spool_model.specs.Steps.{IsLegal, after_step, after_steps}
+use Rattle.spool_shows.specs.Shown.{shown_by}
+use Rattle.whole_file.specs.Others.{ChangesFiles}
+use Rattle.job_runs.specs.Attempts.{IsBegun, IsUnbegun}
 use Rattle.job_runs.specs.Bare.{bare, bare_entry, bare_step}
+use Rattle.job_runs.specs.Calls.{IsSteppingOn, ShowsAsBefore}
+use Rattle.job_runs.specs.Current.{EachShows}
+use Rattle.job_runs.specs.Hands.{StartNothing}
+use Rattle.job_runs.specs.Runs.{Runs, RunsThrough}
 
 -- the entries are those of the table, without scripts
 abbrev pub EntriesAreBare : Type 0
@@ -23,3 +32,36 @@ LegalAsOnTheTable = (table : JobTable) (step : Step) → IsLegal (bare table) (b
 -- it leads to the table after it, without scripts
 abbrev pub StepsAsOnTheTable : Type 0
 StepsAsOnTheTable = (table : JobTable) (step : Step) → bare (after_step table step) ≡ after_step (bare table) (bare_step step)
+
+-- a run behind one that was made to its end is one run of the steps of both
+abbrev pub RunsGoOn : Type 0
+RunsGoOn = (table : JobTable) (first later : List Step) (given : List Handed) (start middle end : World) →
+    RunsThrough table first given start middle → Runs (after_steps table first) later middle end →
+    Runs table (first ++ later) start end
+
+-- and where it was made to its end too, so is that of both
+abbrev pub RunsGoThrough : Type 0
+RunsGoThrough = (table : JobTable) (first later : List Step) (given more : List Handed) (start middle end : World) →
+    RunsThrough table first given start middle → RunsThrough (after_steps table first) later more middle end →
+    RunsThrough table (first ++ later) (given ++ more) start end
+
+-- a call of the store is a run of its steps, where they start nothing
+abbrev pub CallsAreRuns : Type 0
+CallsAreRuns = (table : JobTable) (steps : List Step) (old new : World) → StartNothing steps →
+    EachShows old.now.folder table → ChangesFiles (IsSteppingOn table steps old.now.folder) old new →
+    Runs table steps old new
+
+-- a call of the store that makes one step is a run of it
+abbrev pub OneStepIsARun : Type 0
+OneStepIsARun = (table : JobTable) (step : Step) (old new : World) → EachShows old.now.folder table →
+    ChangesFiles (IsSteppingOn table (step ∷ []) old.now.folder) old new → Runs table (step ∷ []) old new
+
+-- a recovery that shows a table, and a run on it, are an attempt
+abbrev pub RunsBehindRecoveries : Type 0
+RunsBehindRecoveries = (table : JobTable) (steps : List Step) (start middle end : World) →
+    shown_by (reading start) ≡ Ok table → ChangesFiles (ShowsAsBefore start.now.folder) start middle →
+    Runs table steps middle end → IsBegun table steps start end
+
+-- a recovery alone begins no step
+abbrev pub RecoveriesBeginNothing : Type 0
+RecoveriesBeginNothing = (start end : World) → ChangesFiles (ShowsAsBefore start.now.folder) start end → IsUnbegun start end

@@ -1,5 +1,6 @@
-//! What holds of every table without its scripts, as the contract of a function.
-ghost use Rattle.job_runs.specs.Laws.{EntriesAreBare, LegalAsOnTheTable, ScriptsAreGone, StepsAsOnTheTable};
+//! What holds of every table without its scripts and of every run of steps, each law as the contract of a
+//! function.
+ghost use Rattle.job_runs.specs.Laws.{CallsAreRuns, EntriesAreBare, LegalAsOnTheTable, OneStepIsARun, RecoveriesBeginNothing, RunsBehindRecoveries, RunsGoOn, RunsGoThrough, ScriptsAreGone, StepsAsOnTheTable};
 
 /// A step on a table without its scripts is that step on the table.
 pub fn bare_tables_step_alike()
@@ -7,4 +8,22 @@ pub fn bare_tables_step_alike()
     ensures scripts { ScriptsAreGone }
     ensures legal { LegalAsOnTheTable }
     ensures steps { StepsAsOnTheTable }
+{}
+
+/// Runs go on behind runs that were made to their end.
+pub fn runs_go_on()
+    ensures on { RunsGoOn }
+    ensures through { RunsGoThrough }
+{}
+
+/// A call of the store is a run of its steps.
+pub fn calls_are_runs()
+    ensures quiet { CallsAreRuns }
+    ensures one_step { OneStepIsARun }
+{}
+
+/// A recovery begins no step; a run behind it is an attempt at its steps.
+pub fn runs_stand_behind_recoveries()
+    ensures alone { RecoveriesBeginNothing }
+    ensures begun { RunsBehindRecoveries }
 {}

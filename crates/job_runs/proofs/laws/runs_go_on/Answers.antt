@@ -1,0 +1,8 @@
+use Rattle.job_runs.proofs.RunLemmas.{runs_go_on, runs_go_through}
+use Rattle.job_runs.proofs.laws.runs_go_on.Goals as goal
+
+pub returns-clause-on : goal.returns-clause-on
+returns-clause-on c = runs_go_on
+
+pub returns-clause-through : goal.returns-clause-through
+returns-clause-through c = runs_go_through
