@@ -21,11 +21,11 @@ test_to true is = refl
 test_to false is = absurd is
 
 -- of a conjunction
-left : (a b : Bool) → T (a && b) → T a
+pub left : (a b : Bool) → T (a && b) → T a
 left true b is = tt
 left false b is = absurd is
 
-right : (a b : Bool) → T (a && b) → T b
+pub right : (a b : Bool) → T (a && b) → T b
 right true b is = is
 right false b is = absurd is
 

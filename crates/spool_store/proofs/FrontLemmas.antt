@@ -174,7 +174,7 @@ find_same marks number (file ∷ later) others = by_test (eq_by_cmp nat_cmp numb
   by_test true rest = ap (λ job. Some (Live job (state_since (started_at file.job.number marks)))) (job_same file)
   by_test false rest = rest
 
-at_shown : (last : ℕ) (marks : List Mark) (files : List JobFile) (number : ℕ) → entry_at (bare (table_shown last marks files)) number ≡ option_map bare_entry (find_entry nat_cmp number (entries_shown marks files))
+pub at_shown : (last : ℕ) (marks : List Mark) (files : List JobFile) (number : ℕ) → entry_at (bare (table_shown last marks files)) number ≡ option_map bare_entry (find_entry nat_cmp number (entries_shown marks files))
 at_shown last marks files number =
     entries_are_bare (table_shown last marks files) number ∙ ap (option_map bare_entry) (get-from_entries nat_cmp_total (entries_shown marks files) number)
 

@@ -24,7 +24,7 @@ decided_as marks lives number life fated tells is fate =
     decided_has_fate number marks ∙ sym (ap (λ (l : Life). is_some l.fate) (is ∙ tells number)) ∙ sym fate
 
 -- the name of a job is not that of a file that is being made
-not_temporary : (name : List ℕ) (job : NamedJob) → job_named name ≡ Some job → pointwise nat_eq name temporary_file ≡ false
+pub not_temporary : (name : List ℕ) (job : NamedJob) → job_named name ≡ Some job → pointwise nat_eq name temporary_file ≡ false
 not_temporary name job is = unequal nat_eq name temporary_file (λ same. absurd (omega (arith, same, (name_spelled name job is).counted)))
 
 pub decided_kind : (marks : List Mark) (lives : Lives) (name : List ℕ) (job : JobName) (life : Life) → TellLives marks lives → SpellsJobName name job.queue job.number job.minute → life ≡ life_in lives job.number → true ≡ is_some life.fate → IsKind marks name LeftOver

@@ -96,7 +96,7 @@ decider_drawn last number (Forgotten other) same drawn some = cc
 decider_drawn last number (Batch second) same drawn some = cc
 
 -- a decided number was drawn
-number_drawn : (last : ℕ) (marks : List Mark) (number : ℕ) → AreWritable marks → are_drawn last marks ≡ true → is_decided number marks ≡ true → IsDrawn last number
+pub number_drawn : (last : ℕ) (marks : List Mark) (number : ℕ) → AreWritable marks → are_drawn last marks ≡ true → is_decided number marks ≡ true → IsDrawn last number
 number_drawn last marks number writable drawn decided =
     let mark = one_passes (decides number) marks decided in
     decider_drawn last number mark.0 mark.2 (all_pass (is_drawn last) marks mark.0 drawn mark.1) (All-contains IsWritable marks mark.0 writable (contained marks mark.0 mark.1))

@@ -9,7 +9,10 @@ use Rattle.sequence_file.specs.declared.fault.SequenceFault.{SequenceFault}
 use Rattle.sequence_file.specs.declared.fault.SequenceFault.TheVariants as sequence
 use Rattle.sequence_file.specs.Faults as sequence_faults
 use Rattle.sequence_file.specs.Sequence.{sequence_file}
+use Rattle.start_journal.specs.declared.fault.JournalFault.{JournalFault}
+use Rattle.start_journal.specs.declared.fault.JournalFault.TheVariants as journal
 use Rattle.start_journal.specs.declared.mark.Mark.{Mark}
+use Rattle.start_journal.specs.JournalFaults as journal_faults
 use Rattle.start_journal.specs.Journals.{JournalRead, journal_file, journal_in}
 use Rattle.job_runs.specs.Bare.{bare}
 use Rattle.spool_shows.specs.JobFiles.{job_files}
@@ -20,7 +23,7 @@ use Rattle.spool_store.specs.declared.fault.StoreFault.TheVariants.{Damaged, Fil
 use Rattle.spool_store.specs.declared.fronts.Fronts.{Fronts}
 use Rattle.spool_store.specs.declared.look.Look.{Look}
 use Rattle.spool_store.specs.declared.seen.Seen.{Seen}
-use Rattle.spool_store.specs.Faults.{IfDamaged, IsFound, fault_of_sequence}
+use Rattle.spool_store.specs.Faults.{IfDamaged, IsFound, fault_of_journal, fault_of_sequence}
 use Rattle.std.specs.List.{filter}
 use Rattle.spool_store.specs.Looking.{AreFronts, IsLook, is_left_over}
 use Rattle.spool_store.specs.Seen.{files_seen}
@@ -34,6 +37,12 @@ sequence_damage P Q f (Ok value) is of go = absurd is
 sequence_damage {T} P Q (sequence.Damaged damage) (Err fault) is of go = subst (λ one. IfDamaged {T = T} P (Err one)) (sym is) (go damage of)
 sequence_damage {T} P Q sequence.Failed (Err fault) is of go = subst (λ one. IfDamaged {T = T} P (Err one)) (sym is) tt
 sequence_damage {T} P Q sequence.Memory (Err fault) is of go = subst (λ one. IfDamaged {T = T} P (Err one)) (sym is) tt
+
+pub recalled_damage : {T : Type 0} → (P Q : Damage → Type 0) (f : JournalFault) (result : Result T StoreFault) → IsErrAnd result (λ fault. fault ≡ fault_of_journal f) → journal_faults.IfDamaged {T = JournalRead} Q (Err f) → ((damage : Damage) → Q damage → P damage) → IfDamaged P result
+recalled_damage P Q f (Ok value) is of go = absurd is
+recalled_damage {T} P Q (journal.Damaged damage) (Err fault) is of go = subst (λ one. IfDamaged {T = T} P (Err one)) (sym is) (go damage of)
+recalled_damage {T} P Q journal.Failed (Err fault) is of go = subst (λ one. IfDamaged {T = T} P (Err one)) (sym is) tt
+recalled_damage {T} P Q journal.Memory (Err fault) is of go = subst (λ one. IfDamaged {T = T} P (Err one)) (sym is) tt
 
 damage_of_fault : (S T : Type 0) (P Q : Damage → Type 0) (f : StoreFault) → IfDamaged {T = S} Q (Err f) → ((damage : Damage) → Q damage → P damage) → IfDamaged {T = T} P (Err f)
 damage_of_fault S T P Q (Damaged damage) of go = go damage of

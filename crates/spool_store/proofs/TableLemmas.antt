@@ -184,6 +184,13 @@ lives_decided marks lives tells ordered number =
     find_decided number lives.by_number.entries ordered
     ∙ ap (option_map Done) (remembered (get nat_cmp lives.by_number number) ∙ ap remembered_fate (tells number))
 
+-- what the shown entries have under a number: the job of its file, or else its fate
+pub found_shown : (number : ℕ) (marks : List Mark) (files : List JobFile) → find_entry nat_cmp number (entries_shown marks files) ≡ option_or (option_map (λ file. (live_entry marks file).1) (file_of number files)) (option_map Done (remembered_at number marks))
+found_shown number marks files =
+    find_in_two number (map (live_entry marks) files) (filter_map (done_entry marks) marks)
+    ∙ ap (λ o. option_or o (find_entry nat_cmp number (filter_map (done_entry marks) marks))) (find_live number marks files)
+    ∙ ap (option_or (option_map (λ file. (live_entry marks file).1) (file_of number files))) (find_done number marks marks)
+
 found_same : (marks : List Mark) (files : List JobFile) (rows : RowMap) (lives : Lives) → TellLives marks lives → AreRowsOf marks files rows → IsOrdered nat_cmp rows → IsOrdered nat_cmp lives.by_number → (number : ℕ)
     → find_entry nat_cmp number (listed_entries (values rows) (filter_map decided_of lives.by_number.entries)) ≡ option_map bare_entry (find_entry nat_cmp number (entries_shown marks files))
 found_same marks files rows lives tells are ordered orders number =
@@ -192,10 +199,7 @@ found_same marks files rows lives tells are ordered orders number =
     (find_rows number rows.entries (rows_keyed marks files rows are ordered) ∙ ap (option_map (λ row. (row_entry row).1)) (are number))
     ∙ ap (option_or (option_map (λ row. (row_entry row).1) (option_map (row_of marks) (file_of number files)))) (lives_decided marks lives tells orders number)
     ∙ joined marks (file_of number files) (remembered_at number marks)
-    ∙ ap (option_map bare_entry)
-    (sym (find_in_two number (map (live_entry marks) files) (filter_map (done_entry marks) marks)
-    ∙ ap (λ o. option_or o (find_entry nat_cmp number (filter_map (done_entry marks) marks))) (find_live number marks files)
-    ∙ ap (option_or (option_map (λ file. (live_entry marks file).1) (file_of number files))) (find_done number marks marks)))
+    ∙ ap (option_map bare_entry) (sym (found_shown number marks files))
 
 pub table_same : (last : ℕ) (marks : List Mark) (files : List JobFile) (rows : RowMap) (lives : Lives) → TellLives marks lives → AreRowsOf marks files rows → IsOrdered nat_cmp rows → IsOrdered nat_cmp lives.by_number
     → listed_table last (values rows) (filter_map decided_of lives.by_number.entries) (last_batch marks) ≡ bare (table_shown last marks files)

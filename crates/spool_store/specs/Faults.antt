@@ -51,3 +51,11 @@ IsFound found Memory = Unit {0}
 IsFound found FileFault = ⊥
 IsFound found QueueFull = ⊥
 IsFound found NumbersUsedUp = ⊥
+
+-- the fault is one of a call that makes one step: of a file, or want of memory
+abbrev pub IsOfStep : StoreFault → Type 0
+IsOfStep FileFault = Unit {0}
+IsOfStep Memory = Unit {0}
+IsOfStep (Damaged damage) = ⊥
+IsOfStep QueueFull = ⊥
+IsOfStep NumbersUsedUp = ⊥

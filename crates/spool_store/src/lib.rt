@@ -7,13 +7,21 @@ mod jobs;
 mod lives;
 mod look;
 mod looks;
+mod marking;
+mod recovery;
+mod scripts;
 mod seen;
 mod sorted;
 mod starts;
+mod stepping;
+mod store;
+mod submitting;
 mod tables;
 
 pub use fault::StoreFault;
 pub(crate) use jobs::Jobs;
+pub use store::Store;
+pub use submitting::MAX_LIVE;
 
 #[cfg(test)]
 mod tests;

@@ -55,7 +55,7 @@ fn start_fault(place: u64, mark: Mark, lives: &Lives, rows: &BTreeMap<u32, Row>)
     }
 }
 
-pub(crate) fn journal_damage(offset: u64, byte: u8) -> Damage
+fn journal_damage(offset: u64, byte: u8) -> Damage
     ensures { result ≡ record { name = journal_file; offset = offset; byte = Some byte } }
 {
     Damage {

@@ -5,15 +5,16 @@ use Rattle.std.specs.FinMap.{entries}
 use Rattle.host_calls.specs.World.{reading}
 use Rattle.sequence_file.specs.Faults.{IsDamage}
 use Rattle.sequence_file.specs.Sequence.{sequence_file}
-use Rattle.start_journal.specs.Journals.{JournalRead, journal_file, journal_in}
+use Rattle.start_journal.specs.Journals.{journal_file, journal_in}
 use Rattle.spool_shows.specs.Shown.{damage_of_jobs, shown_by}
 use Rattle.spool_shows.proofs.Spellings.{last_given}
 use Rattle.spool_store.specs.Lives.{TellLives}
 use Rattle.spool_store.specs.Looking.{AreFronts}
 use Rattle.spool_store.specs.Seen.{files_seen}
-use Rattle.spool_store.specs.Tables.{AreUndecided}
+use Rattle.spool_store.specs.Tables.{AreUndecided, IsTableShown}
 use Rattle.spool_store.proofs.FrontLemmas.{last_damage}
-use Rattle.spool_store.proofs.ShownLemmas.{found_damage, is_look, jobs_damage, journal_damage, number_damage, same_damage, sequence_damage}
+use Rattle.spool_store.proofs.ShownLemmas.{found_damage, is_look, jobs_damage, journal_damage, number_damage, recalled_damage, sequence_damage}
+use Rattle.spool_store.proofs.RecoveryEntries.{is_stored, seen_named}
 use Rattle.spool_store.proofs.look.take_look.Goals as goal
 
 pub returns-in_err-number-clause-damaged : goal.returns-in_err-number-clause-damaged
@@ -25,7 +26,7 @@ returns-in_err-number-clause-damaged g c = λ tells.
 pub returns-in_err-journal-clause-damaged : goal.returns-in_err-journal-clause-damaged
 returns-in_err-journal-clause-damaged g c = λ tells.
     let files = reading (g.H.Host.world c.args.host.now) in
-    same_damage JournalRead (λ damage. shown_by files ≡ Err damage) _ c.in_err-journal.field-0.0 c.from_residual-in_err-journal.result c.from_residual-in_err-journal.ensures.1 (c.in_err-journal.ensures.damaged tells)
+    recalled_damage (λ damage. shown_by files ≡ Err damage) (λ damage. journal_in c.in_ok-number.number (finite.get (reading (g.H.Host.world c.last.new.host)) journal_file) ≡ Err damage) c.in_err-journal.field-0.0 c.from_residual-in_err-journal.result c.from_residual-in_err-journal.ensures.1 (c.in_err-journal.ensures.damaged tells)
     (λ damage is. journal_damage files c.in_ok-number.number damage (last_given _ _ (c.in_ok-number.ensures.number tells))
     (ap (λ w. journal_in c.in_ok-number.number (finite.get (reading w) journal_file)) (sym (c.in_ok-number.ensures.looks tells)) ∙ is))
 
@@ -56,3 +57,20 @@ returns-clause-shown g c = λ tells.
     subst (λ w. AreFronts journal.marks (entries (reading w)) c.in_ok-seen.field-0) (c.in_ok-journal.ensures.looks tells ∙ c.in_ok-number.ensures.looks tells)
     (c.in_ok-seen.ensures.fronts tells journal.marks (subst (λ marks. TellLives marks c.in_ok-lives.lives) c.marks.ensures.marks c.in_ok-lives.ensures)) in
     is_look files last journal c.in_ok-seen.field-0 c.marks-2.result.now c.as_slice.result.now (last_given _ _ (c.in_ok-number.ensures.number tells)) read are c.marks-2.ensures.marks c.as_slice.ensures.value _ refl refl c.in_ok-jobs.ensures
+
+pub returns-clause-stored : goal.returns-clause-stored
+returns-clause-stored g c =
+    let last = c.in_ok-number.number in
+    let journal = c.in_ok-journal.journal in
+    let seen = c.as_slice.result.now in
+    let shown = subst (λ marks. IsTableShown last marks (files_seen seen) c.in_ok-jobs.jobs) c.marks-2.ensures.marks c.in_ok-jobs.ensures in
+    is_stored last journal.marks (files_seen seen) (record {
+      few = c.in_ok-number.ensures.few;
+      legal = c.marks-2.ensures.legal;
+      writable = c.marks-2.ensures.writable;
+      drawn = c.in_ok-journal.ensures.drawn;
+      undecided = subst (λ list. AreUndecided journal.marks (files_seen list)) (sym c.as_slice.ensures.value)
+          (c.in_ok-seen.ensures.undecided journal.marks (subst (λ marks. TellLives marks c.in_ok-lives.lives) c.marks.ensures.marks c.in_ok-lives.ensures));
+      named = seen_named seen;
+      whole = shown.0;
+    }) c.in_ok-jobs.jobs shown journal.free

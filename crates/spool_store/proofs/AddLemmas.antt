@@ -1,0 +1,92 @@
+-- One mark more in the journal: each image shows the table before the step of that mark or after it.
+use Rattle.std.proofs.Common.{◌≡◌, List, [], ◌∷◌, sym, subst, inl, inr, Result, Ok, Err}
+use Rattle.std.specs.Prelude.{IfOk, OnOk}
+use Rattle.std.specs.FinMap as finite
+use Rattle.host_calls.specs.declared.fault.HostFault.{HostFault}
+use Rattle.host_calls.specs.Folder.{Files, Folder, IsImage}
+use Rattle.host_calls.specs.World.{World}
+use Rattle.sequence_file.specs.Sequence.{temporary_file}
+use Rattle.spool_model.specs.declared.step.Step.{Step}
+use Rattle.spool_model.specs.JobTable.{JobTable}
+use Rattle.spool_model.specs.Steps.{after_step}
+use Rattle.start_journal.specs.declared.mark.Mark.{Mark}
+use Rattle.start_journal.specs.Changing.{Gives, IsChanged, IsChanging, added}
+use Rattle.start_journal.specs.Journals.{JournalRead, journal_file}
+use Rattle.start_journal.specs.Marks.{AreLegal, IsLegalAfter}
+use Rattle.whole_file.specs.Others.{ChangesFiles, IsEither, LeavesOthers}
+use Rattle.job_runs.specs.Calls.{IsSteppingOn}
+use Rattle.job_runs.specs.Current.{IsCurrent, IsSpoolName}
+use Rattle.spool_shows.specs.Shown.{Shows}
+use Rattle.spool_store.specs.Marking.{AreSameOrKept, IsMarkOf, IsMarked, KeepsFiles, kept_with}
+use Rattle.spool_store.proofs.KeptMarks.{legal_when_kept}
+use Rattle.spool_store.proofs.ChangesJoined.{changes_end, changes_join, changes_weaker}
+use Rattle.spool_store.proofs.MarkingCalls.{journal_is_spool, leaves_through, stepping_more, stepping_none, stepping_one, stepping_start}
+use Rattle.spool_store.proofs.MarkingLemmas.{IsShownWith, added_shown, same_shown}
+use Rattle.spool_store.proofs.RoomLemmas.{changing_start, decided_still, sequence_still, shown_with}
+
+-- a mark that is legal behind marks is so behind the same ones, and behind what a compaction keeps of them
+pub legal_still : (before after : List Mark) (mark : Mark) → AreLegal before → IsLegalAfter before mark → AreSameOrKept before after → IsLegalAfter after mark
+legal_still before after mark legal is (inl same) = subst (λ marks. IsLegalAfter marks mark) (sym same) is
+legal_still before after mark legal is (inr kept) = subst (λ marks. IsLegalAfter marks mark) (sym kept) (legal_when_kept before mark legal is)
+
+-- The journal was given room in a first run, and in a second one the mark of the step is added.
+pub record IsAdding (journal room : JournalRead) (table : JobTable) (step : Step) (mark : Mark) (first second third : World) : Type 0 where
+  pub is_mark : IsMarkOf journal first.now.folder table step mark
+  pub current : IsCurrent (kept_with room table) second.now.folder table
+  pub keeps : KeepsFiles first.now.folder second.now.folder
+  pub makes_room : ChangesFiles (IsSteppingOn table [] first.now.folder) first second
+  pub adds : ChangesFiles (IsChanging room (added room mark) second.now.folder) second third
+
+module _ (journal room : JournalRead) (table : JobTable) (step : Step) (mark : Mark) (first second third : World) (adding : IsAdding journal room table step mark first second third) where
+  abbrev start : Folder
+  start = first.now.folder
+
+  abbrev middle : Folder
+  middle = second.now.folder
+
+  -- what an image is of which this one differs at the journal
+  shown_before : (image : Files) (changing : IsChanging room (added room mark) middle image) → IsShownWith room table changing.alone.from
+  shown_before image changing = shown_with room middle table adding.current changing.alone.from changing.alone.was
+
+  -- with the mark in its journal it shows the table after the step
+  shows_after : (image : Files) → IsChanging room (added room mark) middle image → Gives (finite.get image journal_file) (added room mark) → Shows image (after_step table step)
+  shows_after image changing gives =
+      added_shown room table step mark changing.alone.from image (shown_before image changing) adding.is_mark.legal adding.is_mark.adds gives changing.alone.others
+
+  -- while the mark is added, the step was made or not
+  stepping : (image : Files) → LeavesOthers IsSpoolName start image → IsChanging room (added room mark) middle image → IsSteppingOn table (step ∷ []) start image
+  stepping image others changing = elim changing.gives [
+    | inl before ↦ stepping_none table (step ∷ []) start image
+        (same_shown room table changing.alone.from image (shown_before image changing) before changing.alone.others) others
+    | inr after ↦ stepping_one table step start image (shows_after image changing after) others
+  ]
+
+  -- images of the middle leave other files alone
+  through : (from : Files) → IsImage middle from → LeavesOthers IsSpoolName start from
+  through from is = (changes_end _ first second adding.makes_room (stepping_start table [] start adding.is_mark.current.shows) from is).others
+
+  -- through both runs, the one step is made at most
+  pub add_stepping : ChangesFiles (IsSteppingOn table (step ∷ []) start) first third
+  add_stepping =
+      changes_join _ _ first second third
+      (changes_weaker _ _ first second (stepping_more table (step ∷ []) start) adding.makes_room)
+      adding.adds
+      (λ image changing. stepping image (leaves_through (IsEither temporary_file journal_file) start middle image journal_is_spool through changing.alone) changing)
+
+  -- once the mark is added it stands
+  stands : IsChanged (added room mark) middle third.now.folder → IsMarked journal.marks (added room mark) third.now.folder (after_step table step)
+  stands changed =
+      let each : (image : Files) → IsImage third.now.folder image → IsChanging room (added room mark) middle image =
+      changes_end _ second third adding.adds (changing_start room (added room mark) middle adding.current.journal) in
+      record {
+        shows = λ image is. shows_after image (each image is) (subst (λ content. Gives content (added room mark)) (sym (changed.holds.same image is)) changed.holds.gives);
+        holds = changed.holds;
+        sequence = λ image is. sequence_still room (added room mark) (kept_with room table) table middle third.now.folder image adding.current changed.others (each image is);
+        decided = decided_still journal.marks middle third.now.folder changed.others
+            (decided_still journal.marks start middle adding.keeps adding.is_mark.current.decided);
+      }
+
+  -- by the answer of the call
+  pub add_marked : (result : Result JournalRead HostFault) → IfOk result (λ new. new ≡ added room mark) → OnOk result (IsChanged (added room mark) middle third.now.folder) → IfOk result (λ new. IsMarked journal.marks new third.now.folder (after_step table step))
+  add_marked (Err fault) made changed = tt
+  add_marked (Ok new) made changed = subst (λ (read : JournalRead). IsMarked journal.marks read third.now.folder (after_step table step)) (sym made) (stands changed)

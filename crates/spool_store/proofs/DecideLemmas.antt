@@ -1,0 +1,129 @@
+-- A job is decided: its mark is added, and then its file is removed, which counts for nothing by then.
+use Rattle.std.proofs.Common.{◌≡◌, ◌⊎◌, ℕ, true, false, List, [], ◌∷◌, Contains, sym, ap, subst, ◌∙◌, refl, arith, inl, inr}
+use Rattle.std.specs.Prelude.{Some}
+use Rattle.std.specs.FinMap as map
+use Rattle.host_calls.specs.Folder.{Files, Folder, reading_of}
+use Rattle.host_calls.proofs.FolderLemmas.{reading_is_image}
+use Rattle.sequence_file.specs.Sequence.{temporary_file}
+use Rattle.spool_model.specs.declared.job.Job.{Job}
+use Rattle.spool_model.specs.declared.step.Step.{Step}
+use Rattle.spool_model.specs.JobTable.{JobTable}
+use Rattle.start_journal.specs.declared.mark.Mark.{Mark}
+use Rattle.start_journal.specs.declared.mark.Mark.TheVariants.{Removed, Ended, Interrupted}
+use Rattle.start_journal.specs.Journals.{JournalRead, journal_file}
+use Rattle.start_journal.specs.Marks.{AreLegal, decides, is_decided, kept_marks}
+use Rattle.start_journal.proofs.LifeLemmas.{any_more, any_with}
+use Rattle.start_journal.proofs.MarkLemmas.{either, same_number}
+use Rattle.whole_file.specs.Clearing.{AreFiles}
+use Rattle.spool_shows.specs.ByName.{IsJobFile, ShowsByName}
+use Rattle.spool_shows.specs.JobFiles.{JobFile, NamedJob, job_named}
+use Rattle.spool_shows.proofs.Membership.{Has, contained, has_contained}
+use Rattle.spool_shows.proofs.NameLemmas.{job_name_apart, journal_no_job, temporary_no_job}
+use Rattle.spool_shows.proofs.ShownStates.{IsLiveBy}
+use Rattle.spool_shows.proofs.Spellings.{name_given, one_job_name}
+use Rattle.spool_shows.proofs.StepLaws.{by_name}
+use Rattle.spool_shows.proofs.StepMarks.{live_in}
+use Rattle.spool_store.specs.Marking.{HaveOneMore, IsDecisionOf, KeepsFiles}
+use Rattle.spool_store.specs.Scripts.{IsFileOf}
+use Rattle.spool_store.proofs.KeptMarks.{kept_decided}
+use Rattle.spool_store.proofs.MarkingLemmas.{IsShownWith, reads_as}
+use Rattle.spool_store.proofs.RoomLemmas.{shown_with}
+
+-- The file of a live job.
+
+-- the name is that of a job of this number, which is not decided; its file is there, and no other has the number
+pub record IsItsFile (marks : List Mark) (files : Files) (number : ℕ) (name : List ℕ) : Type 0 where
+  pub job : NamedJob
+  pub named : job_named name ≡ Some job
+  pub number_is : job.number ≡ number
+  pub bytes : List ℕ
+  pub held : map.get files name ≡ Some bytes
+  pub undecided : is_decided number marks ≡ false
+  pub alone : (other : JobFile) → IsJobFile marks files other → other.job.number ≡ number → other.name ≡ name
+
+-- a job's file is the one that has the name of it
+same_job : (one other : NamedJob) → one.queue ≡ other.queue → one.number ≡ other.number → one.minute ≡ other.minute → one ≡ other
+same_job one other queue number minute = λ i. record { queue = queue i; number = number i; minute = minute i }
+
+-- a live job has its file, in a folder that is shown by name
+file_by_name : (files : Files) (table : JobTable) (number : ℕ) (name : List ℕ) (shows : ShowsByName files table) → IsFileOf table number name → IsItsFile shows.read.marks files number name
+file_by_name files table number name shows of =
+    let marks : List Mark = shows.read.marks in
+    let live : IsLiveBy marks files number of.job of.state = live_in files table number of.job of.state shows of.lives in
+    let job : NamedJob = record { queue = of.job.queue; number = number; minute = of.job.minute } in
+    let named : job_named name ≡ Some job = name_given name of.job.queue number of.job.minute of.spelled in
+    let its_job : live.file.job ≡ job = same_job live.file.job job (ap (λ (j : Job). j.queue) live.job_is) live.number_is (ap (λ (j : Job). j.minute) live.job_is) in
+    let its_name : live.file.name ≡ name = one_job_name live.file.name name job (live.is.named ∙ ap Some its_job) named in
+    record {
+      job = job;
+      named = named;
+      number_is = refl;
+      bytes = live.file.bytes;
+      held = ap (map.get files) (sym its_name) ∙ live.is.held;
+      undecided = live.undecided;
+      alone = λ other is is_number. shows.sound.once other live.file is live.is (is_number ∙ sym live.number_is) ∙ its_name;
+    }
+
+-- and in one that shows the table with the journal
+its_file : (journal : JournalRead) (table : JobTable) (files : Files) (number : ℕ) (name : List ℕ) → IsShownWith journal table files → IsFileOf table number name → IsItsFile journal.marks files number name
+its_file journal table files number name is of =
+    subst (λ (read : JournalRead). IsItsFile read.marks files number name) (reads_as journal table files is)
+    (file_by_name files table number name (by_name files table is.shows) of)
+
+-- the file of the job that is decided
+pub decided_file : (journal : JournalRead) (folder : Folder) (table : JobTable) (step : Step) (mark : Mark) (name : List ℕ) (decision : IsDecisionOf journal folder table step mark name) → IsItsFile journal.marks (reading_of folder) decision.number name
+decided_file journal folder table step mark name decision =
+    its_file journal table (reading_of folder) decision.number name
+    (shown_with journal folder table decision.is_mark.current (reading_of folder) (reading_is_image folder)) decision.file
+
+-- One name alone.
+
+-- a list of it has nothing else
+pub only_one : (name other : List ℕ) → Contains (name ∷ []) other → other ≡ name
+only_one name other is = by_has (has_contained (name ∷ []) other is) where
+  by_has : Has (name ∷ []) other → other ≡ name
+  by_has (inl same) = sym same
+  by_has (inr none) = absurd none
+
+-- that name is in the list
+pub is_the_one : (name : List ℕ) → Contains (name ∷ []) name
+is_the_one name = contained (name ∷ []) name (inl refl)
+
+-- and no other is
+pub apart_from : (name other : List ℕ) → ¬ (other ≡ name) → ¬ (Contains (name ∷ []) other)
+apart_from name other differ is = differ (only_one name other is)
+
+-- it is a file still, once the mark stands
+pub decided_held : (journal : JournalRead) (first second : Folder) (table : JobTable) (step : Step) (mark : Mark) (name : List ℕ) → IsDecisionOf journal first table step mark name → KeepsFiles first second → AreFiles (name ∷ []) (reading_of second)
+decided_held journal first second table step mark name decision keeps =
+    let file : IsItsFile journal.marks (reading_of first) decision.number name = decided_file journal first table step mark name decision in
+    let held : map.get (reading_of second) name ≡ Some file.bytes =
+    keeps name (job_name_apart temporary_file journal_file name file.job temporary_no_job journal_no_job file.named) ∙ file.held in
+    record {
+      held = λ other is. rw (only_one name other is) (rw held refl);
+      different = λ place later other before inside. absurd (omega arith);
+    }
+
+-- Marks with one more.
+
+-- what one more decides is decided
+pub decided_by_it : (before after : List Mark) (mark : Mark) (number : ℕ) → HaveOneMore before mark after → decides number mark ≡ true → is_decided number after ≡ true
+decided_by_it before after mark number (inl more) is = ap (is_decided number) more ∙ any_with (decides number) before mark is
+decided_by_it before after mark number (inr kept) is = ap (is_decided number) kept ∙ any_with (decides number) (kept_marks before) mark is
+
+-- what is decided with one more was decided before, or is decided by it
+pub decided_before_or_by_it : (before after : List Mark) (mark : Mark) (number : ℕ) → AreLegal before → HaveOneMore before mark after → is_decided number after ≡ true → (is_decided number before ≡ true) ⊎ (decides number mark ≡ true)
+decided_before_or_by_it before after mark number legal (inl more) is =
+    either (is_decided number before) (decides number mark) (sym (any_more (decides number) before mark) ∙ sym (ap (is_decided number) more) ∙ is)
+decided_before_or_by_it before after mark number legal (inr kept) is =
+    elim (either (is_decided number (kept_marks before)) (decides number mark) (sym (any_more (decides number) (kept_marks before) mark) ∙ sym (ap (is_decided number) kept) ∙ is)) [
+      | inl old ↦ inl (kept_decided before number legal old)
+      | inr new ↦ inr new
+    ]
+
+-- a mark decides one number
+pub one_decided : (mark : Mark) (one other : ℕ) → decides one mark ≡ true → decides other mark ≡ true → one ≡ other
+one_decided (Removed number) one other is also = sym (same_number number one is) ∙ same_number number other also
+one_decided (Ended number ending) one other is also = sym (same_number number one is) ∙ same_number number other also
+one_decided (Interrupted number) one other is also = sym (same_number number one is) ∙ same_number number other also
+one_decided _ one other is also = cc

@@ -1,0 +1,164 @@
+-- What a compaction keeps of what legal marks tell: which of them are drawn, and which may follow.
+use Rattle.std.proofs.Common.{◌≡◌, ℕ, ℤ, Bool, true, false, cond, List, [], ◌∷◌, ◌++◌, sym, ap, subst, ◌∙◌, refl}
+use Rattle.std.specs.Prelude.{◌||◌, Option, Some, None}
+use Rattle.std.specs.List.{filter, list_all, list_any}
+use Rattle.std.proofs.lemmas.List.Folds.{list_all-append}
+use Rattle.std.proofs.lemmas.Map.Views.{any-filter_same}
+use Rattle.std.proofs.lemmas.List.{append-nil, append_assoc}
+use Rattle.start_journal.specs.declared.mark.Mark.{Mark}
+use Rattle.start_journal.specs.declared.mark.Mark.TheVariants.{Removed, Started, Ended, Interrupted, Forgotten, Batch}
+use Rattle.start_journal.specs.Journals.{JournalRead, are_drawn, are_sound, is_drawn}
+use Rattle.start_journal.specs.Marks.{AreLegal, AreLegalAfter, IsLegalAfter, batch_mark, decides, ends, forgets, is_decided, is_ended, is_forgotten, is_kept, is_named, is_started, kept_marks, last_batch, marks_of, names, starts}
+use Rattle.start_journal.proofs.ByteLemmas.{and_then, both}
+use Rattle.start_journal.proofs.LifeLemmas.{any_with, any_without}
+use Rattle.start_journal.proofs.MarkLemmas.{decides_names, ends_names, forgets_names, forgotten_was_decided, kept_marks_keep_what_counts, same_number, starts_names}
+use Rattle.start_journal.proofs.ReadLemmas.{sound_legal}
+use Rattle.spool_shows.proofs.MarkTests.{neither, not_forgotten}
+
+-- Numbers that were drawn.
+
+-- what all pass, all that are kept pass
+pub all_filtered : (test keep : Mark → Bool) (marks : List Mark) → list_all test marks ≡ true → list_all test (filter keep marks) ≡ true
+all_filtered test keep [] all = refl
+all_filtered test keep (mark ∷ later) all =
+    let tests : (test mark ≡ true) × (list_all test later ≡ true) = both _ _ all in
+    by_keep (keep mark) tests.0 (all_filtered test keep later tests.1) where
+      by_keep : (kept : Bool) → test mark ≡ true → list_all test (filter keep later) ≡ true → list_all test (cond kept (mark ∷ filter keep later) (filter keep later)) ≡ true
+      by_keep true here rest = and_then (test mark) _ here rest
+      by_keep false here rest = rest
+
+-- what a compaction keeps names drawn numbers
+pub kept_drawn : (last : ℕ) (marks : List Mark) → are_drawn last marks ≡ true → are_drawn last (kept_marks marks) ≡ true
+kept_drawn last marks drawn =
+    list_all-append (is_drawn last) (filter (is_kept marks) marks) (batch_mark (last_batch marks))
+    ∙ and_then _ _ (all_filtered (is_drawn last) (is_kept marks) marks drawn) (by_batch (last_batch marks)) where
+      by_batch : (second : Option ℤ) → are_drawn last (batch_mark second) ≡ true
+      by_batch (Some second) = refl
+      by_batch None = refl
+
+-- Tests that only marks of one number pass.
+
+-- what passes the one test passes the other
+abbrev pub IsNarrower : (Mark → Bool) → (Mark → Bool) → Type 0
+IsNarrower test wider = (mark : Mark) → test mark ≡ true → wider mark ≡ true
+
+-- lists with the same marks of the number pass alike
+same_test : (number : ℕ) (test : Mark → Bool) (one other : List Mark) → IsNarrower test (names number) → marks_of number other ≡ marks_of number one → list_any test other ≡ list_any test one
+same_test number test one other of_number same =
+    sym (any-filter_same test (names number) true of_number other) ∙ ap (list_any test) same ∙ any-filter_same test (names number) true of_number one
+
+-- a compaction keeps each test of a number that is not forgotten
+pub test_kept : (marks : List Mark) (number : ℕ) (test : Mark → Bool) → AreLegal marks → IsNarrower test (names number) → is_forgotten number marks ≡ false → list_any test (kept_marks marks) ≡ list_any test marks
+test_kept marks number test legal of_number remembered =
+    same_test number test marks (kept_marks marks) of_number ((kept_marks_keep_what_counts marks legal).same_marks number remembered)
+
+-- a mark that fails the wider test fails the other
+pub fails_narrower : (test wider : Mark → Bool) (mark : Mark) → IsNarrower test wider → wider mark ≡ false → test mark ≡ false
+fails_narrower test wider mark narrower fails = by_test (test mark) refl where
+  by_test : (passes : Bool) → test mark ≡ passes → test mark ≡ false
+  by_test true is = let impossible : false ≡ true = sym fails ∙ narrower mark is in cc
+  by_test false is = is
+
+-- so do marks
+pub none_narrower : (test wider : Mark → Bool) (marks : List Mark) → IsNarrower test wider → list_any wider marks ≡ false → list_any test marks ≡ false
+none_narrower test wider [] narrower none = refl
+none_narrower test wider (mark ∷ later) narrower none =
+    let parts : (wider mark ≡ false) × (list_any wider later ≡ false) = neither _ _ none in
+    ap (λ b. b || list_any test later) (fails_narrower test wider mark narrower parts.0) ∙ none_narrower test wider later narrower parts.1
+
+-- what ends a number decides it
+pub ends_decides : (number : ℕ) → IsNarrower (ends number) (decides number)
+ends_decides number (Ended other ending) is = is
+ends_decides number (Interrupted other) is = is
+ends_decides number _ is = cc
+
+-- a number that no mark names is not named among the kept ones
+pub unnamed_kept : (marks : List Mark) (number : ℕ) → AreLegal marks → is_named number marks ≡ false → is_named number (kept_marks marks) ≡ false
+unnamed_kept marks number legal unnamed =
+    test_kept marks number (names number) legal (λ mark named. named) (none_narrower (forgets number) (names number) marks (forgets_names number) unnamed) ∙ unnamed
+
+-- what is decided among the kept marks was decided
+pub kept_decided : (marks : List Mark) (number : ℕ) → AreLegal marks → is_decided number (kept_marks marks) ≡ true → is_decided number marks ≡ true
+kept_decided marks number legal decided = by_test (is_forgotten number marks) refl where
+  by_test : (forgotten : Bool) → is_forgotten number marks ≡ forgotten → is_decided number marks ≡ true
+  by_test true is = forgotten_was_decided number [] marks legal is
+  by_test false is = sym (test_kept marks number (decides number) legal (decides_names number) is) ∙ decided
+
+-- A number that is started and not ended is not decided.
+
+abbrev RunsUndecided : ℕ → List Mark → Type 0
+RunsUndecided number marks = is_started number marks ≡ true → is_ended number marks ≡ false → is_decided number marks ≡ false
+
+-- a mark that neither starts, ends nor decides it changes nothing
+runs_silent : (number : ℕ) (before : List Mark) (mark : Mark) → starts number mark ≡ false → ends number mark ≡ false → decides number mark ≡ false → RunsUndecided number before → RunsUndecided number (before ++ mark ∷ [])
+runs_silent number before mark no_start no_end undecided old = λ started running.
+    any_without (decides number) before mark undecided
+    ∙ old (sym (any_without (starts number) before mark no_start) ∙ started) (sym (any_without (ends number) before mark no_end) ∙ running)
+
+-- nor does a mark of the number that is legal
+runs_named : (number : ℕ) (before : List Mark) (mark : Mark) → names number mark ≡ true → IsLegalAfter before mark → RunsUndecided number before → RunsUndecided number (before ++ mark ∷ [])
+runs_named number before (Removed other) named legal old = λ started running.
+    let unnamed : is_named number before ≡ false = ap (λ n. is_named n before) (sym (same_number other number named)) ∙ legal in
+    let impossible : true ≡ false = sym started ∙ any_without (starts number) before (Removed other) refl ∙ none_narrower (starts number) (names number) before (starts_names number) unnamed in
+    cc
+runs_named number before (Started other queue second) named legal old = λ started running.
+    let unnamed : is_named number before ≡ false = ap (λ n. is_named n before) (sym (same_number other number named)) ∙ legal in
+    any_without (decides number) before (Started other queue second) refl ∙ none_narrower (decides number) (names number) before (decides_names number) unnamed
+runs_named number before (Ended other ending) named legal old = λ started running.
+    let impossible : true ≡ false = sym (any_with (ends number) before (Ended other ending) named) ∙ running in
+    cc
+runs_named number before (Interrupted other) named legal old = λ started running.
+    let impossible : true ≡ false = sym (any_with (ends number) before (Interrupted other) named) ∙ running in
+    cc
+runs_named number before (Forgotten other) named legal old = runs_silent number before (Forgotten other) refl refl refl old
+runs_named number before (Batch second) named legal old = runs_silent number before (Batch second) refl refl refl old
+
+-- so it is with each legal mark more
+runs_more : (number : ℕ) (before : List Mark) (mark : Mark) → IsLegalAfter before mark → RunsUndecided number before → RunsUndecided number (before ++ mark ∷ [])
+runs_more number before mark legal old = by_name (names number mark) refl where
+  by_name : (named : Bool) → names number mark ≡ named → RunsUndecided number (before ++ mark ∷ [])
+  by_name true named = runs_named number before mark named legal old
+  by_name false other = runs_silent number before mark
+      (fails_narrower (starts number) (names number) mark (starts_names number) other)
+      (fails_narrower (ends number) (names number) mark (ends_names number) other)
+      (fails_narrower (decides number) (names number) mark (decides_names number) other)
+      old
+
+-- and with all of them
+runs_on : (number : ℕ) (before later : List Mark) → AreLegalAfter before later → RunsUndecided number before → RunsUndecided number (before ++ later)
+runs_on number before [] legal old = subst (RunsUndecided number) (sym (append-nil before)) old
+runs_on number before (mark ∷ later) legal old =
+    subst (RunsUndecided number) (append_assoc before (mark ∷ []) later)
+    (runs_on number (before ++ mark ∷ []) later legal.1 (runs_more number before mark legal.0 old))
+
+-- from the first on
+pub running_undecided : (number : ℕ) (marks : List Mark) → AreLegal marks → RunsUndecided number marks
+running_undecided number marks legal = runs_on number [] marks legal (λ started. cc)
+
+-- The marks of every journal.
+
+-- a journal whose marks are sound has legal ones
+pub sound_is_legal : (inside seen : JournalRead) → inside ≡ seen → are_sound inside.marks ≡ true → AreLegal seen.marks
+sound_is_legal inside seen is sound = subst (λ (read : JournalRead). AreLegal read.marks) is (sound_legal inside.marks sound)
+
+-- What may follow.
+
+-- a number that runs keeps its start, and is not ended
+runs_kept : (marks : List Mark) (number : ℕ) → AreLegal marks → (is_started number marks ≡ true) × (is_ended number marks ≡ false) → (is_started number (kept_marks marks) ≡ true) × (is_ended number (kept_marks marks) ≡ false)
+runs_kept marks number legal (started, running) =
+    let remembered : is_forgotten number marks ≡ false = not_forgotten marks number legal (running_undecided number marks legal started running) in (
+      test_kept marks number (starts number) legal (starts_names number) remembered ∙ started,
+      test_kept marks number (ends number) legal (ends_names number) remembered ∙ running,
+    )
+
+-- a mark that is legal behind marks is so behind what a compaction keeps of them
+pub legal_when_kept : (marks : List Mark) (mark : Mark) → AreLegal marks → IsLegalAfter marks mark → IsLegalAfter (kept_marks marks) mark
+legal_when_kept marks (Removed number) legal is = unnamed_kept marks number legal is
+legal_when_kept marks (Started number queue second) legal is = unnamed_kept marks number legal is
+legal_when_kept marks (Ended number ending) legal is = runs_kept marks number legal is
+legal_when_kept marks (Interrupted number) legal is = runs_kept marks number legal is
+legal_when_kept marks (Forgotten number) legal (decided, remembered) = (
+  test_kept marks number (decides number) legal (decides_names number) remembered ∙ decided,
+  test_kept marks number (forgets number) legal (forgets_names number) remembered ∙ remembered,
+)
+legal_when_kept marks (Batch second) legal is = tt

@@ -1,0 +1,216 @@
+-- What a recovery leaves: each moment shows what the folder showed, and at the end what is kept is current.
+use Rattle.std.proofs.Common.{◌≡◌, ℕ, true, false, List, Option, Some, None, [], sym, ap, subst, ◌∙◌, refl, inl, inr, arith}
+use Rattle.std.specs.Prelude.{◌≢◌, Contains, IsErrAnd, Ok, Err, Result, is_some}
+use Rattle.std.specs.FinMap as finite
+use Rattle.std.specs.List.{filter}
+use Rattle.host_calls.specs.declared.fault.HostFault.{HostFault}
+use Rattle.host_calls.specs.Folder.{Files, Folder, IsImage, IsInNoImage, IsSettled, IsSyncedInPart, reading_of, settled}
+use Rattle.host_calls.specs.World.{FileCall, World, reading}
+use Rattle.host_calls.proofs.FolderLemmas.{reading_is_image, reading_of-settled, settled_image}
+use Rattle.host_calls.proofs.WorldLemmas.{at_end}
+use Rattle.sequence_file.specs.Sequence.{sequence_file, temporary_file}
+use Rattle.start_journal.specs.declared.mark.Mark.{Mark}
+use Rattle.start_journal.specs.Changing.{Gives}
+use Rattle.start_journal.specs.Journals.{journal_file}
+use Rattle.start_journal.proofs.GivesLemmas.{recalled_gives}
+use Rattle.whole_file.specs.Clearing.{AreCleared, AreFiles}
+use Rattle.whole_file.specs.Others.{ChangesFiles, LeavesOthers}
+use Rattle.whole_file.proofs.OthersLemmas.{changes_none, changes_then}
+use Rattle.spool_shows.specs.ByName.{ShowsByName}
+use Rattle.spool_shows.specs.Laws.{HasMarks}
+use Rattle.spool_shows.specs.Shown.{shown_by}
+use Rattle.spool_shows.proofs.OneMark.{had_same}
+use Rattle.spool_shows.proofs.OtherLemmas.{other_files_count_for_nothing}
+use Rattle.spool_shows.proofs.StepLaws.{by_name}
+use Rattle.job_runs.specs.Calls.{ShowsAsBefore}
+use Rattle.job_runs.specs.Current.{IsCurrent, IsSpoolName, Kept}
+use Rattle.spool_store.specs.declared.fault.StoreFault.{StoreFault}
+use Rattle.spool_store.specs.declared.fault.StoreFault.TheVariants.{Damaged, FileFault, Memory, NumbersUsedUp, QueueFull}
+use Rattle.spool_store.specs.declared.look.Look.{Look}
+use Rattle.spool_store.specs.Faults.{IfDamaged, IsOfReading}
+use Rattle.spool_store.specs.Looking.{IsLook, is_left_over}
+use Rattle.spool_store.specs.Recovering.{IsRecovered, Recovered}
+use Rattle.spool_store.proofs.ChangesJoined.{changes_join}
+use Rattle.spool_store.proofs.RecoveryNames.{are_files, counting_stays, decided_left, journal_stays, left_among, left_is_spool, left_there, sequence_stays, stays_apart, temporary_left}
+
+-- Settling.
+
+-- an image of the start shows what it showed
+as_before : (start : Folder) (image : Files) → IsImage start image → ShowsAsBefore start image
+as_before start image is = record { from = image; was = is; same = refl; others = λ name other. refl }
+
+-- a folder that is settled has no new image
+settled_before : (start new : Folder) (image : Files) → IsSettled start new → IsImage new image → IsImage start image
+settled_before start new image done is =
+    subst (IsImage start) (sym (settled_image start image (subst (λ folder. IsImage folder image) done is))) (reading_is_image start)
+
+-- so what a settling folder may leave shows what was shown
+pub settling : {T : Type 0} (old new : World) (result : Result T HostFault) → FileCall IsSettled IsSyncedInPart old new result → ChangesFiles (ShowsAsBefore old.now.folder) old new
+settling old new result call =
+    changes_then (ShowsAsBefore old.now.folder) IsSettled IsSyncedInPart old old new result (changes_none (ShowsAsBefore old.now.folder) old) call (λ image within. elim within [
+      | inl is ↦ as_before old.now.folder image is
+      | inr done ↦ as_before old.now.folder image (settled_before old.now.folder done.0 image done.1 done.2)
+    ])
+
+-- The look at the settled folder.
+
+-- the folder was settled and looked at, and no file has changed
+pub record HasSettled (old looked : World) (look : Look) : Type 0 where
+  pub files : ChangesFiles (ShowsAsBefore old.now.folder) old looked
+  pub settled : looked.now.folder ≡ settled old.now.folder
+  pub found : IsLook (reading old) look
+
+-- the reading is that of before
+settled_reading : (old new : World) → IsSettled old.now.folder new.now.folder → reading new ≡ reading old
+settled_reading old new done = ap reading_of done ∙ reading_of-settled old.now.folder
+
+-- a look at a folder that was settled
+pub has_settled : {T : Type 0} (old settled looked : World) (value : T) (look : Look) → FileCall IsSettled IsSyncedInPart old settled (Ok value) → looked ≡ settled → IsLook (reading settled) look → HasSettled old looked look
+has_settled old settled looked value look call same is = record {
+  files = subst (ChangesFiles (ShowsAsBefore old.now.folder) old) (sym same) (settling old settled (Ok value) call);
+  settled = ap (λ (world : World). world.now.folder) same ∙ call.outcome;
+  found = subst (λ files. IsLook files look) (settled_reading old settled call.outcome) is;
+}
+
+-- a look that failed: no file has changed
+pub only_settled : {T : Type 0} (old settled looked : World) (result : Result T HostFault) → FileCall IsSettled IsSyncedInPart old settled result → looked ≡ settled → ChangesFiles (ShowsAsBefore old.now.folder) old looked
+only_settled old settled looked result call same = subst (ChangesFiles (ShowsAsBefore old.now.folder) old) (sym same) (settling old settled result call)
+
+-- and where it answers a damage, the reading shows it
+pub settled_damage : {T : Type 0} (old settled : World) (new : Folder) (value : T) (fault : StoreFault) (result : Result Kept StoreFault) → FileCall IsSettled IsSyncedInPart old settled (Ok value) → IsErrAnd result (λ one. one ≡ fault) → IsOfReading fault → IfDamaged {T = Look} (λ damage. shown_by (reading settled) ≡ Err damage) (Err fault)
+    → Recovered old.now.folder new result
+settled_damage old settled new value fault (Ok kept) call is of_reading damaged = absurd is
+settled_damage old settled new value fault (Err other) call is of_reading damaged = subst (λ one. Recovered old.now.folder new (Err one)) (sym is) (by_fault fault of_reading damaged) where
+  by_fault : (one : StoreFault) → IsOfReading one → IfDamaged {T = Look} (λ damage. shown_by (reading settled) ≡ Err damage) (Err one) → Recovered old.now.folder new (Err one)
+  by_fault (Damaged damage) of shows = ap shown_by (sym (settled_reading old settled call.outcome)) ∙ shows
+  by_fault Memory of shows = tt
+  by_fault FileFault of shows = tt
+  by_fault QueueFull of shows = absurd of
+  by_fault NumbersUsedUp of shows = absurd of
+
+-- where a damage is answered, all reads as before
+pub settled_untouched : {T : Type 0} (old settled new : World) (value : T) (result : Result Kept StoreFault) → FileCall IsSettled IsSyncedInPart old settled (Ok value) → new ≡ settled → IfDamaged (λ damage. reading new ≡ reading old) result
+settled_untouched old settled new value result call same = by_answer result where
+  reads : reading new ≡ reading old
+  reads = ap reading same ∙ settled_reading old settled call.outcome
+
+  by_answer : (answer : Result Kept StoreFault) → IfDamaged (λ damage. reading new ≡ reading old) answer
+  by_answer (Ok kept) = tt
+  by_answer (Err (Damaged damage)) = reads
+  by_answer (Err Memory) = tt
+  by_answer (Err FileFault) = tt
+  by_answer (Err QueueFull) = tt
+  by_answer (Err NumbersUsedUp) = tt
+
+-- The files that were left over, and removed.
+
+-- an empty list contains no name
+none_among : (name : List ℕ) → Contains [] name → ⊥
+none_among name among = omega (arith, among.1)
+
+module _ (old looked : World) (look : Look) (at : HasSettled old looked look) (names : List (List ℕ)) (same : names ≡ look.leftover.items) where
+  abbrev files : Files
+  files = reading old
+
+  abbrev marks : List Mark
+  marks = look.journal.marks
+
+  -- the names are those that were left over
+  are_left : names ≡ filter (is_left_over marks) (finite.keys files)
+  are_left = same ∙ at.found.leftover
+
+  -- they can be cleared
+  pub can_clear : AreFiles names (reading looked)
+  can_clear = subst (AreFiles names) (sym (settled_reading old looked at.settled)) (are_files marks files names are_left)
+
+  -- at all names but those, the image has what was read
+  abbrev IsLeft : Files → Type 0
+  IsLeft image = LeavesOthers (Contains names) looked.now.folder image
+
+  -- for the reading is the only image of the settled folder
+  agrees : (image : Files) → IsLeft image → (name : List ℕ) → ¬ (Contains names name) → finite.get image name ≡ finite.get files name
+  agrees image left name apart =
+      left.others name apart
+      ∙ ap (λ (some : Files). finite.get some name) (settled_image old.now.folder left.from (subst (λ folder. IsImage folder left.from) at.settled left.was))
+
+  -- so it has what was read at each name that is not left over
+  stays : (image : Files) → IsLeft image → (name : List ℕ) → is_left_over marks name ≡ false → finite.get image name ≡ finite.get files name
+  stays image left name over = agrees image left name (stays_apart marks files names are_left name over)
+
+  -- the journal gives these marks alone
+  marks_are : (others : List Mark) → HasMarks files others → others ≡ marks
+  marks_are others has =
+      let shows : ShowsByName files at.found.table = by_name files at.found.table at.found.shows in
+      sym (had_same files at.found.table others shows has)
+      ∙ had_same files at.found.table marks shows (record { last = at.found.table.last; free = look.journal.free; number = shows.last; journal = at.found.journal })
+
+  -- so it shows the same, since names that are left over count for nothing
+  shows_same : (image : Files) → IsLeft image → shown_by image ≡ shown_by files
+  shows_same image left = other_files_count_for_nothing files image (record {
+    sequence = stays image left sequence_file (sequence_stays marks);
+    journal = stays image left journal_file (journal_stays marks);
+    jobs = λ others has name counted. stays image left name (ap (λ list. is_left_over list name) (sym (marks_are others has)) ∙ counting_stays others name counted);
+  })
+
+  -- names of others are not left over
+  others_same : (image : Files) → IsLeft image → (name : List ℕ) → ¬ (IsSpoolName name) → finite.get image name ≡ finite.get files name
+  others_same image left name other = agrees image left name (λ among. other (left_is_spool marks name (left_there marks files names are_left name among).1))
+
+  -- clearing them leaves what shows the same
+  pub clearing : (new : World) → ChangesFiles IsLeft looked new → ChangesFiles (ShowsAsBefore old.now.folder) old new
+  clearing new changes = changes_join (ShowsAsBefore old.now.folder) IsLeft old looked new at.files changes (λ image left. record {
+    from = files;
+    was = reading_is_image old.now.folder;
+    same = shows_same image left;
+    others = others_same image left;
+  })
+
+  -- The end.
+
+  module _ (new : World) (changes : ChangesFiles IsLeft looked new) (cleared : names ≢ [] → AreCleared names looked.now.folder new.now.folder) where
+    -- each image of the end is left so
+    end_left : (image : Files) → IsImage new.now.folder image → IsLeft image
+    end_left image is =
+        (at_end (λ one handed. IsLeft one × (handed ≡ looked.now.handed)) looked new changes.leaves
+        (λ one was. (record { from = one; was = was; others = λ name apart. refl }, refl)) image is).0
+
+    -- no file that was left over is in an image
+    gone : (name : List ℕ) → is_left_over marks name ≡ true → IsInNoImage new.now.folder name
+    gone name over image is = by_held (finite.get files name) refl where
+      by_held : (held : Option (List ℕ)) → finite.get files name ≡ held → finite.get image name ≡ None
+      by_held None absent =
+          agrees image (end_left image is) name (λ among. let impossible : false ≡ true = sym (ap is_some absent) ∙ (left_there marks files names are_left name among).0 in cc) ∙ absent
+      by_held (Some bytes) there =
+          let among : Contains names name = left_among marks files names are_left name bytes there over in
+          (cleared (λ none. none_among name (subst (λ list. Contains list name) none among))).gone name among image is
+
+    -- a name that is not left over reads as before
+    end_reads : (name : List ℕ) → is_left_over marks name ≡ false → finite.get (reading_of new.now.folder) name ≡ finite.get files name
+    end_reads name over = stays (reading_of new.now.folder) (end_left (reading_of new.now.folder) (reading_is_image new.now.folder)) name over
+
+    -- and has the same bytes in each image
+    same_in_each : (name : List ℕ) → is_left_over marks name ≡ false → (image : Files) → IsImage new.now.folder image → finite.get image name ≡ finite.get (reading_of new.now.folder) name
+    same_in_each name over image is = stays image (end_left image is) name over ∙ sym (end_reads name over)
+
+    -- so what is kept is current
+    current : IsCurrent (record { table = look.jobs; journal = look.journal }) new.now.folder at.found.table
+    current = record {
+      shows = λ image is. shows_same image (end_left image is) ∙ at.found.shows;
+      bare_is = at.found.jobs;
+      journal = record {
+        same = same_in_each journal_file (journal_stays marks);
+        gives = subst (λ content. Gives content look.journal) (sym (end_reads journal_file (journal_stays marks))) (recalled_gives at.found.table.last (finite.get files journal_file) look.journal at.found.journal);
+        no_temp = gone temporary_file (temporary_left marks);
+      };
+      sequence = same_in_each sequence_file (sequence_stays marks);
+      decided = λ name job named decided. gone name (decided_left marks name job named decided) (reading_of new.now.folder) (reading_is_image new.now.folder);
+    }
+
+    -- and the folder is recovered
+    pub recovered : IsRecovered old.now.folder new.now.folder (record { table = look.jobs; journal = look.journal })
+    recovered = record {
+      table = at.found.table;
+      shown = at.found.shows;
+      current = current;
+      others = λ name other. others_same (reading_of new.now.folder) (end_left (reading_of new.now.folder) (reading_is_image new.now.folder)) name other;
+    }

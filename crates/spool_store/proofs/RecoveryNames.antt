@@ -1,0 +1,111 @@
+-- The names of the files that count no more: which they are, and that each belongs to the store.
+use Rattle.std.proofs.Common.{◌≡◌, ℕ, true, false, List, Option, Some, None, [], ◌∷◌, map, sym, ap, subst, ◌∙◌, refl, inl, inr, arith}
+use Rattle.std.specs.Prelude.{◌≢◌, ◌||◌, AllPairs, Contains, IsSome, nat_eq}
+use Rattle.std.specs.Cmp.Lexicographic.{bytes_decides, nat_list_cmp_total, pointwise}
+use Rattle.std.specs.FinMap as finite
+use Rattle.std.specs.FinMap.{entries, entries_sorted}
+use Rattle.std.specs.List.{filter}
+use Rattle.std.proofs.lemmas.List.Elements.{All-contains_itself}
+use Rattle.std.proofs.lemmas.List.Kept.{AllPairs-cons}
+use Rattle.host_calls.specs.Folder.{Files}
+use Rattle.sequence_file.specs.Sequence.{sequence_file, temporary_file}
+use Rattle.start_journal.specs.declared.mark.Mark.{Mark}
+use Rattle.start_journal.specs.Journals.{journal_file}
+use Rattle.start_journal.specs.Marks.{is_decided}
+use Rattle.start_journal.proofs.MarkLemmas.{either, not_true, or_false, or_true}
+use Rattle.whole_file.specs.Clearing.{AreFiles}
+use Rattle.spool_shows.specs.JobFiles.{NamedJob, counts, counts_as, job_named}
+use Rattle.spool_shows.proofs.EntryLists.{AreApart, apart_filtered, apart_sorted, entry_is_file, file_is_entry}
+use Rattle.spool_shows.proofs.Membership.{Has, contained, filtered_has, has_contained, has_filtered, has_made, made_has}
+use Rattle.spool_shows.proofs.NameLemmas.{journal_no_job, sequence_no_job}
+use Rattle.job_runs.specs.Current.{IsSpoolName}
+use Rattle.spool_store.specs.Looking.{is_decided_job, is_left_over}
+use Rattle.spool_store.proofs.KindLemmas.{not_temporary}
+
+-- Which names are left over.
+
+-- the sequence file is not left over
+pub sequence_stays : (marks : List Mark) → is_left_over marks sequence_file ≡ false
+sequence_stays marks = ap (λ one. pointwise nat_eq sequence_file temporary_file || is_decided_job marks one) sequence_no_job
+
+-- nor is the journal
+pub journal_stays : (marks : List Mark) → is_left_over marks journal_file ≡ false
+journal_stays marks = ap (λ one. pointwise nat_eq journal_file temporary_file || is_decided_job marks one) journal_no_job
+
+-- nor a file that counts
+pub counting_stays : (marks : List Mark) (name : List ℕ) → counts marks name ≡ true → is_left_over marks name ≡ false
+counting_stays marks name counted = by_named (job_named name) refl counted where
+  by_named : (named : Option NamedJob) → job_named name ≡ named → counts_as marks named ≡ true → is_left_over marks name ≡ false
+  by_named None is none = cc
+  by_named (Some job) is undecided =
+      ap (λ one. pointwise nat_eq name temporary_file || is_decided_job marks one) is
+      ∙ ap (λ b. pointwise nat_eq name temporary_file || b) (not_true (is_decided job.number marks) undecided)
+      ∙ or_false (pointwise nat_eq name temporary_file) ∙ not_temporary name job is
+
+-- a file that is being made is left over
+pub temporary_left : (marks : List Mark) → is_left_over marks temporary_file ≡ true
+temporary_left marks = refl
+
+-- so is that of a decided job
+pub decided_left : (marks : List Mark) (name : List ℕ) (job : NamedJob) → job_named name ≡ Some job → is_decided job.number marks ≡ true → is_left_over marks name ≡ true
+decided_left marks name job named decided =
+    ap (λ one. pointwise nat_eq name temporary_file || is_decided_job marks one) named
+    ∙ ap (λ b. pointwise nat_eq name temporary_file || b) decided ∙ or_true (pointwise nat_eq name temporary_file)
+
+-- a name that is left over belongs to the store
+pub left_is_spool : (marks : List Mark) (name : List ℕ) → is_left_over marks name ≡ true → IsSpoolName name
+left_is_spool marks name is = elim (either (pointwise nat_eq name temporary_file) (is_decided_job marks (job_named name)) is) [
+  | inl same ↦ inr (inr (inl ((bytes_decides name temporary_file).0 same)))
+  | inr decided ↦ inr (inr (inr (is_job (job_named name) decided)))
+] where
+  is_job : (named : Option NamedJob) → is_decided_job marks named ≡ true → IsSome named
+  is_job None decided = cc
+  is_job (Some job) decided = refl
+
+-- Names that differ.
+
+-- entries with keys apart have keys apart
+keys_apart : (es : List (List ℕ × List ℕ)) → AreApart (λ (e : List ℕ × List ℕ). e.0) es → AreApart (λ (name : List ℕ). name) (map (λ (e : List ℕ × List ℕ). e.0) es)
+keys_apart [] apart = tt
+keys_apart (first ∷ later) apart = (
+  λ other has same.
+      let from : (e : List ℕ × List ℕ) × Has later e × (e.0 ≡ other) = made_has (λ (e : List ℕ × List ℕ). e.0) later other has in
+      apart.0 from.0 from.1 (from.2 ∙ same),
+  keys_apart later apart.1,
+)
+
+-- names that are apart differ, one from each later one
+differ : (names : List (List ℕ)) → AreApart (λ (name : List ℕ). name) names → AllPairs (λ first second. first ≢ second) names
+differ [] apart = λ i j d less inside. absurd (omega (arith, inside))
+differ (first ∷ later) apart =
+    AllPairs-cons (λ one other. one ≢ other) first later
+    (λ k d inside same. apart.0 _ (has_contained later _ (All-contains_itself later k d inside)) (sym same))
+    (differ later apart.1)
+
+-- The names of the files of a folder that are left over.
+
+module _ (marks : List Mark) (files : Files) (names : List (List ℕ)) (are : names ≡ filter (is_left_over marks) (finite.keys files)) where
+  -- each is a file, and left over
+  pub left_there : (name : List ℕ) → Contains names name → IsSome (finite.get files name) × (is_left_over marks name ≡ true)
+  left_there name among =
+      let kept : Has (finite.keys files) name × (is_left_over marks name ≡ true) = filtered_has (is_left_over marks) (finite.keys files) name (has_contained _ name (subst (λ list. Contains list name) are among)) in
+      let from : (e : List ℕ × List ℕ) × Has (entries files) e × (e.0 ≡ name) = made_has (λ (e : List ℕ × List ℕ). e.0) (entries files) name kept.0 in
+      (subst (λ at. IsSome (finite.get files at)) from.2 (subst IsSome (sym (entry_is_file files from.0.0 from.0.1 from.1)) refl), kept.1)
+
+  -- and each file that is left over is among them
+  pub left_among : (name bytes : List ℕ) → finite.get files name ≡ Some bytes → is_left_over marks name ≡ true → Contains names name
+  left_among name bytes held left =
+      contained names name (subst (λ list. Has list name) (sym are)
+      (has_filtered (is_left_over marks) (finite.keys files) name (has_made (λ (e : List ℕ × List ℕ). e.0) (entries files) (name, bytes) (file_is_entry files name bytes held)) left))
+
+  -- a name that is not left over is not among them
+  pub stays_apart : (name : List ℕ) → is_left_over marks name ≡ false → ¬ (Contains names name)
+  stays_apart name stays among = let impossible : true ≡ false = sym (left_there name among).1 ∙ stays in cc
+
+  -- so they are files, each once
+  pub are_files : AreFiles names files
+  are_files = record {
+    held = λ name among. (left_there name among).0;
+    different = subst (AllPairs (λ first second. first ≢ second)) (sym are)
+        (differ _ (apart_filtered (λ (name : List ℕ). name) (is_left_over marks) (finite.keys files) (keys_apart (entries files) (apart_sorted _ nat_list_cmp_total (entries files) (entries_sorted files)))));
+  }

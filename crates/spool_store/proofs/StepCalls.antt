@@ -1,0 +1,184 @@
+-- What a call of the store leaves that makes one step by its mark.
+use Rattle.std.proofs.Common.{◌≡◌, ℕ, true, false, List, [], ◌∷◌, sym, ap, subst, ◌∙◌, refl, inl, inr, Result, Ok, Err}
+use Rattle.std.specs.Prelude.{Option, Some, None, IfSome, IsErr, option_map}
+use Rattle.host_calls.specs.Folder.{Folder}
+use Rattle.host_calls.specs.World.{World}
+use Rattle.job_name.specs.JobName.{SpellsJobName}
+use Rattle.spool_model.specs.declared.entry.Entry.TheVariants.{Live, Done}
+use Rattle.spool_model.specs.declared.job.Job.{Job}
+use Rattle.spool_model.specs.declared.state.State.TheVariants.{Pending}
+use Rattle.spool_model.specs.declared.step.Step.{Step}
+use Rattle.spool_model.specs.declared.step.Step.TheVariants.{Draw, Accept, Remove, Start, End, Interrupt, Forget}
+use Rattle.spool_model.specs.JobTable.{IsRunning, JobEntry, JobState, JobTable, entry_at}
+use Rattle.spool_model.specs.Steps.{IsLegal, after_step}
+use Rattle.start_journal.specs.declared.mark.Mark.{Mark}
+use Rattle.start_journal.specs.declared.mark.Mark.TheVariants.{Started}
+use Rattle.start_journal.specs.Journals.{JournalRead}
+use Rattle.start_journal.specs.Marks.{AreLegal, decides, is_ended, is_started}
+use Rattle.whole_file.specs.Others.{ChangesFiles}
+use Rattle.job_runs.specs.Bare.{bare, bare_entry, bare_job, bare_step}
+use Rattle.job_runs.specs.Calls.{IsSteppingOn, KeepsOthers, StoreCall}
+use Rattle.job_runs.specs.Current.{IsCurrent, Kept}
+use Rattle.job_runs.proofs.BareLemmas.{entries_are_bare, legal_as_on_the_table, steps_as_on_the_table}
+use Rattle.spool_shows.specs.Laws.{AddsMark}
+use Rattle.spool_store.specs.declared.fault.StoreFault.{StoreFault}
+use Rattle.spool_store.specs.Marking.{HaveOneMore, IsDecisionOf, IsMarkOf, IsMarked, KeepsFiles, kept_with}
+use Rattle.spool_store.specs.Scripts.{IsFileOf}
+use Rattle.spool_store.specs.Stored.{IsStored}
+use Rattle.spool_store.proofs.DecideLemmas.{decided_before_or_by_it}
+use Rattle.spool_store.proofs.MarkingCalls.{journal_is_spool}
+use Rattle.spool_store.proofs.StoredSteps.{IsStartInRange, running_unended, stored, stored_with}
+
+-- From the table without scripts to the table.
+
+-- a live job without its script is one of the table
+record IsLiveOn (table : JobTable) (number : ℕ) (job : Job) (state : JobState) : Type 0 where
+  whole : Job
+  held : entry_at table number ≡ Some (Live whole state)
+  same : bare_job whole ≡ job
+
+-- each of them is
+live_on : (table : JobTable) (number : ℕ) (job : Job) (state : JobState) → entry_at (bare table) number ≡ Some (Live job state) → IsLiveOn table number job state
+live_on table number job state is = by_entry (entry_at table number) refl where
+  by_entry : (found : Option JobEntry) → entry_at table number ≡ found → IsLiveOn table number job state
+  by_entry None held = let impossible : ◌≡◌ {A = Option JobEntry} None (Some (Live job state)) = sym (entries_are_bare table number ∙ ap (option_map bare_entry) held) ∙ is in cc
+  by_entry (Some (Done of)) held = let impossible : ◌≡◌ {A = Option JobEntry} (Some (Done of)) (Some (Live job state)) = sym (entries_are_bare table number ∙ ap (option_map bare_entry) held) ∙ is in cc
+  by_entry (Some (Live whole other)) held =
+      let same : ◌≡◌ {A = Option JobEntry} (Some (Live (bare_job whole) other)) (Some (Live job state)) = sym (entries_are_bare table number ∙ ap (option_map bare_entry) held) ∙ is in
+      let same_state : other ≡ state = cc in
+      let same_job : bare_job whole ≡ job = cc in
+      record { whole = whole; held = held ∙ ap (λ s. Some (Live whole s)) same_state; same = same_job }
+
+-- the file of a job of the table without scripts is that of the table's job
+file_on : (table : JobTable) (number : ℕ) (name : List ℕ) → IsFileOf (bare table) number name → IsFileOf table number name
+file_on table number name of =
+    let live : IsLiveOn table number of.job of.state = live_on table number of.job of.state of.lives in
+    record {
+      job = live.whole;
+      state = of.state;
+      lives = live.held;
+      spelled = subst (λ (job : Job). SpellsJobName name job.queue number job.minute) (sym live.same) of.spelled;
+    }
+
+-- the mark of a step there is its mark on the table
+adds_on : (table : JobTable) (step : Step) (mark : Mark) → AddsMark (bare table) step mark → AddsMark table step mark
+adds_on table Draw mark adds = adds
+adds_on table (Accept number job) mark adds = adds
+adds_on table (Remove number) mark adds = adds
+adds_on table (Start number second) mark (job, held, adds) =
+    let live : IsLiveOn table number job Pending = live_on table number job Pending held in
+    (live.whole, live.held, adds ∙ ap (λ (of : Job). Started number of.queue second) (sym live.same))
+adds_on table (End number ending) mark adds = adds
+adds_on table (Interrupt number) mark adds = adds
+adds_on table (Forget number) mark adds = adds
+
+-- A step of a store.
+
+-- The store is seen so, and the step, which has no script, is legal on it and adds the mark.
+pub record IsStepOf (inside seen : Kept) (step : Step) (mark : Mark) : Type 0 where
+  pub view : inside ≡ seen
+  pub legal : IsLegal seen.table step
+  pub adds : AddsMark inside.table step mark
+  pub bare : bare_step step ≡ step
+
+-- what is known of what is seen is known of what is kept
+legal_inside : (inside seen : Kept) (step : Step) (mark : Mark) → IsStepOf inside seen step mark → IsLegal inside.table step
+legal_inside inside seen step mark of = subst (λ (kept : Kept). IsLegal kept.table step) (sym of.view) of.legal
+
+-- and so it is current
+current_inside : (inside seen : Kept) (folder : Folder) (table : JobTable) → inside ≡ seen → IsCurrent seen folder table → IsCurrent inside folder table
+current_inside inside seen folder table view current = subst (λ (kept : Kept). IsCurrent kept folder table) (sym view) current
+
+-- it is a step on the table too
+pub mark_of_step : (inside seen : Kept) (folder : Folder) (table : JobTable) (step : Step) (mark : Mark) → IsStepOf inside seen step mark → IsCurrent seen folder table → IsMarkOf inside.journal folder table step mark
+mark_of_step inside seen folder table step mark of current =
+    let now : IsCurrent inside folder table = current_inside inside seen folder table of.view current in
+    record {
+      current = record { shows = now.shows; bare_is = refl; journal = now.journal; sequence = now.sequence; decided = now.decided };
+      legal = (legal_as_on_the_table table step).0
+          (subst (IsLegal (bare table)) (sym of.bare) (subst (λ t. IsLegal t step) now.bare_is (legal_inside inside seen step mark of)));
+      adds = adds_on table step mark (subst (λ t. AddsMark t step mark) now.bare_is of.adds);
+    }
+
+-- what holds of a value that may be missing holds of the one that is there
+pub of_some : {X : Type 0} (P : X → Type 0) (found : Option X) (value : X) → found ≡ Some value → IfSome found P → P value
+of_some P found value is holds = subst (λ some. IfSome some P) is holds
+
+-- The step decides the live job whose file has the name.
+pub record IsDecidingStep (inside seen : Kept) (step : Step) (mark : Mark) (name : List ℕ) : Type 0 where
+  pub step_of : IsStepOf inside seen step mark
+  pub number : ℕ
+  pub decided : decides number mark ≡ true
+  pub file : IsFileOf seen.table number name
+
+-- it is a decision on the table too
+pub decision_of_step : (inside seen : Kept) (folder : Folder) (table : JobTable) (step : Step) (mark : Mark) (name : List ℕ) → IsDecidingStep inside seen step mark name → IsCurrent seen folder table → IsDecisionOf inside.journal folder table step mark name
+decision_of_step inside seen folder table step mark name of current = record {
+  is_mark = mark_of_step inside seen folder table step mark of.step_of current;
+  number = of.number;
+  decided = of.decided;
+  file = file_on table of.number name (subst (λ t. IsFileOf t of.number name) current.bare_is of.file);
+}
+
+-- what is kept then is as it should be
+pub stored_step : (inside seen : Kept) (jobs : JobTable) (new : JournalRead) (step : Step) (mark : Mark) → IsStepOf inside seen step mark → IsStored inside → AreLegal inside.journal.marks → IsStartInRange step → HaveOneMore inside.journal.marks mark new.marks → jobs ≡ after_step inside.table step → IsStored (record { table = jobs; journal = new })
+stored_step inside seen jobs new step mark of is legal range more after =
+    let whole : IsStored (stored (after_step inside.table step) new.marks) =
+    stored_with inside.table inside.journal.marks new.marks step mark
+    (record { sound = is.sound; drawn = is.drawn; entries = is.entries; batch = is.batch })
+    legal (legal_inside inside seen step mark of) of.adds range more in
+    subst (λ table. IsStored (record { table = table; journal = new })) (sym after)
+    (record { sound = whole.sound; drawn = whole.drawn; entries = whole.entries; batch = whole.batch })
+
+-- a mark that ends a running job may follow
+pub running_legal : (inside seen : Kept) (number : ℕ) → inside ≡ seen → IsRunning seen.table number → IsStored inside → (is_started number inside.journal.marks ≡ true) × (is_ended number inside.journal.marks ≡ false)
+running_legal inside seen number view running is =
+    let here : IsRunning inside.table number = subst (λ (kept : Kept). IsRunning kept.table number) (sym view) running in
+    running_unended inside.table inside.journal.marks (record { sound = is.sound; drawn = is.drawn; entries = is.entries; batch = is.batch }) number here.0 here.1 here.2
+
+-- The call.
+
+-- a call that failed
+pub failed_call : (table : JobTable) (steps : List Step) (old new : World) (result : Result Kept StoreFault) → IsErr result → ChangesFiles (IsSteppingOn table steps old.now.folder) old new → StoreCall table steps old new result
+failed_call table steps old new (Ok kept) failed files = cc
+failed_call table steps old new (Err fault) failed files = record { files = files; current = tt; others = tt }
+
+-- The step was made, also of what is kept, and the call changed files as it may.
+pub record IsMade (inside seen : Kept) (jobs : JobTable) (table : JobTable) (step : Step) (mark : Mark) (before after : World) : Type 0 where
+  pub step_of : IsStepOf inside seen step mark
+  pub kept : jobs ≡ after_step inside.table step
+  pub current : IsCurrent seen before.now.folder table
+  pub files : ChangesFiles (IsSteppingOn table (step ∷ []) before.now.folder) before after
+
+module _ (inside seen : Kept) (jobs : JobTable) (new : JournalRead) (table : JobTable) (step : Step) (mark : Mark) (before after : World) (made : IsMade inside seen jobs table step mark before after) where
+  -- the table that is kept is the one after the step, without scripts
+  bare_after : jobs ≡ bare (after_step table step)
+  bare_after =
+      made.kept ∙ ap (λ t. after_step t step) (current_inside inside seen before.now.folder table made.step_of.view made.current).bare_is
+      ∙ ap (after_step (bare table)) (sym made.step_of.bare) ∙ sym (steps_as_on_the_table table step)
+
+  -- a call whose journal is current behind the step
+  pub current_call : IsCurrent (kept_with new (after_step table step)) after.now.folder (after_step table step) → KeepsOthers before.now.folder after.now.folder → StoreCall {E = StoreFault} table (step ∷ []) before after (Ok (record { table = jobs; journal = new }))
+  current_call now others = record {
+    files = made.files;
+    current = record { shows = now.shows; bare_is = bare_after; journal = now.journal; sequence = now.sequence; decided = now.decided };
+    others = others;
+  }
+
+  -- a mark that decides nothing leaves no file of a decided number
+  marked_current : AreLegal inside.journal.marks → HaveOneMore inside.journal.marks mark new.marks → ((number : ℕ) → decides number mark ≡ false) → IsMarked inside.journal.marks new after.now.folder (after_step table step) → IsCurrent (kept_with new (after_step table step)) after.now.folder (after_step table step)
+  marked_current legal more silent marked = record {
+    shows = marked.shows;
+    bare_is = refl;
+    journal = marked.holds;
+    sequence = marked.sequence;
+    decided = λ name job named decided. elim (decided_before_or_by_it inside.journal.marks new.marks mark job.number legal more decided) [
+      | inl old ↦ marked.decided name job named old
+      | inr now ↦ let impossible : true ≡ false = sym now ∙ silent job.number in cc
+    ];
+  }
+
+  -- so a call of such a mark is current behind it too
+  pub marked_call : AreLegal inside.journal.marks → HaveOneMore inside.journal.marks mark new.marks → ((number : ℕ) → decides number mark ≡ false) → IsMarked inside.journal.marks new after.now.folder (after_step table step) → KeepsFiles before.now.folder after.now.folder → StoreCall {E = StoreFault} table (step ∷ []) before after (Ok (record { table = jobs; journal = new }))
+  marked_call legal more silent marked keeps =
+      current_call (marked_current legal more silent marked) (λ name other. keeps name (λ either. other (journal_is_spool name either)))

@@ -1,0 +1,46 @@
+-- What marks tell of an entry is told by what a compaction keeps of them, and by one mark more of another number.
+use Rattle.std.proofs.Common.{◌≡◌, ℕ, Bool, false, not, List, [], ◌∷◌, ◌++◌, ap, ◌∙◌}
+use Rattle.std.specs.Prelude.{◌&&◌, Option, Some, None}
+use Rattle.std.specs.List.{list_any}
+use Rattle.spool_model.specs.declared.entry.Entry.TheVariants.{Live, Done}
+use Rattle.spool_model.specs.declared.state.State.TheVariants.{Pending, Running}
+use Rattle.spool_model.specs.JobTable.{JobEntry}
+use Rattle.start_journal.specs.declared.mark.Mark.{Mark}
+use Rattle.start_journal.specs.Marks.{AreLegal, decides, forgets, is_decided, is_forgotten, is_named, is_open, is_remembered, is_started, kept_marks, names, starts}
+use Rattle.start_journal.proofs.LifeLemmas.{any_without}
+use Rattle.start_journal.proofs.MarkLemmas.{decides_names, forgets_names, kept_marks_keep_what_counts, starts_names}
+use Rattle.spool_store.specs.Stored.{IsEntryBy}
+use Rattle.spool_store.proofs.KeptMarks.{IsNarrower, fails_narrower, unnamed_kept}
+
+-- the marks tell of the number's entry alike
+pub record TellAlike (number : ℕ) (one other : List Mark) : Type 0 where
+  pub named : is_named number one ≡ false → is_named number other ≡ false
+  pub opened : is_open number other ≡ is_open number one
+  pub remembered : is_remembered number other ≡ is_remembered number one
+
+-- then they have the entry alike
+pub entry_alike : (one other : List Mark) (number : ℕ) (entry : Option JobEntry) → TellAlike number one other → IsEntryBy one number entry → IsEntryBy other number entry
+entry_alike one other number None alike is = tt
+entry_alike one other number (Some (Live job Pending)) alike is = record { named = is.named; since = is.since; state_by = alike.named is.state_by }
+entry_alike one other number (Some (Live job (Running second))) alike is = record { named = is.named; since = is.since; state_by = alike.opened ∙ is.state_by }
+entry_alike one other number (Some (Done of)) alike is = alike.remembered ∙ is
+
+-- those that a compaction keeps
+pub kept_alike : (marks : List Mark) (number : ℕ) → AreLegal marks → TellAlike number marks (kept_marks marks)
+kept_alike marks number legal = record {
+  named = unnamed_kept marks number legal;
+  opened = (kept_marks_keep_what_counts marks legal).open_numbers number;
+  remembered = (kept_marks_keep_what_counts marks legal).remembered number;
+}
+
+-- those with one more of another number
+pub other_alike : (marks : List Mark) (mark : Mark) (number : ℕ) → names number mark ≡ false → TellAlike number marks (marks ++ mark ∷ [])
+other_alike marks mark number other = record {
+  named = λ unnamed. same (names number) (λ one is. is) ∙ unnamed;
+  opened = ap (λ b. b && not (is_decided number (marks ++ mark ∷ []))) (same (starts number) (starts_names number))
+      ∙ ap (λ b. is_started number marks && not b) (same (decides number) (decides_names number));
+  remembered = ap (λ b. b && not (is_forgotten number (marks ++ mark ∷ []))) (same (decides number) (decides_names number))
+      ∙ ap (λ b. is_decided number marks && not b) (same (forgets number) (forgets_names number));
+} where
+  same : (test : Mark → Bool) → IsNarrower test (names number) → list_any test (marks ++ mark ∷ []) ≡ list_any test marks
+  same test narrower = any_without test marks mark (fails_narrower test (names number) mark narrower other)

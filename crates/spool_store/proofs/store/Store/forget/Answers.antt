@@ -1,0 +1,33 @@
+use Rattle.std.proofs.Common.{◌≡◌, ℕ, refl}
+use Rattle.spool_model.specs.declared.step.Step.TheVariants.{Forget}
+use Rattle.spool_model.specs.JobTable.{JobTable}
+use Rattle.spool_model.specs.Steps.{IsLegal}
+use Rattle.start_journal.specs.declared.mark.Mark.TheVariants.{Forgotten}
+use Rattle.job_runs.specs.Current.{Kept}
+use Rattle.spool_store.proofs.StepCalls.{IsStepOf, failed_call, mark_of_step, marked_call, stored_step}
+use Rattle.spool_store.proofs.store.Store.forget.Goals as goal
+
+-- the step that the store makes, and its mark
+forgets : (inside seen : Kept) (number : ℕ) → inside ≡ seen → IsLegal seen.table (Forget number) → IsStepOf inside seen (Forget number) (Forgotten number)
+forgets inside seen number view legal = record { view = view; legal = legal; adds = refl; bare = refl }
+
+pub add_mark-requires-clause-current : goal.add_mark-requires-clause-current
+add_mark-requires-clause-current g c = λ tells.
+    let table : JobTable = (c.requires.current tells).0 in
+    (table, Forget c.args.number, mark_of_step _ _ _ table _ _ (forgets _ _ c.args.number c.self.view_is c.requires.legal) (c.requires.current tells).1)
+
+pub returns-in_err-journal-clause-files : goal.returns-in_err-journal-clause-files
+returns-in_err-journal-clause-files g c = λ tells table current.
+    let is = mark_of_step _ _ _ table _ _ (forgets _ _ c.args.number c.self.view_is c.requires.legal) current in
+    failed_call table _ _ _ c.from_residual.result c.from_residual.ensures.0 (c.add_mark.ensures.files tells table _ is)
+
+pub invariant_of-result : goal.invariant_of-result
+invariant_of-result g c =
+    stored_step _ _ _ _ _ _ (forgets _ _ c.args.number c.self.view_is c.requires.legal) c.self.invariant c.add_mark.ensures.legal tt c.in_ok-journal.ensures.marks c.forget.ensures
+
+pub returns-clause-files : goal.returns-clause-files
+returns-clause-files g c = λ tells table current.
+    let of = forgets _ _ c.args.number c.self.view_is c.requires.legal in
+    let is = mark_of_step _ _ _ table _ _ of current in
+    marked_call _ _ _ _ table _ _ _ _ (record { step_of = of; kept = c.forget.ensures; current = current; files = c.add_mark.ensures.files tells table _ is })
+    c.add_mark.ensures.legal c.in_ok-journal.ensures.marks (λ number. refl) (c.in_ok-journal.ensures.marked tells table _ is) (c.in_ok-journal.ensures.others tells)

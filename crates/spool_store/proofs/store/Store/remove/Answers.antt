@@ -1,0 +1,43 @@
+use Rattle.std.proofs.Common.{◌≡◌, ℕ, List, Option, Some, IfSome, refl}
+use Rattle.spool_model.specs.declared.step.Step.TheVariants.{Remove}
+use Rattle.spool_model.specs.JobTable.{JobTable}
+use Rattle.spool_model.specs.Steps.{IsLegal}
+use Rattle.start_journal.specs.declared.mark.Mark.TheVariants.{Removed}
+use Rattle.job_runs.specs.Current.{Kept}
+use Rattle.spool_shows.proofs.ShownEntries.{passes_same}
+use Rattle.spool_store.specs.Scripts.{IsFileOf}
+use Rattle.spool_store.proofs.StepCalls.{IsDecidingStep, current_call, decision_of_step, failed_call, of_some, stored_step}
+use Rattle.spool_store.proofs.store.Store.remove.Goals as goal
+
+-- the step that the store makes, its mark, and the file of its job
+removes : (inside seen : Kept) (number : ℕ) (found : Option (List ℕ)) (name : List ℕ) → inside ≡ seen → IsLegal seen.table (Remove number) → found ≡ Some name → IfSome found (IsFileOf seen.table number) → IsDecidingStep inside seen (Remove number) (Removed number) name
+removes inside seen number found name view legal is file = record {
+  step_of = record { view = view; legal = legal; adds = refl; bare = refl };
+  number = number;
+  decided = passes_same number number refl;
+  file = of_some (IsFileOf seen.table number) found name is file;
+}
+
+pub decide-requires-clause-current : goal.decide-requires-clause-current
+decide-requires-clause-current g c = λ tells.
+    let table : JobTable = (c.requires.current tells).0 in
+    let of = removes _ _ c.args.number c.file.result _ c.self.view_is c.requires.legal c.unwrap-file.ensures c.file.ensures.found in
+    (table, Remove c.args.number, decision_of_step _ _ _ table _ _ _ of (c.requires.current tells).1)
+
+pub returns-in_err-journal-clause-files : goal.returns-in_err-journal-clause-files
+returns-in_err-journal-clause-files g c = λ tells table current.
+    let of = removes _ _ c.args.number c.file.result _ c.self.view_is c.requires.legal c.unwrap-file.ensures c.file.ensures.found in
+    failed_call table _ _ _ c.from_residual-in_err-journal.result c.from_residual-in_err-journal.ensures.0
+    (c.decide.ensures.files tells table _ (decision_of_step _ _ _ table _ _ _ of current))
+
+pub invariant_of-result : goal.invariant_of-result
+invariant_of-result g c =
+    let of = removes _ _ c.args.number c.file.result _ c.self.view_is c.requires.legal c.unwrap-file.ensures c.file.ensures.found in
+    stored_step _ _ _ _ _ _ of.step_of c.self.invariant c.decide.ensures.legal tt c.in_ok-journal.ensures.marks c.in_ok-remove.ensures.taken
+
+pub returns-clause-files : goal.returns-clause-files
+returns-clause-files g c = λ tells table current.
+    let of = removes _ _ c.args.number c.file.result _ c.self.view_is c.requires.legal c.unwrap-file.ensures c.file.ensures.found in
+    let is = decision_of_step _ _ _ table _ _ _ of current in
+    current_call _ _ _ _ table _ _ _ _ (record { step_of = of.step_of; kept = c.in_ok-remove.ensures.taken; current = current; files = c.decide.ensures.files tells table _ is })
+    (c.in_ok-journal.ensures.current tells table _ is) (c.in_ok-journal.ensures.others tells table _ is)

@@ -1,0 +1,58 @@
+use Rattle.std.proofs.Common.{◌≡◌, ◌∙◌, ℕ, ℤ, Option, Some, ap, subst, sym, refl, w64}
+use Rattle.std.proofs.lemmas.Int.{to_z-of_z}
+use Rattle.spool_model.specs.declared.entry.Entry.TheVariants.{Live}
+use Rattle.spool_model.specs.declared.job.Job.{Job}
+use Rattle.spool_model.specs.declared.row.Row.{Row}
+use Rattle.spool_model.specs.declared.state.State.TheVariants.{Pending}
+use Rattle.spool_model.specs.declared.step.Step.TheVariants.{Start}
+use Rattle.spool_model.specs.JobTable.{JobEntry, JobState, JobTable, entry_at}
+use Rattle.spool_model.specs.Steps.{IsLegal, after_step}
+use Rattle.start_journal.specs.declared.mark.Mark.TheVariants.{Started}
+use Rattle.job_runs.specs.Current.{Kept}
+use Rattle.spool_store.specs.Listed.{row_job}
+use Rattle.spool_store.specs.Rows.{row_entry}
+use Rattle.spool_store.proofs.StepCalls.{IsStepOf, failed_call, mark_of_step, marked_call, of_some, stored_step}
+use Rattle.spool_store.proofs.store.Store.start.Goals as goal
+
+-- the queue of a job is that of its row
+same_queue : (job other : Job) (state since : JobState) → ◌≡◌ {A = Option JobEntry} (Some (Live job state)) (Some (Live other since)) → other.queue ≡ job.queue
+same_queue job other state since same =
+    let jobs : job ≡ other = cc in
+    ap (λ (of : Job). of.queue) (sym jobs)
+
+-- the step that the store makes, and its mark
+starts : (inside seen : Kept) (number : ℕ) (second written : ℤ) (row : Row) → inside ≡ seen → IsLegal seen.table (Start number second) → entry_at inside.table number ≡ Some (row_entry row).1 → written ≡ second → IsStepOf inside seen (Start number second) (Started number row.queue written)
+starts inside seen number second written row view legal held same =
+    let pending : IsLegal inside.table (Start number second) = subst (λ (kept : Kept). IsLegal kept.table (Start number second)) (sym view) legal in
+    let queue : row.queue ≡ pending.0.queue = same_queue pending.0 (row_job row) Pending row.state (sym pending.1 ∙ held) in
+    record {
+      view = view;
+      legal = legal;
+      adds = (pending.0, pending.1, ap (λ q. Started number q written) queue ∙ ap (Started number pending.0.queue) same);
+      bare = refl;
+    }
+
+pub add_mark-requires-clause-current : goal.add_mark-requires-clause-current
+add_mark-requires-clause-current g c = λ tells.
+    let table : JobTable = (c.requires.current tells).0 in
+    let of = starts _ _ c.args.number c.args.second _ c.unwrap.result.now c.self.view_is c.requires.legal (of_some _ c.row.result _ c.unwrap.ensures c.row.ensures.found) (to_z-of_z w64 c.args.second c.ranges.second) in
+    (table, Start c.args.number c.args.second, mark_of_step _ _ _ table _ _ of (c.requires.current tells).1)
+
+pub returns-in_err-journal-clause-files : goal.returns-in_err-journal-clause-files
+returns-in_err-journal-clause-files g c = λ tells table current.
+    let of = starts _ _ c.args.number c.args.second _ c.unwrap.result.now c.self.view_is c.requires.legal (of_some _ c.row.result _ c.unwrap.ensures c.row.ensures.found) (to_z-of_z w64 c.args.second c.ranges.second) in
+    failed_call table _ _ _ c.from_residual.result c.from_residual.ensures.0 (c.add_mark.ensures.files tells table _ (mark_of_step _ _ _ table _ _ of current))
+
+pub invariant_of-result : goal.invariant_of-result
+invariant_of-result g c =
+    let of = starts _ _ c.args.number c.args.second _ c.unwrap.result.now c.self.view_is c.requires.legal (of_some _ c.row.result _ c.unwrap.ensures c.row.ensures.found) (to_z-of_z w64 c.args.second c.ranges.second) in
+    stored_step _ _ _ _ _ _ of c.self.invariant c.add_mark.ensures.legal c.requires.second c.in_ok-journal.ensures.marks
+    (c.start.ensures ∙ ap (λ second. after_step c.self.inside.jobs (Start c.args.number second)) (to_z-of_z w64 c.args.second c.ranges.second))
+
+pub returns-clause-files : goal.returns-clause-files
+returns-clause-files g c = λ tells table current.
+    let of = starts _ _ c.args.number c.args.second _ c.unwrap.result.now c.self.view_is c.requires.legal (of_some _ c.row.result _ c.unwrap.ensures c.row.ensures.found) (to_z-of_z w64 c.args.second c.ranges.second) in
+    let is = mark_of_step _ _ _ table _ _ of current in
+    let kept = c.start.ensures ∙ ap (λ second. after_step c.self.inside.jobs (Start c.args.number second)) (to_z-of_z w64 c.args.second c.ranges.second) in
+    marked_call _ _ _ _ table _ _ _ _ (record { step_of = of; kept = kept; current = current; files = c.add_mark.ensures.files tells table _ is })
+    c.add_mark.ensures.legal c.in_ok-journal.ensures.marks (λ number. refl) (c.in_ok-journal.ensures.marked tells table _ is) (c.in_ok-journal.ensures.others tells)

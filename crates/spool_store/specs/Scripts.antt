@@ -1,0 +1,28 @@
+-- The file of a live job (own): its name, and the script that it holds.
+use Rattle.std.specs.Prelude.{◌≡◌, ℕ, List, Some}
+use Rattle.std.specs.FinMap as finite
+use Rattle.host_calls.specs.Folder.{Folder, reading_of}
+use Rattle.job_name.specs.JobName.{SpellsJobName}
+use Rattle.spool_model.specs.declared.entry.Entry.TheVariants.{Live}
+use Rattle.spool_model.specs.declared.job.Job.{Job}
+use Rattle.spool_model.specs.JobTable.{JobState, JobTable, entry_at}
+
+-- the name is that of the live job's file
+pub record IsFileOf (table : JobTable) (number : ℕ) (name : List ℕ) : Type 0 where
+  pub job : Job
+  pub state : JobState
+  pub lives : entry_at table number ≡ Some (Live job state)
+  pub spelled : SpellsJobName name job.queue number job.minute
+
+-- the bytes are the script of the live job
+pub record IsScriptOf (table : JobTable) (number : ℕ) (bytes : List ℕ) : Type 0 where
+  pub job : Job
+  pub state : JobState
+  pub lives : entry_at table number ≡ Some (Live job state)
+  pub script : bytes ≡ job.script
+
+-- the file of that name holds the script of the live job
+pub record HoldsScript (table : JobTable) (folder : Folder) (number : ℕ) (name : List ℕ) : Type 0 where
+  pub bytes : List ℕ
+  pub held : finite.get (reading_of folder) name ≡ Some bytes
+  pub script : IsScriptOf table number bytes

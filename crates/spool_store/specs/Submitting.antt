@@ -1,0 +1,93 @@
+-- A submission (own): whether there is room for its job, and the steps that it makes.
+use Rattle.std.specs.Prelude.{◌≡◌, ◌≤◌, ◌<◌, ◌+◌, [], ◌∷◌, ℕ, Bool, true, false, List, Result, Ok, Err, length}
+use Rattle.std.specs.FinMap.{entries}
+use Rattle.std.specs.List.{filter}
+use Rattle.host_calls.specs.Folder.{Folder}
+use Rattle.job_script.specs.HeaderIn.{header_in}
+use Rattle.spool_model.specs.declared.entry.Entry.TheVariants.{Live, Done}
+use Rattle.spool_model.specs.declared.job.Job.{Job}
+use Rattle.spool_model.specs.declared.number.TheConstants.{GREATEST_NUMBER}
+use Rattle.spool_model.specs.declared.step.Step.{Step}
+use Rattle.spool_model.specs.declared.step.Step.TheVariants.{Draw, Accept}
+use Rattle.spool_model.specs.JobTable.{JobEntry, JobTable}
+use Rattle.spool_model.specs.Steps.{after_steps}
+use Rattle.spool_shows.specs.Shown.{user_of}
+use Rattle.job_runs.specs.Bare.{bare_job}
+use Rattle.job_runs.specs.Current.{IsCurrent, Kept}
+use Rattle.spool_store.specs.declared.fault.StoreFault.{StoreFault}
+use Rattle.spool_store.specs.declared.fault.StoreFault.TheVariants.{FileFault, Memory, NumbersUsedUp, QueueFull, Damaged}
+use Rattle.spool_store.specs.Stored.{IsStored}
+
+-- the job lives
+abbrev pub is_live : JobEntry → Bool
+is_live (Live job state) = true
+is_live (Done fate) = false
+
+-- how many jobs live
+abbrev pub live_count : JobTable → ℕ
+live_count table = length (filter (λ entry. is_live entry.1) (entries table.entries))
+
+-- 10,000 jobs or more live: there is no room for one more
+abbrev pub IsFull : JobTable → Type 0
+IsFull table = 10000 ≤ live_count table
+
+-- there is room, and the greatest number was drawn
+pub record IsUsedUp (table : JobTable) : Type 0 where
+  pub room : live_count table < 10000
+  pub greatest : table.last ≡ GREATEST_NUMBER
+
+-- there is room for one more job, and a number for it
+pub record HasRoom (table : JobTable) : Type 0 where
+  pub room : live_count table < 10000
+  pub more : table.last < GREATEST_NUMBER
+
+-- why a submission is refused: there is no room, or no number
+abbrev pub IsRefusal : JobTable → StoreFault → Type 0
+IsRefusal table QueueFull = IsFull table
+IsRefusal table NumbersUsedUp = IsUsedUp table
+IsRefusal table FileFault = ⊥
+IsRefusal table Memory = ⊥
+IsRefusal table (Damaged damage) = ⊥
+
+-- there is room, and this is the next number
+pub record IsNextNumber (table : JobTable) (number : ℕ) : Type 0 where
+  pub room : HasRoom table
+  pub next : number ≡ table.last + 1
+
+-- the job of a script: its user is that of the script's header
+abbrev pub job_of_script : ℕ → ℕ → List ℕ → Job
+job_of_script queue minute script = record { queue = queue; minute = minute; user = user_of (header_in script); script = script }
+
+-- the steps of a submission: the next number is drawn, and the job accepted under it
+abbrev pub submission : JobTable → Job → List Step
+submission table job = Draw ∷ Accept (table.last + 1) job ∷ []
+
+-- What is kept is current with the table, and this is the number behind its last one.
+pub record IsNextOn (kept : Kept) (folder : Folder) (table : JobTable) (number : ℕ) : Type 0 where
+  pub stored : IsStored kept
+  pub current : IsCurrent kept folder table
+  pub number_is : number ≡ table.last + 1
+
+-- what is kept, with one job more
+abbrev pub with_job : Kept → Job → Kept
+with_job kept job = record { table = after_steps kept.table (submission kept.table (bare_job job)); journal = kept.journal }
+
+-- what is kept with one job more, where the call that files it succeeded
+abbrev pub with_job_if : {E : Type 0} → Kept → Job → Result (Unit {0}) E → Result Kept E
+with_job_if kept job (Ok done) = Ok (with_job kept job)
+with_job_if kept job (Err fault) = Err fault
+
+-- what a store keeps behind a submission, by its answer
+abbrev pub kept_of : Result (Kept × ℕ) StoreFault → Result Kept StoreFault
+kept_of (Ok stored) = Ok stored.0
+kept_of (Err fault) = Err fault
+
+-- The answer of a submission on a table: the queue is full exactly where it has no room, and the numbers are
+-- used up exactly where it has room and no number. No damage is answered.
+abbrev pub IsAnswerOn : JobTable → Result (Kept × ℕ) StoreFault → Type 0
+IsAnswerOn table (Ok stored) = HasRoom table × (stored.1 ≡ table.last + 1)
+IsAnswerOn table (Err QueueFull) = IsFull table
+IsAnswerOn table (Err NumbersUsedUp) = IsUsedUp table
+IsAnswerOn table (Err FileFault) = HasRoom table
+IsAnswerOn table (Err Memory) = HasRoom table
+IsAnswerOn table (Err (Damaged damage)) = ⊥

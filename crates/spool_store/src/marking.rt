@@ -1,0 +1,109 @@
+//! One mark more in the journal, and the file of a job that it decides.
+ghost use Rattle.std.specs.Prelude.{◌≤◌, [], ◌∷◌, IfOk, IsTrue, OnOk};
+ghost use Rattle.host_calls.specs.Causes.{HasCause};
+ghost use Rattle.host_calls.specs.Session.{IsInside, StaysInside};
+ghost use Rattle.spool_model.specs.declared.step.Step.{Step};
+ghost use Rattle.spool_model.specs.JobTable.{JobTable};
+ghost use Rattle.spool_model.specs.Steps.{after_step};
+ghost use Rattle.start_journal.specs.Marks.{AreLegal, IsLegalAfter};
+ghost use Rattle.start_journal.specs.Slots.{IsWritable};
+ghost use Rattle.whole_file.specs.Others.{ChangesFiles};
+ghost use Rattle.job_runs.specs.Calls.{IsSteppingOn, KeepsOthers};
+ghost use Rattle.job_runs.specs.Current.{IsCurrent};
+ghost use Rattle.spool_store.specs.Marking.{AreSameOrKept, HaveOneMore, IsDecisionOf, IsMarkOf, IsMarked, KeepsFiles, kept_with};
+
+use host_calls::{Host, HostFault, Name};
+use start_journal::{Journal, Mark};
+use std::alloc::Global;
+use whole_file::clear;
+
+/// Adds the mark. Where no slot is free, it syncs the names and compacts the journal first.
+pub(crate) fn add_mark<H: Host>(
+    alloc: Global,
+    host: &mut H,
+    journal: Journal,
+    mark: Mark,
+) -> Result<Journal, HostFault>
+    requires inside { IsInside (H.session host.old) }
+    requires writable { IsWritable mark }
+    requires legal { IsLegalAfter journal.marks mark }
+    requires current { IsTrue H.tells → (table : JobTable) × (step : Step)
+        × IsMarkOf journal (H.world host.old).now.folder table step mark }
+    ensures inside { StaysInside (H.session host.old) (H.session host.new) }
+    ensures cause { HasCause HostFault.Failed (H.session host.old).file_faults (H.session host.new).file_faults result }
+    ensures legal { AreLegal journal.marks }
+    ensures marks { IfOk result (λ new. HaveOneMore journal.marks mark new.marks) }
+    ensures files { IsTrue H.tells → (table : JobTable) (step : Step)
+        → IsMarkOf journal (H.world host.old).now.folder table step mark
+        → ChangesFiles (IsSteppingOn table (step ∷ []) (H.world host.old).now.folder)
+        (H.world host.old) (H.world host.new) }
+    ensures marked { IsTrue H.tells → (table : JobTable) (step : Step)
+        → IsMarkOf journal (H.world host.old).now.folder table step mark
+        → IfOk result (λ new. IsMarked journal.marks new (H.world host.new).now.folder (after_step table step)) }
+    ensures others { IsTrue H.tells
+        → OnOk result (KeepsFiles (H.world host.old).now.folder (H.world host.new).now.folder) }
+{
+    let journal = make_room(alloc, host, journal)?;
+    journal.add(alloc, host, mark)
+}
+
+/// A journal with a free slot.
+fn make_room<H: Host>(alloc: Global, host: &mut H, journal: Journal) -> Result<Journal, HostFault>
+    requires inside { IsInside (H.session host.old) }
+    requires current { IsTrue H.tells → (table : JobTable)
+        × IsCurrent (kept_with journal table) (H.world host.old).now.folder table }
+    ensures inside { StaysInside (H.session host.old) (H.session host.new) }
+    ensures cause { HasCause HostFault.Failed (H.session host.old).file_faults (H.session host.new).file_faults result }
+    ensures room { IfOk result (λ new. 1 ≤ new.free) }
+    ensures legal { AreLegal journal.marks }
+    ensures marks { IfOk result (λ new. AreSameOrKept journal.marks new.marks) }
+    ensures files { IsTrue H.tells → (table : JobTable)
+        → IsCurrent (kept_with journal table) (H.world host.old).now.folder table
+        → ChangesFiles (IsSteppingOn table [] (H.world host.old).now.folder) (H.world host.old) (H.world host.new) }
+    ensures current { IsTrue H.tells → (table : JobTable)
+        → IsCurrent (kept_with journal table) (H.world host.old).now.folder table
+        → IfOk result (λ new. IsCurrent (kept_with new table) (H.world host.new).now.folder table) }
+    ensures others { IsTrue H.tells
+        → OnOk result (KeepsFiles (H.world host.old).now.folder (H.world host.new).now.folder) }
+{
+    if journal.free() > 0 {
+        return Ok(journal);
+    }
+    // A compaction forgets which numbers are done with. So no crash may bring a file of theirs back.
+    host.sync_names(alloc)?;
+    journal.compact(alloc, host)
+}
+
+/// Adds the mark that decides a job, and then removes the job's file.
+pub(crate) fn decide<H: Host>(
+    alloc: Global,
+    host: &mut H,
+    journal: Journal,
+    mark: Mark,
+    file: &Name,
+) -> Result<Journal, HostFault>
+    requires inside { IsInside (H.session host.old) }
+    requires writable { IsWritable mark }
+    requires legal { IsLegalAfter journal.marks mark }
+    requires current { IsTrue H.tells → (table : JobTable) × (step : Step)
+        × IsDecisionOf journal (H.world host.old).now.folder table step mark file.now }
+    ensures inside { StaysInside (H.session host.old) (H.session host.new) }
+    ensures cause { HasCause HostFault.Failed (H.session host.old).file_faults (H.session host.new).file_faults result }
+    ensures legal { AreLegal journal.marks }
+    ensures marks { IfOk result (λ new. HaveOneMore journal.marks mark new.marks) }
+    ensures files { IsTrue H.tells → (table : JobTable) (step : Step)
+        → IsDecisionOf journal (H.world host.old).now.folder table step mark file.now
+        → ChangesFiles (IsSteppingOn table (step ∷ []) (H.world host.old).now.folder)
+        (H.world host.old) (H.world host.new) }
+    ensures current { IsTrue H.tells → (table : JobTable) (step : Step)
+        → IsDecisionOf journal (H.world host.old).now.folder table step mark file.now
+        → IfOk result (λ new. IsCurrent (kept_with new (after_step table step))
+        (H.world host.new).now.folder (after_step table step)) }
+    ensures others { IsTrue H.tells → (table : JobTable) (step : Step)
+        → IsDecisionOf journal (H.world host.old).now.folder table step mark file.now
+        → OnOk result (KeepsOthers (H.world host.old).now.folder (H.world host.new).now.folder) }
+{
+    let journal = add_mark(alloc, host, journal, mark)?;
+    clear(alloc, host, &[*file])?;
+    Ok(journal)
+}

@@ -1,0 +1,56 @@
+//! The files of live jobs.
+ghost use Rattle.std.specs.Prelude.{◌≡◌, IfNone, IfOk, IfSome, IsTrue};
+ghost use Rattle.host_calls.specs.Causes.{HasCause};
+ghost use Rattle.host_calls.specs.Folder.{Folder};
+ghost use Rattle.host_calls.specs.Session.{IsInside, StaysInside};
+ghost use Rattle.spool_model.specs.JobTable.{JobTable};
+ghost use Rattle.job_runs.specs.Current.{IsCurrent};
+ghost use Rattle.spool_store.specs.Listed.{IsLive};
+ghost use Rattle.spool_store.specs.Scripts.{HoldsScript, IsFileOf, IsScriptOf};
+
+use crate::Store;
+use host_calls::{Bytes, Host, HostFault, Name};
+use job_name::JobName;
+use std::alloc::Global;
+
+impl Store {
+    /// The name of the live job's file, which holds its script. None where no live job has the number.
+    pub fn file(&self, number: u32) -> Option<Name>
+        ensures found { IfSome result (IsFileOf self.now.table number) }
+        ensures absent { IfNone result (IsLive self.now.table number → ⊥) }
+        ensures holds { (folder : Folder) (table : JobTable) → IsCurrent self.now folder table
+            → IfSome result (HoldsScript table folder number) }
+    {
+        let row = self.jobs.row(number)?;
+        let job = JobName {
+            queue: row.queue,
+            number,
+            minute: row.minute,
+        };
+        Some(job.name())
+    }
+
+    /// The script of the live job of this number.
+    pub fn script<H: Host>(
+        &self,
+        alloc: Global,
+        host: &mut H,
+        number: u32,
+    ) -> Result<Bytes, HostFault>
+        requires inside { IsInside (H.session host.old) }
+        requires live { IsLive self.now.table number }
+        requires current { IsTrue H.tells → (table : JobTable)
+            × IsCurrent self.now (H.world host.old).now.folder table }
+        ensures inside { StaysInside (H.session host.old) (H.session host.new) }
+        ensures cause { HasCause HostFault.Failed
+            (H.session host.old).file_faults (H.session host.new).file_faults result }
+        ensures looks { IsTrue H.tells → H.world host.new ≡ H.world host.old }
+        ensures script { IsTrue H.tells → (table : JobTable)
+            → IsCurrent self.now (H.world host.old).now.folder table → IfOk result (IsScriptOf table number) }
+    {
+        let name = self.file(number).unwrap();
+        let length = host.length(alloc, &name)?;
+        let bytes = host.read(alloc, &name, 0, length as usize)?;
+        Ok(Bytes::from(bytes))
+    }
+}

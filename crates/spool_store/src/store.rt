@@ -1,0 +1,70 @@
+//! The store: the jobs of a spool folder, and the journal that it has of them.
+ghost use Rattle.std.specs.Prelude.{◌≡◌, IfSome, IsTrue, Contains};
+ghost use Rattle.start_journal.specs.Slots.{IsSecond};
+ghost use Rattle.spool_model.specs.declared.row.Row.{Row};
+ghost use Rattle.spool_model.specs.JobTable.{IsSound};
+ghost use Rattle.spool_store.specs.Listed.{ListsDecided, ListsLive};
+ghost use Rattle.spool_store.specs.Stored.{IsRowInRange, IsStored};
+
+use crate::Jobs;
+use spool_model::{Decided, Row};
+use start_journal::Journal;
+use std::marker::Model;
+
+/// The jobs of a spool folder as they stood at the last call: seen as the job table without scripts, and
+/// the journal.
+///
+/// A store is current on a host where each image shows its table. Each call that changes the folder takes
+/// the store, and hands a current one back only on Ok.
+#[derive(Drop)]
+pub struct Store {
+    pub(crate) jobs: Jobs,
+    pub(crate) journal: Journal,
+}
+
+impl Model for Store {
+    ghost use Rattle.job_runs.specs.Current.{Kept};
+    ghost use Rattle.job_runs.specs.Codes.{kept_code};
+    ghost use Rattle.spool_store.specs.Stored.{IsStored};
+
+    ghost Value = { Kept };
+
+    ghost coded = { kept_code };
+
+    ghost view = { λ store. record { table = store.jobs; journal = store.journal } };
+
+    ghost invariant = { λ store. IsStored (record { table = store.jobs; journal = store.journal }) };
+}
+
+impl Store {
+    /// The live jobs, by number.
+    pub fn rows(&self) -> &[Row]
+        ensures rows { ListsLive self.now.table result.now }
+        ensures ranges { (row : Row) → Contains result.now row → IsRowInRange row }
+    {
+        self.jobs.rows()
+    }
+
+    /// The jobs that are done and not forgotten, by number.
+    pub fn decided(&self) -> &[Decided]
+        ensures { ListsDecided self.now.table result.now }
+    {
+        self.jobs.decided()
+    }
+
+    /// The number that was drawn last, 0 before the first.
+    pub fn last(&self) -> u32
+        ensures last { result ≡ self.now.table.last }
+        ensures sound { IsSound self.now.table }
+    {
+        self.jobs.last()
+    }
+
+    /// The second of the last start in a batch queue, if there was one.
+    pub fn last_batch(&self) -> Option<i64>
+        ensures last_batch { result ≡ self.now.table.last_batch }
+        ensures range { IfSome result IsSecond }
+    {
+        self.jobs.last_batch()
+    }
+}
