@@ -5,8 +5,20 @@
 #[cfg(test)]
 mod calls;
 #[cfg(test)]
+mod damage_tests;
+#[cfg(test)]
 mod journal_calls;
 #[cfg(test)]
 mod journal_tests;
+#[cfg(test)]
+mod recovery_tests;
+#[cfg(test)]
+mod spools;
+#[cfg(test)]
+mod step_tests;
+#[cfg(test)]
+mod store_calls;
+#[cfg(test)]
+mod submission_tests;
 #[cfg(test)]
 mod tests;

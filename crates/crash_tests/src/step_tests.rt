@@ -1,0 +1,165 @@
+//! Steps of jobs, one after another, and the journal that they fill.
+use crate::spools::{JOB, NEW_YEAR, SCRIPT, files, name, session};
+use crate::store_calls::{Trial, has, make_steps, script};
+use host_calls::{Bytes, Ending, Host};
+use memory_host::Files;
+use spool_model::{Decided, Fate, State};
+use spool_store::Store;
+use std::alloc::Global;
+use std::test::Fail;
+
+/// What the folder shows after a step.
+#[derive(Clone, Copy)]
+struct Made<'a> {
+    live: &'a [(u32, State)],
+    done: &'a [Decided],
+    last_batch: Option<i64>,
+}
+
+const ENDED: Decided = Decided {
+    number: 1,
+    fate: Fate::Finished(Ending::Signal(9)),
+};
+
+const REMOVED: Decided = Decided {
+    number: 2,
+    fate: Fate::Removed,
+};
+
+const INTERRUPTED: Decided = Decided {
+    number: 3,
+    fate: Fate::Interrupted,
+};
+
+/// Whether this is shown once the steps were made, and after a crash then.
+fn are_shown(alloc: Global, trials: &[Trial], made: Made) -> Result<bool, Fail> {
+    let mut host = session(alloc, three_jobs(alloc)?)?;
+    let store = make_steps(alloc, &mut host, trials)?;
+    if !is_made(&store, made) {
+        return Ok(false);
+    }
+    host.reboot(alloc, 0, None)?;
+    host.enter(alloc)?;
+    Ok(is_made(&Store::recover(alloc, &mut host)?, made))
+}
+
+fn three_jobs(alloc: Global) -> Result<Files, Fail> {
+    files(
+        alloc,
+        &[
+            (".SEQ", b"00003\n"),
+            (JOB, SCRIPT),
+            ("A0000201b968a0", SCRIPT),
+            ("b0000301b968a0", SCRIPT),
+        ],
+    )
+}
+
+fn is_made(store: &Store, made: Made) -> bool {
+    has(store, 3, made.live, made.done) && store.last_batch() == made.last_batch
+}
+
+#[test]
+fn steps_stand_one_after_another(rt: HostRuntime) -> Result<(), Fail> {
+    let alloc = rt.alloc();
+    let trials = [
+        Trial::Start(1),
+        Trial::End(1, Ending::Signal(9)),
+        Trial::Remove(2),
+        Trial::Forget(1),
+        Trial::Start(3),
+        Trial::Interrupt(3),
+    ];
+    let made = [
+        Made {
+            live: &[
+                (1, State::Running(NEW_YEAR)),
+                (2, State::Pending),
+                (3, State::Pending),
+            ],
+            done: &[],
+            last_batch: None,
+        },
+        Made {
+            live: &[(2, State::Pending), (3, State::Pending)],
+            done: &[ENDED],
+            last_batch: None,
+        },
+        Made {
+            live: &[(3, State::Pending)],
+            done: &[ENDED, REMOVED],
+            last_batch: None,
+        },
+        Made {
+            live: &[(3, State::Pending)],
+            done: &[REMOVED],
+            last_batch: None,
+        },
+        Made {
+            live: &[(3, State::Running(NEW_YEAR))],
+            done: &[REMOVED],
+            last_batch: Some(NEW_YEAR),
+        },
+        Made {
+            live: &[],
+            done: &[REMOVED, INTERRUPTED],
+            last_batch: Some(NEW_YEAR),
+        },
+    ];
+    for (count, made) in made.iter().enumerate() {
+        assert!(rt; are_shown(alloc, &trials[..=count], *made)?, "{count}");
+    }
+    Ok(())
+}
+
+/// The marks of so many starts of batch jobs, in the first seconds of the clock.
+fn batch_starts(alloc: Global, count: u32) -> Result<String, Fail> {
+    let mut marks = String::new(alloc);
+    for second in 0..count {
+        marks.push_str(&format!(in alloc; "+B00000000--00{second:016x}.\n")?)?;
+    }
+    Ok(marks)
+}
+
+/// The last of 256 such marks, a start of job 1, and 255 free slots.
+fn compacted(alloc: Global) -> Result<String, Fail> {
+    let mut journal = String::new(alloc);
+    journal.push_str("+B00000000--0000000000000000ff.\n+S00000001a-000000000067748580.\n")?;
+    for _ in 0..255 {
+        journal.push_str("-..............................\n")?;
+    }
+    Ok(journal)
+}
+
+/// The journal after a start of job 1, where it was this one before.
+fn journal_behind_start(alloc: Global, journal: &[u8]) -> Result<Bytes, Fail> {
+    let given = files(
+        alloc,
+        &[(".SEQ", b"00001\n"), (JOB, SCRIPT), (".JRN", journal)],
+    )?;
+    let mut host = session(alloc, given)?;
+    make_steps(alloc, &mut host, &[Trial::Start(1)])?;
+    let bytes = host.reading(&name(".JRN")?).ok_or("a journal")?;
+    Ok(Bytes::of(alloc, bytes)?)
+}
+
+#[test]
+fn a_full_journal_makes_room_for_the_next_mark(rt: HostRuntime) -> Result<(), Fail> {
+    let alloc = rt.alloc();
+    let full = batch_starts(alloc, 256)?;
+    let journal = journal_behind_start(alloc, full.as_bytes())?;
+    assert!(rt; journal.as_slice() == compacted(alloc)?.as_bytes());
+    Ok(())
+}
+
+#[test]
+fn a_live_job_has_its_file_and_script(rt: HostRuntime) -> Result<(), Fail> {
+    let alloc = rt.alloc();
+    let given = files(alloc, &[(".SEQ", b"00002\n"), (JOB, SCRIPT)])?;
+    let mut host = session(alloc, given)?;
+    let (found, bytes) = script(alloc, &mut host, 1)?.ok_or("a live job")?;
+    assert_eq!(rt; found.as_bytes(), JOB.as_bytes());
+    assert_eq!(rt; bytes.as_slice(), SCRIPT);
+    assert!(rt; script(alloc, &mut host, 2)?.is_none());
+    Ok(())
+}
