@@ -1,193 +1,220 @@
 -- What a command leaves, put together from its parts.
-use Rattle.std.proofs.Common.{◌≡◌, ◌⊎◌, ◌++◌, ℕ, true, List, [], sym, ap, subst, ◌∙◌, refl, inl, inr, arith, length}
-use Rattle.std.proofs.Math.Seq.{take-length}
-use Rattle.std.proofs.lemmas.List.{append-nil}
-use Rattle.std.specs.Prelude.{Option, Ok, Err}
+use Rattle.std.proofs.Common.{◌≡◌, ◌⊎◌, ℕ, Bool, true, false, List, [], ◌∷◌, sym, ap, subst, ◌∙◌, refl, inl, inr, lit<, nat_lt}
+use Rattle.std.specs.Prelude.{Option, Some, None, Result, Ok, Err, MatchBool}
 use Rattle.civil_minute.specs.declared.zone.Zone.{Zone}
-use Rattle.host_calls.specs.World.{World, GoesOn, reading}
+use Rattle.host_calls.specs.declared.damage.Damage.{Damage}
+use Rattle.host_calls.specs.World.{World, reading}
+use Rattle.job_runs.specs.Attempts.{Achieves, Attempts}
 use Rattle.listing_text.specs.declared.cause.Cause.{Cause}
 use Rattle.listing_text.specs.declared.cause.Cause.TheVariants.{Done, Refused, FileFault, InputFault, OutputFault, Busy, Memory, Damaged, StillRunning}
 use Rattle.listing_text.specs.declared.refusal.Refusal.{Refusal}
-use Rattle.listing_text.specs.Cause.{cause_line_of}
 use Rattle.spool_model.specs.declared.job.Job.{Job}
-use Rattle.spool_model.specs.JobTable.{new_table}
+use Rattle.spool_model.specs.JobTable.{JobTable}
+use Rattle.spool_shows.specs.Shown.{shown_by}
 use Rattle.at_commands.specs.declared.submission.Submission.{Submission}
-use Rattle.at_commands.specs.FirstJob.{StoresFirstJob, submission_steps}
-use Rattle.at_commands.specs.Texts.{SinkAt, IsSilent, IsPutInPart, IsPutOrCut, SaysCause, SubmissionSays, CutsAcceptedLine, IsAcceptedLine}
-use Rattle.at_commands.specs.Verdict.{Asks, KeepsOrder, IsNoRefusal, ComesOfAsking, minute_at}
-use Rattle.at_commands.specs.Command.{Telling, Holding, FilesAt, FilesEnd, StandsWhole, Submits, ComesOfSession, ComesOfCarrying, job_of, tool_name_of}
-use Rattle.at_commands.proofs.FirstJobLemmas.{goes_on_then}
+use Rattle.at_commands.specs.Command.{ComesOfCarrying, Holding, IsRefused, IsSubmissionOf, RefusalLeaves, SpoolEnds, Submits, Telling, job_of, next_number, tool_name_of}
+use Rattle.at_commands.specs.Storing.{Carries, ComesOfSession, Stores}
+use Rattle.at_commands.specs.Texts.{CutsAcceptedLine, IsAcceptedLine, IsSilent, SaysAccepted, SaysCause, SinkAt, SubmissionSays}
+use Rattle.at_commands.specs.Verdict.{Asked, Asks, ComesOfAsking, KeepsOrder, first_refusal, minute_at, place_of_refusal, verdict_of, verdict_on, whole_verdict}
+use Rattle.at_commands.proofs.RoomLemmas.{keeps_early, memory_early}
+use Rattle.at_commands.proofs.SaysLemmas.{plain_asking, plain_session, says_no_memory, says_output_fault, says_plain}
+use Rattle.at_commands.proofs.StoringLemmas.{unbegun_same}
 use Rattle.at_commands.proofs.VerdictLemmas.{no_memory}
 
--- entering, storing and leaving hand nothing over
-pub session_quiet : (before entered stored after : World) → GoesOn before entered → GoesOn entered stored → GoesOn stored after → GoesOn before after
-session_quiet before entered stored after first second third =
-    goes_on_then before stored after (goes_on_then before entered stored first second) third
+-- The cause that is answered is the one that was found, or want of memory for its line.
+abbrev IsFinal : Cause → Cause → Type 0
+IsFinal cause final = (final ≡ cause) ⊎ (final ≡ Memory)
 
--- what was stored within the session stands after it
-pub stored_whole : (job : Job) (before entered stored after : World) → entered ≡ before → after ≡ stored → StoresFirstJob job entered stored (Ok tt) → StandsWhole job (reading before) (reading after)
-stored_whole job before entered stored after same_before same_after stores =
-    subst (λ world. StandsWhole job (reading world) (reading after)) same_before
-    (subst (λ world. StandsWhole job (reading entered) (reading world)) (sym same_after) (record { none = stores.ends.0; written = stores.ends.1 }))
-
--- the sink says nothing between a moment and itself
-silent : (at : SinkAt) → IsSilent at at
-silent at = record { content = refl; later = omega arith }
-
--- a line that was put, or cut, was put in part
-in_part : (line : List ℕ) (old new : SinkAt) → IsPutOrCut line old new → IsPutInPart line old new
-in_part line old new put = elim put [
-  | inl whole ↦ record { count = length line; content = whole.content ∙ ap (λ rest. old.content ++ rest) (sym (take-length line)); later = whole.later }
-  | inr cut ↦ record { count = cut.count; content = cut.content; later = cut.later }
-]
-
--- nothing of a line is a part of it
-none_in_part : (line : List ℕ) (old new : SinkAt) → IsSilent old new → IsPutInPart line old new
-none_in_part line old new quiet = record { count = 0; content = quiet.content ∙ sym (append-nil old.content); later = quiet.later }
-
--- the line of a cause that is neither success nor a fault of the output
-abbrev pub IsPlain : Cause → Type 0
-IsPlain Done = ⊥
-IsPlain OutputFault = ⊥
-IsPlain (Refused refusal) = Unit {0}
-IsPlain FileFault = Unit {0}
-IsPlain InputFault = Unit {0}
-IsPlain Busy = Unit {0}
-IsPlain Memory = Unit {0}
-IsPlain (Damaged damage) = Unit {0}
-IsPlain StillRunning = Unit {0}
-
-pub plain_session : (cause : Cause) → ComesOfSession cause → IsPlain cause
-plain_session Done comes = comes
-plain_session (Refused refusal) comes = tt
-plain_session FileFault comes = tt
-plain_session InputFault comes = tt
-plain_session OutputFault comes = comes
-plain_session Busy comes = tt
-plain_session Memory comes = tt
-plain_session (Damaged damage) comes = tt
-plain_session StillRunning comes = tt
-
-pub plain_asking : (cause : Cause) → ComesOfAsking cause → IsPlain cause
-plain_asking Done comes = comes
-plain_asking (Refused refusal) comes = tt
-plain_asking FileFault comes = tt
-plain_asking InputFault comes = tt
-plain_asking OutputFault comes = comes
-plain_asking Busy comes = tt
-plain_asking Memory comes = tt
-plain_asking (Damaged damage) comes = tt
-plain_asking StillRunning comes = tt
-
-module _ (tool : List ℕ) (IsLine : List ℕ → Type 0) where
-  -- the line of a plain cause, put or cut
-  plain_put : (cause : Cause) (old new : SinkAt) → IsPlain cause → IsPutOrCut (cause_line_of tool cause) old new → SubmissionSays tool IsLine cause old new
-  plain_put Done old new plain put = absurd plain
-  plain_put OutputFault old new plain put = absurd plain
-  plain_put (Refused refusal) old new plain put = put
-  plain_put FileFault old new plain put = put
-  plain_put InputFault old new plain put = put
-  plain_put Busy old new plain put = put
-  plain_put Memory old new plain put = (old, inl (silent old), in_part (cause_line_of tool Memory) old new put)
-  plain_put (Damaged damage) old new plain put = put
-  plain_put StillRunning old new plain put = put
-
-  -- nothing was put for want of memory
-  no_line : (old between new : SinkAt) → IsSilent old between ⊎ CutsAcceptedLine IsLine old between → IsSilent between new → SubmissionSays tool IsLine Memory old new
-  no_line old between new before quiet = (between, before, none_in_part (cause_line_of tool Memory) between new quiet)
-
-  pub says_plain : (cause final : Cause) (old new : SinkAt) → IsPlain cause → SaysCause tool cause old new final → SubmissionSays tool IsLine final old new
-  says_plain cause final old new plain says = elim says [
-    | inl said ↦ subst (λ c. SubmissionSays tool IsLine c old new) (sym said.0) (plain_put cause old new plain said.1)
-    | inr quiet ↦ subst (λ c. SubmissionSays tool IsLine c old new) (sym quiet.0) (no_line old old new (inl (silent old)) quiet.1)
-  ]
-
-  pub says_output_fault : (final : Cause) (old between new : SinkAt) → CutsAcceptedLine IsLine old between → SaysCause tool OutputFault between new final → SubmissionSays tool IsLine final old new
-  says_output_fault final old between new cut says = elim says [
-    | inl said ↦ subst (λ c. SubmissionSays tool IsLine c old new) (sym said.0) (between, cut, said.1)
-    | inr quiet ↦ subst (λ c. SubmissionSays tool IsLine c old new) (sym quiet.0) (no_line old between new (inr cut) quiet.1)
-  ]
-
-  pub says_no_memory : (final : Cause) (old between new : SinkAt) → IsSilent old between → SaysCause tool Memory between new final → SubmissionSays tool IsLine final old new
-  says_no_memory final old between new nothing says = elim says [
-    | inl said ↦ subst (λ c. SubmissionSays tool IsLine c old new) (sym said.0) (between, inl nothing, in_part (cause_line_of tool Memory) between new said.1)
-    | inr quiet ↦ subst (λ c. SubmissionSays tool IsLine c old new) (sym quiet.0) (no_line old between new (inl nothing) quiet.1)
-  ]
-
--- steps that stand whole are a front of themselves
-whole_in_part : (job : Job) (before after : FilesAt) → StandsWhole job before.files after.files → FilesEnd job before after Memory
-whole_in_part job before after whole = inl (record { front = submission_steps new_table job; is_front = ([], refl); written = whole.written })
-
--- the steps stand whole also where the line could not be put
-pub files_unsaid : (job : Job) (before after : FilesAt) (final : Cause) → StandsWhole job before.files after.files → (final ≡ OutputFault) ⊎ (final ≡ Memory) → FilesEnd job before after final
-files_unsaid job before after final whole either = elim either [
-  | inl is ↦ subst (FilesEnd job before after) (sym is) whole
-  | inr is ↦ subst (FilesEnd job before after) (sym is) (whole_in_part job before after whole)
-]
-
-pub files_no_memory : (job : Job) (before after : FilesAt) (final : Cause) → StandsWhole job before.files after.files → (final ≡ Memory) ⊎ (final ≡ Memory) → FilesEnd job before after final
-files_no_memory job before after final whole either =
-    let is : final ≡ Memory = elim either [ inl first ↦ first | inr second ↦ second ] in
-    subst (FilesEnd job before after) (sym is) (whole_in_part job before after whole)
-
--- before the session the files are untouched
-files_untouched : (job : Job) (before after : FilesAt) (final : Cause) → after ≡ before → ComesOfAsking final → FilesEnd job before after final
-files_untouched job before after (Refused refusal) same comes = ap (λ at. at.files) same
-files_untouched job before after InputFault same comes = ap (λ at. at.files) same
-files_untouched job before after Memory same comes = inl (record { front = []; is_front = (submission_steps new_table job, refl); written = ap (λ at. at.files) same })
-files_untouched job before after Done same comes = absurd comes
-files_untouched job before after FileFault same comes = absurd comes
-files_untouched job before after OutputFault same comes = absurd comes
-files_untouched job before after Busy same comes = absurd comes
-files_untouched job before after (Damaged damage) same comes = absurd comes
-files_untouched job before after StillRunning same comes = absurd comes
-
--- the cause of a command whose checks did not pass
-asking_final : (cause final : Cause) → ComesOfAsking cause → (final ≡ cause) ⊎ (final ≡ Memory) → ComesOfAsking final
-asking_final cause final comes either = elim either [
-  | inl is ↦ subst ComesOfAsking (sym is) comes
-  | inr is ↦ subst ComesOfAsking (sym is) tt
-]
-
-order_final : (verdict : Option Refusal) (cause final : Cause) → KeepsOrder verdict cause → (final ≡ cause) ⊎ (final ≡ Memory) → KeepsOrder verdict final
+order_final : (verdict : Option Refusal) (cause final : Cause) → KeepsOrder verdict cause → IsFinal cause final → KeepsOrder verdict final
 order_final verdict cause final order either = elim either [
   | inl is ↦ subst (KeepsOrder verdict) (sym is) order
   | inr is ↦ subst (KeepsOrder verdict) (sym is) (no_memory verdict)
 ]
 
--- a cause that comes once the checks have passed is no refusal
-no_refusal : (cause : Cause) → ComesOfCarrying cause → IsNoRefusal cause
-no_refusal Done comes = tt
-no_refusal (Refused refusal) comes = comes
-no_refusal FileFault comes = tt
-no_refusal InputFault comes = tt
-no_refusal OutputFault comes = tt
-no_refusal Busy comes = tt
-no_refusal Memory comes = tt
-no_refusal (Damaged damage) comes = tt
-no_refusal StillRunning comes = tt
+-- A submission that passed the checks before the session.
 
--- a submission that the checks refused
-pub submits_refused : (words : List (List ℕ)) (user : List ℕ) (zone : Zone) (tells : Telling) (before after : Holding) (cause final : Cause) → Asks tells.clock tells.input words zone before.answers after.answers before.contents (Err cause) → after.files ≡ before.files → (final ≡ cause) ⊎ (final ≡ Memory) → (tells.errors ≡ true → SaysCause (tool_name_of words) cause before.errors after.errors final) → Submits words user zone tells before after final
-submits_refused words user zone tells before after cause final asks same either says = record {
-  now = asks.now;
-  commands = asks.commands;
-  clock = asks.clock;
-  input = asks.input;
-  order = order_final _ cause final asks.ends.0 either;
-  files = λ files alone. files_untouched (job_of user (minute_at asks.now) asks.commands) before.files after.files final same (asking_final cause final asks.ends.1 either);
-  says = λ errors. says_plain (tool_name_of words) (IsAcceptedLine 1 (minute_at asks.now) zone) cause final before.errors after.errors (plain_asking cause asks.ends.1) (says errors);
-}
+-- a cause of a session comes once those checks have passed
+carrying_session : (cause : Cause) → ComesOfSession cause → ComesOfCarrying cause
+carrying_session Done comes = tt
+carrying_session (Refused refusal) comes = comes
+carrying_session FileFault comes = tt
+carrying_session InputFault comes = comes
+carrying_session OutputFault comes = tt
+carrying_session Busy comes = tt
+carrying_session Memory comes = tt
+carrying_session (Damaged damage) comes = tt
+carrying_session StillRunning comes = comes
 
--- a submission that passed them
-pub submits_carried : (words : List (List ℕ)) (user : List ℕ) (zone : Zone) (tells : Telling) (before after : Holding) (submission : Submission) (final : Cause) → Asks tells.clock tells.input words zone before.answers after.answers before.contents (Ok submission) → ComesOfCarrying final → (tells.files ≡ true → tells.alone ≡ true → FilesEnd (job_of user submission.minute submission.commands) before.files after.files final) → (tells.errors ≡ true → SubmissionSays (tool_name_of words) (IsAcceptedLine 1 submission.minute zone) final before.errors after.errors) → Submits words user zone tells before after final
-submits_carried words user zone tells before after submission final asks comes files says = record {
-  now = asks.now;
-  commands = asks.commands;
-  clock = asks.clock;
-  input = asks.input;
-  order = subst (λ verdict. KeepsOrder verdict final) (sym asks.ends.none) (no_refusal final comes);
-  files = λ tell alone. subst (λ commands. FilesEnd (job_of user (minute_at asks.now) commands) before.files after.files final) asks.ends.commands
-      (subst (λ minute. FilesEnd (job_of user minute submission.commands) before.files after.files final) asks.ends.minute (files tell alone));
-  says = λ errors. subst (λ minute. SubmissionSays (tool_name_of words) (IsAcceptedLine 1 minute zone) final before.errors after.errors) asks.ends.minute (says errors);
-}
+carrying_final : (cause final : Cause) → ComesOfCarrying cause → IsFinal cause final → ComesOfCarrying final
+carrying_final cause final comes either = elim either [
+  | inl is ↦ subst ComesOfCarrying (sym is) comes
+  | inr is ↦ subst ComesOfCarrying (sym is) tt
+]
+
+-- what a session leaves that did not store the job is an attempt
+attempt_of : (job : Job) (old new : World) (cause : Cause) → ComesOfSession cause → SpoolEnds job old new cause → Attempts (IsSubmissionOf job) old new
+attempt_of job old new FileFault comes ends = ends
+attempt_of job old new Memory comes ends = ends
+attempt_of job old new (Damaged damage) comes ends = inl ends.1
+attempt_of job old new Busy comes ends = inl (unbegun_same old new ends)
+attempt_of job old new (Refused refusal) comes ends = inl (subst (λ late. MatchBool late (IsRefused old new) (new ≡ old)) comes ends).unbegun
+attempt_of job old new Done comes ends = absurd comes
+attempt_of job old new InputFault comes ends = absurd comes
+attempt_of job old new OutputFault comes ends = absurd comes
+attempt_of job old new StillRunning comes ends = absurd comes
+
+spool_final : (job : Job) (old new : World) (cause final : Cause) → ComesOfSession cause → IsFinal cause final → SpoolEnds job old new cause → SpoolEnds job old new final
+spool_final job old new cause final comes either ends = elim either [
+  | inl is ↦ subst (SpoolEnds job old new) (sym is) ends
+  | inr is ↦ subst (SpoolEnds job old new) (sym is) (attempt_of job old new cause comes ends)
+]
+
+-- an attempt that was made to its end is one
+attempt_achieved : (job : Job) (old new : World) → Achieves (IsSubmissionOf job) old new → Attempts (IsSubmissionOf job) old new
+attempt_achieved job old new achieved = inr (achieved.0, achieved.1, achieved.2, achieved.3.begun)
+
+unsaid_final : (job : Job) (old new : World) (final : Cause) → IsFinal OutputFault final → Achieves (IsSubmissionOf job) old new → SpoolEnds job old new final
+unsaid_final job old new final either achieved = elim either [
+  | inl is ↦ subst (SpoolEnds job old new) (sym is) achieved
+  | inr is ↦ subst (SpoolEnds job old new) (sym is) (attempt_achieved job old new achieved)
+]
+
+accepted_order : (verdict : Option Refusal) (cause : Cause) → KeepsOrder None cause → verdict ≡ None → KeepsOrder verdict cause
+accepted_order verdict cause order none = subst (λ of. KeepsOrder of cause) (sym none) order
+
+module _ (tells alone errors_tell : Bool) (tool : List ℕ) (job : Job) (zone : Zone) (old new : World) (before after : SinkAt) where
+  -- the job was not stored, and the cause was said
+  pub carries_not : (cause final : Cause) → Stores tells alone job old new (Err cause) → IsFinal cause final → (errors_tell ≡ true → SaysCause tool cause before after final) → Carries tells alone errors_tell tool job zone old new before after final
+  carries_not cause final stores either says = record {
+    shown = stores.shown;
+    told = stores.told;
+    order = order_final (verdict_on stores.shown) cause final stores.answer.0 either;
+    comes = carrying_final cause final (carrying_session cause stores.answer.1) either;
+    spool = λ told is_alone. spool_final job old new cause final stores.answer.1 either (stores.spool told is_alone);
+    says = λ errors. says_plain tool (IsAcceptedLine (next_number stores.shown) job.minute zone) cause final before after (plain_session cause stores.answer.1) (says errors);
+  }
+
+  -- the job was stored
+  module _ (number : ℕ) (stores : Stores tells alone job old new (Ok number)) where
+    -- the line is that of the next number
+    next_line : (P : (List ℕ → Type 0) → Type 0) → P (IsAcceptedLine number job.minute zone) → P (IsAcceptedLine (next_number stores.shown) job.minute zone)
+    next_line P has = subst (λ (of : ℕ). P (IsAcceptedLine of job.minute zone)) stores.answer.1 has
+
+    -- and said so
+    pub carries_done : (errors_tell ≡ true → SaysAccepted (IsAcceptedLine number job.minute zone) before after (Ok tt)) → Carries tells alone errors_tell tool job zone old new before after Done
+    carries_done says = record {
+      shown = stores.shown;
+      told = stores.told;
+      order = accepted_order (verdict_on stores.shown) Done tt stores.answer.0;
+      comes = tt;
+      spool = stores.spool;
+      says = λ errors. next_line (λ IsLine. SubmissionSays tool IsLine Done before after) (says errors);
+    }
+
+    -- or the line was cut
+    pub carries_cut : (final : Cause) (between : SinkAt) → IsFinal OutputFault final → (errors_tell ≡ true → CutsAcceptedLine (IsAcceptedLine number job.minute zone) before between) → (errors_tell ≡ true → SaysCause tool OutputFault between after final) → Carries tells alone errors_tell tool job zone old new before after final
+    carries_cut final between either cut says = record {
+      shown = stores.shown;
+      told = stores.told;
+      order = order_final (verdict_on stores.shown) OutputFault final (accepted_order (verdict_on stores.shown) OutputFault tt stores.answer.0) either;
+      comes = carrying_final OutputFault final tt either;
+      spool = λ told is_alone. unsaid_final job old new final either (stores.spool told is_alone);
+      says = λ errors. next_line (λ IsLine. SubmissionSays tool IsLine final before after)
+          (says_output_fault tool (IsAcceptedLine number job.minute zone) final before between after (cut errors) (says errors));
+    }
+
+    -- or it found no memory
+    pub carries_unsaid : (final : Cause) (between : SinkAt) → IsFinal Memory final → (errors_tell ≡ true → IsSilent before between) → (errors_tell ≡ true → SaysCause tool Memory between after final) → Carries tells alone errors_tell tool job zone old new before after final
+    carries_unsaid final between either silent says =
+        let is : final ≡ Memory = elim either [ inl first ↦ first | inr second ↦ second ] in
+        record {
+          shown = stores.shown;
+          told = stores.told;
+          order = subst (KeepsOrder (verdict_on stores.shown)) (sym is) (no_memory (verdict_on stores.shown));
+          comes = carrying_final Memory final tt either;
+          spool = λ told is_alone. subst (SpoolEnds job old new) (sym is) (attempt_achieved job old new (stores.spool told is_alone));
+          says = λ errors. next_line (λ IsLine. SubmissionSays tool IsLine final before after)
+              (says_no_memory tool (IsAcceptedLine number job.minute zone) final before between after (silent errors) (says errors));
+        }
+
+-- A submission that the checks before the session refused.
+
+-- the cause of a command whose checks did not pass
+asking_final : (cause final : Cause) → ComesOfAsking cause → IsFinal cause final → ComesOfAsking final
+asking_final cause final comes either = elim either [
+  | inl is ↦ subst ComesOfAsking (sym is) comes
+  | inr is ↦ subst ComesOfAsking (sym is) tt
+]
+
+-- the spool is as it was
+untouched_refusal : (old new : World) (refusal : Refusal) → new ≡ old → RefusalLeaves old new refusal
+untouched_refusal old new refusal same = by_test (nat_lt 17 (place_of_refusal refusal)) where
+  by_test : (late : Bool) → MatchBool late (IsRefused old new) (new ≡ old)
+  by_test true = record { unbegun = unbegun_same old new same; same = ap (λ (world : World). shown_by (reading world)) same }
+  by_test false = same
+
+untouched : (job : Job) (old new : World) (final : Cause) → new ≡ old → ComesOfAsking final → SpoolEnds job old new final
+untouched job old new (Refused refusal) same comes = untouched_refusal old new refusal same
+untouched job old new InputFault same comes = same
+untouched job old new Memory same comes = inl (unbegun_same old new same)
+untouched job old new Done same comes = absurd comes
+untouched job old new FileFault same comes = absurd comes
+untouched job old new OutputFault same comes = absurd comes
+untouched job old new Busy same comes = absurd comes
+untouched job old new (Damaged damage) same comes = absurd comes
+untouched job old new StillRunning same comes = absurd comes
+
+-- such a cause keeps to the checks on the table too, where no check before them refuses
+keeps_asking : (shown : Result JobTable Damage) (cause : Cause) → KeepsOrder None cause → ComesOfAsking cause → KeepsOrder (verdict_on shown) cause
+keeps_asking shown InputFault order comes = keeps_early shown InputFault (tt, inr (inr (lit< tt)), inr (inr (lit< tt)))
+keeps_asking shown Memory order comes = keeps_early shown Memory memory_early
+keeps_asking shown (Refused refusal) order comes = absurd order
+keeps_asking shown Done order comes = absurd comes
+keeps_asking shown FileFault order comes = absurd comes
+keeps_asking shown OutputFault order comes = absurd comes
+keeps_asking shown Busy order comes = absurd comes
+keeps_asking shown (Damaged damage) order comes = absurd comes
+keeps_asking shown StillRunning order comes = absurd comes
+
+alone_refusal : (verdict : Option Refusal) → first_refusal (verdict ∷ []) ≡ verdict
+alone_refusal None = refl
+alone_refusal (Some refusal) = refl
+
+whole_order : (verdict : Option Refusal) (shown : Result JobTable Damage) (cause : Cause) → KeepsOrder verdict cause → ComesOfAsking cause → KeepsOrder (first_refusal (verdict ∷ (verdict_on shown ∷ []))) cause
+whole_order (Some refusal) shown cause order comes = order
+whole_order None shown cause order comes = subst (λ verdict. KeepsOrder verdict cause) (sym (alone_refusal (verdict_on shown))) (keeps_asking shown cause order comes)
+
+pub submits_refused : (words : List (List ℕ)) (user : List ℕ) (zone : Zone) (tells : Telling) (before after : Holding) (cause final : Cause) → Asks tells.clock tells.input words zone before.answers after.answers before.contents (Err cause) → after.spool ≡ before.spool → IsFinal cause final → (tells.errors ≡ true → SaysCause (tool_name_of words) cause before.errors after.errors final) → Submits words user zone tells before after final
+submits_refused words user zone tells before after cause final asks same either says =
+    let asked : Asked = record { words = words; zone = zone; now = asks.now; commands = asks.commands } in
+    let shown : Result JobTable Damage = shown_by (reading before.spool) in
+    let comes : ComesOfAsking final = asking_final cause final asks.ends.1 either in
+    record {
+      now = asks.now;
+      commands = asks.commands;
+      shown = shown;
+      clock = asks.clock;
+      input = asks.input;
+      table = λ told is_alone. refl;
+      order = whole_order (verdict_of asked) shown final (order_final (verdict_of asked) cause final asks.ends.0 either) comes;
+      spool = λ told is_alone. untouched (job_of user (minute_at asks.now) asks.commands) before.spool after.spool final same comes;
+      says = λ errors. says_plain (tool_name_of words) (IsAcceptedLine (next_number shown) (minute_at asks.now) zone) cause final before.errors after.errors (plain_asking cause asks.ends.1) (says errors);
+    }
+
+pub submits_carried : (words : List (List ℕ)) (user : List ℕ) (zone : Zone) (tells : Telling) (before after : Holding) (submission : Submission) (final : Cause) → Asks tells.clock tells.input words zone before.answers after.answers before.contents (Ok submission) → Carries tells.files tells.alone tells.errors (tool_name_of words) (job_of user submission.minute submission.commands) zone before.spool after.spool before.errors after.errors final → Submits words user zone tells before after final
+submits_carried words user zone tells before after submission final asks carries =
+    let asked : Asked = record { words = words; zone = zone; now = asks.now; commands = asks.commands } in
+    let whole : whole_verdict asked carries.shown ≡ verdict_on carries.shown =
+    ap (λ (verdict : Option Refusal). first_refusal (verdict ∷ (verdict_on carries.shown ∷ []))) asks.ends.none ∙ alone_refusal (verdict_on carries.shown) in
+    record {
+      now = asks.now;
+      commands = asks.commands;
+      shown = carries.shown;
+      clock = asks.clock;
+      input = asks.input;
+      table = carries.told;
+      order = subst (λ verdict. KeepsOrder verdict final) (sym whole) carries.order;
+      spool = λ told is_alone. subst (λ commands. SpoolEnds (job_of user (minute_at asks.now) commands) before.spool after.spool final) asks.ends.commands
+          (subst (λ minute. SpoolEnds (job_of user minute submission.commands) before.spool after.spool final) asks.ends.minute (carries.spool told is_alone));
+      says = λ errors. subst (λ minute. SubmissionSays (tool_name_of words) (IsAcceptedLine (next_number carries.shown) minute zone) final before.errors after.errors) asks.ends.minute (carries.says errors);
+    }

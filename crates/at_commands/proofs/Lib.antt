@@ -1,5 +1,7 @@
 pub mod CommandLemmas
-pub mod FirstJobLemmas
-pub mod FolderSteps
+pub mod RoomLemmas
+pub mod SaysLemmas
+pub mod StoringLemmas
+pub mod TextLemmas
 pub mod VerdictLemmas
 pub mod WordLemmas

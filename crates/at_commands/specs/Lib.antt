@@ -1,7 +1,6 @@
 pub mod Command
-pub mod FirstJob
 pub mod JobText
-pub mod StoreFaults
+pub mod Storing
 pub mod Texts
 pub mod Verdict
 pub mod Words

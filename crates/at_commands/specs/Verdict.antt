@@ -6,8 +6,12 @@ use Rattle.listing_text.specs.declared.cause.Cause.{Cause}
 use Rattle.listing_text.specs.declared.cause.Cause.TheVariants.{Done, Refused, FileFault, InputFault, OutputFault, Busy, Memory, Damaged, StillRunning}
 use Rattle.listing_text.specs.declared.refusal.Refusal.{Refusal}
 use Rattle.listing_text.specs.declared.refusal.Refusal.TheVariants.{Usage, NotAllowed, Timespec, NoSuchDay, OutOfRange, Past, BadTimeArg, BadZone, BadQueue, BadDirectory, BadUser, TooLong, EnvironmentTooLarge, QueueFull, NumbersUsedUp, NoSuchJob, NotYours, RunningJob, BadClock}
+use Rattle.host_calls.specs.declared.damage.Damage.{Damage}
 use Rattle.host_calls.specs.Clock.{Answers, with_now}
 use Rattle.host_calls.specs.Inputs.{Contents}
+use Rattle.spool_model.specs.declared.number.TheConstants.{GREATEST_NUMBER}
+use Rattle.spool_model.specs.JobTable.{JobTable}
+use Rattle.spool_store.specs.Submitting.{live_count}
 use Rattle.at_commands.specs.declared.submission.Submission.{Submission}
 use Rattle.at_commands.specs.Words.{asks_now}
 
@@ -50,9 +54,27 @@ first_refusal [] = None
 first_refusal (Some refusal ∷ later) = Some refusal
 first_refusal (None ∷ later) = first_refusal later
 
--- the verdict of a submission
+-- the verdict of a submission before the spool is entered
 abbrev pub verdict_of : Asked → Option Refusal
 verdict_of asked = first_refusal (usage_check asked ∷ (clock_check asked ∷ (zone_check asked ∷ (length_check asked ∷ []))))
+
+-- 10,000 jobs or more live on the table that the folder shows
+abbrev pub room_check : Result JobTable Damage → Option Refusal
+room_check (Ok table) = if nat_le 10000 (live_count table) then Some QueueFull else None
+room_check (Err damage) = None
+
+-- the greatest number was drawn
+abbrev pub number_check : Result JobTable Damage → Option Refusal
+number_check (Ok table) = if nat_le GREATEST_NUMBER table.last then Some NumbersUsedUp else None
+number_check (Err damage) = None
+
+-- the verdict of a submission on what the folder shows
+abbrev pub verdict_on : Result JobTable Damage → Option Refusal
+verdict_on shown = first_refusal (room_check shown ∷ (number_check shown ∷ []))
+
+-- the whole verdict of a submission: that before the spool is entered, and then that on what the folder shows
+abbrev pub whole_verdict : Asked → Result JobTable Damage → Option Refusal
+whole_verdict asked shown = first_refusal (verdict_of asked ∷ (verdict_on shown ∷ []))
 
 -- the place of a refusal in the order of checks
 abbrev pub place_of_refusal : Refusal → ℕ

@@ -6,8 +6,9 @@ ghost use Rattle.host_calls.specs.Session.{IsOutside, IsLeft};
 ghost use Rattle.host_calls.specs.World.{GoesOn};
 ghost use Rattle.listing_text.specs.Cause.{status_of};
 ghost use Rattle.spool_model.specs.Users.{IsUserName};
-ghost use Rattle.at_commands.specs.Command.{ComesOfCarrying, FilesEnd, Submits, files_at, holding, job_of, telling, tool_name_of};
-ghost use Rattle.at_commands.specs.Texts.{IsAcceptedLine, SubmissionSays, sink_at};
+ghost use Rattle.at_commands.specs.Command.{Submits, holding, job_of, telling, tool_name_of};
+ghost use Rattle.at_commands.specs.Storing.{Carries};
+ghost use Rattle.at_commands.specs.Texts.{sink_at};
 
 use crate::Caller;
 use crate::checks::ask;
@@ -47,12 +48,12 @@ pub fn command<H: Host, R: Readings, I: Inputs, O: Sink, E: Sink>(
         → Rose (E.outlet err.old).sink_faults (E.outlet err.new).sink_faults }
     ensures not_running { result.cause ≢ Cause.StillRunning }
 
-    // The verdict, the files and the line for the caller.
+    // The verdict, what each crash on the way and each image of the end show, and the line for the caller.
     ensures submits { Submits (map string_bytes words.now) caller.now.context.user caller.now.zone
         (telling H.tells H.alone R.tells I.tells E.tells)
-        (holding (H.world host.old) (H.session host.old) (R.answers readings.old) (I.contents inputs.old)
+        (holding (H.world host.old) (R.answers readings.old) (I.contents inputs.old)
         (E.content err.old) (E.outlet err.old))
-        (holding (H.world host.new) (H.session host.new) (R.answers readings.new) (I.contents inputs.new)
+        (holding (H.world host.new) (R.answers readings.new) (I.contents inputs.new)
         (E.content err.new) (E.outlet err.new)) result.cause }
 
     // What the others were made as stays, and nothing goes to standard output.
@@ -81,7 +82,6 @@ fn carry_out<H: Host, E: Sink>(
     requires outside { IsOutside (H.session host.old) }
     requires user { IsUserName caller.now.context.user }
     requires zone { IsReadable caller.now.zone }
-    ensures comes { ComesOfCarrying result }
     ensures left { IsLeft (H.session host.old) (H.session host.new) }
     ensures quiet { IsTrue H.tells → GoesOn (H.world host.old) (H.world host.new) }
     ensures file_fault { result ≡ Cause.FileFault
@@ -90,18 +90,16 @@ fn carry_out<H: Host, E: Sink>(
     ensures output_fault { result ≡ Cause.OutputFault
         → Rose (E.outlet err.old).sink_faults (E.outlet err.new).sink_faults }
     ensures errors_made { (E.outlet err.new).made_as ≡ (E.outlet err.old).made_as }
-    ensures files { IsTrue H.tells → IsTrue H.alone
-        → FilesEnd (job_of caller.now.context.user submission.now.minute submission.now.commands)
-        (files_at (H.world host.old) (H.session host.old)) (files_at (H.world host.new) (H.session host.new)) result }
-    ensures says { IsTrue E.tells
-        → SubmissionSays tool.now (IsAcceptedLine 1 submission.now.minute caller.now.zone) result
-        (sink_at (E.content err.old) (E.outlet err.old)) (sink_at (E.content err.new) (E.outlet err.new)) }
+    ensures carries { Carries H.tells H.alone E.tells tool.now
+        (job_of caller.now.context.user submission.now.minute submission.now.commands) caller.now.zone
+        (H.world host.old) (H.world host.new)
+        (sink_at (E.content err.old) (E.outlet err.old)) (sink_at (E.content err.new) (E.outlet err.new)) result }
 {
-    match store_submission(alloc, caller, submission, host) {
-        Ok(()) => {}
+    let number = match store_submission(alloc, caller, submission, host) {
+        Ok(number) => number,
         Err(cause) => return say_cause(alloc, tool, cause, err),
-    }
-    match say_accepted(alloc, 1, submission.minute, &caller.zone, err) {
+    };
+    match say_accepted(alloc, number, submission.minute, &caller.zone, err) {
         Ok(()) => Cause::Done,
         Err(SinkFault::Failed) => say_cause(alloc, tool, Cause::OutputFault, err),
         Err(SinkFault::Memory) => say_cause(alloc, tool, Cause::Memory, err),

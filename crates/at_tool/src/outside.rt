@@ -53,6 +53,7 @@ pub fn made_in_memory(
 /// Does what the words ask for, for `ann`, and gives the exit status.
 pub fn answer(alloc: Global, words: &[String], outside: &mut Outside) -> Result<u8, AllocError>
     requires { IsOutside (memory_session outside.old.host) }
+    ensures { IsOutside (memory_session outside.new.host) }
 {
     let caller = ann(alloc)?;
     let status = command(

@@ -10,4 +10,4 @@ returns-in-Err-clause-submits g c =
 pub returns-in-Ok-clause-submits : goal.returns-in-Ok-clause-submits
 returns-in-Ok-clause-submits g c =
     rw c.of-in-Ok.ensures
-    (submits_carried _ _ _ _ _ _ c.in-Ok.submission c.carry_out.result c.in-Ok.ensures.asks c.carry_out.ensures.comes c.carry_out.ensures.files (rw c.tool_name-tool.ensures at c.carry_out.ensures.says))
+    (submits_carried _ _ _ _ _ _ c.in-Ok.submission c.carry_out.result c.in-Ok.ensures.asks (rw c.tool_name-tool.ensures at c.carry_out.ensures.carries))
