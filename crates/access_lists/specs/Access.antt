@@ -1,5 +1,5 @@
 -- Who may use `at`, by the lists at.allow and at.deny (XCU at, Description).
-use Rattle.std.specs.Prelude.{ℕ, Bool, false, not, ◌||◌, ◌==◌, IsTrue, List, [], ◌∷◌, Option, Some, None, codes, reverse, if◌then◌else◌}
+use Rattle.std.specs.Prelude.{ℕ, Bool, false, not, ◌||◌, ◌==◌, List, [], ◌∷◌, Option, Some, None, codes, reverse, if◌then◌else◌}
 use Rattle.std.specs.List.{slice_split, list_any}
 use Rattle.std.specs.Str.{bytes_eq}
 
@@ -35,10 +35,6 @@ lists_permit user (Some allow) deny = is_listed allow user
 lists_permit user None (Some deny) = not (is_listed deny user)
 lists_permit user None None = false
 
--- the test of who may use `at`: root always may (Debian at(1)), others where the lists permit it
+-- the user may use `at`: root always may (Debian at(1)), others where the lists permit it
 abbrev pub may_use : List ℕ → Option (List ℕ) → Option (List ℕ) → Bool
 may_use user allow deny = bytes_eq user (codes "root") || lists_permit user allow deny
-
--- the user may use `at`
-abbrev pub MayUse : List ℕ → Option (List ℕ) → Option (List ℕ) → Type 0
-MayUse user allow deny = IsTrue (may_use user allow deny)

@@ -19,6 +19,7 @@ pub fn permits(user: &UserName, allow: Option<&[u8]>, deny: Option<&[u8]>) -> bo
     }
 }
 
+// Whether some line of the list tells the user's name.
 fn is_listed(list: &[u8], user: &[u8]) -> bool
     ensures { result ≡ is_listed list.now user.now }
 {
@@ -26,13 +27,14 @@ fn is_listed(list: &[u8], user: &[u8]) -> bool
         .any(|line| name_of(line) == user)
 }
 
+// The name that a line tells.
 fn name_of(line: &[u8]) -> &[u8]
     ensures { result.now ≡ name_in line.now }
 {
-    without_end(without_front(line))
+    before_blanks(after_blanks(line))
 }
 
-fn without_front(line: &[u8]) -> &[u8]
+fn after_blanks(line: &[u8]) -> &[u8]
     ensures { result.now ≡ after_blanks line.now }
 {
     let mut rest = line;
@@ -42,7 +44,7 @@ fn without_front(line: &[u8]) -> &[u8]
     rest
 }
 
-fn without_end(line: &[u8]) -> &[u8]
+fn before_blanks(line: &[u8]) -> &[u8]
     ensures { result.now ≡ before_blanks line.now }
 {
     let mut rest = line;

@@ -13,9 +13,10 @@ use Rattle.spool_model.specs.JobTable.{JobTable}
 use Rattle.spool_shows.specs.Shown.{shown_by}
 use Rattle.at_commands.specs.declared.submission.Submission.{Submission}
 use Rattle.at_commands.specs.Command.{ComesOfCarrying, Holding, IsRefused, IsSubmissionOf, RefusalLeaves, SpoolEnds, Submits, Telling, job_of, next_number, tool_name_of}
-use Rattle.at_commands.specs.Storing.{Carries, ComesOfSession, Stores}
+use Rattle.at_commands.specs.inside.Storing.{Carries, ComesOfSession, Stores}
 use Rattle.at_commands.specs.Texts.{CutsAcceptedLine, IsAcceptedLine, IsSilent, SaysAccepted, SaysCause, SinkAt, SubmissionSays}
-use Rattle.at_commands.specs.Verdict.{Asked, Asks, ComesOfAsking, KeepsOrder, first_refusal, minute_at, place_of_refusal, verdict_of, verdict_on, whole_verdict}
+use Rattle.at_commands.specs.Verdict.{Asked, Asks, ComesOfAsking, KeepsOrder, first_refusal, place_of_refusal, verdict_of, verdict_on, whole_verdict}
+use Rattle.clock_range.specs.ClockRange.{minute_at}
 use Rattle.at_commands.proofs.RoomLemmas.{keeps_early, memory_early}
 use Rattle.at_commands.proofs.SaysLemmas.{plain_asking, plain_session, says_no_memory, says_output_fault, says_plain}
 use Rattle.at_commands.proofs.StoringLemmas.{unbegun_same}

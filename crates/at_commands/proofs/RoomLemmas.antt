@@ -9,18 +9,20 @@ use Rattle.std.specs.FinMap.Entries.{below_all, is_sorted, same_entries}
 use Rattle.std.proofs.lemmas.Bool.Decides.{nat_tests}
 use Rattle.host_calls.specs.declared.damage.Damage.{Damage}
 use Rattle.spool_model.specs.declared.entry.Entry.TheVariants.{Live, Done}
-use Rattle.spool_model.specs.declared.number.TheConstants.{GREATEST_NUMBER}
+use Rattle.spool_model.specs.declared.number.TheConstants.{LAST_NUMBER}
 use Rattle.spool_model.specs.JobTable.{JobEntries, JobEntry, JobTable}
 use Rattle.job_runs.specs.Bare.{bare, bare_entries, bare_entry}
 use Rattle.listing_text.specs.declared.cause.Cause.{Cause}
 use Rattle.listing_text.specs.declared.cause.Cause.TheVariants.{Busy, Damaged, FileFault, Memory}
 use Rattle.listing_text.specs.declared.refusal.Refusal.{Refusal}
 use Rattle.listing_text.specs.declared.refusal.Refusal.TheVariants.{NumbersUsedUp, QueueFull}
-use Rattle.spool_store.specs.Submitting.{HasRoom, IsFull, IsUsedUp, is_live, live_count}
+use Rattle.spool_store.specs.Submitting.{HasRoom, IsFull, IsUsedUp}
+use Rattle.spool_model.specs.Lists.{is_live, live_count}
 use Rattle.at_commands.specs.Verdict.{KeepsOrder, verdict_on}
+use Rattle.spool_store.specs.declared.submitting.TheConstants.{MAX_LIVE}
 
 -- the verdict on a table, by its two tests
-verdict_by : (table : JobTable) (full used : Bool) → nat_le 10000 (live_count table) ≡ full → nat_le GREATEST_NUMBER table.last ≡ used → verdict_on (Ok table) ≡ cond full (Some QueueFull) (cond used (Some NumbersUsedUp) None)
+verdict_by : (table : JobTable) (full used : Bool) → nat_le MAX_LIVE (live_count table) ≡ full → nat_le LAST_NUMBER table.last ≡ used → verdict_on (Ok table) ≡ cond full (Some QueueFull) (cond used (Some NumbersUsedUp) None)
 verdict_by table true used is_full is_used = rw is_full refl
 verdict_by table false true is_full is_used = rw (is_full, is_used) refl
 verdict_by table false false is_full is_used = rw (is_full, is_used) refl
@@ -30,18 +32,18 @@ full_refused table full = verdict_by table true _ (grind (arith, nat_tests)) ref
 
 pub used_up_refused : (table : JobTable) → IsUsedUp table → verdict_on (Ok table) ≡ Some NumbersUsedUp
 used_up_refused table used =
-    let few : live_count table < 10000 = used.room in
-    let last : table.last ≡ GREATEST_NUMBER = used.greatest in
-    let room : nat_le 10000 (live_count table) ≡ false = grind (arith, nat_tests) in
-    let greatest : nat_le GREATEST_NUMBER table.last ≡ true = grind (arith, nat_tests) in
+    let few : live_count table < MAX_LIVE = used.room in
+    let last : table.last ≡ LAST_NUMBER = used.greatest in
+    let room : nat_le MAX_LIVE (live_count table) ≡ false = grind (arith, nat_tests) in
+    let greatest : nat_le LAST_NUMBER table.last ≡ true = grind (arith, nat_tests) in
     verdict_by table false true room greatest
 
 pub room_accepted : (table : JobTable) → HasRoom table → verdict_on (Ok table) ≡ None
 room_accepted table has =
-    let few : live_count table < 10000 = has.room in
-    let more : table.last < GREATEST_NUMBER = has.more in
-    let room : nat_le 10000 (live_count table) ≡ false = grind (arith, nat_tests) in
-    let number : nat_le GREATEST_NUMBER table.last ≡ false = grind (arith, nat_tests) in
+    let few : live_count table < MAX_LIVE = has.room in
+    let more : table.last < LAST_NUMBER = has.more in
+    let room : nat_le MAX_LIVE (live_count table) ≡ false = grind (arith, nat_tests) in
+    let number : nat_le LAST_NUMBER table.last ≡ false = grind (arith, nat_tests) in
     verdict_by table false false room number
 
 -- the verdict on what a folder shows is none, or one of these two
@@ -50,8 +52,8 @@ IsOneOf verdict = (verdict ≡ None) ⊎ ((verdict ≡ Some QueueFull) ⊎ (verd
 
 one_of : (shown : Result JobTable Damage) → IsOneOf (verdict_on shown)
 one_of (Err damage) = inl refl
-one_of (Ok table) = by_tests (nat_le 10000 (live_count table)) (nat_le GREATEST_NUMBER table.last) refl refl where
-  by_tests : (full used : Bool) → nat_le 10000 (live_count table) ≡ full → nat_le GREATEST_NUMBER table.last ≡ used → IsOneOf (verdict_on (Ok table))
+one_of (Ok table) = by_tests (nat_le MAX_LIVE (live_count table)) (nat_le LAST_NUMBER table.last) refl refl where
+  by_tests : (full used : Bool) → nat_le MAX_LIVE (live_count table) ≡ full → nat_le LAST_NUMBER table.last ≡ used → IsOneOf (verdict_on (Ok table))
   by_tests true used is_full is_used = inr (inl (verdict_by table true used is_full is_used))
   by_tests false true is_full is_used = inr (inr (verdict_by table false true is_full is_used))
   by_tests false false is_full is_used = inl (verdict_by table false false is_full is_used)
@@ -80,34 +82,3 @@ pub memory_early : IsEarly Memory
 memory_early = (tt, inr (inl refl), inr (inl refl))
 
 -- as many jobs live on a table without its scripts
-
-below_bare : (key : ℕ) (list : List (ℕ × JobEntry)) → below_all nat_cmp key (bare_entries list) ≡ below_all nat_cmp key list
-below_bare key [] = refl
-below_bare key (first ∷ later) = ap (λ rest. is_lt (nat_cmp key first.0) && rest) (below_bare key later)
-
-sorted_bare : (list : List (ℕ × JobEntry)) → is_sorted nat_cmp (bare_entries list) ≡ is_sorted nat_cmp list
-sorted_bare [] = refl
-sorted_bare (first ∷ later) = ap (λ below. below && is_sorted nat_cmp (bare_entries later)) (below_bare first.0 later) ∙ ap (λ rest. below_all nat_cmp first.0 later && rest) (sorted_bare later)
-
--- the entries of a table without scripts are its entries without them
-listed_bare : (list : JobEntries) → entries (from_entries {R = nat_cmp} (bare_entries (entries list))) ≡ bare_entries (entries list)
-listed_bare list =
-    same_entries nat_cmp nat_cmp_total nat_cmp-IsAntisymmetric (entries (from_entries (bare_entries (entries list)))) (bare_entries (entries list))
-    (entries_sorted (from_entries (bare_entries (entries list)))) (subst T (sym (sorted_bare (entries list))) (entries_sorted list))
-    (λ number. sym (get-entries (from_entries (bare_entries (entries list))) number) ∙ get-from_entries nat_cmp_total (bare_entries (entries list)) number)
-
--- as many of them live
-lives_bare : (entry : JobEntry) → is_live (bare_entry entry) ≡ is_live entry
-lives_bare (Live job state) = refl
-lives_bare (Done fate) = refl
-
-count_bare : (list : List (ℕ × JobEntry)) → length (filter (λ (e : ℕ × JobEntry). is_live e.1) (bare_entries list)) ≡ length (filter (λ (e : ℕ × JobEntry). is_live e.1) list)
-count_bare [] = refl
-count_bare (first ∷ later) = by_test (is_live first.1) (lives_bare first.1) (count_bare later) where
-  by_test : (lives : Bool) → is_live (bare_entry first.1) ≡ lives → length (filter (λ (e : ℕ × JobEntry). is_live e.1) (bare_entries later)) ≡ length (filter (λ (e : ℕ × JobEntry). is_live e.1) later) → length (filter (λ (e : ℕ × JobEntry). is_live e.1) (bare_entries (first ∷ later))) ≡ length (cond lives (first ∷ filter (λ (e : ℕ × JobEntry). is_live e.1) later) (filter (λ (e : ℕ × JobEntry). is_live e.1) later))
-  by_test true is rest = rw is (ap suc rest)
-  by_test false is rest = rw is rest
-
-pub live_count_bare : (table : JobTable) → live_count (bare table) ≡ live_count table
-unfolding bare
-live_count_bare table = ap (λ (list : List (ℕ × JobEntry)). length (filter (λ (e : ℕ × JobEntry). is_live e.1) list)) (listed_bare table.entries) ∙ count_bare (entries table.entries)

@@ -5,7 +5,7 @@ use Rattle.std.proofs.lemmas.List.{append-nil}
 use Rattle.listing_text.specs.declared.cause.Cause.{Cause}
 use Rattle.listing_text.specs.declared.cause.Cause.TheVariants.{Done, Refused, FileFault, InputFault, OutputFault, Busy, Memory, Damaged, StillRunning}
 use Rattle.listing_text.specs.Cause.{cause_line_of}
-use Rattle.at_commands.specs.Storing.{ComesOfSession}
+use Rattle.at_commands.specs.inside.Storing.{ComesOfSession}
 use Rattle.at_commands.specs.Texts.{SinkAt, IsSilent, IsPutInPart, IsPutOrCut, SaysCause, SubmissionSays, CutsAcceptedLine}
 use Rattle.at_commands.specs.Verdict.{ComesOfAsking}
 

@@ -9,10 +9,11 @@ use Rattle.host_calls.proofs.WorldLemmas.{leaves_none, leaves_then, leaves_weake
 use Rattle.whole_file.specs.Others.{ChangesFiles}
 use Rattle.whole_file.proofs.OthersLemmas.{changes_none}
 use Rattle.spool_model.specs.declared.job.Job.{Job}
-use Rattle.spool_model.specs.declared.number.TheConstants.{GREATEST_NUMBER}
+use Rattle.spool_model.specs.declared.number.TheConstants.{LAST_NUMBER}
 use Rattle.spool_model.specs.JobTable.{JobTable}
 use Rattle.spool_model.specs.Users.{IsUserName}
 use Rattle.spool_shows.specs.Shown.{shown_by}
+use Rattle.spool_shows.proofs.SoundTables.{shown_tables_are_sound}
 use Rattle.job_runs.specs.Attempts.{Achieves, Attempts, IsBegun, IsUnbegun}
 use Rattle.job_runs.specs.Bare.{bare}
 use Rattle.job_runs.specs.Calls.{IsSteppingOn, KeepsOthers, ShowsAsBefore, StoreCall}
@@ -24,15 +25,20 @@ use Rattle.listing_text.specs.declared.cause.Cause.TheVariants as cause
 use Rattle.listing_text.specs.declared.refusal.Refusal.TheVariants as refusal
 use Rattle.spool_store.specs.declared.fault.StoreFault.{StoreFault}
 use Rattle.spool_store.specs.declared.fault.StoreFault.TheVariants.{Damaged, FileFault, Memory, NumbersUsedUp, QueueFull}
-use Rattle.spool_store.specs.Faults.{IfDamaged, IsOfReading}
+use Rattle.host_calls.specs.Damages.{IfDamaged}
+use Rattle.spool_store.specs.Faults.{IsOfReading}
 use Rattle.spool_store.specs.Recovering.{IsRecovered, Recovered}
-use Rattle.spool_store.specs.Submitting.{HasRoom, IsAnswerOn, IsFull, IsUsedUp, job_of_script, kept_of, live_count, submission}
+use Rattle.spool_store.specs.Submitting.{HasRoom, IsAnswerOn, IsFull, IsUsedUp, job_of_script, kept_of, submission}
+use Rattle.spool_model.specs.Lists.{live_count}
+use Rattle.spool_store.proofs.SubmitStored.{submission_legal}
 use Rattle.at_commands.specs.Command.{IsRefused, IsSubmissionOf, job_of}
 use Rattle.at_commands.specs.JobText.{job_text_of}
-use Rattle.at_commands.specs.Storing.{SessionEnds, Stores, as_caused, cause_of}
+use Rattle.at_commands.specs.inside.Storing.{SessionEnds, Stores, as_caused, cause_of}
 use Rattle.at_commands.specs.Verdict.{KeepsOrder}
-use Rattle.at_commands.proofs.RoomLemmas.{busy_early, damaged_early, file_fault_early, full_refused, keeps_early, live_count_bare, memory_early, room_accepted, used_up_refused}
+use Rattle.at_commands.proofs.RoomLemmas.{busy_early, damaged_early, file_fault_early, full_refused, keeps_early, memory_early, room_accepted, used_up_refused}
+use Rattle.job_runs.proofs.ListLemmas.{lists_as_on_the_table}
 use Rattle.at_commands.proofs.TextLemmas.{job_of_text}
+use Rattle.spool_store.specs.declared.submitting.TheConstants.{MAX_LIVE}
 
 -- nothing is handed over
 pub goes_on_none : (old new : World) → new ≡ old → GoesOn old new
@@ -90,7 +96,7 @@ stores_no_memory tells alone job old new same = record {
 
 -- A recovery that gave no store.
 
-pub stores_unrecovered : (tells : Bool) (job : Job) (old new : World) (fault : StoreFault) → IsOfReading fault → (tells ≡ true → ChangesFiles (ShowsAsBefore old.now.folder) old new) → (tells ≡ true → Recovered old.now.folder new.now.folder (Err fault)) → (tells ≡ true → IfDamaged {T = Kept} (λ damage. reading new ≡ reading old) (Err fault)) → Stores tells true job old new (Err (cause_of fault))
+pub stores_unrecovered : (tells : Bool) (job : Job) (old new : World) (fault : StoreFault) → IsOfReading fault → (tells ≡ true → ChangesFiles (ShowsAsBefore old.now.folder) old new) → (tells ≡ true → Recovered old.now.folder new.now.folder (Err fault)) → (tells ≡ true → IfDamaged {T = Kept} Damaged (λ damage. reading new ≡ reading old) (Err fault)) → Stores tells true job old new (Err (cause_of fault))
 stores_unrecovered tells job old new FileFault of_reading changes recovered untouched = record {
   shown = shown_by (reading old);
   told = λ told is_alone. refl;
@@ -107,7 +113,7 @@ stores_unrecovered tells job old new (Damaged damage) of_reading changes recover
   shown = shown_by (reading old);
   told = λ told is_alone. refl;
   answer = (keeps_early (shown_by (reading old)) (cause.Damaged damage) (damaged_early damage), tt);
-  spool = λ told is_alone. (recovered told, recoveries_begin_nothing old new (changes told), untouched told);
+  spool = λ told is_alone. (recovered told, recoveries_begin_nothing old new (changes told), untouched told damage refl);
 }
 stores_unrecovered tells job old new QueueFull of_reading changes recovered untouched = absurd of_reading
 stores_unrecovered tells job old new NumbersUsedUp of_reading changes recovered untouched = absurd of_reading
@@ -131,7 +137,7 @@ shows_kept true kept old middle recovered =
     record {
       shown = is.table;
       told = λ told. sym is.shown;
-      live = sym (ap live_count is.current.bare_is ∙ live_count_bare is.table);
+      live = sym (ap live_count is.current.bare_is ∙ (lists_as_on_the_table is.table).live_counted);
       last = sym (ap (λ (table : JobTable). table.last) is.current.bare_is ∙ bare_last is.table);
     }
 shows_kept false kept old middle recovered = record { shown = kept.table; told = λ told. (let impossible : false ≡ true = told in cc); live = refl; last = refl }
@@ -139,16 +145,16 @@ shows_kept false kept old middle recovered = record { shown = kept.table; told =
 -- what is said of one table holds of the other
 room_shown : (one other : JobTable) → live_count one ≡ live_count other → one.last ≡ other.last → HasRoom other → HasRoom one
 room_shown one other live last has = record {
-  room = subst (λ count. count < 10000) (sym live) has.room;
-  more = subst (λ number. number < GREATEST_NUMBER) (sym last) has.more;
+  room = subst (λ count. count < MAX_LIVE) (sym live) has.room;
+  more = subst (λ number. number < LAST_NUMBER) (sym last) has.more;
 }
 
 full_shown : (one other : JobTable) → live_count one ≡ live_count other → IsFull other → IsFull one
-full_shown one other live full = subst (λ count. 10000 ≤ count) (sym live) full
+full_shown one other live full = subst (λ count. MAX_LIVE ≤ count) (sym live) full
 
 used_up_shown : (one other : JobTable) → live_count one ≡ live_count other → one.last ≡ other.last → IsUsedUp other → IsUsedUp one
 used_up_shown one other live last used = record {
-  room = subst (λ count. count < 10000) (sym live) used.room;
+  room = subst (λ count. count < MAX_LIVE) (sym live) used.room;
   greatest = last ∙ used.greatest;
 }
 
@@ -167,19 +173,20 @@ module _ (tells : Bool) (job : Job) (kept : Kept) (old middle new : World) (resu
   made : StoreCall shown_table (submission shown_table job) middle new (kept_of result)
   made = is.call told shown_table (is.recovered told).current
 
-  begun : IsBegun shown_table (submission shown_table job) old new
-  begun =
+  begun : HasRoom shown_table → IsBegun shown_table (submission shown_table job) old new
+  begun room =
       runs_behind_recoveries shown_table (submission shown_table job) old middle new (is.recovered told).shown (is.changes told)
+      (submission_legal shown_table job (shown_tables_are_sound (reading old) shown_table (is.recovered told).shown) room.more)
       (calls_are_runs shown_table (submission shown_table job) middle new tt (is.recovered told).current.shows made.files)
 
   has_room : HasRoom kept.table → HasRoom shown_table
   has_room room =
       let current : IsCurrent kept middle.now.folder shown_table = (is.recovered told).current in
-      room_shown shown_table kept.table (sym (ap live_count current.bare_is ∙ live_count_bare shown_table))
+      room_shown shown_table kept.table (sym (ap live_count current.bare_is ∙ (lists_as_on_the_table shown_table).live_counted))
       (sym (ap (λ (table : JobTable). table.last) current.bare_is ∙ bare_last shown_table)) room
 
   attempted : HasRoom kept.table → Attempts (IsSubmissionOf job) old new
-  attempted room = inr (shown_table, submission shown_table job, (has_room room, refl), begun)
+  attempted room = inr (shown_table, submission shown_table job, (has_room room, refl), begun (has_room room))
 
 -- it was accepted
 achieved : (tells : Bool) (job : Job) (kept store : Kept) (number : ℕ) (old middle new : World) → IsSubmitted tells job kept old middle new (Ok (store, number)) → tells ≡ true → HasRoom kept.table → Achieves (IsSubmissionOf job) old new
@@ -191,7 +198,7 @@ achieved tells job kept store number old middle new is told room =
       submission table job,
       (has_room tells job kept old middle new (Ok (store, number)) is told room, refl),
       record {
-        begun = begun tells job kept old middle new (Ok (store, number)) is told;
+        begun = begun tells job kept old middle new (Ok (store, number)) is told (has_room tells job kept old middle new (Ok (store, number)) is told room);
         whole = call.current.shows;
         others = others;
       },

@@ -10,6 +10,7 @@ use Rattle.job_runs.specs.Attempts.{Achieves, Attempts, IsUnbegun}
 use Rattle.listing_text.specs.declared.cause.Cause.{Cause}
 use Rattle.listing_text.specs.declared.cause.Cause.TheVariants.{Done, Refused, FileFault, InputFault, OutputFault, Busy, Memory, Damaged, StillRunning}
 use Rattle.listing_text.specs.declared.refusal.Refusal.{Refusal}
+use Rattle.job_script.specs.declared.writer.TheConstants.{MAX_COMMANDS}
 use Rattle.spool_model.specs.declared.job.Job.{Job}
 use Rattle.spool_model.specs.declared.step.Step.{Step}
 use Rattle.spool_model.specs.JobTable.{JobTable}
@@ -18,7 +19,8 @@ use Rattle.spool_store.specs.Submitting.{HasRoom, submission}
 use Rattle.at_commands.specs.declared.words.Tool.{Tool}
 use Rattle.at_commands.specs.JobText.{job_text_of}
 use Rattle.at_commands.specs.Texts.{SinkAt, IsAcceptedLine, SubmissionSays, sink_at}
-use Rattle.at_commands.specs.Verdict.{KeepsOrder, clock_read, minute_at, place_of_refusal, whole_verdict}
+use Rattle.at_commands.specs.Verdict.{KeepsOrder, clock_read, place_of_refusal, whole_verdict}
+use Rattle.clock_range.specs.ClockRange.{minute_at}
 use Rattle.at_commands.specs.Words.{name_of, tool_of}
 
 -- the name of the tool in the words, or of at where they name none
@@ -102,13 +104,15 @@ next_number (Err damage) = 0
 
 -- A submission with `at now`, over some answer of the clock, some commands, and a table or a damage that the
 -- folder shows. They are those that were told.
-pub record Submits (words : List (List ℕ)) (user : List ℕ) (zone : Zone) (tells : Telling) (before after : Holding) (cause : Cause) : Type 0 where
+pub record Submits (words : List (List ℕ)) (user : List ℕ) (zone : Zone)
+    (tells : Telling) (before after : Holding) (cause : Cause) : Type 0 where
   pub now : ℤ
   pub commands : List ℕ
   pub shown : Result JobTable Damage
   pub clock : tells.clock ≡ true → after.answers ≡ clock_read words now before.answers
-  pub input : tells.input ≡ true → commands ≡ take 1048577 before.contents.standard
+  pub input : tells.input ≡ true → commands ≡ take (MAX_COMMANDS + 1) before.contents.standard
   pub table : tells.files ≡ true → tells.alone ≡ true → shown ≡ shown_by (reading before.spool)
   pub order : KeepsOrder (whole_verdict (record { words = words; zone = zone; now = now; commands = commands }) shown) cause
   pub spool : tells.files ≡ true → tells.alone ≡ true → SpoolEnds (job_of user (minute_at now) commands) before.spool after.spool cause
-  pub says : tells.errors ≡ true → SubmissionSays (tool_name_of words) (IsAcceptedLine (next_number shown) (minute_at now) zone) cause before.errors after.errors
+  pub says : tells.errors ≡ true → SubmissionSays (tool_name_of words) (IsAcceptedLine (next_number shown) (minute_at now) zone)
+      cause before.errors after.errors

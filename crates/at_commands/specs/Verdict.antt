@@ -1,5 +1,5 @@
 -- The verdict: the refusal that stands earliest in the order of checks, or none. Faults of the outside are not in it.
-use Rattle.std.specs.Prelude.{◌≡◌, ◌⊎◌, ◌<◌, ◌/◌, [], ◌∷◌, ℕ, ℤ, pos, negsuc, Bool, true, false, List, Option, Some, None, Result, Ok, Err, length, take, nat_le, nat_lt, if◌then◌else◌}
+use Rattle.std.specs.Prelude.{◌+◌, ◌≡◌, ◌⊎◌, ◌<◌, ◌/◌, [], ◌∷◌, ℕ, ℤ, pos, negsuc, Bool, true, false, List, Option, Some, None, Result, Ok, Err, length, take, nat_le, nat_lt, if◌then◌else◌}
 use Rattle.civil_minute.specs.declared.zone.Zone.{Zone}
 use Rattle.civil_minute.specs.declared.zone.Zone.TheVariants.{Utc, Rules, Unreadable}
 use Rattle.listing_text.specs.declared.cause.Cause.{Cause}
@@ -9,11 +9,14 @@ use Rattle.listing_text.specs.declared.refusal.Refusal.TheVariants.{Usage, NotAl
 use Rattle.host_calls.specs.declared.damage.Damage.{Damage}
 use Rattle.host_calls.specs.Clock.{Answers, with_now}
 use Rattle.host_calls.specs.Inputs.{Contents}
-use Rattle.spool_model.specs.declared.number.TheConstants.{GREATEST_NUMBER}
+use Rattle.job_script.specs.declared.writer.TheConstants.{MAX_COMMANDS}
+use Rattle.spool_model.specs.declared.number.TheConstants.{LAST_NUMBER}
 use Rattle.spool_model.specs.JobTable.{JobTable}
-use Rattle.spool_store.specs.Submitting.{live_count}
+use Rattle.spool_model.specs.Lists.{live_count}
 use Rattle.at_commands.specs.declared.submission.Submission.{Submission}
 use Rattle.at_commands.specs.Words.{asks_now}
+use Rattle.clock_range.specs.ClockRange.{is_clock_second, minute_at}
+use Rattle.spool_store.specs.declared.submitting.TheConstants.{MAX_LIVE}
 
 -- what a verdict rests on: the words, the caller's zone, the clock's answer and the commands that were read
 pub record Asked : Type 0 where
@@ -21,11 +24,6 @@ pub record Asked : Type 0 where
   pub zone : Zone
   pub now : ℤ
   pub commands : List ℕ
-
--- the second lies in the clock's range: from 1970 to the end of 9998, in UTC
-abbrev pub is_clock_second : ℤ → Bool
-is_clock_second (pos second) = nat_le second 253370764799
-is_clock_second (negsuc second) = false
 
 -- the words are no request
 abbrev pub usage_check : Asked → Option Refusal
@@ -44,9 +42,9 @@ is_unreadable Unreadable = true
 abbrev pub zone_check : Asked → Option Refusal
 zone_check asked = if is_unreadable asked.zone then Some BadZone else None
 
--- there are more than 1,048,576 bytes of commands
+-- there are more bytes of commands than a job may have
 abbrev pub length_check : Asked → Option Refusal
-length_check asked = if nat_lt 1048576 (length asked.commands) then Some TooLong else None
+length_check asked = if nat_lt MAX_COMMANDS (length asked.commands) then Some TooLong else None
 
 -- the first refusal of the checks, in their order
 abbrev pub first_refusal : List (Option Refusal) → Option Refusal
@@ -60,12 +58,12 @@ verdict_of asked = first_refusal (usage_check asked ∷ (clock_check asked ∷ (
 
 -- 10,000 jobs or more live on the table that the folder shows
 abbrev pub room_check : Result JobTable Damage → Option Refusal
-room_check (Ok table) = if nat_le 10000 (live_count table) then Some QueueFull else None
+room_check (Ok table) = if nat_le MAX_LIVE (live_count table) then Some QueueFull else None
 room_check (Err damage) = None
 
 -- the greatest number was drawn
 abbrev pub number_check : Result JobTable Damage → Option Refusal
-number_check (Ok table) = if nat_le GREATEST_NUMBER table.last then Some NumbersUsedUp else None
+number_check (Ok table) = if nat_le LAST_NUMBER table.last then Some NumbersUsedUp else None
 number_check (Err damage) = None
 
 -- the verdict of a submission on what the folder shows
@@ -129,11 +127,6 @@ KeepsOrder None cause = IsNoRefusal cause
 KeepsOrder (Some refusal) cause =
     (cause ≡ Refused refusal) ⊎ ((cause ≡ Memory) ⊎ ComesBefore cause (place_of_refusal refusal))
 
--- the minute in which a second lies
-abbrev pub minute_at : ℤ → ℕ
-minute_at (pos second) = second / 60
-minute_at (negsuc second) = 0
-
 -- the clock is read where the words are a request
 abbrev pub clock_read : List (List ℕ) → ℤ → Answers → Answers
 clock_read words now answers = if asks_now words then with_now now answers else answers
@@ -162,9 +155,10 @@ AskingEnds asked (Ok submission) = IsSubmission asked submission
 AskingEnds asked (Err cause) = KeepsOrder (verdict_of asked) cause × ComesOfAsking cause
 
 -- the checks before a session, over what the clock answered and the inputs hold, where those are told
-pub record Asks (readings_tell inputs_tell : Bool) (words : List (List ℕ)) (zone : Zone) (before after : Answers) (contents : Contents) (result : Result Submission Cause) : Type 0 where
+pub record Asks (readings_tell inputs_tell : Bool) (words : List (List ℕ)) (zone : Zone) (before after : Answers)
+    (contents : Contents) (result : Result Submission Cause) : Type 0 where
   pub now : ℤ
   pub commands : List ℕ
   pub clock : readings_tell ≡ true → after ≡ clock_read words now before
-  pub input : inputs_tell ≡ true → commands ≡ take 1048577 contents.standard
+  pub input : inputs_tell ≡ true → commands ≡ take (MAX_COMMANDS + 1) contents.standard
   pub ends : AskingEnds (record { words = words; zone = zone; now = now; commands = commands }) result

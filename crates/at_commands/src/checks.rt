@@ -2,22 +2,18 @@
 ghost use Rattle.std.specs.Prelude.{◌≡◌, ◌≤◌, ◌*◌, ◌↔◌, true, IsTrue, IsErrOf, MatchResult, Err, OnErr, map, string_bytes, length};
 ghost use Rattle.host_calls.specs.Causes.{HasCause};
 ghost use Rattle.at_commands.specs.Words.{asks_now};
-ghost use Rattle.at_commands.specs.Verdict.{Asks, is_clock_second, is_unreadable, minute_at};
+ghost use Rattle.at_commands.specs.Verdict.{Asks, is_unreadable};
 
 use crate::submission::Submission;
 use crate::words::asks_now;
 use civil_minute::Zone;
+use clock_range::{is_clock_second, minute_at};
 use host_calls::{InputFault, Inputs, Readings};
+use job_script::MAX_COMMANDS;
 use listing_text::{Cause, Refusal};
 use std::alloc::Global;
 
-/// The greatest length of the commands of a job.
-pub const MAX_COMMANDS: usize = 1_048_576;
-
-/// The last second of the clock's range, which is the last of 9998 in UTC.
-pub const LAST_SECOND: i64 = 253_370_764_799;
-
-/// Checks the words, the clock, the zone and the commands, in this order.
+// Checks the words, the clock, the zone and the commands, in this order.
 pub(crate) fn ask<R: Readings, I: Inputs>(
     alloc: Global,
     words: &[String],
@@ -37,7 +33,7 @@ pub(crate) fn ask<R: Readings, I: Inputs>(
         return Err(Cause::Refused(Refusal::Usage));
     }
     let now = readings.now();
-    if !is_in_range(now) {
+    if !is_clock_second(now) {
         return Err(Cause::Refused(Refusal::BadClock));
     }
     if is_unreadable(zone) {
@@ -52,7 +48,7 @@ pub(crate) fn ask<R: Readings, I: Inputs>(
         return Err(Cause::Refused(Refusal::TooLong));
     }
     Ok(Submission {
-        minute: minute_of(now),
+        minute: minute_at(now),
         commands,
     })
 }
@@ -61,18 +57,4 @@ fn is_unreadable(zone: &Zone) -> bool
     ensures { result ≡ is_unreadable zone.now }
 {
     matches!(zone, Zone::Unreadable)
-}
-
-fn is_in_range(second: i64) -> bool
-    ensures { result ≡ is_clock_second second }
-{
-    (0..=LAST_SECOND).contains(&second)
-}
-
-fn minute_of(second: i64) -> u32
-    requires { is_clock_second second ≡ true }
-    ensures value { result ≡ minute_at second }
-    ensures in_calendar { result ≤ 4222846079 }
-{
-    (second / 60) as u32
 }

@@ -6,7 +6,7 @@ use host_calls::Bytes;
 use spool_model::UserName;
 use std::alloc::{AllocError, Global};
 
-/// The text of a job of this user, which sends no mail, with these commands.
+// The text of a job of this user, which sends no mail, with these commands.
 pub(crate) fn job_text(alloc: Global, user: &UserName, commands: &[u8]) -> Result<Bytes, AllocError>
     ensures { IfOk result (λ text. text ≡ job_text_of user.now commands.now) }
 {

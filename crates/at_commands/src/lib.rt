@@ -11,6 +11,6 @@ mod tools;
 mod words;
 
 pub use caller::Caller;
-pub use checks::{LAST_SECOND, MAX_COMMANDS};
+pub use job_script::MAX_COMMANDS;
 pub use tools::command;
 pub use words::Tool;

@@ -1,4 +1,5 @@
 //! What a command puts on the sink for errors.
+ghost use Rattle.clock_range.specs.ClockRange.{IsClockMinute};
 ghost use Rattle.std.specs.Prelude.{◌≡◌, ◌⊎◌, ◌≤◌, IsTrue};
 ghost use Rattle.civil_minute.specs.Zone.{IsReadable};
 ghost use Rattle.host_calls.specs.Causes.{HasCause};
@@ -9,7 +10,7 @@ use host_calls::{Sink, SinkFault};
 use listing_text::{Cause, accepted_line, cause_line, date_text};
 use std::alloc::Global;
 
-/// Puts the line of a job that was accepted.
+// Puts the line of a job that was accepted.
 pub(crate) fn say_accepted<E: Sink>(
     alloc: Global,
     number: u32,
@@ -17,7 +18,7 @@ pub(crate) fn say_accepted<E: Sink>(
     zone: &Zone,
     err: &mut E,
 ) -> Result<(), SinkFault>
-    requires minute { minute ≤ 4222846079 }
+    requires minute { IsClockMinute minute }
     requires zone { IsReadable zone.now }
     ensures made_as { (E.outlet err.new).made_as ≡ (E.outlet err.old).made_as }
     ensures cause { HasCause SinkFault.Failed (E.outlet err.old).sink_faults (E.outlet err.new).sink_faults result }
@@ -29,7 +30,7 @@ pub(crate) fn say_accepted<E: Sink>(
     err.put(alloc, line.as_slice())
 }
 
-/// Puts the line of a cause, and answers it, or want of memory where the line found none.
+// Puts the line of a cause, and answers it, or want of memory where the line found none.
 pub(crate) fn say_cause<E: Sink>(alloc: Global, tool: &str, cause: Cause, err: &mut E) -> Cause
     ensures made_as { (E.outlet err.new).made_as ≡ (E.outlet err.old).made_as }
     ensures later { (E.outlet err.old).sink_faults ≤ (E.outlet err.new).sink_faults }

@@ -1,13 +1,14 @@
 //! The session of a submission.
+ghost use Rattle.clock_range.specs.ClockRange.{IsClockMinute};
 ghost use Rattle.std.specs.Prelude.{◌≡◌, ◌≤◌, true, IfErr, IsErrOf, IsSome, IsTrue};
-ghost use Rattle.host_calls.specs.Causes.{HasCause, Rose};
-ghost use Rattle.host_calls.specs.Session.{IsInside, IsLeft, IsOutside, StaysInside};
+ghost use Rattle.host_calls.specs.Causes.{Rose};
+ghost use Rattle.host_calls.specs.Session.{CallsInside, IsInside, IsLeft, IsOutside};
 ghost use Rattle.host_calls.specs.World.{GoesOn};
 ghost use Rattle.job_script.specs.HeaderIn.{header_in};
 ghost use Rattle.spool_model.specs.Users.{IsUserName};
 ghost use Rattle.spool_store.specs.Submitting.{job_of_script};
 ghost use Rattle.at_commands.specs.Command.{job_of};
-ghost use Rattle.at_commands.specs.Storing.{ComesOfSession, Stores, as_caused, cause_of};
+ghost use Rattle.at_commands.specs.inside.Storing.{ComesOfSession, Stores, as_caused, cause_of};
 
 use crate::Caller;
 use crate::job_text::job_text;
@@ -18,7 +19,7 @@ use spool_model::UserName;
 use spool_store::{Store, StoreFault};
 use std::alloc::Global;
 
-/// Makes the job of a submission and stores it. Answers its number.
+// Makes the job of a submission and stores it. Answers its number.
 pub(crate) fn store_submission<H: Host>(
     alloc: Global,
     caller: &Caller,
@@ -56,7 +57,7 @@ pub(crate) fn store_submission<H: Host>(
     }
 }
 
-/// Recovers the store, and submits a job of queue `a` to it. Answers its number.
+// Recovers the store, and submits a job of queue `a` to it. Answers its number.
 fn submit<H: Host>(
     alloc: Global,
     host: &mut H,
@@ -64,11 +65,9 @@ fn submit<H: Host>(
     script: &[u8],
 ) -> Result<u32, StoreFault>
     requires inside { IsInside (H.session host.old) }
-    requires minute { minute ≤ 4222846079 }
+    requires minute { IsClockMinute minute }
     requires header { IsSome (header_in script.now) }
-    ensures inside { StaysInside (H.session host.old) (H.session host.new) }
-    ensures cause { HasCause StoreFault.FileFault
-        (H.session host.old).file_faults (H.session host.new).file_faults result }
+    ensures inside { CallsInside StoreFault.FileFault (H.session host.old) (H.session host.new) result }
     ensures quiet { IsTrue H.tells → GoesOn (H.world host.old) (H.world host.new) }
     ensures stores { Stores H.tells true (job_of_script 97 minute script.now)
         (H.world host.old) (H.world host.new) (as_caused result) }
@@ -78,7 +77,7 @@ fn submit<H: Host>(
     Ok(number)
 }
 
-/// A fault of the store, as the cause of a command.
+// A fault of the store, as the cause of a command.
 fn cause_of(fault: StoreFault) -> Cause
     ensures { result ≡ cause_of fault }
 {

@@ -1,5 +1,5 @@
 //! What `at now` submits.
-ghost use Rattle.std.specs.Prelude.{◌≤◌};
+ghost use Rattle.clock_range.specs.ClockRange.{IsClockMinute};
 
 use host_calls::Bytes;
 
@@ -8,5 +8,5 @@ use host_calls::Bytes;
 pub struct Submission {
     pub minute: u32,
     pub commands: Bytes,
-    ghost in_calendar: { minute ≤ 4222846079 },
+    ghost in_calendar: { IsClockMinute minute },
 }

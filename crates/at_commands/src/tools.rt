@@ -7,7 +7,7 @@ ghost use Rattle.host_calls.specs.World.{GoesOn};
 ghost use Rattle.listing_text.specs.Cause.{status_of};
 ghost use Rattle.spool_model.specs.Users.{IsUserName};
 ghost use Rattle.at_commands.specs.Command.{Submits, holding, job_of, telling, tool_name_of};
-ghost use Rattle.at_commands.specs.Storing.{Carries};
+ghost use Rattle.at_commands.specs.inside.Storing.{Carries};
 ghost use Rattle.at_commands.specs.Texts.{sink_at};
 
 use crate::Caller;
@@ -70,7 +70,7 @@ pub fn command<H: Host, R: Readings, I: Inputs, O: Sink, E: Sink>(
     }
 }
 
-/// Stores the job of a submission, and says so.
+// Stores the job of a submission, and says so.
 fn carry_out<H: Host, E: Sink>(
     alloc: Global,
     tool: &str,
@@ -106,7 +106,7 @@ fn carry_out<H: Host, E: Sink>(
     }
 }
 
-/// The name of the tool that the words name, or of `at`.
+// The name of the tool that the words name, or of `at`.
 fn tool_name(words: &[String]) -> &'static str
     ensures { result.now ≡ tool_name_of (map string_bytes words.now) }
 {

@@ -14,6 +14,7 @@ pub enum Tool {
 }
 
 impl Tool {
+    /// The name by which the tool is called, as it begins its lines.
     pub const fn name(self) -> &'static str
         ensures { result.now ≡ name_of self }
     {
@@ -72,7 +73,7 @@ fn tool_named(name: &[u8]) -> Option<Tool>
     }
 }
 
-/// What stands behind the last slash.
+// What stands behind the last slash.
 fn last_part(word: &str) -> &[u8]
     ensures { result.now ≡ last_part word.now }
 {

@@ -23,7 +23,7 @@ fn main(rt: HostRuntime) -> ExitCode {
     }
 }
 
-/// Runs the command that the arguments ask for on standard input, and gives its exit status.
+// Runs the command that the arguments ask for on standard input, and gives its exit status.
 fn run(rt: &HostRuntime) -> Result<u8> {
     let words = env::args(rt)?.collect::<Vec<String>>(rt.alloc())?;
     let input = read_all(rt)?;
@@ -33,14 +33,14 @@ fn run(rt: &HostRuntime) -> Result<u8> {
     Ok(code)
 }
 
-/// All of standard input.
+// All of standard input.
 fn read_all(rt: &HostRuntime) -> io::Result<Vec<u8>> {
     let mut input = Vec::new(rt.alloc());
     rt.reader().read_to_end(&mut input)?;
     Ok(input)
 }
 
-/// Copies what was put on the sinks to standard output and standard error.
+// Copies what was put on the sinks to standard output and standard error.
 fn show(rt: &HostRuntime, memory: &Outside) -> Result<()> {
     io::writer(rt).write_all(memory.out.content())?;
     let lines = str::from_utf8(memory.err.content()).context("an error line is no text")?;

@@ -69,7 +69,7 @@ pub fn answer(alloc: Global, words: &[String], outside: &mut Outside) -> Result<
     Ok(status.code)
 }
 
-/// A spool folder with an empty list of users who may not use `at`.
+// A spool folder with an empty list of users who may not use `at`.
 fn spool(alloc: Global, plan: Plan) -> Result<MemoryHost, AllocError>
     ensures { IfOk result (λ host. IsOutside (memory_session host)) }
 {

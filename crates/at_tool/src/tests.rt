@@ -18,7 +18,7 @@ const SECOND: &[u8] = b"job 2 at Wed Jan  1 00:00:00 2025\n";
 
 const JOB: &[u8] = b"#!/bin/sh\n# at user=ann mail=0\necho hi\n";
 
-/// Runs two words, of which the first names the tool, and gives the exit status.
+// Runs two words, of which the first names the tool, and gives the exit status.
 fn run(alloc: Global, tool: &str, word: &str, memory: &mut Outside) -> Result<u8, AllocError>
     requires { IsOutside (memory_session memory.old.host) }
     ensures { IsOutside (memory_session memory.new.host) }
@@ -29,7 +29,7 @@ fn run(alloc: Global, tool: &str, word: &str, memory: &mut Outside) -> Result<u8
     answer(alloc, &words, memory)
 }
 
-/// An outside whose spool keeps this file besides an empty list of users who may not use `at`.
+// An outside whose spool keeps this file besides an empty list of users who may not use `at`.
 fn keeping(rt: &impl Abort, alloc: Global, name: &str, text: &str) -> Result<Outside, AllocError>
     ensures { IfOk result (λ made. IsOutside (memory_session made.host)) }
 {

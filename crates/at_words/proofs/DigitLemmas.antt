@@ -8,7 +8,7 @@ use Rattle.std.proofs.lemmas.Bool.{cases_lt}
 use Rattle.std.proofs.lemmas.Bool.Decides.{nat_tests}
 use Rattle.std.proofs.lemmas.Str.Parse.{IsNumeralModel, numerals_by_fold, parse_digits}
 use Rattle.clap.proofs.WalkLemmas.{both}
-use Rattle.at_words.specs.Digits.{are_digits, digits_behind, number_in, number_of, within}
+use Rattle.at_words.specs.Digits.{are_decimal_digits, digits_behind, decimal_in, decimal_of, within}
 
 -- digits and the number that they write, for `parse`
 own_numerals : IsNumeralModel (λ digits. list_all is_ascii_digit digits ≡ true) (digits_behind 0)
@@ -23,21 +23,21 @@ beyond : (least greatest number : ℕ) → greatest < number → within least gr
 beyond least greatest number past = grind (arith, nat_tests)
 
 -- where `parse` reads a number, it is the one that the digits write
-pub number_in-Ok : (most least greatest : ℕ) (text : List ℕ) (number : ℕ) → are_digits most text ≡ true → ParsesUnsigned {E = ℕ} 64 10 text (Ok number) → within least greatest number ≡ number_in most least greatest text
-number_in-Ok most least greatest text number digits parsed =
+pub decimal_in-Ok : (most least greatest : ℕ) (text : List ℕ) (number : ℕ) → are_decimal_digits most text ≡ true → ParsesUnsigned {E = ℕ} 64 10 text (Ok number) → within least greatest number ≡ decimal_in most least greatest text
+decimal_in-Ok most least greatest text number digits parsed =
     let parts = both (nat_le 1 (length text) && nat_le (length text) most) (list_all is_ascii_digit text) digits in
     let read = parse_digits own_numerals {E = ℕ} 64 text (Ok number) parsed parts.1 in
     rw digits (ap (within least greatest) read.1)
 
 -- where it reads none, the number is beyond each that fits
-pub number_in-Err : (most least greatest : ℕ) (text : List ℕ) → are_digits most text ≡ true → greatest < 2 ^ 64 → ParsesUnsigned {E = ℕ} 64 10 text (Err 0) → None ≡ number_in most least greatest text
-number_in-Err most least greatest text digits fits parsed =
+pub decimal_in-Err : (most least greatest : ℕ) (text : List ℕ) → are_decimal_digits most text ≡ true → greatest < 2 ^ 64 → ParsesUnsigned {E = ℕ} 64 10 text (Err 0) → None ≡ decimal_in most least greatest text
+decimal_in-Err most least greatest text digits fits parsed =
     let parts = both (nat_le 1 (length text) && nat_le (length text) most) (list_all is_ascii_digit text) digits in
     let some : 1 ≤ length text = le_true 1 (length text) (both (nat_le 1 (length text)) (nat_le (length text) most) parts.0).0 in
     let none = parse_digits own_numerals {E = ℕ} 64 text (Err 0) parsed parts.1 in
-    let large : 2 ^ 64 ≤ number_of text = elim (cases_lt (number_of text) (2 ^ 64)) [
+    let large : 2 ^ 64 ≤ decimal_of text = elim (cases_lt (decimal_of text) (2 ^ 64)) [
       | inl small ↦ absurd (none (omega arith, small))
       | inr large ↦ large
     ] in
-    let past : within least greatest (number_of text) ≡ None = beyond least greatest (number_of text) (omega arith) in
+    let past : within least greatest (decimal_of text) ≡ None = beyond least greatest (decimal_of text) (omega arith) in
     rw (digits, past) refl

@@ -2,10 +2,8 @@
 use Rattle.std.specs.Prelude.{◌≡◌, [], ◌∷◌, List, Option, Some, None, Result, Ok, Err}
 use Rattle.clap.specs.Faults.{fault_of}
 use Rattle.clap.specs.Kinds.{Kinds}
-use Rattle.clap.specs.Matches.{found_of}
 use Rattle.clap.specs.Simple.{App, matches_of}
-use Rattle.clap.specs.Walk.{Row, Text, rows_of}
-use Rattle.clap.specs.declared.parser.matches.ArgMatches.{ArgMatches}
+use Rattle.clap.specs.Walk.{Row, Text}
 use Rattle.at_words.specs.declared.fault.WordsFault.{WordsFault}
 use Rattle.at_words.specs.declared.fault.WordsFault.TheVariants.{Usage, BadQueue, Memory}
 
@@ -39,10 +37,3 @@ module _ {T : Type 0} where
 abbrev pub on_ok : {T U : Type 0} → (T → U) → Result T WordsFault → Result U WordsFault
 on_ok change (Ok value) = Ok (change value)
 on_ok change (Err fault) = Err fault
-
--- what a parse of the words answers: the matches where `clap` finds no fault with the words
-abbrev pub Parses : App → List Text → Result ArgMatches WordsFault → Type 0
-Parses app words (Ok matches) = (fault_of app words ≡ []) × (rows_of (found_of matches) ≡ matches_of app words)
-Parses app words (Err Usage) = ¬ (fault_of app words ≡ [])
-Parses app words (Err BadQueue) = ⊥
-Parses app words (Err Memory) = Unit {0}

@@ -51,14 +51,15 @@ queue_asked None = Some 97
 queue_asked (Some text) = queue_letter text
 
 -- a submission: its time is tried before its queue
-abbrev pub submission : Option When → Option ℕ → Bool → Option Text → Result ToolRequest WordsFault
-submission None queue mail file = Err Usage
-submission (Some when) None mail file = Err BadQueue
-submission (Some when) (Some queue) mail file = Ok (Submit queue mail file when)
+abbrev pub submit_request : Option When → Option ℕ → Bool → Option Text → Result ToolRequest WordsFault
+submit_request None queue mail file = Err Usage
+submit_request (Some when) None mail file = Err BadQueue
+submit_request (Some when) (Some queue) mail file = Ok (Submit queue mail file when)
 
+-- the submission of `at`
 abbrev pub submission_asked : List Row → Result ToolRequest WordsFault
 submission_asked rows =
-    submission
+    submit_request
     (when_asked (first_of (codes "time") rows) (operands_of rows))
     (queue_asked (first_of (codes "queue") rows))
     (is_set (codes "mail") rows)

@@ -8,3 +8,4 @@ pub mod Queues
 pub mod Requests
 pub mod Rows
 pub mod Tools
+pub mod inside

@@ -1,7 +1,7 @@
 -- Job numbers on a command line.
 use Rattle.std.specs.Prelude.{◌==◌, ◌&&◌, ◌++◌, [], ◌∷◌, ℕ, Bool, true, not, List, Option, Some, option_and_then, if◌then◌else◌}
 use Rattle.std.specs.List.{list_any}
-use Rattle.at_words.specs.Digits.{number_in}
+use Rattle.at_words.specs.Digits.{decimal_in}
 
 -- the numbers with one more at their end, where it isn't among them
 abbrev pub with_number : List ℕ → ℕ → List ℕ
@@ -14,7 +14,7 @@ are_distinct (number ∷ others) = not (list_any (λ other. other == number) oth
 
 -- the number of a job: one to ten digits, from 1 to the last value of u32
 abbrev pub job_number : List ℕ → Option ℕ
-job_number text = number_in 10 1 4294967295 text
+job_number text = decimal_in 10 1 4294967295 text
 
 -- the numbers with those that the texts spell, if each text spells one
 abbrev pub with_numbers : List ℕ → List (List ℕ) → Option (List ℕ)

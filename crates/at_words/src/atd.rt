@@ -14,8 +14,11 @@ use crate::{ToolRequest, WordsFault, digits};
 use clap::{ArgMatches, Command};
 use std::alloc::{AllocError, Global};
 
-/// The greatest number of turns, and the number where none is given.
-const MOST_TURNS: u64 = 4_611_686_018_427_387_904;
+// The greatest number of turns, and the number where none is given.
+const MAX_TURNS: u64 = 4_611_686_018_427_387_904;
+
+// The most seconds between two batch jobs.
+const MAX_INTERVAL: u32 = 999_999_999;
 
 /// What the words of `atd` ask for, the first of which stands for its name.
 pub fn request(alloc: Global, words: &[String]) -> Result<ToolRequest, WordsFault>
@@ -71,7 +74,7 @@ fn interval_of(value: Option<&str>) -> Option<u32>
     ensures { result ≡ interval_asked (text_of value.entry) }
 {
     match value {
-        Some(text) => digits::short(text, 9, 0, 999_999_999),
+        Some(text) => digits::short(text, 9, 0, MAX_INTERVAL),
         None => Some(60),
     }
 }
@@ -80,7 +83,7 @@ fn turns_of(value: Option<&str>) -> Option<u64>
     ensures { result ≡ turns_asked (text_of value.entry) }
 {
     match value {
-        Some(text) => digits::number(text, 19, 1, MOST_TURNS),
-        None => Some(MOST_TURNS),
+        Some(text) => digits::number(text, 19, 1, MAX_TURNS),
+        None => Some(MAX_TURNS),
     }
 }

@@ -14,6 +14,9 @@ use crate::{ToolRequest, WordsFault, digits};
 use clap::{ArgMatches, Command};
 use std::alloc::{AllocError, Global};
 
+// The most events of a day.
+const MAX_EVENTS: u32 = 2_000;
+
 /// What the words of `atday` ask for, the first of which stands for its name.
 pub fn request(alloc: Global, words: &[String]) -> Result<ToolRequest, WordsFault>
     ensures { Answers (asked_of atday_app atday_asked (map string_bytes words.now)) result }
@@ -41,5 +44,5 @@ fn asked(matches: &ArgMatches) -> Result<ToolRequest, WordsFault>
 fn events_of(value: Option<&str>) -> Option<u32>
     ensures { result ≡ make_asked (text_of value.entry) }
 {
-    digits::short(value?, 4, 1, 2000)
+    digits::short(value?, 4, 1, MAX_EVENTS)
 }

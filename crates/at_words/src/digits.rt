@@ -2,8 +2,11 @@
 ghost use Rattle.std.specs.Prelude.{◌≡◌, ◌<◌, IfSome};
 ghost use Rattle.std.specs.List.{list_all};
 ghost use Rattle.std.specs.Char.{is_ascii_digit};
-ghost use Rattle.at_words.specs.Digits.{are_digits, fraction_of, limit_of, number_in, within};
+ghost use Rattle.at_words.specs.Digits.{are_decimal_digits, fraction_of, limit_of, decimal_in, within};
 ghost use Rattle.at_words.specs.Numbers.{job_number};
+
+// The greatest whole part of a load.
+const MAX_WHOLE_LOAD: u32 = 999_999;
 
 /// The number of a job.
 pub fn job(text: &str) -> Option<u32>
@@ -14,7 +17,7 @@ pub fn job(text: &str) -> Option<u32>
 
 /// The same as `number`, where the number is short.
 pub fn short(text: &str, most: usize, least: u32, greatest: u32) -> Option<u32>
-    ensures { result ≡ number_in most least greatest text.now }
+    ensures { result ≡ decimal_in most least greatest text.now }
 {
     let number = number(text, most, u64::from(least), u64::from(greatest))?;
     Some(number as u32)
@@ -22,7 +25,7 @@ pub fn short(text: &str, most: usize, least: u32, greatest: u32) -> Option<u32>
 
 /// The number from the least to the greatest that so many digits at most write.
 pub fn number(text: &str, most: usize, least: u64, greatest: u64) -> Option<u64>
-    ensures { result ≡ number_in most least greatest text.now }
+    ensures { result ≡ decimal_in most least greatest text.now }
 {
     if !is_digits(text, most) {
         return None;
@@ -45,7 +48,7 @@ fn limited(number: u64, least: u64, greatest: u64) -> Option<u64>
 }
 
 fn is_digits(text: &str, most: usize) -> bool
-    ensures { result ≡ are_digits most text.now }
+    ensures { result ≡ are_decimal_digits most text.now }
 {
     let bytes = text.as_bytes();
     !bytes.is_empty() && bytes.len() <= most && are_all_digits(bytes)
@@ -64,9 +67,9 @@ pub fn limit(text: &str) -> Option<u32>
     match text.split_once('.') {
         Some((whole, fraction)) => {
             let hundredths = hundredths(fraction)?;
-            Some(short(whole, 6, 0, 999_999)? * 100 + hundredths)
+            Some(short(whole, 6, 0, MAX_WHOLE_LOAD)? * 100 + hundredths)
         }
-        None => Some(short(text, 6, 0, 999_999)? * 100),
+        None => Some(short(text, 6, 0, MAX_WHOLE_LOAD)? * 100),
     }
 }
 

@@ -43,6 +43,7 @@ impl Numbers {
         Ok(())
     }
 
+    /// The numbers, in the order in which they first came.
     pub fn as_slice(&self) -> &[u32]
         ensures numbers { result.now ≡ self.now }
         ensures distinct { IsTrue (are_distinct result.now) }

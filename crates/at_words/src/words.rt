@@ -1,6 +1,7 @@
 //! The request that words make.
-ghost use Rattle.std.specs.Prelude.{map, string_bytes};
+ghost use Rattle.std.specs.Prelude.{IfOk, map, string_bytes};
 ghost use Rattle.at_words.specs.Answers.{Answers};
+ghost use Rattle.at_words.specs.Queues.{HasQueueLetter};
 ghost use Rattle.at_words.specs.Requests.{request_of, request_to};
 
 use crate::{Tool, ToolRequest, WordsFault, at, atd, atday, atq, atrm, batch, tool_of};
@@ -8,7 +9,8 @@ use std::alloc::Global;
 
 /// What the words ask for: the tool that they name, with what stands behind its name.
 pub fn request(alloc: Global, words: &[String]) -> Result<ToolRequest, WordsFault>
-    ensures { Answers (request_of (map string_bytes words.now)) result }
+    ensures asked { Answers (request_of (map string_bytes words.now)) result }
+    ensures letter { IfOk result HasQueueLetter }
 {
     match tool_of(words) {
         Some((tool, start)) => request_by(alloc, tool, &words[start - 1..]),

@@ -10,8 +10,10 @@ use Rattle.jiff_core.proofs.SignedLemmas.{signed_arith}
 use Rattle.jiff_core.specs.Calendar.{IsCivilDate, days_from_civil, day_count, days_of_years, days_of_months, weekday_number}
 use Rattle.jiff_tz.specs.PosixRule as PosixRule
 use Rattle.jiff_tz.specs.Tzif as Table
-use Rattle.civil_minute.specs.Civil.{IsCivilTime, IsClockTime, IsLocalTime, IsPrintable, Shows, day_of, second_of_day}
+use Rattle.civil_minute.specs.Civil.{IsCivilTime, IsClockTime, IsPrintable, day_of, second_of_day}
 use Rattle.civil_minute.specs.Zone.{offset_in, rules_of}
+use Rattle.civil_minute.specs.inside.Reckoning.{HasFields, IsLocalTime}
+use Rattle.civil_minute.specs.declared.civil.TheConstants.{SECONDS_A_DAY}
 use Rattle.civil_minute.specs.declared.civil.CivilMinute.{CivilMinute}
 use Rattle.civil_minute.specs.declared.zone.Zone.{Zone}
 
@@ -50,23 +52,23 @@ unfolding days_from_civil day_count days_of_years days_of_months
 year_1000 = refl
 
 -- the fields of a date are a date, and those of a time a time
-shown_date : (local : DateTime) (shown : CivilMinute) → Shows local shown → IsCivilDate shown.year shown.month shown.day
+shown_date : (local : DateTime) (shown : CivilMinute) → HasFields local shown → IsCivilDate shown.year shown.month shown.day
 shown_date local shown s = rw (s.year, s.month, s.day) (civil local.date)
 
-shown_time : (local : DateTime) (shown : CivilMinute) → Shows local shown → IsClockTime shown
+shown_time : (local : DateTime) (shown : CivilMinute) → HasFields local shown → IsClockTime shown
 shown_time local shown s =
     record { hour = omega (arith, local.time.hour_in); minute = omega (arith, local.time.minute_in); second = omega (arith, local.time.second_in) }
 
-shown_day : (local : DateTime) (shown : CivilMinute) → Shows local shown → day_of shown ≡ epoch_day local.date
+shown_day : (local : DateTime) (shown : CivilMinute) → HasFields local shown → day_of shown ≡ epoch_day local.date
 shown_day local shown s = rw (s.year, s.month, s.day)
 
-shown_seconds : (local : DateTime) (shown : CivilMinute) → Shows local shown
-    → day_of shown *ℤ pos 86_400 +ℤ pos (second_of_day shown) ≡ civil_seconds local
+shown_seconds : (local : DateTime) (shown : CivilMinute) → HasFields local shown
+    → day_of shown *ℤ pos SECONDS_A_DAY +ℤ pos (second_of_day shown) ≡ civil_seconds local
 unfolding civil_seconds
 shown_seconds local shown s = rw (shown_day local shown s, s.hour, s.minute, s.second)
 
 -- so they are the civil time of the second that many seconds ahead of which the clock is
-pub shown_civil_time : (zone : Zone) (at : ℤ) (local : DateTime) (shown : CivilMinute) → Shows local shown
+pub shown_civil_time : (zone : Zone) (at : ℤ) (local : DateTime) (shown : CivilMinute) → HasFields local shown
     → IsLocalTime zone at local → IsCivilTime zone at shown
 shown_civil_time zone at local shown s ahead = record {
   date = shown_date local shown s;
@@ -76,7 +78,7 @@ shown_civil_time zone at local shown s ahead = record {
 }
 
 -- from 1970 on the year has four digits
-pub shown_printable : (zone : Zone) (at : ℤ) (local : DateTime) (shown : CivilMinute) → Shows local shown
+pub shown_printable : (zone : Zone) (at : ℤ) (local : DateTime) (shown : CivilMinute) → HasFields local shown
     → IsLocalTime zone at local → pos 0 ≤ℤ at → IsPrintable shown
 unfolding civil_seconds
 shown_printable zone at local shown s ahead late =

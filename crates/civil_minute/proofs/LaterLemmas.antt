@@ -13,8 +13,9 @@ use Rattle.jiff_span.specs.Months.{shifted_year, shifted_month, shifted_day}
 use Rattle.jiff_core.proofs.CalendarLemmas.{days_in_month_bounds}
 use Rattle.std.proofs.lemmas.Int.{by_lt_z}
 use Rattle.std.specs.Int.{int_div_euclid}
-use Rattle.civil_minute.specs.Meant.{IsInstantOf, IsOutside, offset_before}
+use Rattle.civil_minute.specs.Meant.{IsInstantOf, offset_before}
 use Rattle.civil_minute.specs.Zone.{rules_of}
+use Rattle.civil_minute.specs.inside.Reckoning.{LeavesRange}
 use Rattle.civil_minute.specs.declared.zone.Zone.{Zone}
 
 -- a date of a later year than 9999 comes after the calendar
@@ -65,7 +66,7 @@ instant_found zone local given nanos start seconds whole instant floor = record 
 -- a civil time whose instant `jiff` does not have lies outside of the clock's range
 pub instant_outside : (zone : Zone) (local : DateTime) (given : ℕ) → time_seconds local.time ≡ given
     → local.time.subsec_nanosecond ≡ 0 → ¬ (IsTimestampNanos (instant_of local (compatible_offset (ambiguous_at (rules_of zone) local))))
-    → IsOutside zone (epoch_day local.date) given
+    → LeavesRange zone (epoch_day local.date) given
 unfolding civil_seconds
 instant_outside zone local given seconds whole beyond = record {
   start = civil_seconds local -ℤ offset_before zone local;

@@ -1,5 +1,6 @@
 -- What a clock shows now, and the first day with a weekday.
-use Rattle.std.proofs.Common.{◌≡◌, ◌⊎◌, inl, inr, ◌≤◌, ◌<◌, ◌+◌, ◌-◌, ◌*◌, ◌%◌, nat_le, Bool, true, false, ℕ, ℤ, pos, ◌+ℤ◌, ◌-ℤ◌, ◌≤ℤ◌, ◌<ℤ◌, unsigned_abs, refl, subst, arith, zero, suc, Option, None, Result, Err}
+use Rattle.std.proofs.Common.{◌≡◌, ◌⊎◌, inl, inr, ◌≤◌, ◌<◌, ◌+◌, ◌-◌, ◌*◌, ◌%◌, nat_le, Bool, true, false, ℕ, ℤ, pos, ◌+ℤ◌, ◌-ℤ◌, ◌≤ℤ◌, ◌<ℤ◌, negsuc, unsigned_abs, refl, sym, subst, arith, zero, suc, Option, None, Result, Ok, Err}
+use Rattle.std.specs.Prelude.{IfOk}
 use Rattle.std.proofs.lemmas.Bool.Decides.{nat_tests}
 use Rattle.std.proofs.lemmas.Int.{by_lt_z}
 use Rattle.jiff.specs.Types.{Date, DateTime}
@@ -8,9 +9,13 @@ use Rattle.jiff_core.proofs.CalendarLemmas.{weekday_number-add, weekday_number_b
 use Rattle.jiff_core.proofs.SignedLemmas.{signed_arith, one_part}
 use Rattle.jiff_core.specs.Calendar.{weekday_number, IsCivilDate}
 use Rattle.jiff_core.specs.Time.{time_seconds}
-use Rattle.civil_minute.specs.Civil.{IsLocalTime}
-use Rattle.civil_minute.specs.Meant.{IsAwaited, IsFirstAwaited, ShowsNow, days_ahead, Becomes, stays, Means, no_day, picked, IsAnswer, IsInstantOf, IsOutside, IsPicked, IsStart, NamesNoDay, given_second, is_instant, IsDay, TouchMeans, touch_no_day, touch_named, year_of_touch, later_day, later_seconds, zone_meant}
+use Rattle.civil_minute.specs.Meant.{IsAwaited, IsFirstAwaited, ShowsNow, Becomes, leaves, stays, TimespecMeans, no_day, picked, IsAnswer, IsInstantOf, IsPicked, IsBaseInstant, NamesNoDay, given_second, is_instant, IsDay, TouchMeans, touch_no_day, touch_named, year_of_touch, later_day, later_seconds, zone_meant}
 use Rattle.civil_minute.specs.Zone.{rules_of}
+use Rattle.civil_minute.specs.inside.Reckoning.{IsLocalTime, LeavesRange, days_ahead}
+use Rattle.civil_minute.specs.declared.civil.TheConstants.{SECONDS_AN_HOUR}
+use Rattle.civil_minute.specs.declared.picked.TheConstants.{LAST_TODAY}
+use Rattle.clock_range.specs.ClockRange.{IsClockMinute, IsClockSecond, minute_at}
+use Rattle.clock_range.specs.declared.range.TheConstants.{LAST_SECOND}
 use Rattle.civil_minute.specs.declared.fault.DateFault.{DateFault}
 use Rattle.civil_minute.specs.declared.fault.DateFault.TheVariants.{NoSuchDay, OutOfRange}
 use Rattle.civil_minute.specs.declared.zone.Zone.{Zone}
@@ -28,7 +33,7 @@ shows_now zone now local at = record {
 }
 
 -- it has days enough before the end of the calendar
-pub today_bound : (zone : Zone) (now : ℤ) (local : DateTime) → IsLocalTime zone now local → now ≤ℤ pos 253_370_764_799 → epoch_day local.date ≤ℤ pos 2_932_800
+pub today_bound : (zone : Zone) (now : ℤ) (local : DateTime) → IsLocalTime zone now local → now ≤ℤ LAST_SECOND → epoch_day local.date ≤ℤ LAST_TODAY
 unfolding civil_seconds
 today_bound zone now local at late =
     let bound = offset_bound (rules_of zone) (nanos_of_seconds now) in
@@ -108,27 +113,27 @@ module _ (weekday given : ℕ) (today : ℤ) (time current : ℕ) (passed : Bool
 
 -- the lemmas below put the outcome together
 pub becomes_outside : (instant : Bool) (zone : Zone) (now : ℤ) (date : Date) (given : ℕ) (later : Option Increment) (day : ℤ) → IsEpochDay day → day ≡ later_day later date
-    → instant ≡ false → IsOutside zone day given → Becomes instant zone now date given later (Err OutOfRange)
+    → instant ≡ false → LeavesRange zone day given → Becomes instant zone now date given later (Err OutOfRange)
 becomes_outside true zone now date given later day within is_day not_now outside = cc
 becomes_outside false zone now date given later day within is_day not_now outside =
     stays outside.start (Err OutOfRange) (subst IsEpochDay is_day within) (subst (λ d. IsInstantOf zone d given outside.start) is_day outside.instant) (λ both. outside.outside both.0)
 
 pub becomes_answer : (instant : Bool) (zone : Zone) (now : ℤ) (date : Date) (given : ℕ) (later : Option Increment) (day start seconds : ℤ) (result : Result ℕ DateFault)
-    → IsEpochDay day → day ≡ later_day later date → IsStart instant zone now day given start → seconds ≡ pos (later_seconds later)
+    → IsEpochDay day → day ≡ later_day later date → IsBaseInstant instant zone now day given start → seconds ≡ pos (later_seconds later)
     → IsAnswer now start (start +ℤ seconds) result → Becomes instant zone now date given later result
 becomes_answer instant zone now date given later day start seconds result within is_day is_start is_seconds answer =
-    stays start result (subst IsEpochDay is_day within) (subst (λ d. IsStart instant zone now d given start) is_day is_start)
+    stays start result (subst IsEpochDay is_day within) (subst (λ d. IsBaseInstant instant zone now d given start) is_day is_start)
     (subst (λ s. IsAnswer now start (start +ℤ s) result) is_seconds answer)
 
 pub means_no_day : (spec : Timespec) (now : ℤ) (zone meant : Zone) (local : DateTime) → meant ≡ zone_meant spec.clock zone → IsLocalTime meant now local
-    → NamesNoDay spec.date local.date → Means spec now zone (Err NoSuchDay)
+    → NamesNoDay spec.date local.date → TimespecMeans spec now zone (Err NoSuchDay)
 means_no_day spec now zone meant local is_meant at names =
     no_day local.date (time_seconds local.time) (shows_now _ now local (subst (λ z. IsLocalTime z now local) is_meant at)) names
 
 pub means_picked : (spec : Timespec) (now : ℤ) (zone meant : Zone) (local : DateTime) (date : Date) (given : ℕ) (instant : Bool) (result : Result ℕ DateFault)
     → meant ≡ zone_meant spec.clock zone → IsLocalTime meant now local → given ≡ given_second spec.clock (time_seconds local.time)
     → instant ≡ is_instant spec.clock spec.increment → IsPicked spec.date given local.date (time_seconds local.time) date
-    → Becomes instant meant now date given spec.increment result → Means spec now zone result
+    → Becomes instant meant now date given spec.increment result → TimespecMeans spec now zone result
 means_picked spec now zone meant local date given instant result is_meant at is_given is_now pick becomes =
     picked local.date date (time_seconds local.time) result (shows_now _ now local (subst (λ z. IsLocalTime z now local) is_meant at))
     (subst (λ g. IsPicked spec.date g local.date (time_seconds local.time) date) is_given pick)
@@ -143,7 +148,28 @@ touch_means_no_day time now zone local year is_year at names =
 
 pub touch_means_named : (time : TouchTime) (now : ℤ) (zone : Zone) (local : DateTime) (year : ℤ) (date : Date) (given : ℕ) (result : Result ℕ DateFault)
     → year ≡ year_of_touch time.year local.date → IsLocalTime zone now local → IsDay year time.month time.day date
-    → given ≡ time.hour * 3_600 + time.minute * 60 → Becomes false zone now date given None result → TouchMeans time now zone result
+    → given ≡ time.hour * SECONDS_AN_HOUR + time.minute * 60 → Becomes false zone now date given None result → TouchMeans time now zone result
 touch_means_named time now zone local year date given result is_year at day is_given becomes =
     touch_named local.date date (time_seconds local.time) result (shows_now zone now local at) (subst (λ y. IsDay y time.month time.day date) is_year day)
     (subst (λ g. Becomes false zone now date g None result) is_given becomes)
+
+-- a minute of the clock's second is in the range
+minute_in_range : (second : ℤ) → IsClockSecond second → IsClockMinute (minute_at second)
+minute_in_range (pos second) clock = omega (arith, signed_arith, clock.high)
+minute_in_range (negsuc second) clock = omega arith
+
+becomes_in_range : (instant : Bool) (zone : Zone) (now : ℤ) (date : Date) (given : ℕ) (later : Option Increment) (result : Result ℕ DateFault)
+    → Becomes instant zone now date given later result → IfOk result IsClockMinute
+becomes_in_range instant zone now date given later result (leaves out) = tt
+becomes_in_range instant zone now date given later result (stays start (Ok minute) within is_base answer) =
+    subst IsClockMinute (sym answer.2) (minute_in_range _ answer.1)
+becomes_in_range instant zone now date given later result (stays start (Err fault) within is_base answer) = tt
+
+-- whatever minute is meant is one that a clock can show
+pub means_in_range : (spec : Timespec) (now : ℤ) (zone : Zone) (result : Result ℕ DateFault) → TimespecMeans spec now zone result → IfOk result IsClockMinute
+means_in_range spec now zone result (no_day today time shows names) = tt
+means_in_range spec now zone result (picked today date time result₂ shows pick becomes) = becomes_in_range _ _ now date _ _ result becomes
+
+pub touch_means_in_range : (time : TouchTime) (now : ℤ) (zone : Zone) (result : Result ℕ DateFault) → TouchMeans time now zone result → IfOk result IsClockMinute
+touch_means_in_range time now zone result (touch_no_day today second shows names) = tt
+touch_means_in_range time now zone result (touch_named today date second result₂ shows day becomes) = becomes_in_range _ _ now date _ _ result becomes

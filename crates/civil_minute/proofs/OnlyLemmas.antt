@@ -11,7 +11,8 @@ use Rattle.timespec_grammar.specs.declared.date.DatePart.TheVariants.{Absent, Mo
 use Rattle.timespec_grammar.specs.declared.increment.Increment.{Increment}
 use Rattle.timespec_grammar.specs.declared.timespec.Timespec.{Timespec}
 use Rattle.touch_time.specs.declared.touch.TouchTime.{TouchTime}
-use Rattle.civil_minute.specs.Meant.{Becomes, leaves, stays, IsAnswer, IsDay, IsFirstAwaited, IsInstantOf, IsPicked, IsStart, Means, no_day, picked, NamesNoDay, ShowsNow, TouchMeans, touch_no_day, touch_named, given_second, is_instant, later_seconds, offset_before, year_of_month, year_of_touch, zone_meant}
+use Rattle.civil_minute.specs.Meant.{Becomes, leaves, stays, IsAnswer, IsDay, IsFirstAwaited, IsInstantOf, IsPicked, IsBaseInstant, TimespecMeans, no_day, picked, NamesNoDay, ShowsNow, TouchMeans, touch_no_day, touch_named, given_second, is_instant, later_seconds, offset_before, year_of_month, year_of_touch, zone_meant}
+use Rattle.civil_minute.specs.declared.civil.TheConstants.{SECONDS_A_DAY, SECONDS_AN_HOUR}
 use Rattle.civil_minute.specs.declared.fault.DateFault.{DateFault}
 use Rattle.civil_minute.specs.declared.fault.DateFault.TheVariants.{NoSuchDay, OutOfRange, Past, Memory}
 use Rattle.civil_minute.specs.declared.zone.Zone.{Zone}
@@ -19,7 +20,7 @@ use Rattle.civil_minute.specs.declared.zone.Zone.{Zone}
 -- the clock shows one date and one time
 one_now : (zone : Zone) (now : ℤ) (a b : Date) (s t : ℕ) → ShowsNow zone now a s → ShowsNow zone now b t → (a ≡ b) × (s ≡ t)
 one_now zone now a b s t first second =
-    let shows : epoch_day a *ℤ pos 86_400 +ℤ pos s ≡ epoch_day b *ℤ pos 86_400 +ℤ pos t = first.shows ∙ sym second.shows in
+    let shows : epoch_day a *ℤ pos SECONDS_A_DAY +ℤ pos s ≡ epoch_day b *ℤ pos SECONDS_A_DAY +ℤ pos t = first.shows ∙ sym second.shows in
     (same_date a b (omega (arith, signed_arith)), omega (arith, signed_arith))
 
 one_day : (year : ℤ) (month day : ℕ) (a b : Date) → IsDay year month day a → IsDay year month day b → a ≡ b
@@ -57,7 +58,7 @@ one_instant zone day given a b first second =
     omega (arith, signed_arith, civil_nanos-civil_seconds first.local, civil_nanos-civil_seconds second.local) in
     first.behind ∙ ap (λ (local : DateTime). civil_seconds local -ℤ offset_before zone local) (same_datetime first.local second.local nanos) ∙ sym second.behind
 
-one_start : (instant : Bool) (zone : Zone) (now day : ℤ) (given : ℕ) (a b : ℤ) → IsStart instant zone now day given a → IsStart instant zone now day given b → a ≡ b
+one_start : (instant : Bool) (zone : Zone) (now day : ℤ) (given : ℕ) (a b : ℤ) → IsBaseInstant instant zone now day given a → IsBaseInstant instant zone now day given b → a ≡ b
 one_start true zone now day given a b first second = first ∙ sym second
 one_start false zone now day given a b first second = one_instant zone day given a b first second
 
@@ -89,7 +90,7 @@ one_outcome instant zone now date given later a b (stays start result within is_
     let same = one_start instant zone now _ given start other_start is_start is_other in
     one_answer now start _ result other answer (subst (λ s. IsAnswer now s (s +ℤ pos (later_seconds later)) other) (sym same) other_answer)
 
-pub one_meaning : (spec : Timespec) (now : ℤ) (zone : Zone) (a b : Result ℕ DateFault) → Means spec now zone a → Means spec now zone b → a ≡ b
+pub one_meaning : (spec : Timespec) (now : ℤ) (zone : Zone) (a b : Result ℕ DateFault) → TimespecMeans spec now zone a → TimespecMeans spec now zone b → a ≡ b
 one_meaning spec now zone a b (no_day today time shows none) (no_day today₂ time₂ shows₂ none₂) = refl
 one_meaning spec now zone a b (no_day today time shows none) (picked today₂ date₂ time₂ result₂ shows₂ pick₂ becomes₂) =
     let same = one_now _ now today today₂ time time₂ shows shows₂ in
@@ -117,4 +118,4 @@ one_touch_meaning time now zone a b (touch_named today date second result shows 
     let same = one_now zone now today₂ today second₂ second shows₂ shows in
     let date_same = one_day _ time.month time.day date₂ date (subst (λ d. IsDay (year_of_touch time.year d) time.month time.day date₂) same.0 day₂) day in
     one_outcome false zone now date _ None result result₂ becomes
-    (subst (λ d. Becomes false zone now d (time.hour * 3_600 + time.minute * 60) None result₂) date_same becomes₂)
+    (subst (λ d. Becomes false zone now d (time.hour * SECONDS_AN_HOUR + time.minute * 60) None result₂) date_same becomes₂)

@@ -1,9 +1,9 @@
 -- The minute that a time means (POSIX.1-2017, XCU, at). Own are: that a time equal to now's means
 -- today, the weekdays, the last day of a month that lacks the day, gaps and folds, and that minutes
 -- and hours are added to the instant.
-use Rattle.std.specs.Prelude.{◌≡◌, ◌⊎◌, ◌+◌, ◌*◌, ◌/◌, ◌%◌, ◌<◌, ◌≤◌, ◌-◌, ◌==◌, ◌&&◌, nat_lt, nat_le, ◌+ℤ◌, ◌-ℤ◌, ◌*ℤ◌, ◌<ℤ◌, ◌≤ℤ◌, pos, unsigned_abs, ℕ, ℤ, Bool, true, false, not, if◌then◌else◌, Option, Some, None, Result, Ok, Err, IfSome, ⊤}
+use Rattle.std.specs.Prelude.{◌≡◌, ◌⊎◌, ◌+◌, ◌*◌, ◌%◌, ◌<◌, ◌≤◌, nat_lt, nat_le, ◌+ℤ◌, ◌-ℤ◌, ◌*ℤ◌, ◌<ℤ◌, ◌≤ℤ◌, pos, ℕ, ℤ, Bool, true, false, not, if◌then◌else◌, Option, Some, None, Result, Ok, Err, IfSome, ⊤}
 use Rattle.jiff.specs.Types.{Date, DateTime}
-use Rattle.jiff.specs.Words.{epoch_day, civil_seconds, add_months, ambiguous_at, compatible_offset, IsBetween, IsEpochDay}
+use Rattle.jiff.specs.Words.{epoch_day, civil_seconds, add_months, ambiguous_at, compatible_offset, IsEpochDay}
 use Rattle.jiff_core.specs.Calendar.{IsCivilDate, weekday_number}
 use Rattle.timespec_lexer.specs.declared.period.Period.{Period}
 use Rattle.timespec_lexer.specs.declared.period.Period.TheVariants.{Minute, Hour, Day, Week, Month, Year}
@@ -14,24 +14,18 @@ use Rattle.timespec_grammar.specs.declared.date.DatePart.TheVariants.{Absent, Mo
 use Rattle.timespec_grammar.specs.declared.increment.Increment.{Increment}
 use Rattle.timespec_grammar.specs.declared.timespec.Timespec.{Timespec}
 use Rattle.touch_time.specs.declared.touch.TouchTime.{TouchTime}
+use Rattle.clock_range.specs.ClockRange.{IsClockSecond, minute_at}
 use Rattle.civil_minute.specs.Zone.{offset_in, rules_of}
+use Rattle.civil_minute.specs.declared.civil.TheConstants.{LAST_YEAR, SECONDS_A_DAY, SECONDS_AN_HOUR}
 use Rattle.civil_minute.specs.declared.fault.DateFault.{DateFault}
 use Rattle.civil_minute.specs.declared.fault.DateFault.TheVariants.{NoSuchDay, OutOfRange, Past, Memory}
 use Rattle.civil_minute.specs.declared.zone.Zone.{Zone}
 use Rattle.civil_minute.specs.declared.zone.Zone.TheVariants.{Utc}
 
--- a second that a clock may answer: from 1970 to the last second of 9998 in UTC
-abbrev pub IsClockSecond : ℤ → Type 0
-IsClockSecond second = IsBetween (pos 0) (pos 253_370_764_799) second
-
--- the minute of such a second
-abbrev pub minute_at : ℤ → ℕ
-minute_at second = unsigned_abs second / 60
-
 -- the clock in the zone shows this date now, and so many seconds since midnight
 pub record ShowsNow (zone : Zone) (now : ℤ) (today : Date) (time : ℕ) : Type 0 where
-  pub shows : epoch_day today *ℤ pos 86_400 +ℤ pos time ≡ now +ℤ offset_in zone now
-  pub within : time < 86_400
+  pub shows : epoch_day today *ℤ pos SECONDS_A_DAY +ℤ pos time ≡ now +ℤ offset_in zone now
+  pub within : time < SECONDS_A_DAY
 
 -- UTC where the time names it, else the zone of the caller
 abbrev pub zone_meant : Clock → Zone → Zone
@@ -41,7 +35,7 @@ zone_meant (At hour minute utc) zone = if utc then Utc else zone
 -- the given time of day in seconds: `now` keeps that of now, every other time has no seconds
 abbrev pub given_second : Clock → ℕ → ℕ
 given_second Now time = time
-given_second (At hour minute utc) time = hour * 3_600 + minute * 60
+given_second (At hour minute utc) time = hour * SECONDS_AN_HOUR + minute * 60
 
 -- the year of a month: the given one, else this year, or the next where the month is before the
 -- current one
@@ -70,11 +64,6 @@ pub record IsAwaited (weekday given : ℕ) (today : ℤ) (time : ℕ) (day : ℤ
 pub record IsFirstAwaited (weekday given : ℕ) (today : ℤ) (time : ℕ) (day : ℤ) : Type 0 where
   pub awaited : IsAwaited weekday given today time day
   pub first : (other : ℤ) → IsAwaited weekday given today time other → day ≤ℤ other
-
--- how many days after a weekday another one is, a week where they are the same and its time passed
-abbrev pub days_ahead : ℕ → ℕ → Bool → ℕ
-days_ahead weekday today passed =
-    if (weekday == today) && passed then 7 else (weekday + 7 - today) % 7
 
 -- the date that is picked, where now is this date and time of day
 abbrev pub IsPicked : DatePart → ℕ → Date → ℕ → Date → Type 0
@@ -113,7 +102,7 @@ later_day (Some later) date = day_after later.period later.count date
 -- the seconds of so many minutes or hours
 abbrev pub seconds_of : Period → ℕ → ℕ
 seconds_of Minute count = 60 * count
-seconds_of Hour count = 3_600 * count
+seconds_of Hour count = SECONDS_AN_HOUR * count
 seconds_of Day count = 0
 seconds_of Week count = 0
 seconds_of Month count = 0
@@ -147,20 +136,14 @@ offset_before zone local = (compatible_offset (ambiguous_at (rules_of zone) loca
 -- offsets give, in a fold the earlier
 pub record IsInstantOf (zone : Zone) (day : ℤ) (given : ℕ) (start : ℤ) : Type 0 where
   pub local : DateTime
-  pub shows : civil_seconds local ≡ day *ℤ pos 86_400 +ℤ pos given
+  pub shows : civil_seconds local ≡ day *ℤ pos SECONDS_A_DAY +ℤ pos given
   pub whole : local.time.subsec_nanosecond ≡ 0
   pub behind : start ≡ civil_seconds local -ℤ offset_before zone local
 
--- that instant lies outside of the clock's range
-pub record IsOutside (zone : Zone) (day : ℤ) (given : ℕ) : Type 0 where
-  pub start : ℤ
-  pub instant : IsInstantOf zone day given start
-  pub outside : ¬ (IsClockSecond start)
-
 -- the instant to which minutes and hours are added
-abbrev pub IsStart : Bool → Zone → ℤ → ℤ → ℕ → ℤ → Type 0
-IsStart true zone now day given start = start ≡ now
-IsStart false zone now day given start = IsInstantOf zone day given start
+abbrev pub IsBaseInstant : Bool → Zone → ℤ → ℤ → ℕ → ℤ → Type 0
+IsBaseInstant true zone now day given start = start ≡ now
+IsBaseInstant false zone now day given start = IsInstantOf zone day given start
 
 -- the answer where the instants before and after that addition are these
 abbrev pub IsAnswer : ℤ → ℤ → ℤ → Result ℕ DateFault → Type 0
@@ -179,20 +162,20 @@ pub data Becomes (instant : Bool) (zone : Zone) (now : ℤ) (date : Date) (given
   leaves : ¬ (IsEpochDay (later_day later date))
       → Becomes instant zone now date given later (Err OutOfRange)
   stays : (start : ℤ) (result : Result ℕ DateFault) → IsEpochDay (later_day later date)
-      → IsStart instant zone now (later_day later date) given start
+      → IsBaseInstant instant zone now (later_day later date) given start
       → IsAnswer now start (start +ℤ pos (later_seconds later)) result
       → Becomes instant zone now date given later result
 
 -- the minute that a time means at a second now, or why it means none
-pub data Means (spec : Timespec) (now : ℤ) (zone : Zone) : Result ℕ DateFault → Type 0 where
+pub data TimespecMeans (spec : Timespec) (now : ℤ) (zone : Zone) : Result ℕ DateFault → Type 0 where
   no_day : (today : Date) (time : ℕ) → ShowsNow (zone_meant spec.clock zone) now today time
-      → NamesNoDay spec.date today → Means spec now zone (Err NoSuchDay)
+      → NamesNoDay spec.date today → TimespecMeans spec now zone (Err NoSuchDay)
   picked : (today date : Date) (time : ℕ) (result : Result ℕ DateFault)
       → ShowsNow (zone_meant spec.clock zone) now today time
       → IsPicked spec.date (given_second spec.clock time) today time date
       → Becomes (is_instant spec.clock spec.increment) (zone_meant spec.clock zone) now date
       (given_second spec.clock time) spec.increment result
-      → Means spec now zone result
+      → TimespecMeans spec now zone result
 
 -- the same of a time of `-t`
 pub data TouchMeans (time : TouchTime) (now : ℤ) (zone : Zone) : Result ℕ DateFault → Type 0 where
@@ -202,13 +185,13 @@ pub data TouchMeans (time : TouchTime) (now : ℤ) (zone : Zone) : Result ℕ Da
   touch_named : (today date : Date) (second : ℕ) (result : Result ℕ DateFault)
       → ShowsNow zone now today second
       → IsDay (year_of_touch time.year today) time.month time.day date
-      → Becomes false zone now date (time.hour * 3_600 + time.minute * 60) None result
+      → Becomes false zone now date (time.hour * SECONDS_AN_HOUR + time.minute * 60) None result
       → TouchMeans time now zone result
 
 -- a time means one thing at most
 abbrev pub IsOnlyMeaning : Timespec → ℤ → Zone → Result ℕ DateFault → Type 0
 IsOnlyMeaning spec now zone result =
-    (other : Result ℕ DateFault) → Means spec now zone other → other ≡ result
+    (other : Result ℕ DateFault) → TimespecMeans spec now zone other → other ≡ result
 
 -- and so does a time of `-t`
 abbrev pub IsOnlyTouchMeaning : TouchTime → ℤ → Zone → Result ℕ DateFault → Type 0
@@ -220,9 +203,9 @@ abbrev pub IsTimeOfDay : Clock → Type 0
 IsTimeOfDay Now = ⊤
 IsTimeOfDay (At hour minute utc) = (hour ≤ 23) × (minute ≤ 59)
 
--- a given weekday is at most 6, and a given year at most 9999
+-- a given weekday is at most 6, and a given year the calendar's last at most
 abbrev pub IsPickable : DatePart → Type 0
-IsPickable (MonthDay month day year) = IfSome year (λ given. given ≤ 9_999)
+IsPickable (MonthDay month day year) = IfSome year (λ given. given ≤ LAST_YEAR)
 IsPickable (Weekday weekday) = weekday ≤ 6
 IsPickable Absent = ⊤
 IsPickable Today = ⊤

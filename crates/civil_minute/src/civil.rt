@@ -1,7 +1,8 @@
 //! The civil time of a minute.
-ghost use Rattle.std.specs.Prelude.{◌≤◌, ◌*◌, pos, IsOk, IfOk};
-ghost use Rattle.jiff.specs.Words.{IsBetween};
-ghost use Rattle.civil_minute.specs.Civil.{IsCivilTime, IsLocalTime, IsPrintable, Shows};
+ghost use Rattle.std.specs.Prelude.{◌*◌, pos, IsOk, IfOk};
+ghost use Rattle.clock_range.specs.ClockRange.{IsClockMinute, IsClockSecond};
+ghost use Rattle.civil_minute.specs.Civil.{IsCivilTime, IsPrintable};
+ghost use Rattle.civil_minute.specs.inside.Reckoning.{HasFields, IsLocalTime};
 ghost use Rattle.civil_minute.specs.Zone.{IsReadable};
 
 use crate::Zone;
@@ -10,8 +11,14 @@ use jiff::Timestamp;
 use jiff::civil::DateTime;
 use std::alloc::{AllocError, Global};
 
-/// The last minute of the year 9998 in UTC, counted from 1970-01-01 00:00 UTC.
-pub const LAST_MINUTE: u32 = 4_222_846_079;
+/// The seconds of a day; there are no leap seconds.
+pub const SECONDS_A_DAY: u32 = 86_400;
+
+/// The seconds of an hour.
+pub const SECONDS_AN_HOUR: u32 = 3_600;
+
+/// The last year of the calendar.
+pub const LAST_YEAR: u16 = 9_999;
 
 /// A civil time. Months and days count from 1, weekdays from 0 (Sunday).
 #[derive(Clone, Copy, Debug, PartialEq, Eq)]
@@ -27,7 +34,7 @@ pub struct CivilMinute {
 
 /// What a clock in the zone shows at the first second of a minute. It takes no memory yet.
 pub fn civil_of(_alloc: Global, minute: u32, zone: &Zone) -> Result<CivilMinute, AllocError>
-    requires minute { minute ≤ LAST_MINUTE }
+    requires minute { IsClockMinute minute }
     requires zone { IsReadable zone.now }
     ensures answers { IsOk result }
     ensures value { IfOk result (IsCivilTime zone.now (pos (60 * minute))) }
@@ -38,7 +45,7 @@ pub fn civil_of(_alloc: Global, minute: u32, zone: &Zone) -> Result<CivilMinute,
 
 /// What a clock in the zone shows at a second since 1970.
 pub(crate) fn local_at(second: i64, zone: &Zone) -> DateTime
-    requires second { IsBetween (pos 0) (pos 253_370_764_799) second }
+    requires second { IsClockSecond second }
     requires zone { IsReadable zone.now }
     ensures { IsLocalTime zone.now second result }
 {
@@ -46,7 +53,7 @@ pub(crate) fn local_at(second: i64, zone: &Zone) -> DateTime
 }
 
 fn fields_of(local: DateTime) -> CivilMinute
-    ensures { Shows local result }
+    ensures { HasFields local result }
 {
     CivilMinute {
         year: local.year(),

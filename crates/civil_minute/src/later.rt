@@ -1,16 +1,24 @@
 //! A date and an instant after an increment.
 ghost use Rattle.std.specs.Prelude.{◌≡◌, ◌<◌, ◌+ℤ◌, pos, neg_ℤ, IfOk, IfErr};
 ghost use Rattle.jiff.specs.Words.{epoch_day, add_months, IsBetween, IsEpochDay};
-ghost use Rattle.civil_minute.specs.Meant.{IsInstantOf, IsOutside};
+ghost use Rattle.civil_minute.specs.Meant.{IsInstantOf};
 ghost use Rattle.civil_minute.specs.Meant as meant;
 ghost use Rattle.civil_minute.specs.Zone.{IsReadable};
+ghost use Rattle.civil_minute.specs.inside.Reckoning.{LeavesRange};
 
+use crate::civil::{SECONDS_A_DAY, SECONDS_AN_HOUR};
 use crate::zone::time_zone;
 use crate::{DateFault, Zone};
 use jiff_core::civil::{Date, DateTime, Time};
 use jiff_span::date::add_months;
 use timespec_grammar::Increment;
 use timespec_lexer::Period;
+
+/// No instant that `jiff` has is farther from 1970 than so many seconds.
+pub(crate) const MAX_INSTANT: i64 = 400_000_000_000;
+
+/// No increment adds more seconds.
+pub(crate) const MAX_ADDED: i64 = 20_000_000_000_000;
 
 /// The date after the days, weeks, months and years of an increment.
 pub(crate) fn later_date(date: Date, later: Option<Increment>) -> Result<Date, DateFault>
@@ -58,12 +66,12 @@ fn months_later(date: Date, months: u64) -> Result<Date, DateFault>
 
 /// The instant of a time of day, given in seconds, on a date in the zone.
 pub(crate) fn instant_of(date: Date, given: u32, zone: &Zone) -> Result<i64, DateFault>
-    requires given { given < 86_400 }
+    requires given { given < SECONDS_A_DAY }
     requires zone { IsReadable zone.now }
     ensures ok { IfOk result (IsInstantOf zone.now (epoch_day date) given) }
-    ensures bound { IfOk result (IsBetween (neg_ℤ (pos 400_000_000_000)) (pos 400_000_000_000)) }
+    ensures bound { IfOk result (IsBetween (neg_ℤ MAX_INSTANT) MAX_INSTANT) }
     ensures err { IfErr result (λ e. (e ≡ DateFault.OutOfRange)
-        × IsOutside zone.now (epoch_day date) given) }
+        × LeavesRange zone.now (epoch_day date) given) }
 {
     let time = Time::from_second(given, 0);
     match time_zone(zone)
@@ -78,14 +86,14 @@ pub(crate) fn instant_of(date: Date, given: u32, zone: &Zone) -> Result<i64, Dat
 /// The seconds that the minutes and hours of an increment add.
 pub(crate) fn later_seconds(later: Option<Increment>) -> i64
     ensures value { result ≡ pos (meant.later_seconds later) }
-    ensures bound { IsBetween (pos 0) (pos 20_000_000_000_000) result }
+    ensures bound { IsBetween (pos 0) MAX_ADDED result }
 {
     let Some(Increment { count, period }) = later else {
         return 0;
     };
     match period {
         Period::Minute => 60 * i64::from(count),
-        Period::Hour => 3_600 * i64::from(count),
+        Period::Hour => i64::from(SECONDS_AN_HOUR) * i64::from(count),
         _ => 0,
     }
 }

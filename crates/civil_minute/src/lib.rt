@@ -8,7 +8,7 @@ mod minute;
 mod picked;
 mod zone;
 
-pub use civil::{CivilMinute, LAST_MINUTE, civil_of};
+pub use civil::{CivilMinute, civil_of};
 pub use fault::DateFault;
 pub use minute::{minute_of, minute_of_touch};
 pub use zone::{Zone, zone_of};

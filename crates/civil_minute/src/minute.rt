@@ -1,15 +1,18 @@
 //! The minute that a time means.
-ghost use Rattle.std.specs.Prelude.{◌≡◌, ◌↔◌, ◌≤◌, ◌<◌, ◌+ℤ◌, pos, neg_ℤ, IsTrue, IfSome, IfOk, IfErr, false};
+ghost use Rattle.std.specs.Prelude.{◌≡◌, ◌≤◌, ◌<◌, ◌+ℤ◌, pos, neg_ℤ, IfSome, IfOk, IfErr, false};
 ghost use Rattle.jiff.specs.Words.{IsBetween, epoch_day};
 ghost use Rattle.jiff_core.specs.Time.{time_seconds};
-ghost use Rattle.civil_minute.specs.Meant.{Becomes, IsAnswer, IsClockSecond, IsOnlyMeaning, IsOnlyTouchMeaning, IsOutside, IsPickable, IsStart, IsTimeOfDay, Means, TouchMeans};
+ghost use Rattle.clock_range.specs.ClockRange.{IsClockMinute, IsClockSecond};
+ghost use Rattle.civil_minute.specs.Meant.{Becomes, IsAnswer, IsBaseInstant, IsOnlyMeaning, IsOnlyTouchMeaning, IsPickable, IsTimeOfDay, TimespecMeans, TouchMeans};
 ghost use Rattle.civil_minute.specs.Meant as meant;
 ghost use Rattle.civil_minute.specs.Zone.{IsReadable};
+ghost use Rattle.civil_minute.specs.inside.Reckoning.{LeavesRange};
 
-use crate::civil::local_at;
-use crate::later::{instant_of, later_date, later_seconds};
+use crate::civil::{LAST_YEAR, SECONDS_A_DAY, SECONDS_AN_HOUR, local_at};
+use crate::later::{MAX_ADDED, MAX_INSTANT, instant_of, later_date, later_seconds};
 use crate::picked::{date_in, picked_date, year_of_touch};
 use crate::{DateFault, Zone};
+use clock_range::{is_clock_second, minute_at};
 use jiff_core::civil::{Date, Time};
 use std::alloc::Global;
 use timespec_grammar::{Clock, Increment, Timespec};
@@ -22,8 +25,9 @@ pub fn minute_of(_alloc: Global, spec: &Timespec, now: i64, zone: &Zone) -> Resu
     requires date { IsPickable spec.now.date }
     requires now { IsClockSecond now }
     requires zone { IsReadable zone.now }
-    ensures meant { Means spec.now now zone.now result }
+    ensures meant { TimespecMeans spec.now now zone.now result }
     ensures only { IsOnlyMeaning spec.now now zone.now result }
+    ensures in_range { IfOk result IsClockMinute }
 {
     let zone = zone_of_clock(spec.clock, zone);
     let local = local_at(now, &zone).to_plain();
@@ -40,17 +44,18 @@ pub fn minute_of_touch(
     now: i64,
     zone: &Zone,
 ) -> Result<u32, DateFault>
-    requires year { IfSome time.now.year (λ year. year ≤ 9_999) }
+    requires year { IfSome time.now.year (λ year. year ≤ LAST_YEAR) }
     requires hour { time.now.hour ≤ 23 }
     requires minute { time.now.minute ≤ 59 }
     requires now { IsClockSecond now }
     requires zone { IsReadable zone.now }
     ensures meant { TouchMeans time.now now zone.now result }
     ensures only { IsOnlyTouchMeaning time.now now zone.now result }
+    ensures in_range { IfOk result IsClockMinute }
 {
     let today = local_at(now, zone).to_plain().date;
     let date = date_in(year_of_touch(time.year, today), time.month, time.day)?;
-    let given = u32::from(time.hour) * 3_600 + u32::from(time.minute) * 60;
+    let given = u32::from(time.hour) * SECONDS_AN_HOUR + u32::from(time.minute) * 60;
     minute_on(false, zone, now, date, given, None)
 }
 
@@ -68,11 +73,12 @@ fn zone_of_clock(clock: Clock, zone: &Zone) -> Zone
 fn second_of_clock(clock: Clock, time: Time) -> u32
     requires { IsTimeOfDay clock }
     ensures value { result ≡ meant.given_second clock (time_seconds time) }
-    ensures bound { result < 86_400 }
+    ensures bound { result < SECONDS_A_DAY }
 {
     match clock {
         Clock::Now => time.to_second(),
-        Clock::At { hour, minute, .. } => u32::from(hour) * 3_600 + u32::from(minute) * 60,
+        Clock::At { hour, minute, .. } => u32::from(hour) * SECONDS_AN_HOUR
+            + u32::from(minute) * 60,
     }
 }
 
@@ -96,7 +102,7 @@ fn minute_on(
     given: u32,
     later: Option<Increment>,
 ) -> Result<u32, DateFault>
-    requires given { given < 86_400 }
+    requires given { given < SECONDS_A_DAY }
     requires now { IsClockSecond now }
     requires zone { IsReadable zone.now }
     ensures { Becomes instant zone.now now date given later result }
@@ -108,13 +114,13 @@ fn minute_on(
 
 // The instant to which minutes and hours are added.
 fn start_of(instant: bool, zone: &Zone, now: i64, date: Date, given: u32) -> Result<i64, DateFault>
-    requires given { given < 86_400 }
+    requires given { given < SECONDS_A_DAY }
     requires now { IsClockSecond now }
     requires zone { IsReadable zone.now }
-    ensures ok { IfOk result (IsStart instant zone.now now (epoch_day date) given) }
-    ensures bound { IfOk result (IsBetween (neg_ℤ (pos 400_000_000_000)) (pos 400_000_000_000)) }
+    ensures ok { IfOk result (IsBaseInstant instant zone.now now (epoch_day date) given) }
+    ensures bound { IfOk result (IsBetween (neg_ℤ MAX_INSTANT) MAX_INSTANT) }
     ensures err { IfErr result (λ e. (e ≡ DateFault.OutOfRange)
-        × (instant ≡ false) × IsOutside zone.now (epoch_day date) given) }
+        × (instant ≡ false) × LeavesRange zone.now (epoch_day date) given) }
 {
     if instant {
         return Ok(now);
@@ -125,8 +131,8 @@ fn start_of(instant: bool, zone: &Zone, now: i64, date: Date, given: u32) -> Res
 // The minute so many seconds after an instant, unless that lies before the minute of now.
 fn answer_at(now: i64, start: i64, seconds: i64) -> Result<u32, DateFault>
     requires now { IsClockSecond now }
-    requires start { IsBetween (neg_ℤ (pos 400_000_000_000)) (pos 400_000_000_000) start }
-    requires seconds { IsBetween (pos 0) (pos 20_000_000_000_000) seconds }
+    requires start { IsBetween (neg_ℤ MAX_INSTANT) MAX_INSTANT start }
+    requires seconds { IsBetween (pos 0) MAX_ADDED seconds }
     ensures { IsAnswer now start (start +ℤ seconds) result }
 {
     let end = start + seconds;
@@ -138,17 +144,4 @@ fn answer_at(now: i64, start: i64, seconds: i64) -> Result<u32, DateFault>
         return Err(DateFault::Past);
     }
     Ok(minute)
-}
-
-fn minute_at(second: i64) -> u32
-    requires { IsClockSecond second }
-    ensures { result ≡ meant.minute_at second }
-{
-    (second.unsigned_abs() / 60) as u32
-}
-
-fn is_clock_second(second: i64) -> bool
-    ensures { IsTrue result ↔ IsClockSecond second }
-{
-    second >= 0 && second <= 253_370_764_799
 }

@@ -5,15 +5,20 @@ ghost use Rattle.jiff_core.specs.Time.{time_seconds};
 ghost use Rattle.jiff_core.specs.Calendar.{IsCivilDate};
 ghost use Rattle.civil_minute.specs.Meant.{IsDay, IsFirstAwaited, IsPickable, IsPicked, NamesNoDay};
 ghost use Rattle.civil_minute.specs.Meant as meant;
+ghost use Rattle.civil_minute.specs.inside.Reckoning as reckoning;
 
 use crate::DateFault;
+use crate::civil::LAST_YEAR;
 use jiff_core::civil::{Date, DateTime};
 use timespec_grammar::DatePart;
+
+// On no later day is it now: from there on the calendar still has some weeks.
+const LAST_TODAY: i64 = 2_932_800;
 
 /// The date that is picked for a time of day, given in seconds, where the clock now shows `local`.
 pub(crate) fn picked_date(date: DatePart, given: u32, local: DateTime) -> Result<Date, DateFault>
     requires date { IsPickable date }
-    requires local { epoch_day local.date ≤ℤ pos 2_932_800 }
+    requires local { epoch_day local.date ≤ℤ LAST_TODAY }
     ensures ok { IfOk result (IsPicked date given local.date (time_seconds local.time)) }
     ensures err { IfErr result (λ e. (e ≡ DateFault.NoSuchDay) × NamesNoDay date local.date) }
 {
@@ -48,7 +53,7 @@ pub(crate) fn date_in(year: i16, month: u8, day: u8) -> Result<Date, DateFault>
 }
 
 fn year_of_month(year: Option<u16>, month: u8, today: Date) -> i16
-    requires { IfSome year (λ given. given ≤ 9_999) }
+    requires { IfSome year (λ given. given ≤ LAST_YEAR) }
     ensures { result ≡ meant.year_of_month year month today }
 {
     match year {
@@ -60,7 +65,7 @@ fn year_of_month(year: Option<u16>, month: u8, today: Date) -> i16
 
 /// The year of a time of `-t`.
 pub(crate) fn year_of_touch(year: Option<u16>, today: Date) -> i16
-    requires { IfSome year (λ given. given ≤ 9_999) }
+    requires { IfSome year (λ given. given ≤ LAST_YEAR) }
     ensures { result ≡ meant.year_of_touch year today }
 {
     match year {
@@ -72,7 +77,7 @@ pub(crate) fn year_of_touch(year: Option<u16>, today: Date) -> i16
 // The first day with the weekday, counted from Sunday, on which the given time is still to come.
 fn first_awaited(weekday: u8, given: u32, local: DateTime) -> Date
     requires weekday { weekday ≤ 6 }
-    requires local { epoch_day local.date ≤ℤ pos 2_932_800 }
+    requires local { epoch_day local.date ≤ℤ LAST_TODAY }
     ensures { IsFirstAwaited weekday given (epoch_day local.date) (time_seconds local.time)
         (epoch_day result) }
 {
@@ -86,7 +91,7 @@ fn first_awaited(weekday: u8, given: u32, local: DateTime) -> Date
 fn days_ahead(weekday: u8, today: u8, passed: bool) -> u8
     requires weekday { weekday ≤ 6 }
     requires today { today ≤ 6 }
-    ensures value { result ≡ meant.days_ahead weekday today passed }
+    ensures value { result ≡ reckoning.days_ahead weekday today passed }
     ensures bound { result ≤ 7 }
 {
     if weekday == today && passed {

@@ -1,7 +1,6 @@
 //! Worked minutes and times in UTC and by a rule, and texts of TZ.
-use crate::{
-    CivilMinute, DateFault, LAST_MINUTE, Zone, civil_of, minute_of, minute_of_touch, zone_of,
-};
+use crate::{CivilMinute, DateFault, Zone, civil_of, minute_of, minute_of_touch, zone_of};
+use clock_range::{LAST_MINUTE, is_clock_second};
 use std::alloc::{AllocError, Global};
 use timespec_grammar::parse;
 use timespec_lexer::tokens;
@@ -12,9 +11,7 @@ const EASTERN: &str = "EST5EDT,M3.2.0,M11.1.0";
 // 2025-01-01 00:00:00 UTC, a Wednesday.
 const NEW_YEAR: i64 = 1_735_689_600;
 
-const LAST_SECOND: i64 = 253_370_764_799;
-
-/// The minute that a text means, or `None` where the text is no timespec.
+// The minute that a text means, or `None` where the text is no timespec.
 fn meant(alloc: Global, text: &str, now: i64, zone: &Zone) -> Option<Result<u32, DateFault>> {
     let Ok(placed) = tokens(text.as_bytes()) else {
         return None;
@@ -22,16 +19,16 @@ fn meant(alloc: Global, text: &str, now: i64, zone: &Zone) -> Option<Result<u32,
     let Ok(spec) = parse(placed.as_slice()) else {
         return None;
     };
-    if now < 0 || now > LAST_SECOND || matches!(zone, Zone::Unreadable) {
+    if !is_clock_second(now) || matches!(zone, Zone::Unreadable) {
         return None;
     }
     Some(minute_of(alloc, &spec, now, zone))
 }
 
-/// The same of a text of `-t`.
+// The same of a text of `-t`.
 fn touched(alloc: Global, text: &str, now: i64) -> Option<Result<u32, DateFault>> {
     let time = read_touch(text.as_bytes())?;
-    if now < 0 || now > LAST_SECOND {
+    if !is_clock_second(now) {
         return None;
     }
     Some(minute_of_touch(alloc, &time, now, &Zone::Utc))
@@ -113,6 +110,20 @@ fn times_mean_their_minutes(rt: HostRuntime) -> Result<(), AllocError> {
         ("midnight", NEW_YEAR + 1, Zone::Utc, Ok(28_929_600)),
         ("noon wed", NEW_YEAR, Zone::Utc, Ok(28_928_880)),
         ("noon wed", noon_passed, Zone::Utc, Ok(28_938_960)),
+        ("noon wed", noon_passed - 1, Zone::Utc, Ok(28_938_960)),
+        ("noon wed", noon_passed - 2, Zone::Utc, Ok(28_928_880)),
+        ("midnight wed", NEW_YEAR, Zone::Utc, Ok(28_938_240)),
+        ("noon today", NEW_YEAR, Zone::Utc, Ok(28_928_880)),
+        ("noon tomorrow", NEW_YEAR, Zone::Utc, Ok(28_930_320)),
+        ("now + 1 hour", NEW_YEAR, Zone::Utc, Ok(28_928_220)),
+        ("now + 2 days", NEW_YEAR, Zone::Utc, Ok(28_931_040)),
+        ("now + 1 year", NEW_YEAR, Zone::Utc, Ok(29_453_760)),
+        (
+            "noon feb 29, 2028 + 1 year",
+            NEW_YEAR,
+            Zone::Utc,
+            Ok(31_116_240),
+        ),
         ("now next week", NEW_YEAR, Zone::Utc, Ok(28_938_240)),
         ("noon jan 31 + 1 month", NEW_YEAR, Zone::Utc, Ok(29_012_400)),
         (
@@ -128,6 +139,7 @@ fn times_mean_their_minutes(rt: HostRuntime) -> Result<(), AllocError> {
             Err(DateFault::NoSuchDay),
         ),
         ("8am jan 24", 1_737_712_800, Zone::Utc, Err(DateFault::Past)),
+        ("noon jan 24", 1_738_368_000, Zone::Utc, Ok(29_487_600)),
         ("8am jan 24, 2026", 1_737_712_800, Zone::Utc, Ok(29_487_360)),
         ("noon", NEW_YEAR, eastern, Ok(28_929_180)),
         ("2:30 am mar 9", NEW_YEAR, eastern, Ok(29_025_090)),

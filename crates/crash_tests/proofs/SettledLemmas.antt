@@ -3,13 +3,14 @@ use Rattle.std.proofs.Common.{◌≡◌, ℕ, List, sym, ap, subst, ◌∙◌}
 use Rattle.std.specs.Prelude.{None, Result, Ok}
 use Rattle.std.specs.FinMap as finite
 use Rattle.host_calls.specs.declared.fault.HostFault.{HostFault}
-use Rattle.host_calls.specs.Folder.{Files, IsImage, IsInNoImage, IsSettled, IsSyncedInPart, reading_of}
+use Rattle.host_calls.specs.Folder.{Files, Folder, IsImage, IsInNoImage, IsSettled, IsSyncedInPart, reading_of}
 use Rattle.host_calls.specs.World.{FileCall, World, reading}
 use Rattle.host_calls.proofs.FolderLemmas.{settled_image, reading_of-settled}
 use Rattle.sequence_file.specs.Drawing.{EachGives}
 use Rattle.sequence_file.specs.Sequence.{Gives, sequence_file}
 use Rattle.start_journal.specs.Changing.{HoldsJournal}
-use Rattle.start_journal.specs.Journals.{JournalRead, journal_file, journal_in, temporary_file}
+use Rattle.start_journal.specs.Journals.{JournalRead, journal_file, journal_in}
+use Rattle.whole_file.specs.Temporary.{temporary_file}
 use Rattle.start_journal.proofs.GivesLemmas.{recalled_gives}
 
 abbrev pub done_ok : Result Unit HostFault
@@ -34,6 +35,7 @@ each_gives old settled_world new number call same gives = subst (λ world. EachG
 -- the journal that was recalled is the one that the folder holds
 pub holds_journal : (old settled_world new : World) (last : ℕ) (journal : JournalRead) → FileCall IsSettled IsSyncedInPart old settled_world done_ok → new ≡ settled_world → None ≡ finite.get (reading settled_world) temporary_file → journal_in last (finite.get (reading settled_world) journal_file) ≡ Ok journal → HoldsJournal journal new.now.folder
 holds_journal old settled_world new last journal call same none answer = subst (λ world. HoldsJournal journal world.now.folder) (sym same) (record {
+  certain = ap (λ (folder : Folder). folder.pending) call.outcome;
   same = λ image is. ap (λ files. finite.get files journal_file) (only_reading old settled_world call image is);
   gives = recalled_gives last (finite.get (reading settled_world) journal_file) journal answer;
   no_temp = λ image is. ap (λ files. finite.get files temporary_file) (only_reading old settled_world call image is) ∙ sym none;

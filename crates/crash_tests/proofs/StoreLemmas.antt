@@ -11,15 +11,7 @@ use Rattle.spool_model.specs.declared.step.Step.{Step}
 use Rattle.spool_model.specs.JobTable.{IsDone, JobTable, entry_at}
 use Rattle.job_runs.specs.Calls.{StoreCall}
 use Rattle.job_runs.specs.Current.{IsCurrent, Kept}
-use Rattle.spool_store.specs.Listed.{ListsDecided, ListsLive, row_job}
-
--- the job of a row lives, in the state that the row has
-pub row_lives : (table : JobTable) (rows : List Row) (place : ℕ) (row : Row) (number : ℕ) → ListsLive table rows →
-    place < length rows → row ≡ slice_index_or rows place row → row.number ≡ number →
-    (job : Job) × (entry_at table number ≡ Some (Live job row.state))
-row_lives table rows place row number lists within is number_is =
-    let here : Contains rows row = subst (Contains rows) (sym is) (Contains-get_or rows place row within) in
-    (row_job row, ap (entry_at table) (sym number_is) ∙ lists.each row here)
+use Rattle.spool_store.specs.Listed.{ListsDecided}
 
 -- the job of a number that is decided is done
 pub decided_is_done : (table : JobTable) (decided : List Decided) (place : ℕ) (other : Decided) (number : ℕ) → ListsDecided table decided →

@@ -11,7 +11,7 @@ const FIRST_JOB: (&str, &[u8]) = (JOB, SCRIPT);
 
 const POINTS: &[u8] = b".................................";
 
-/// A slot of a kind that no mark has, and the start of a number that no job has.
+// A slot of a kind that no mark has, and the start of a number that no job has.
 const OTHER_KIND: &[u8] = b"+Z00000001a-000000000067748580.\n";
 
 const NUMBER_ZERO: &[u8] = b"+S00000000a-000000000067748580.\n";
@@ -21,10 +21,10 @@ const STARTED_TWICE: &[u8] = b"+S00000001a-000000000067748580.\n+S00000001a-0000
 const FREE_SLOT_BEFORE: &[u8] =
     b"-..............................\n+R00000001--000000000000000000.\n";
 
-/// The header of a user of 33 letters.
+// The header of a user of 33 letters.
 const LONG_USER: &[u8] = b"#!/bin/sh\n# at user=abcdefghijklmnopqrstuvwxyzabcdefg mail=0\n";
 
-/// Files, and where they are damaged.
+// Files, and where they are damaged.
 #[derive(Clone, Copy)]
 struct Damaged<'a> {
     files: &'a [(&'a str, &'a [u8])],

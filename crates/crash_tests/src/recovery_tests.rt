@@ -7,13 +7,13 @@ use spool_store::Store;
 use std::alloc::Global;
 use std::test::Fail;
 
-/// Job 1, which has ended well.
+// Job 1, which has ended well.
 const FIRST_DONE: Decided = Decided {
     number: 1,
     fate: Fate::Finished(Ending::Exit(0)),
 };
 
-/// Files, and what they show: the last number, the live jobs and those that are done.
+// Files, and what they show: the last number, the live jobs and those that are done.
 #[derive(Clone, Copy)]
 struct Whole<'a> {
     files: &'a [(&'a str, &'a [u8])],
@@ -106,7 +106,7 @@ fn what_counts_no_more_is_removed(rt: HostRuntime) -> Result<(), Fail> {
     Ok(())
 }
 
-/// The marks of so many jobs that were removed.
+// The marks of so many jobs that were removed.
 fn removals(alloc: Global, count: u32) -> Result<String, Fail> {
     let mut marks = String::new(alloc);
     for number in 1..=count {

@@ -8,16 +8,16 @@ use memory_host::{CallList, ChildPlans, Failing, FailingList, Files, MemoryHost,
 use std::alloc::{AllocError, Global};
 use std::test::Fail;
 
-/// The first submission of `ann`.
+// The first submission of `ann`.
 pub(crate) const SCRIPT: &[u8] = b"#!/bin/sh\n# at user=ann mail=0\necho hi\n";
 
-/// The file of that submission, due at Wed Jan 1 2025 00:00 UTC.
+// The file of that submission, due at Wed Jan 1 2025 00:00 UTC.
 pub(crate) const JOB: &str = "a0000101b968a0";
 
-/// The first second of that minute.
+// The first second of that minute.
 pub(crate) const NEW_YEAR: i64 = 1_735_689_600;
 
-/// A start of that job in that second, and its end.
+// A start of that job in that second, and its end.
 pub(crate) const STARTED: &[u8] = b"+S00000001a-000000000067748580.\n";
 
 pub(crate) const ENDED: &[u8] =
@@ -27,7 +27,7 @@ pub(crate) fn name(text: &str) -> Result<Name, Fail> {
     Ok(Name::of(text.as_bytes()).ok_or("a name")?)
 }
 
-/// The files of these names and bytes.
+// The files of these names and bytes.
 pub(crate) fn files(alloc: Global, given: &[(&str, &[u8])]) -> Result<Files, Fail> {
     let mut files = Files::new(alloc);
     for (text, bytes) in given {
@@ -36,14 +36,14 @@ pub(crate) fn files(alloc: Global, given: &[(&str, &[u8])]) -> Result<Files, Fai
     Ok(files)
 }
 
-/// A session on a folder of these files, in which nothing fails.
+// A session on a folder of these files, in which nothing fails.
 pub(crate) fn session(alloc: Global, files: Files) -> Result<MemoryHost, Fail>
     ensures { IfOk result (λ host. IsInside (memory_session host)) }
 {
     entered(alloc, files, plan(alloc, None, FailingList::new(alloc)))
 }
 
-/// A session on a folder without files, where no call gets through from the fuse on.
+// A session on a folder without files, where no call gets through from the fuse on.
 pub(crate) fn fused_session(alloc: Global, fuse: u64) -> Result<MemoryHost, Fail>
     ensures { IfOk result (λ host. IsInside (memory_session host)) }
 {
@@ -51,7 +51,7 @@ pub(crate) fn fused_session(alloc: Global, fuse: u64) -> Result<MemoryHost, Fail
     entered(alloc, Files::new(alloc), plan)
 }
 
-/// A session on a folder without files, in which the call of this number fails.
+// A session on a folder without files, in which the call of this number fails.
 pub(crate) fn failing_session(alloc: Global, call: u64, part: Part) -> Result<MemoryHost, Fail>
     ensures { IfOk result (λ host. IsInside (memory_session host)) }
 {

@@ -8,7 +8,7 @@ use spool_store::Store;
 use std::alloc::Global;
 use std::test::Fail;
 
-/// What the folder shows after a step.
+// What the folder shows after a step.
 #[derive(Clone, Copy)]
 struct Made<'a> {
     live: &'a [(u32, State)],
@@ -31,7 +31,7 @@ const INTERRUPTED: Decided = Decided {
     fate: Fate::Interrupted,
 };
 
-/// Whether this is shown once the steps were made, and after a crash then.
+// Whether this is shown once the steps were made, and after a crash then.
 fn are_shown(alloc: Global, trials: &[Trial], made: Made) -> Result<bool, Fail> {
     let mut host = session(alloc, three_jobs(alloc)?)?;
     let store = make_steps(alloc, &mut host, trials)?;
@@ -112,7 +112,7 @@ fn steps_stand_one_after_another(rt: HostRuntime) -> Result<(), Fail> {
     Ok(())
 }
 
-/// The marks of so many starts of batch jobs, in the first seconds of the clock.
+// The marks of so many starts of batch jobs, in the first seconds of the clock.
 fn batch_starts(alloc: Global, count: u32) -> Result<String, Fail> {
     let mut marks = String::new(alloc);
     for second in 0..count {
@@ -121,24 +121,20 @@ fn batch_starts(alloc: Global, count: u32) -> Result<String, Fail> {
     Ok(marks)
 }
 
-/// The last of 256 such marks, a start of job 1, and 255 free slots.
-fn compacted(alloc: Global) -> Result<String, Fail> {
+// These slots, and so many free ones behind them.
+fn journal_with(alloc: Global, used: &str, free: u32) -> Result<String, Fail> {
     let mut journal = String::new(alloc);
-    journal.push_str("+B00000000--0000000000000000ff.\n+S00000001a-000000000067748580.\n")?;
-    for _ in 0..255 {
+    journal.push_str(used)?;
+    for _ in 0..free {
         journal.push_str("-..............................\n")?;
     }
     Ok(journal)
 }
 
-/// The journal after a start of job 1, where it was this one before.
-fn journal_behind_start(alloc: Global, journal: &[u8]) -> Result<Bytes, Fail> {
-    let given = files(
-        alloc,
-        &[(".SEQ", b"00001\n"), (JOB, SCRIPT), (".JRN", journal)],
-    )?;
+// The journal after these steps, where these files were given.
+fn journal_behind(alloc: Global, given: Files, trials: &[Trial]) -> Result<Bytes, Fail> {
     let mut host = session(alloc, given)?;
-    make_steps(alloc, &mut host, &[Trial::Start(1)])?;
+    make_steps(alloc, &mut host, trials)?;
     let bytes = host.reading(&name(".JRN")?).ok_or("a journal")?;
     Ok(Bytes::of(alloc, bytes)?)
 }
@@ -147,8 +143,33 @@ fn journal_behind_start(alloc: Global, journal: &[u8]) -> Result<Bytes, Fail> {
 fn a_full_journal_makes_room_for_the_next_mark(rt: HostRuntime) -> Result<(), Fail> {
     let alloc = rt.alloc();
     let full = batch_starts(alloc, 256)?;
-    let journal = journal_behind_start(alloc, full.as_bytes())?;
-    assert!(rt; journal.as_slice() == compacted(alloc)?.as_bytes());
+    let given = files(
+        alloc,
+        &[
+            (".SEQ", b"00001\n"),
+            (JOB, SCRIPT),
+            (".JRN", full.as_bytes()),
+        ],
+    )?;
+    let journal = journal_behind(alloc, given, &[Trial::Start(1)])?;
+    // The last of the marks, the start of the job, and free slots.
+    let kept = "+B00000000--0000000000000000ff.\n+S00000001a-000000000067748580.\n";
+    assert!(rt; journal.as_slice() == journal_with(alloc, kept, 255)?.as_bytes());
+    Ok(())
+}
+
+#[test]
+fn the_first_journal_has_256_slots(rt: HostRuntime) -> Result<(), Fail> {
+    let alloc = rt.alloc();
+    let started = "+S00000001a-000000000067748580.\n";
+    let ended = "+S00000001a-000000000067748580.\n+E00000001-x000000000000000000.\n";
+    let given = files(alloc, &[(".SEQ", b"00001\n"), (JOB, SCRIPT)])?;
+    let journal = journal_behind(alloc, given, &[Trial::Start(1)])?;
+    assert!(rt; journal.as_slice() == journal_with(alloc, started, 255)?.as_bytes());
+    let given = files(alloc, &[(".SEQ", b"00001\n"), (JOB, SCRIPT)])?;
+    let trials = [Trial::Start(1), Trial::End(1, Ending::Exit(0))];
+    let journal = journal_behind(alloc, given, &trials)?;
+    assert!(rt; journal.as_slice() == journal_with(alloc, ended, 254)?.as_bytes());
     Ok(())
 }
 

@@ -12,7 +12,7 @@ use spool_model::{Decided, Row, State};
 use spool_store::{Store, StoreFault};
 use std::alloc::Global;
 
-/// Submits the script in queue `a`, and gives its number.
+// Submits the script in queue `a`, and gives its number.
 pub(crate) fn submit<H: Host>(alloc: Global, host: &mut H) -> Result<u32, StoreFault>
     requires { IsInside (H.session host.old) }
     ensures { StaysInside (H.session host.old) (H.session host.new) }
@@ -22,7 +22,7 @@ pub(crate) fn submit<H: Host>(alloc: Global, host: &mut H) -> Result<u32, StoreF
     Ok(number)
 }
 
-/// The name and the script of a live job.
+// The name and the script of a live job.
 pub(crate) fn script<H: Host>(
     alloc: Global,
     host: &mut H,
@@ -38,7 +38,7 @@ pub(crate) fn script<H: Host>(
     }
 }
 
-/// A step that is tried.
+// A step that is tried.
 #[derive(Clone, Copy)]
 pub(crate) enum Trial {
     Remove(u32),
@@ -49,7 +49,7 @@ pub(crate) enum Trial {
     Forget(u32),
 }
 
-/// Makes these steps, one after the other, each where it is legal.
+// Makes these steps, one after the other, each where it is legal.
 pub(crate) fn make_steps<H: Host>(
     alloc: Global,
     host: &mut H,
@@ -105,16 +105,12 @@ fn is_running(store: &Store, number: u32) -> bool
     matches!(state(store, number), Some(State::Running(_)))
 }
 
-/// The state of the live job of this number.
+// The state of the live job of this number.
 fn state(store: &Store, number: u32) -> Option<State>
     ensures { IfSome result (λ state. (job : Job) × (entry_at store.now.table number ≡ Some (Live job state))) }
 {
-    for row in store.rows() {
-        if row.number == number {
-            return Some(row.state);
-        }
-    }
-    None
+    let row = store.row(number)?;
+    Some(row.state)
 }
 
 fn is_done(store: &Store, number: u32) -> bool
@@ -128,7 +124,7 @@ fn is_done(store: &Store, number: u32) -> bool
     false
 }
 
-/// Whether the store has this last number, the live jobs of these numbers and states, and these that are done.
+// Whether the store has this last number, the live jobs of these numbers and states, and these that are done.
 pub(crate) fn has(store: &Store, last: u32, live: &[(u32, State)], done: &[Decided]) -> bool {
     store.last() == last && are(store.rows(), live) && store.decided() == done
 }

@@ -18,8 +18,8 @@ const NO_JOB: [(u32, State); 0] = [];
 
 const FIRST_JOB: [(u32, State); 1] = [(1, State::Pending)];
 
-/// Whether a submission to a folder without files succeeds, where no call gets through from the fuse on,
-/// and the session of the next program after the crash of this pick.
+// Whether a submission to a folder without files succeeds, where no call gets through from the fuse on,
+// and the session of the next program after the crash of this pick.
 fn stopped(alloc: Global, fuse: u64, pick: u64) -> Result<(bool, MemoryHost), Fail>
     ensures { IfOk result (λ stopped. IsInside (memory_session stopped.1)) }
 {
@@ -30,7 +30,7 @@ fn stopped(alloc: Global, fuse: u64, pick: u64) -> Result<(bool, MemoryHost), Fa
     Ok((is_submitted, host))
 }
 
-/// Whether these live jobs alone are found, behind this last number.
+// Whether these live jobs alone are found, behind this last number.
 fn is_found(
     alloc: Global,
     host: &mut MemoryHost,
@@ -100,7 +100,7 @@ fn a_recovery_settles_what_a_dead_program_renamed(rt: HostRuntime) -> Result<(),
     Ok(())
 }
 
-/// A session on a folder where 10,000 numbers were drawn, and the jobs of the first ones are pending.
+// A session on a folder where 10,000 numbers were drawn, and the jobs of the first ones are pending.
 fn crowd(alloc: Global, jobs: u32) -> Result<MemoryHost, Fail>
     ensures { IfOk result (λ host. IsInside (memory_session host)) }
 {

@@ -13,7 +13,7 @@ use std::test::Fail;
 
 const PICKS: [u64; 4] = [0, 1, 255, u64::MAX];
 
-/// A folder whose last number is 1, and no call gets through from the fuse on.
+// A folder whose last number is 1, and no call gets through from the fuse on.
 fn spool(alloc: Global, fuse: u64) -> Result<MemoryHost, AllocError>
     ensures { IfOk result (λ host. IsOutside (memory_session host)) }
 {

@@ -2,7 +2,7 @@
 use Rattle.std.proofs.Common.{◌≡◌, ℕ, zero, suc, ◌+◌, ◌-◌, ◌*◌, ◌/◌, ◌%◌, ◌^◌, ◌<◌, ◌≤◌, List, [], ◌∷◌, ◌++◌, length, take, sym, ap, subst, ◌∙◌, refl, arith, below_more, length-append}
 use Rattle.std.specs.Char.{is_ascii_alphanumeric}
 use Rattle.std.specs.List.{list_all}
-use Rattle.std.specs.Prelude.{Bool, true, slice_index}
+use Rattle.std.specs.Prelude.{true, slice_index}
 use Rattle.std.proofs.Math.ListN.{get_or-append}
 use Rattle.std.proofs.Math.Nat.{div-div-eq-div-mul, pow-suc, pow-succ', pow-le-pow_right}
 use Rattle.std.proofs.Math.Seq.{get_or-append_seam}
@@ -10,6 +10,7 @@ use Rattle.std.proofs.lemmas.Bool.Decides.{nat_tests}
 use Rattle.std.proofs.lemmas.List.{ext_get_or, length-take-le, take_more}
 use Rattle.std.proofs.lemmas.Nat.{div-add-mod', div-mul-add, div_below, mod-mul-add, mod_below, pow-add}
 use Rattle.hex_digits.specs.Digits.{SpellsNumber, digit_at, digit_byte}
+use Rattle.hex_digits.proofs.TestLemmas.{all_by_place}
 
 -- no byte is two digits
 pub one_digit : (first second : ℕ) → first < 16 → second < 16 → digit_byte first ≡ digit_byte second → first ≡ second
@@ -111,12 +112,6 @@ one_spelling first second number counted of_first of_second = ext_get_or 0 first
 -- a digit is a letter or a digit of ASCII
 digit_is_alphanumeric : (digit : ℕ) → digit < 16 → is_ascii_alphanumeric (digit_byte digit) ≡ true
 digit_is_alphanumeric digit small = grind (arith, nat_tests)
-
--- what holds of the byte at each place holds of all bytes
-all_by_place : (test : ℕ → Bool) (bytes : List ℕ) → ((place : ℕ) → place < length bytes → test (slice_index bytes place) ≡ true) → list_all test bytes ≡ true
-all_by_place test [] each = refl
-all_by_place test (byte ∷ bytes) each =
-    rw (each 0 (omega arith)) (all_by_place test bytes (λ place inside. each (suc place) (omega arith)))
 
 -- digits are letters and digits of ASCII
 pub are_alphanumeric : (bytes : List ℕ) (number : ℕ) → SpellsNumber bytes number → list_all is_ascii_alphanumeric bytes ≡ true

@@ -1,6 +1,7 @@
 //! One hexadecimal digit.
 ghost use Rattle.std.specs.Prelude.{◌≡◌, ◌≢◌, ◌<◌, ℕ, IfSome, IfNone};
 ghost use Rattle.hex_digits.specs.Digits.{digit_byte};
+ghost use Rattle.hex_digits.specs.Values.{is_digit};
 
 /// The digit that the byte is, if it is one. A capital letter is none.
 pub fn digit_of(byte: u8) -> Option<u8>
@@ -13,6 +14,13 @@ pub fn digit_of(byte: u8) -> Option<u8>
         b'a'..=b'f' => Some(byte - b'a' + 10),
         _ => None,
     }
+}
+
+/// Whether the byte is a digit. A capital letter is none.
+pub fn is_digit(byte: u8) -> bool
+    ensures { result ≡ is_digit byte }
+{
+    matches!(byte, b'0'..=b'9' | b'a'..=b'f')
 }
 
 /// The byte of a digit.

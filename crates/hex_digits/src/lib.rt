@@ -3,9 +3,11 @@
 #![tactic(auto)]
 
 mod digit;
+mod laws;
 mod number;
 
-pub use digit::{byte_of, digit_of};
+pub use digit::{byte_of, digit_of, is_digit};
+pub use laws::numbers_are_spelled;
 pub use number::{read, write};
 
 #[cfg(test)]

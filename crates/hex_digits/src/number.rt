@@ -30,7 +30,7 @@ pub fn write(out: &mut [u8], number: u64)
     }
 }
 
-/// The digit at a place, counted from the right.
+// The digit at a place, counted from the right.
 fn digit_of_number(number: u64, place: usize) -> u8
     requires { place < 16 }
     ensures { result ≡ digit_at number place }

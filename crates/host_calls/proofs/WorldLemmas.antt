@@ -1,8 +1,8 @@
 -- How the moments of one call after another join.
-use Rattle.std.proofs.Common.{◌≡◌, ◌⊎◌, ◌+◌, ◌-◌, ◌≤◌, ℕ, zero, suc, List, [], ◌∷◌, ◌++◌, length, take, append_assoc, sym, ap, subst, ◌∙◌, refl, inl, inr, arith, length-append, Result}
+use Rattle.std.proofs.Common.{◌≡◌, ◌⊎◌, ◌+◌, ◌-◌, ◌≤◌, ℕ, zero, suc, List, [], ◌∷◌, ◌++◌, length, take, append_assoc, sym, ap, subst, ◌∙◌, inl, inr, arith, length-append, Result}
 use Rattle.host_calls.specs.declared.child.Handed.{Handed}
 use Rattle.host_calls.specs.declared.fault.HostFault.{HostFault}
-use Rattle.host_calls.specs.Folder.{Folder, Files, IsImage}
+use Rattle.host_calls.specs.Folder.{Folder, Files}
 use Rattle.host_calls.specs.World.{Moment, World, moments, moment, AtSome, AtEach, Leaves, Could, HasEachImage, LeavesOnly, IsWithin, WithinCall, FileCall}
 
 -- what holds of each moment of two lists holds of each of both together

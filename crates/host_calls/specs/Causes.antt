@@ -1,5 +1,5 @@
 -- Why a call answers a fault of the outside: only where a count of such faults rose.
-use Rattle.std.specs.Prelude.{◌≡◌, ◌+◌, ◌-◌, ◌^◌, ◌≤◌, ℕ, min, Result, IsErrOf}
+use Rattle.std.specs.Prelude.{◌+◌, ◌-◌, ◌^◌, ◌≤◌, ℕ, min, Result, IsErrOf}
 
 -- The count rose, or stands at the last value that it can have.
 abbrev pub Rose : ℕ → ℕ → Type 0

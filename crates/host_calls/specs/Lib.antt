@@ -1,5 +1,6 @@
 pub mod Causes
 pub mod Clock
+pub mod Damages
 pub mod Folder
 pub mod Inputs
 pub mod Names

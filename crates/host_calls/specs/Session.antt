@@ -2,6 +2,7 @@
 use Rattle.std.specs.Prelude.{◌≡◌, ◌≤◌, ◌++◌, ℕ, Bool, true, false, List, Result, IfOk, Contains, is_ok, option_to_list}
 use Rattle.std.specs.Result.{result_ok}
 use Rattle.host_calls.specs.declared.child.Child.{Child}
+use Rattle.host_calls.specs.Causes.{HasCause}
 
 -- Whether a session is on, the children since the last reboot, in order, what the host was made as,
 -- and how many faults of files, of starts and how many taken locks there were.
@@ -31,6 +32,12 @@ pub record StaysInside (old new : Session) : Type 0 where
   pub inside : IsInside new
   pub children : new.children ≡ old.children
   pub counts : KeepsCounts old new
+
+-- a call within a session that starts no child and may fail: the fault is answered only where the count of
+-- faults of files rose
+pub record CallsInside {T E : Type 0} (fault : E) (old new : Session) (result : Result T E) : Type 0 where
+  pub stays : StaysInside old new
+  pub cause : HasCause fault old.file_faults new.file_faults result
 
 -- a session begins where the call succeeds
 pub record Enters {T E : Type 0} (old new : Session) (result : Result T E) : Type 0 where

@@ -28,6 +28,7 @@ impl Bytes {
         })
     }
 
+    /// All bytes, borrowed.
     pub fn as_slice(&self) -> &[u8]
         ensures { result.now ≡ self.now }
     {

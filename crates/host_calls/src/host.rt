@@ -3,7 +3,7 @@ ghost use Rattle.std.specs.Prelude.{◌≡◌, ◌≢◌, ◌≤◌, Bool, Conta
 ghost use Rattle.std.specs.FinMap as map;
 ghost use Rattle.host_calls.specs.Causes.{HasCause, Rose};
 ghost use Rattle.host_calls.specs.Folder.{IsInNoImage, IsMade, IsMadeInPart, IsWritten, IsWrittenInPart, IsSynced, IsRenamed, IsRemoved, HasNamesSynced, IsSettled, IsSyncedInPart};
-ghost use Rattle.host_calls.specs.Session.{Session, IsInside, IsOutside, StaysInside, Enters, IsLeft, Starts};
+ghost use Rattle.host_calls.specs.Session.{CallsInside, Session, IsInside, IsOutside, StaysInside, Enters, IsLeft, Starts};
 ghost use Rattle.host_calls.specs.World.{World, FileCall, StartCall, Asks, GoesOn, reading, size_of, bytes_from, IsWithinFile};
 
 use crate::{Child, Ending, EnterFault, HostFault, Name, StartFault};
@@ -43,8 +43,7 @@ pub trait Host {
     /// The names of the plain files, in byte order.
     fn names(&mut self, alloc: Global) -> Result<Vec<Name>, HostFault>
         requires { IsInside (session self.old) }
-        ensures inside { StaysInside (session self.old) (session self.new) }
-        ensures cause { HasCause HostFault.Failed (session self.old).file_faults (session self.new).file_faults result }
+        ensures inside { CallsInside HostFault.Failed (session self.old) (session self.new) result }
         ensures looks { IsTrue tells → world self.new ≡ world self.old }
         ensures listed { IsTrue tells → IfOk result (λ names. names.items ≡ map.keys (reading (world self.old))) };
 
@@ -52,8 +51,7 @@ pub trait Host {
     fn length(&mut self, alloc: Global, name: &Name) -> Result<u64, HostFault>
         requires inside { IsInside (session self.old) }
         requires held { IsTrue tells → IsSome (map.get (reading (world self.old)) name.now) }
-        ensures inside { StaysInside (session self.old) (session self.new) }
-        ensures cause { HasCause HostFault.Failed (session self.old).file_faults (session self.new).file_faults result }
+        ensures inside { CallsInside HostFault.Failed (session self.old) (session self.new) result }
         ensures looks { IsTrue tells → world self.new ≡ world self.old }
         ensures counted { IsTrue tells
             → IfOk result (λ count. size_of (reading (world self.old)) name.now ≡ Some count) };
@@ -68,8 +66,7 @@ pub trait Host {
     ) -> Result<Vec<u8>, HostFault>
         requires inside { IsInside (session self.old) }
         requires held { IsTrue tells → IsSome (map.get (reading (world self.old)) name.now) }
-        ensures inside { StaysInside (session self.old) (session self.new) }
-        ensures cause { HasCause HostFault.Failed (session self.old).file_faults (session self.new).file_faults result }
+        ensures inside { CallsInside HostFault.Failed (session self.old) (session self.new) result }
         ensures looks { IsTrue tells → world self.new ≡ world self.old }
         ensures few { IfOk result (λ bytes. vec_len bytes ≤ most) }
         ensures bytes { IsTrue tells
@@ -79,8 +76,7 @@ pub trait Host {
     fn create(&mut self, alloc: Global, name: &Name, bytes: &[u8]) -> Result<(), HostFault>
         requires inside { IsInside (session self.old) }
         requires new_name { IsTrue tells → IsInNoImage (world self.old).now.folder name.now }
-        ensures inside { StaysInside (session self.old) (session self.new) }
-        ensures cause { HasCause HostFault.Failed (session self.old).file_faults (session self.new).file_faults result }
+        ensures inside { CallsInside HostFault.Failed (session self.old) (session self.new) result }
         ensures files { IsTrue tells → FileCall (IsMade name.now bytes.now) (IsMadeInPart name.now bytes.now)
             (world self.old) (world self.new) result };
 
@@ -95,8 +91,7 @@ pub trait Host {
         requires inside { IsInside (session self.old) }
         requires range { IsTrue tells
             → IsWithinFile (reading (world self.old)) name.now offset (length bytes.now) }
-        ensures inside { StaysInside (session self.old) (session self.new) }
-        ensures cause { HasCause HostFault.Failed (session self.old).file_faults (session self.new).file_faults result }
+        ensures inside { CallsInside HostFault.Failed (session self.old) (session self.new) result }
         ensures files { IsTrue tells
             → FileCall (IsWritten name.now offset bytes.now) (IsWrittenInPart name.now offset bytes.now)
             (world self.old) (world self.new) result };
@@ -105,32 +100,28 @@ pub trait Host {
     fn sync(&mut self, alloc: Global, name: &Name) -> Result<(), HostFault>
         requires inside { IsInside (session self.old) }
         requires held { IsTrue tells → IsSome (map.get (reading (world self.old)) name.now) }
-        ensures inside { StaysInside (session self.old) (session self.new) }
-        ensures cause { HasCause HostFault.Failed (session self.old).file_faults (session self.new).file_faults result }
+        ensures inside { CallsInside HostFault.Failed (session self.old) (session self.new) result }
         ensures files { IsTrue tells
             → FileCall (IsSynced name.now) IsSyncedInPart (world self.old) (world self.new) result };
 
     /// Makes the names certain.
     fn sync_names(&mut self, alloc: Global) -> Result<(), HostFault>
         requires { IsInside (session self.old) }
-        ensures inside { StaysInside (session self.old) (session self.new) }
-        ensures cause { HasCause HostFault.Failed (session self.old).file_faults (session self.new).file_faults result }
+        ensures inside { CallsInside HostFault.Failed (session self.old) (session self.new) result }
         ensures files { IsTrue tells
             → FileCall HasNamesSynced IsSyncedInPart (world self.old) (world self.new) result };
 
     /// Makes all of the folder certain, also what others left.
     fn settle(&mut self, alloc: Global) -> Result<(), HostFault>
         requires { IsInside (session self.old) }
-        ensures inside { StaysInside (session self.old) (session self.new) }
-        ensures cause { HasCause HostFault.Failed (session self.old).file_faults (session self.new).file_faults result }
+        ensures inside { CallsInside HostFault.Failed (session self.old) (session self.new) result }
         ensures files { IsTrue tells → FileCall IsSettled IsSyncedInPart (world self.old) (world self.new) result };
 
     /// Moves a file to another name, and replaces what stands there. The change is not certain then.
     fn rename(&mut self, alloc: Global, from: &Name, to: &Name) -> Result<(), HostFault>
         requires inside { IsInside (session self.old) }
         requires held { IsTrue tells → IsSome (map.get (reading (world self.old)) from.now) }
-        ensures inside { StaysInside (session self.old) (session self.new) }
-        ensures cause { HasCause HostFault.Failed (session self.old).file_faults (session self.new).file_faults result }
+        ensures inside { CallsInside HostFault.Failed (session self.old) (session self.new) result }
         ensures files { IsTrue tells → FileCall (IsRenamed from.now to.now) (IsRenamed from.now to.now)
             (world self.old) (world self.new) result };
 
@@ -138,8 +129,7 @@ pub trait Host {
     fn remove(&mut self, alloc: Global, name: &Name) -> Result<(), HostFault>
         requires inside { IsInside (session self.old) }
         requires held { IsTrue tells → IsSome (map.get (reading (world self.old)) name.now) }
-        ensures inside { StaysInside (session self.old) (session self.new) }
-        ensures cause { HasCause HostFault.Failed (session self.old).file_faults (session self.new).file_faults result }
+        ensures inside { CallsInside HostFault.Failed (session self.old) (session self.new) result }
         ensures files { IsTrue tells
             → FileCall (IsRemoved name.now) (IsRemoved name.now) (world self.old) (world self.new) result };
 

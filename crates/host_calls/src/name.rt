@@ -54,6 +54,7 @@ impl Name {
         })
     }
 
+    /// The 1 to 64 bytes of the name, without padding.
     pub fn as_bytes(&self) -> &[u8]
         ensures bytes { result.now ≡ self.now }
         ensures name { IsName result.now }

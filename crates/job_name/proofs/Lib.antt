@@ -1,1 +1,2 @@
 pub mod JobNameLemmas
+pub mod NamedJobs

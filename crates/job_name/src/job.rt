@@ -1,15 +1,12 @@
 //! What the name of a job's file says.
 ghost use Rattle.std.specs.Prelude.{◌≡◌, ◌≤◌, ◌↔◌, ℕ, IsTrue};
 ghost use Rattle.std.specs.Char.{is_ascii_alphabetic};
+ghost use Rattle.clock_range.specs.ClockRange.{IsClockMinute};
+ghost use Rattle.spool_model.specs.declared.number.TheConstants.{LAST_NUMBER};
 ghost use Rattle.job_name.specs.JobName.{IsInRange};
 
+use clock_range::LAST_MINUTE;
 use host_calls::Name;
-
-/// The greatest number that a job can have.
-pub const LAST_NUMBER: u32 = 1_048_575;
-
-/// The last minute of the years that a job can be due in.
-pub const LAST_MINUTE: u32 = 4_222_846_079;
 
 /// How many bytes a job's name has.
 pub const LENGTH: usize = 14;
@@ -22,8 +19,8 @@ pub struct JobName {
     pub minute: u32,
     pub ghost letter: { IsTrue (is_ascii_alphabetic queue) },
     pub ghost drawn: { 1 ≤ number },
-    pub ghost few: { number ≤ 1048575 },
-    pub ghost in_calendar: { minute ≤ 4222846079 },
+    pub ghost few: { number ≤ LAST_NUMBER },
+    pub ghost in_calendar: { IsClockMinute minute },
 }
 
 impl JobName {

@@ -3,7 +3,7 @@
 
 mod job;
 
-pub use job::{JobName, LAST_MINUTE, LAST_NUMBER, LENGTH};
+pub use job::{JobName, LENGTH};
 
 #[cfg(test)]
 mod tests;

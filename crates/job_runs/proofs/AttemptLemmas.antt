@@ -46,11 +46,12 @@ along_before table steps start middle recovery image handed is = record {
       record { from = before.from; was = before.was; others = before.others }
 
 pub runs_behind_recoveries : RunsBehindRecoveries
-runs_behind_recoveries table steps start middle end shown recovery run =
+runs_behind_recoveries table steps start middle end shown recovery legal run =
     let weaker : (image : Files) (handed : List Handed) → IsAlong table steps middle.now image handed → IsAlong table steps start.now image handed =
     along_before table steps start middle recovery in
     record {
       shown = shown;
+      legal = legal;
       leaves = leaves_then (IsOnTheWay table steps start.now) start middle end
           (leaves_weaker (IsAsBefore start.now) _ start middle (λ image handed is. inl is) recovery.leaves)
           (leaves_weaker (IsAlong table steps middle.now) _ middle end (λ image handed is. inr (weaker image handed is)) run.leaves);

@@ -1,5 +1,5 @@
 -- Tables without their scripts.
-use Rattle.std.proofs.Common.{◌≡◌, ◌↔◌, ℕ, ℤ, Bool, true, false, cond, List, [], ◌∷◌, sym, ap, ◌∙◌, refl}
+use Rattle.std.proofs.Common.{◌≡◌, ◌↔◌, ℕ, ℤ, Bool, true, false, cond, List, [], ◌∷◌, map, sym, ap, subst, ◌∙◌, refl}
 use Rattle.std.specs.Prelude.{Option, Some, None, option_map, if◌then◌else◌}
 use Rattle.std.specs.Cmp.{nat_cmp_total}
 use Rattle.std.specs.Ordering.{eq_by_cmp, nat_cmp}
@@ -14,9 +14,9 @@ use Rattle.spool_model.specs.declared.state.State.TheVariants.{Pending, Running}
 use Rattle.spool_model.specs.declared.step.Step.{Step}
 use Rattle.spool_model.specs.declared.step.Step.TheVariants.{Draw, Accept, Remove, Start, End, Interrupt, Forget}
 use Rattle.spool_model.specs.JobTable.{IsDone, IsPending, IsRunning, JobEntries, JobEntry, JobState, JobTable, entry_at, table_of}
-use Rattle.spool_model.specs.Steps.{IsFree, entries_after, in_state, is_batch_entry, last_after, last_batch_after, with_state}
+use Rattle.spool_model.specs.Steps.{AreLegal, IsFree, after_step, after_steps, entries_after, in_state, is_batch_entry, last_after, last_batch_after, with_state}
 use Rattle.job_runs.specs.Bare.{bare, bare_entries, bare_entry, bare_job, bare_step}
-use Rattle.job_runs.specs.Laws.{EntriesAreBare, LegalAsOnTheTable, ScriptsAreGone, StepsAsOnTheTable}
+use Rattle.job_runs.specs.Laws.{EntriesAreBare, LegalAsOnTheTable, ListsLegalAsOnTheTable, ListsStepAsOnTheTable, ScriptsAreGone, StepsAsOnTheTable}
 
 -- what is found without scripts
 find-bare : (list : List (ℕ × JobEntry)) (number : ℕ) → find nat_cmp number (bare_entries list) ≡ option_map bare_entry (find nat_cmp number list)
@@ -189,3 +189,21 @@ last_batch_alike table (Forget number) = refl
 pub steps_as_on_the_table : StepsAsOnTheTable
 unfolding bare bare_map
 steps_as_on_the_table table step = λ i. table_of (sym (last_alike table.last step) i) (entries_alike table.entries step i) (sym (last_batch_alike table step) i)
+
+-- lists of steps
+
+pub lists_legal_as_on_the_table : ListsLegalAsOnTheTable
+lists_legal_as_on_the_table table [] = (λ is. is, λ is. is)
+lists_legal_as_on_the_table table (step ∷ later) =
+    let rest : AreLegal (bare (after_step table step)) (map bare_step later) ↔ AreLegal (after_step table step) later =
+    lists_legal_as_on_the_table (after_step table step) later in
+    let same : bare (after_step table step) ≡ after_step (bare table) (bare_step step) = steps_as_on_the_table table step in (
+      λ legal. ((legal_as_on_the_table table step).0 legal.0, rest.0 (subst (λ of. AreLegal of (map bare_step later)) (sym same) legal.1)),
+      λ legal. ((legal_as_on_the_table table step).1 legal.0, subst (λ of. AreLegal of (map bare_step later)) same (rest.1 legal.1)),
+    )
+
+pub lists_step_as_on_the_table : ListsStepAsOnTheTable
+lists_step_as_on_the_table table [] = refl
+lists_step_as_on_the_table table (step ∷ later) =
+    lists_step_as_on_the_table (after_step table step) later
+    ∙ ap (λ of. after_steps of (map bare_step later)) (steps_as_on_the_table table step)

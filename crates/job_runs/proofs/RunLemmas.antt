@@ -12,7 +12,7 @@ use Rattle.whole_file.specs.Others.{ChangesFiles, LeavesOthers}
 use Rattle.job_runs.specs.Calls.{IsSteppingOn}
 use Rattle.job_runs.specs.Current.{EachShows, IsSpoolName}
 use Rattle.job_runs.specs.Hands.{HandsByNow, StartNothing}
-use Rattle.job_runs.specs.Laws.{CallsAreRuns, OneStepIsARun, RunsGoOn, RunsGoThrough}
+use Rattle.job_runs.specs.Laws.{CallsAreRuns, FrontsRunAsTheSteps, OneStepIsARun, RunsGoOn, RunsGoThrough}
 use Rattle.job_runs.specs.Runs.{IsAlong, Runs, RunsThrough}
 use Rattle.job_runs.proofs.HandsLemmas.{by_now_then, front_behind, front_longer, front_of_one, hands_then, quiet_front, steps_then}
 
@@ -57,6 +57,12 @@ along_behind table first later given start middle before image handed is = recor
   hands = by_now_then table first is.stepping.front given is.given before.hands is.hands;
 }
 
+pub fronts_run_as_the_steps : FrontsRunAsTheSteps
+fronts_run_as_the_steps table front steps old new is run = subst (λ (all : List Step). Runs table all old new) (sym is.1) (record {
+  leaves = leaves_weaker _ _ old new (along_longer table front is.0 old.now) run.leaves;
+  now = λ image was. along_longer table front is.0 old.now image new.now.handed (run.now image was);
+})
+
 pub runs_go_on : RunsGoOn
 runs_go_on table first later given start middle end before behind =
     let weaker : (image : Files) (handed : List Handed) → IsAlong (after_steps table first) later middle.now image handed → IsAlong table (first ++ later) start.now image handed =
@@ -77,7 +83,7 @@ runs_go_through table first later given more start middle end before behind = re
 }
 
 -- the images of the start are along any steps: none of them stands yet
-along_none : (table : JobTable) (steps : List Step) (start : Moment) → EachShows start.folder table →
+pub along_none : (table : JobTable) (steps : List Step) (start : Moment) → EachShows start.folder table →
     HasEachImage (IsAlong table steps start) start
 along_none table steps start shows image is = record {
   stepping = record {

@@ -5,7 +5,7 @@ use Rattle.host_calls.specs.Folder.{Files}
 use Rattle.host_calls.specs.World.{HasEachImage, LeavesOnly, Moment, World, reading}
 use Rattle.spool_model.specs.declared.step.Step.{Step}
 use Rattle.spool_model.specs.JobTable.{JobTable}
-use Rattle.spool_model.specs.Steps.{after_steps}
+use Rattle.spool_model.specs.Steps.{AreLegal, after_steps}
 use Rattle.spool_shows.specs.Shown.{shown_by}
 use Rattle.job_runs.specs.Calls.{KeepsOthers, ShowsAsBefore}
 use Rattle.job_runs.specs.Current.{EachShows}
@@ -24,10 +24,11 @@ pub record IsUnbegun (old new : World) : Type 0 where
   pub leaves : LeavesOnly (IsAsBefore old.now) old new
   pub now : HasEachImage (IsAsBefore old.now) new.now
 
--- The recovery succeeded, and the table is the one that the reading showed. Each image of each moment is on
--- the way of the steps, and each that the end leaves is along them.
+-- The recovery succeeded, the table is the one that the reading showed, and the steps are legal on it. Each
+-- image of each moment is on the way of the steps, and each that the end leaves is along them.
 pub record IsBegun (table : JobTable) (steps : List Step) (old new : World) : Type 0 where
   pub shown : shown_by (reading old) ≡ Ok table
+  pub legal : AreLegal table steps
   pub leaves : LeavesOnly (IsOnTheWay table steps old.now) old new
   pub now : HasEachImage (IsAlong table steps old.now) new.now
 

@@ -2,13 +2,14 @@
 use Rattle.std.specs.Prelude.{◌≡◌, ◌⊎◌, ℕ, List, None, Some, IsSome, true}
 use Rattle.std.specs.FinMap as map
 use Rattle.host_calls.specs.Folder.{Files, Folder, IsImage, reading_of}
-use Rattle.sequence_file.specs.Sequence.{sequence_file, temporary_file}
+use Rattle.sequence_file.specs.Sequence.{sequence_file}
+use Rattle.whole_file.specs.Temporary.{temporary_file}
 use Rattle.spool_model.specs.JobTable.{JobTable}
 use Rattle.start_journal.specs.declared.mark.Mark.{Mark}
 use Rattle.start_journal.specs.Changing.{HoldsJournal}
 use Rattle.start_journal.specs.Journals.{JournalRead, journal_file}
 use Rattle.start_journal.specs.Marks.{is_decided}
-use Rattle.spool_shows.specs.JobFiles.{NamedJob, job_named}
+use Rattle.job_name.specs.JobName.{NamedJob, job_named}
 use Rattle.spool_shows.specs.Shown.{Shows}
 use Rattle.job_runs.specs.Bare.{bare}
 

@@ -32,7 +32,8 @@ HandsOne table (Forget number) given = given ≡ []
 abbrev pub Hands : JobTable → List Step → List Handed → Type 0
 Hands table [] given = given ≡ []
 Hands table (step ∷ later) given =
-    (first : List Handed) × (rest : List Handed) × HandsOne table step first × Hands (after_step table step) later rest × (given ≡ first ++ rest)
+    (first : List Handed) × (rest : List Handed) × HandsOne table step first
+    × Hands (after_step table step) later rest × (given ≡ first ++ rest)
 
 -- The last step is a start whose script was not handed over yet; those before it have handed over these.
 pub record LacksLast (table : JobTable) (steps : List Step) (given : List Handed) : Type 0 where

@@ -5,4 +5,6 @@ pub mod Codes
 pub mod Current
 pub mod Hands
 pub mod Laws
+pub mod Made
+pub mod MadeLaws
 pub mod Runs

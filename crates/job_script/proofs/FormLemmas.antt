@@ -4,9 +4,9 @@ use Rattle.std.specs.Option.{MatchOption}
 use Rattle.std.specs.List.{list_all}
 use Rattle.std.proofs.lemmas.Bool.{cases_lt}
 use Rattle.std.proofs.lemmas.List.{append_assoc, append_cancel_left, drop_all, get_or-take, length-take-le, take-append-drop}
-use Rattle.job_script.specs.Fronts.{HasLines, HasPlace, IsLineFront, IsQuotedFront, RunsName}
+use Rattle.job_script.specs.inside.Fronts.{HasLines, HasDirectory, IsLineFront, IsQuotedFront, IsNameRun}
 use Rattle.job_script.specs.JobText.{quoted, variable_line, variable_lines}
-use Rattle.job_script.specs.Variables.{has_no_zero, is_kept, is_variable_byte, may_stand}
+use Rattle.job_script.specs.Variables.{has_no_zero, is_kept_variable, is_variable_byte, may_be_set}
 use Rattle.job_script.proofs.FrontLemmas.{no_backslash, same_quoted}
 use Rattle.job_script.proofs.MeaningLemmas.{SameLine, behind_name, line_parts, name_bytes, no_line, same_line}
 use Rattle.job_script.proofs.RunLemmas.{Ends, both_hold, hold_both, pass_by_place, same_run}
@@ -14,7 +14,7 @@ use Rattle.job_script.proofs.WordLemmas.{quoted_word}
 
 -- the name that was read, and what stands behind it
 pub record ReadsName (bytes name rest : List ℕ) (count : ℕ) : Type 0 where
-  pub runs : RunsName bytes count
+  pub runs : IsNameRun bytes count
   pub front : name ≡ take count bytes
   pub back : rest ≡ drop count bytes
 
@@ -41,12 +41,12 @@ read_ends bytes name rest count r =
     ]
 
 -- what is kept may stand
-kept_stands : (variable : List ℕ × List ℕ) → IsTrue (is_kept variable) → IsTrue (may_stand variable.0)
-kept_stands variable keeps = (both_hold (may_stand variable.0) (has_no_zero variable.1) keeps).0
+kept_stands : (variable : List ℕ × List ℕ) → IsTrue (is_kept_variable variable) → IsTrue (may_be_set variable.0)
+kept_stands variable keeps = (both_hold (may_be_set variable.0) (has_no_zero variable.1) keeps).0
 
 -- what is kept has no zero byte
-kept_has_no_zero : (variable : List ℕ × List ℕ) → IsTrue (is_kept variable) → IsTrue (has_no_zero variable.1)
-kept_has_no_zero variable keeps = (both_hold (may_stand variable.0) (has_no_zero variable.1) keeps).1
+kept_has_no_zero : (variable : List ℕ × List ℕ) → IsTrue (is_kept_variable variable) → IsTrue (has_no_zero variable.1)
+kept_has_no_zero variable keeps = (both_hold (may_be_set variable.0) (has_no_zero variable.1) keeps).1
 
 -- the name of a line that stands there is the one that was read
 record SameName (name rest other value more : List ℕ) : Type 0 where
@@ -64,12 +64,12 @@ same_name bytes name rest more count r f =
     record { names = both.0; goes_on = both.1 }
 
 -- no line stands there where the name may not stand
-pub no_name : (bytes name rest : List ℕ) (count : ℕ) → ReadsName bytes name rest count → false ≡ may_stand name
+pub no_name : (bytes name rest : List ℕ) (count : ℕ) → ReadsName bytes name rest count → false ≡ may_be_set name
     → (more : List ℕ) → ¬ IsLineFront bytes more
 no_name bytes name rest count r bad more f =
     let s : SameName name rest f.variable.0 f.variable.1 more = same_name bytes name rest more count r f in
-    let good : IsTrue (may_stand f.variable.0) = kept_stands f.variable f.keeps in
-    cc (bad, good, ap may_stand s.names)
+    let good : IsTrue (may_be_set f.variable.0) = kept_stands f.variable f.keeps in
+    cc (bad, good, ap may_be_set s.names)
 
 -- no line stands there where no sign does
 pub no_sign : (bytes name rest : List ℕ) (count : ℕ) → ReadsName bytes name rest count
@@ -127,13 +127,13 @@ no_again bytes name rest word export again count r sign q exports none more f =
 
 -- the newline ends the line of a variable, or none stands there
 pub line_read : (bytes name rest word export again end : List ℕ) (count : ℕ) (after : Option (Bor (List ℕ)))
-    → ReadsName bytes name rest count → may_stand name ≡ true → rest ≡ (61 ∷ []) ++ word → IsQuotedFront word export
+    → ReadsName bytes name rest count → may_be_set name ≡ true → rest ≡ (61 ∷ []) ++ word → IsQuotedFront word export
     → export ≡ codes "; export " ++ again → again ≡ name ++ end
     → MatchOption after ((more : List ℕ) → end ≢ (10 ∷ []) ++ more) (λ more. end ≡ (10 ∷ []) ++ more.now)
     → MatchOption after ((more : List ℕ) → ¬ IsLineFront bytes more) (λ more. IsLineFront bytes more.now)
 line_read bytes name rest word export again end count (Some more) r may sign q exports named ends = record {
   variable = (name, q.value);
-  keeps = hold_both (may_stand name) (has_no_zero q.value) may q.no_zero;
+  keeps = hold_both (may_be_set name) (has_no_zero q.value) may q.no_zero;
   text = name_and_rest bytes name rest count r ∙ ap (λ (it : List ℕ). name ++ it) (sign ∙ ap (λ (it : List ℕ). 61 ∷ it)
       (q.text ∙ ap (λ (it : List ℕ). quoted q.value ++ it) (exports
       ∙ ap (λ (it : List ℕ). codes "; export " ++ it) (named ∙ ap (λ (it : List ℕ). name ++ it) ends))))
@@ -147,44 +147,44 @@ line_read bytes name rest word export again end count None r may sign q exports 
 pub lines_before : (bytes more : List ℕ) → IsLineFront bytes more → HasLines more → HasLines bytes
 lines_before bytes more f h = record {
   variables = f.variable ∷ h.variables;
-  keeps = hold_both (is_kept f.variable) (list_all is_kept h.variables) f.keeps h.keeps;
+  keeps = hold_both (is_kept_variable f.variable) (list_all is_kept_variable h.variables) f.keeps h.keeps;
   rest = h.rest;
-  place = h.place;
+  change = h.change;
   text = f.text ∙ ap (λ (it : List ℕ). variable_line f.variable.0 (quoted f.variable.1) ++ it) h.text
       ∙ sym (append_assoc (variable_line f.variable.0 (quoted f.variable.1)) (variable_lines h.variables) h.rest);
 }
 
 -- the lines behind the first
 lines_behind_by : (bytes more rest : List ℕ) (variables : List (List ℕ × List ℕ)) → IsLineFront bytes more
-    → IsTrue (list_all is_kept variables) → HasPlace rest → bytes ≡ variable_lines variables ++ rest → HasLines more
+    → IsTrue (list_all is_kept_variable variables) → HasDirectory rest → bytes ≡ variable_lines variables ++ rest → HasLines more
 lines_behind_by bytes more rest [] f keeps p same =
     absurd (no_line f.variable.0 (quoted f.variable.1) (quoted p.directory) more p.commands
     (kept_stands f.variable f.keeps) (sym f.text ∙ same ∙ p.text))
 lines_behind_by bytes more rest (v ∷ variables) f keeps p same =
-    let each = both_hold (is_kept v) (list_all is_kept variables) keeps in
+    let each = both_hold (is_kept_variable v) (list_all is_kept_variable variables) keeps in
     let line : SameLine f.variable.0 v.0 f.variable.1 v.1 more (variable_lines variables ++ rest) =
     same_line f.variable.0 v.0 (quoted f.variable.1) (quoted v.1) f.variable.1 v.1 more (variable_lines variables ++ rest)
     (kept_stands f.variable f.keeps) (kept_stands v each.0) (quoted_word f.variable.1) (quoted_word v.1)
     (sym f.text ∙ same ∙ append_assoc (variable_line v.0 (quoted v.1)) (variable_lines variables) rest) in
-    record { variables = variables; keeps = each.1; rest = rest; place = p; text = line.rest }
+    record { variables = variables; keeps = each.1; rest = rest; change = p; text = line.rest }
 
 pub lines_behind : (bytes more : List ℕ) → IsLineFront bytes more → HasLines bytes → HasLines more
-lines_behind bytes more f h = lines_behind_by bytes more h.rest h.variables f h.keeps h.place h.text
+lines_behind bytes more f h = lines_behind_by bytes more h.rest h.variables f h.keeps h.change h.text
 
 -- where the directory is changed at once, no lines stand before
-pub no_lines : (bytes : List ℕ) → HasPlace bytes → HasLines bytes
-no_lines bytes p = record { variables = []; keeps = refl; rest = bytes; place = p; text = refl }
+pub no_lines : (bytes : List ℕ) → HasDirectory bytes → HasLines bytes
+no_lines bytes p = record { variables = []; keeps = refl; rest = bytes; change = p; text = refl }
 
 -- where no line of a variable stands, the directory is changed at once
-only_place_by : (bytes rest : List ℕ) (variables : List (List ℕ × List ℕ)) → ((more : List ℕ) → ¬ IsLineFront bytes more)
-    → IsTrue (list_all is_kept variables) → HasPlace rest → bytes ≡ variable_lines variables ++ rest → HasPlace bytes
-only_place_by bytes rest [] none keeps p same = subst HasPlace (sym same) p
-only_place_by bytes rest (v ∷ variables) none keeps p same =
+only_directory_by : (bytes rest : List ℕ) (variables : List (List ℕ × List ℕ)) → ((more : List ℕ) → ¬ IsLineFront bytes more)
+    → IsTrue (list_all is_kept_variable variables) → HasDirectory rest → bytes ≡ variable_lines variables ++ rest → HasDirectory bytes
+only_directory_by bytes rest [] none keeps p same = subst HasDirectory (sym same) p
+only_directory_by bytes rest (v ∷ variables) none keeps p same =
     absurd (none (variable_lines variables ++ rest) (record {
       variable = v;
-      keeps = (both_hold (is_kept v) (list_all is_kept variables) keeps).0;
+      keeps = (both_hold (is_kept_variable v) (list_all is_kept_variable variables) keeps).0;
       text = same ∙ append_assoc (variable_line v.0 (quoted v.1)) (variable_lines variables) rest;
     }))
 
-pub only_place : (bytes : List ℕ) → ((more : List ℕ) → ¬ IsLineFront bytes more) → HasLines bytes → HasPlace bytes
-only_place bytes none h = only_place_by bytes h.rest h.variables none h.keeps h.place h.text
+pub only_directory : (bytes : List ℕ) → ((more : List ℕ) → ¬ IsLineFront bytes more) → HasLines bytes → HasDirectory bytes
+only_directory bytes none h = only_directory_by bytes h.rest h.variables none h.keeps h.change h.text

@@ -5,7 +5,7 @@ use Rattle.std.specs.List.{flat_map}
 use Rattle.std.proofs.lemmas.Bool.{eqb-true, eqb-false, ne_eqb}
 use Rattle.std.proofs.lemmas.List.{append-nil, append_assoc, flat_map_more}
 use Rattle.std.proofs.lemmas.List.Folds.{list_all-append}
-use Rattle.job_script.specs.Fronts.{IsPartFront, IsQuotedFront, IsUmaskFront}
+use Rattle.job_script.specs.inside.Fronts.{IsPartFront, IsQuotedFront, IsUmaskFront}
 use Rattle.job_script.specs.JobText.{quoted_part, umask_line}
 use Rattle.job_script.specs.Variables.{has_no_zero, is_no_zero}
 use Rattle.job_script.proofs.RunLemmas.{both_hold, hold_both}

@@ -6,7 +6,7 @@ use Rattle.std.proofs.lemmas.List.{drop-take}
 use Rattle.spool_model.specs.Users.{IsUserName}
 use Rattle.job_script.specs.Header.{before_user, behind_user, header_text, BeginsWithHeader, HasHeader, IsHeaderFault}
 use Rattle.job_script.specs.HeaderIn.{alike, name_front, user_in, flag_alike, has_user, header_in, header_place}
-use Rattle.job_script.specs.Scan.{Matches}
+use Rattle.job_script.specs.inside.Scan.{Matches}
 use Rattle.job_script.proofs.HeaderLemmas.{eight_behind, fault_before, one_header}
 use Rattle.job_script.proofs.HeaderScans.{header_read, flag_missing, run_is_name, user_missing}
 use Rattle.job_script.proofs.HeaderInScans.{IsNameFront, alike-matches, alike-take, name_front-runs, name_front-take}

@@ -6,7 +6,7 @@ use Rattle.std.proofs.lemmas.List.{get_or-take, take-take}
 use Rattle.std.proofs.lemmas.List.Sums.{take_while-cons}
 use Rattle.spool_model.specs.Users.{is_user_byte}
 use Rattle.job_script.specs.HeaderIn.{alike, name_front}
-use Rattle.job_script.specs.Scan.{Matches, Runs}
+use Rattle.job_script.specs.inside.Scan.{Matches, IsUserRun}
 
 -- one byte more that agrees
 same_before : (x : ℕ) (y : ℕ) (bytes text : List ℕ) (count : ℕ) → x ≡ y → Matches bytes text count
@@ -102,7 +102,7 @@ taken_front (suc most) (x ∷ bytes) =
 
 -- what stands at the front of the bytes as a user's name
 pub record IsNameFront (bytes run : List ℕ) : Type 0 where
-  pub runs : Runs bytes (length run)
+  pub runs : IsUserRun bytes (length run)
   pub front : run ≡ take (length run) bytes
 
 -- the same behind the test for a dash

@@ -4,7 +4,7 @@ use Rattle.std.proofs.Math.Seq.{take-append-add}
 use Rattle.std.proofs.lemmas.List.{append_assoc, append_cancel_left, get_or_append_left, get_or-take, take-append-drop, take_all, ext_get_or, length-append, length-take-le}
 use Rattle.spool_model.specs.Users.{IsUserName, is_user_byte, are_user_bytes}
 use Rattle.job_script.specs.Header.{BeginsWithHeader, IsHeaderFault, IsHeaderFront, before_user, behind_user, header_text}
-use Rattle.job_script.specs.Scan.{Matches}
+use Rattle.job_script.specs.inside.Scan.{Matches}
 use Rattle.job_script.proofs.RunLemmas.{both_hold}
 use Rattle.job_script.proofs.UserRuns.{EndsUser, IsMost, is_the_name, same_user}
 

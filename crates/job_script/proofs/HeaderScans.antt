@@ -4,7 +4,7 @@ use Rattle.std.proofs.lemmas.Bool.{cases_lt}
 use Rattle.std.proofs.lemmas.List.{drop_all, get_or-take, take-append-drop, length-take-le}
 use Rattle.spool_model.specs.Users.{IsUserName, is_user_byte}
 use Rattle.job_script.specs.Header.{BeginsWithHeader, IsHeaderFault, before_user, behind_user}
-use Rattle.job_script.specs.Scan.{Matches, Runs}
+use Rattle.job_script.specs.inside.Scan.{Matches, IsUserRun}
 use Rattle.job_script.proofs.UserRuns.{EndsUser, IsMost, users_by_place}
 use Rattle.job_script.proofs.HeaderLemmas.{MatchesFlags, NoName, eight_behind, fault_at_user, fault_behind, header_found, matched_whole}
 
@@ -50,7 +50,7 @@ both_flags tail without with plain mailed short brief = record {
 }
 
 -- the run goes on no further
-pub run_is_most : (rest : List ℕ) (count : ℕ) → Runs rest count → 0 < count → IsMost (take count rest) (drop count rest)
+pub run_is_most : (rest : List ℕ) (count : ℕ) → IsUserRun rest count → 0 < count → IsMost (take count rest) (drop count rest)
 run_is_most rest count run some =
     elim (cases_lt count 32) [
       | inl short ↦ elim (cases_lt count (length rest)) [
@@ -64,7 +64,7 @@ run_is_most rest count run some =
     ]
 
 -- a run of at least one byte is a user's name
-pub run_is_name : (rest : List ℕ) (count : ℕ) → Runs rest count → 0 < count → IsUserName (take count rest)
+pub run_is_name : (rest : List ℕ) (count : ℕ) → IsUserRun rest count → 0 < count → IsUserName (take count rest)
 run_is_name rest count run some =
     let long : length (take count rest) ≡ count = length-take-le count rest run.within in
     let few : count ≤ 32 = run.few in
@@ -78,7 +78,7 @@ run_is_name rest count run some =
     }
 
 -- where the run has no byte, no name begins
-pub no_run : (rest : List ℕ) → Runs rest 0 → NoName rest
+pub no_run : (rest : List ℕ) → IsUserRun rest 0 → NoName rest
 no_run [] run = tt
 no_run (x ∷ xs) run =
     elim (run.stops (omega arith) (omega arith)) [
@@ -87,12 +87,12 @@ no_run (x ∷ xs) run =
     ]
 
 -- where the run is no name, no name begins
-pub no_name_here : (rest : List ℕ) (count : ℕ) → Runs rest count → ¬ IsUserName (take count rest) → NoName rest
+pub no_name_here : (rest : List ℕ) (count : ℕ) → IsUserRun rest count → ¬ IsUserName (take count rest) → NoName rest
 no_name_here rest zero run none = no_run rest run
 no_name_here rest (suc count) run none = absurd (none (run_is_name rest (suc count) run (omega arith)))
 
 -- a name has a byte
-pub some_run : (rest : List ℕ) (count : ℕ) → Runs rest count → IsUserName (take count rest) → 0 < count
+pub some_run : (rest : List ℕ) (count : ℕ) → IsUserRun rest count → IsUserName (take count rest) → 0 < count
 some_run rest count run name =
     let long : length (take count rest) ≡ count = length-take-le count rest run.within in
     omega (arith, name.some)
@@ -122,7 +122,7 @@ header_read bytes rest user tail before count flag mail m far behind front after
 
 -- the code has found no user
 pub user_missing : (bytes rest user : List ℕ) (before count : ℕ) → Matches bytes before_user before → 20 ≤ before
-    → rest ≡ drop before bytes → Runs rest count → user ≡ take count rest → ¬ IsUserName user → IsHeaderFault bytes before
+    → rest ≡ drop before bytes → IsUserRun rest count → user ≡ take count rest → ¬ IsUserName user → IsHeaderFault bytes before
 user_missing bytes rest user before count m far behind run front none =
     let few : before ≤ 20 = m.in_text in
     let place : 20 ≡ before = omega arith in
@@ -132,7 +132,7 @@ user_missing bytes rest user before count m far behind run front none =
 
 -- the code has found a user, and no flag
 pub flag_missing : (bytes rest user tail : List ℕ) (before count without with : ℕ) → Matches bytes before_user before
-    → 20 ≤ before → rest ≡ drop before bytes → Runs rest count → user ≡ take count rest → tail ≡ drop count rest
+    → 20 ≤ before → rest ≡ drop before bytes → IsUserRun rest count → user ≡ take count rest → tail ≡ drop count rest
     → IsUserName user → Matches tail (behind_user false) without → Matches tail (behind_user true) with
     → without ≢ 8 → with ≢ 8 → IsHeaderFault bytes (before + count + max without with)
 flag_missing bytes rest user tail before count without with m far behind run front after name plain mailed short brief =

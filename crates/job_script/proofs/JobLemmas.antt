@@ -4,12 +4,12 @@ use Rattle.std.specs.Option.{MatchOption, is_some}
 use Rattle.std.specs.List.{flat_map}
 use Rattle.std.proofs.lemmas.List.{append_assoc, append_cancel_left, drop_at, length-append}
 use Rattle.job_script.specs.Form.{IsJobText, JobMeaning}
-use Rattle.job_script.specs.Fronts.{HasLines, HasPlace, IsQuotedFront, IsUmaskFront}
+use Rattle.job_script.specs.inside.Fronts.{HasLines, HasDirectory, IsQuotedFront, IsUmaskFront}
 use Rattle.job_script.specs.Header.{BeginsWithHeader, HasHeader, before_user, behind_user, header_text}
 use Rattle.job_script.specs.JobText.{behind_directory, directory_lines, quoted, quoted_part, umask_line, variable_lines}
 use Rattle.job_script.proofs.FrontLemmas.{no_backslash, same_quoted}
 use Rattle.job_script.proofs.HeaderLemmas.{eight_behind, one_header}
-use Rattle.job_script.proofs.MeaningLemmas.{place_parts, same_umask}
+use Rattle.job_script.proofs.MeaningLemmas.{directory_parts, same_umask}
 
 -- a text behind a test that it is there
 pub slash_there : (word : List ℕ) (answer : Option (Bor (List ℕ)))
@@ -38,35 +38,35 @@ first_is_slash (b ∷ value) rest more same =
     ∙ append_assoc (quoted_part b) (flat_map quoted_part value ++ 39 ∷ []) rest) ∙ tails)
 
 -- the directory of such a text is a value that stands there
-pub place_front : (bytes word : List ℕ) → bytes ≡ (99 ∷ 100 ∷ 32 ∷ []) ++ word → (p : HasPlace bytes)
+pub directory_front : (bytes word : List ℕ) → bytes ≡ (99 ∷ 100 ∷ 32 ∷ []) ++ word → (p : HasDirectory bytes)
     → IsQuotedFront word (behind_directory ++ p.commands)
-place_front bytes word front p = record {
+directory_front bytes word front p = record {
   value = p.directory;
-  no_zero = p.place.no_zero;
+  no_zero = p.path.no_zero;
   text = append_cancel_left (codes "cd ") word (quoted p.directory ++ (behind_directory ++ p.commands))
-      (sym front ∙ p.text ∙ place_parts (quoted p.directory) p.commands);
+      (sym front ∙ p.text ∙ directory_parts (quoted p.directory) p.commands);
   ends = no_backslash 32 (drop 1 behind_directory ++ p.commands) (λ same. omega arith);
 }
 
 -- what stands behind the directory tells whether it is such a text
-pub place_read : (bytes word more rest : List ℕ) (answer : Option (Bor (List ℕ))) (result : Bool)
+pub directory_read : (bytes word more rest : List ℕ) (answer : Option (Bor (List ℕ))) (result : Bool)
     → bytes ≡ (99 ∷ 100 ∷ 32 ∷ []) ++ word → word ≡ 39 ∷ 47 ∷ more → IsQuotedFront word rest
     → MatchOption answer ((end : List ℕ) → rest ≢ behind_directory ++ end) (λ end. rest ≡ behind_directory ++ end.now)
-    → result ≡ is_some answer → IsTrue result ↔ HasPlace bytes
-place_read bytes word more rest (Some end) result front slash q ends there = (
+    → result ≡ is_some answer → IsTrue result ↔ HasDirectory bytes
+directory_read bytes word more rest (Some end) result front slash q ends there = (
   (λ holds. record {
     directory = q.value;
-    place = record { slash = first_is_slash q.value rest more (sym q.text ∙ slash); no_zero = q.no_zero };
+    path = record { slash = first_is_slash q.value rest more (sym q.text ∙ slash); no_zero = q.no_zero };
     commands = end.now;
     text = front ∙ ap (λ (it : List ℕ). codes "cd " ++ it) (q.text ∙ ap (λ (it : List ℕ). quoted q.value ++ it) ends)
-        ∙ sym (place_parts (quoted q.value) end.now);
+        ∙ sym (directory_parts (quoted q.value) end.now);
   }),
   λ place. there,
 )
-place_read bytes word more rest None result front slash q ends there = (
+directory_read bytes word more rest None result front slash q ends there = (
   (λ holds. absurd (cc (holds, there))),
   λ place. absurd (ends place.commands
-      (same_quoted word rest (behind_directory ++ place.commands) q (place_front bytes word front place)).rest),
+      (same_quoted word rest (behind_directory ++ place.commands) q (directory_front bytes word front place)).rest),
 )
 
 -- the length of a header
@@ -124,7 +124,7 @@ job_has_lines bytes rest lines user mail h back u j =
       variables = j.job.variables;
       keeps = j.meant.keeps;
       rest = directory_lines (quoted j.job.directory) ++ j.job.commands;
-      place = record { directory = j.job.directory; place = j.meant.place; commands = j.job.commands; text = refl };
+      change = record { directory = j.job.directory; path = j.meant.path; commands = j.job.commands; text = refl };
       text = masks.1;
     }
 
@@ -137,11 +137,11 @@ lines_make_job bytes rest lines user mail h back u l = record {
     mail = mail;
     umask = u.umask;
     variables = l.variables;
-    directory = l.place.directory;
-    commands = l.place.commands;
+    directory = l.change.directory;
+    commands = l.change.commands;
   };
-  meant = record { name = h.name; octal = u.octal; keeps = l.keeps; place = l.place.place };
+  meant = record { name = h.name; octal = u.octal; keeps = l.keeps; path = l.change.path };
   text = h.text ∙ ap (λ (it : List ℕ). header_text user mail ++ it) (sym (behind_header bytes rest user mail h back)
       ∙ u.text ∙ ap (λ (it : List ℕ). umask_line u.umask ++ it) (l.text
-      ∙ ap (λ (it : List ℕ). variable_lines l.variables ++ it) l.place.text));
+      ∙ ap (λ (it : List ℕ). variable_lines l.variables ++ it) l.change.text));
 }

@@ -5,7 +5,7 @@ use Rattle.std.proofs.lemmas.List.{append_assoc, append_cancel_left}
 use Rattle.job_script.specs.Header.{header_text}
 use Rattle.job_script.specs.JobText.{behind_directory, directory_lines, umask_line, variable_line}
 use Rattle.job_script.specs.Meaning.{Piece, between_quotes, behind_backslash, ArePieces, IsPiece, IsShellWord, Means, SetsVariables, spelling, stands_for}
-use Rattle.job_script.specs.Variables.{are_variable_bytes, begins_variable, is_reserved, is_variable_byte, is_variable_name, may_stand}
+use Rattle.job_script.specs.Variables.{are_variable_bytes, begins_variable, is_reserved, is_variable_byte, is_variable_name, may_be_set}
 use Rattle.std.specs.Prelude.{slice_index}
 use Rattle.job_script.proofs.HeaderLemmas.{one_header}
 use Rattle.job_script.proofs.RunLemmas.{both_hold, same_run}
@@ -79,7 +79,7 @@ pub line_parts : (name word rest : List ℕ) → variable_line name word ++ rest
 line_parts name word rest = simp append_assoc
 
 -- the bytes of a name that may stand are such bytes
-pub name_bytes : (name : List ℕ) → IsTrue (may_stand name) → IsTrue (list_all is_variable_byte name)
+pub name_bytes : (name : List ℕ) → IsTrue (may_be_set name) → IsTrue (list_all is_variable_byte name)
 name_bytes name may =
     (both_hold (begins_variable (slice_index name 0)) (are_variable_bytes name)
     (both_hold (is_variable_name name) (not (is_reserved name)) may).0).1
@@ -91,7 +91,7 @@ pub record SameLine (name other value worth x y : List ℕ) : Type 0 where
   pub rest : x ≡ y
 
 -- a line at the front of a text is one line
-pub same_line : (name other word another value worth x y : List ℕ) → IsTrue (may_stand name) → IsTrue (may_stand other)
+pub same_line : (name other word another value worth x y : List ℕ) → IsTrue (may_be_set name) → IsTrue (may_be_set other)
     → IsShellWord word value → IsShellWord another worth
     → variable_line name word ++ x ≡ variable_line other another ++ y → SameLine name other value worth x y
 same_line name other word another value worth x y may can one two same =
@@ -112,7 +112,7 @@ space_is_no_sign : (a b : ℕ) → a ≡ 32 → b ≡ 61 → a ≡ b → ⊥
 space_is_no_sign a b one two same = omega arith
 
 -- the line that changes the directory is no line of a variable
-pub no_line : (name word place x y : List ℕ) → IsTrue (may_stand name)
+pub no_line : (name word place x y : List ℕ) → IsTrue (may_be_set name)
     → variable_line name word ++ x ≡ directory_lines place ++ y → ⊥
 no_line name word place x y may same =
     let both : (name ≡ 99 ∷ 100 ∷ []) × (behind_name name word x ≡ 32 ∷ ((place ++ behind_directory) ++ y)) =
@@ -125,18 +125,18 @@ abbrev pub behind_word : List ℕ → List ℕ
 behind_word commands = behind_directory ++ commands
 
 -- the lines that change the directory and the commands, part by part
-pub place_parts : (word commands : List ℕ) → directory_lines word ++ commands ≡ codes "cd " ++ (word ++ behind_word commands)
-place_parts word commands = simp append_assoc
+pub directory_parts : (word commands : List ℕ) → directory_lines word ++ commands ≡ codes "cd " ++ (word ++ behind_word commands)
+directory_parts word commands = simp append_assoc
 
 -- two texts that change the directory and then have commands are one
-pub same_place : (w u d e c f : List ℕ) → IsShellWord w d → IsShellWord u e
+pub same_directory : (w u d e c f : List ℕ) → IsShellWord w d → IsShellWord u e
     → directory_lines w ++ c ≡ directory_lines u ++ f → SameThen d e c f
-same_place w u d e c f one two same =
+same_directory w u d e c f one two same =
     let words : SameThen d e (behind_word c) (behind_word f) =
     same_word w u d e (behind_word c) (behind_word f) one two ((λ e. omega arith), (λ e. omega arith))
     ((λ e. omega arith), (λ e. omega arith))
     (append_cancel_left (codes "cd ") (w ++ behind_word c) (u ++ behind_word f)
-    (sym (place_parts w c) ∙ same ∙ place_parts u f)) in
+    (sym (directory_parts w c) ∙ same ∙ directory_parts u f)) in
     record { value = words.value; rest = append_cancel_left behind_directory c f words.rest }
 
 -- what two texts set, where they go to and what they run
@@ -151,7 +151,7 @@ pub same_lines : (variables others : List (List ℕ × List ℕ)) (l m w u d e c
     → l ++ (directory_lines w ++ c) ≡ m ++ (directory_lines u ++ f) → SameLines variables others d e c f
 same_lines [] [] l m w u d e c f sets also one two same =
     let place : SameThen d e c f =
-    same_place w u d e c f one two
+    same_directory w u d e c f one two
     (sym (ap (λ (it : List ℕ). it ++ (directory_lines w ++ c)) sets) ∙ same
     ∙ ap (λ (it : List ℕ). it ++ (directory_lines u ++ f)) also) in
     record { set = refl; directory = place.value; commands = place.rest }

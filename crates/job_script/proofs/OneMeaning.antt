@@ -4,11 +4,11 @@ use Rattle.std.specs.List.{list_all}
 use Rattle.job_script.specs.Check.{IsFit}
 use Rattle.job_script.specs.Form.{IsJobMeaning, IsJobText, JobMeaning, MeansJob, meaning_for, text_of_job}
 use Rattle.job_script.specs.JobText.{quoted, variable_lines}
-use Rattle.job_script.specs.Variables.{has_no_zero, is_kept, kept, may_stand}
+use Rattle.job_script.specs.Variables.{has_no_zero, is_kept_variable, kept, may_be_set}
 use Rattle.job_script.specs.declared.context.Context.{Context}
 use Rattle.job_script.proofs.MeaningLemmas.{SameMeaning, same_meaning}
 use Rattle.job_script.proofs.RunLemmas.{both_hold, hold_both}
-use Rattle.job_script.proofs.WordLemmas.{MayAllStand, lines_set, quoted_word}
+use Rattle.job_script.proofs.WordLemmas.{MayAllBeSet, lines_set, quoted_word}
 
 -- two meanings of one text are one
 pub one_meaning : (text : List ℕ) (one two : JobMeaning) → MeansJob text one → MeansJob text two → one ≡ two
@@ -27,11 +27,11 @@ one_meaning text one two first second =
     }
 
 -- variables that a job keeps may all stand
-keeps_stand : (variables : List (List ℕ × List ℕ)) → IsTrue (list_all is_kept variables) → MayAllStand variables
+keeps_stand : (variables : List (List ℕ × List ℕ)) → IsTrue (list_all is_kept_variable variables) → MayAllBeSet variables
 keeps_stand [] keeps = tt
 keeps_stand (v ∷ variables) keeps =
-    let each = both_hold (is_kept v) (list_all is_kept variables) keeps in
-    ((both_hold (may_stand v.0) (has_no_zero v.1) each.0).0, keeps_stand variables each.1)
+    let each = both_hold (is_kept_variable v) (list_all is_kept_variable variables) keeps in
+    ((both_hold (may_be_set v.0) (has_no_zero v.1) each.0).0, keeps_stand variables each.1)
 
 -- the text of a job means that job
 pub job_means : (job : JobMeaning) → IsJobMeaning job → MeansJob (text_of_job job) job
@@ -58,16 +58,16 @@ one_text text other job form same first second =
     form.text ∙ ap text_of_job (mine ∙ sym yours) ∙ sym same.text
 
 -- one variable more before those that a job keeps
-kept_keeps_by : (v : List ℕ × List ℕ) (variables : List (List ℕ × List ℕ)) (here : Bool) → is_kept v ≡ here
-    → IsTrue (list_all is_kept (kept variables)) → IsTrue (list_all is_kept (kept (v ∷ variables)))
+kept_keeps_by : (v : List ℕ × List ℕ) (variables : List (List ℕ × List ℕ)) (here : Bool) → is_kept_variable v ≡ here
+    → IsTrue (list_all is_kept_variable (kept variables)) → IsTrue (list_all is_kept_variable (kept (v ∷ variables)))
 kept_keeps_by v variables true here keeps =
-    rw here (hold_both (is_kept v) (list_all is_kept (kept variables)) here keeps)
+    rw here (hold_both (is_kept_variable v) (list_all is_kept_variable (kept variables)) here keeps)
 kept_keeps_by v variables false here keeps = rw here keeps
 
 -- the variables that a job keeps are such
-kept_keeps : (variables : List (List ℕ × List ℕ)) → IsTrue (list_all is_kept (kept variables))
+kept_keeps : (variables : List (List ℕ × List ℕ)) → IsTrue (list_all is_kept_variable (kept variables))
 kept_keeps [] = refl
-kept_keeps (v ∷ variables) = kept_keeps_by v variables (is_kept v) refl (kept_keeps variables)
+kept_keeps (v ∷ variables) = kept_keeps_by v variables (is_kept_variable v) refl (kept_keeps variables)
 
 -- a job can mean what a context says that a job can take over
 pub fit_meaning : (context : Context) (mail : Bool) (commands : List ℕ) → IsFit context → context.umask < 512
@@ -76,5 +76,5 @@ fit_meaning context mail commands fit octal = record {
   name = fit.user;
   octal = octal;
   keeps = kept_keeps context.environment;
-  place = record { slash = fit.directory.slash; no_zero = fit.directory.no_zero };
+  path = fit.directory.path;
 }

@@ -6,7 +6,7 @@ use Rattle.std.proofs.lemmas.Bool.Decides.{nat_tests}
 use Rattle.job_script.specs.Header.{before_user}
 use Rattle.job_script.specs.JobText.{quoted, quoted_part, behind_directory, variable_lines}
 use Rattle.job_script.specs.Meaning.{Piece, between_quotes, behind_backslash, ArePieces, IsShellWord, SetsVariables, has_no_quote, spelling, stands_for}
-use Rattle.job_script.specs.Variables.{may_stand}
+use Rattle.job_script.specs.Variables.{may_be_set}
 
 -- a word whose first quote is open: the bytes up to the next quote, and the pieces behind it
 record IsOpened (value : List ℕ) : Type 0 where
@@ -50,6 +50,7 @@ quoted_word value =
     let o : IsOpened value = opened value in
     record {
       pieces = between_quotes o.run ∷ o.pieces;
+      some = omega arith;
       each = (o.clean, o.each);
       spelled = ap (λ (it : List ℕ). 39 ∷ it)
           (o.spelled ∙ sym (append_assoc o.run (39 ∷ []) (flat_map spelling o.pieces)));
@@ -57,12 +58,12 @@ quoted_word value =
     }
 
 -- each of the variables may stand in a job
-abbrev pub MayAllStand : List (List ℕ × List ℕ) → Type 0
-MayAllStand [] = Unit {0}
-MayAllStand (variable ∷ others) = IsTrue (may_stand variable.0) × MayAllStand others
+abbrev pub MayAllBeSet : List (List ℕ × List ℕ) → Type 0
+MayAllBeSet [] = Unit {0}
+MayAllBeSet (variable ∷ others) = IsTrue (may_be_set variable.0) × MayAllBeSet others
 
 -- the lines of variables set them in turn
-pub lines_set : (variables : List (List ℕ × List ℕ)) → MayAllStand variables → SetsVariables (variable_lines variables) variables
+pub lines_set : (variables : List (List ℕ × List ℕ)) → MayAllBeSet variables → SetsVariables (variable_lines variables) variables
 lines_set [] stand = refl
 lines_set (variable ∷ others) stand =
     (stand.0, quoted variable.1, quoted_word variable.1, variable_lines others, refl, lines_set others stand.1)

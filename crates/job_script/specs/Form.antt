@@ -1,10 +1,11 @@
 -- The form of a job text, in which each meaning has one text (the form as in Debian's at, own).
-use Rattle.std.specs.Prelude.{◌≡◌, ◌<◌, ℕ, Bool, List, slice_index, IsTrue}
+use Rattle.std.specs.Prelude.{◌≡◌, ◌<◌, ℕ, Bool, List, IsTrue}
 use Rattle.std.specs.List.{list_all}
 use Rattle.spool_model.specs.Users.{IsUserName}
+use Rattle.job_script.specs.Check.{IsAbsolutePath}
 use Rattle.job_script.specs.JobText.{job_text}
 use Rattle.job_script.specs.Meaning.{Means}
-use Rattle.job_script.specs.Variables.{has_no_zero, is_kept, kept}
+use Rattle.job_script.specs.Variables.{is_kept_variable, kept}
 use Rattle.job_script.specs.declared.context.Context.{Context}
 
 -- the six things that a job text means
@@ -35,17 +36,12 @@ meaning_for context mail commands = record {
 abbrev pub text_of_job : JobMeaning → List ℕ
 text_of_job job = job_text job.user job.mail job.umask job.variables job.directory job.commands
 
--- the directory of a job text: it begins with a slash and has no zero byte
-pub record IsPlace (directory : List ℕ) : Type 0 where
-  pub slash : slice_index directory 0 ≡ 47
-  pub no_zero : IsTrue (has_no_zero directory)
-
--- a job can mean this: a user, three octal digits, variables that a job keeps, and such a directory
+-- a job can mean this: a user, three octal digits, variables that a job keeps, and an absolute path
 pub record IsJobMeaning (job : JobMeaning) : Type 0 where
   pub name : IsUserName job.user
   pub octal : job.umask < 512
-  pub keeps : IsTrue (list_all is_kept job.variables)
-  pub place : IsPlace job.directory
+  pub keeps : IsTrue (list_all is_kept_variable job.variables)
+  pub path : IsAbsolutePath job.directory
 
 -- the bytes are the text of a job
 pub record IsJobText (bytes : List ℕ) : Type 0 where

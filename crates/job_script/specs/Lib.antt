@@ -1,9 +1,8 @@
 pub mod Check
 pub mod Form
-pub mod Fronts
 pub mod Header
 pub mod HeaderIn
 pub mod JobText
 pub mod Meaning
-pub mod Scan
 pub mod Variables
+pub mod inside

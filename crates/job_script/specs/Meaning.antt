@@ -1,10 +1,10 @@
 -- What a job text means, by the words of the shell (POSIX.1-2017, XCU 2.2.1 and 2.2.2).
-use Rattle.std.specs.Prelude.{◌≡◌, ◌≢◌, ◌<◌, ◌==◌, ℕ, Bool, not, List, [], ◌∷◌, ◌++◌, IsTrue}
+use Rattle.std.specs.Prelude.{◌≡◌, ◌≢◌, ◌<◌, ◌≤◌, ◌==◌, ℕ, Bool, not, List, [], ◌∷◌, ◌++◌, length, IsTrue}
 use Rattle.std.specs.List.{flat_map, list_all}
 use Rattle.spool_model.specs.Users.{IsUserName}
 use Rattle.job_script.specs.Header.{header_text}
 use Rattle.job_script.specs.JobText.{directory_lines, umask_line, variable_line}
-use Rattle.job_script.specs.Variables.{may_stand}
+use Rattle.job_script.specs.Variables.{may_be_set}
 
 -- a piece of a word: bytes between single quotes, or one byte behind a backslash
 pub data Piece : Type 0 where
@@ -36,9 +36,10 @@ abbrev pub stands_for : Piece → List ℕ
 stands_for (between_quotes bytes) = bytes
 stands_for (behind_backslash byte) = byte ∷ []
 
--- the shell reads the text as one word with this value
+-- the shell reads the text as one word with this value: a word has at least one piece
 pub record IsShellWord (text value : List ℕ) : Type 0 where
   pub pieces : List Piece
+  pub some : 1 ≤ length pieces
   pub each : ArePieces pieces
   pub spelled : text ≡ flat_map spelling pieces
   pub meant : value ≡ flat_map stands_for pieces
@@ -47,7 +48,7 @@ pub record IsShellWord (text value : List ℕ) : Type 0 where
 abbrev pub SetsVariables : List ℕ → List (List ℕ × List ℕ) → Type 0
 SetsVariables text [] = text ≡ []
 SetsVariables text (variable ∷ others) =
-    IsTrue (may_stand variable.0) × (word : List ℕ) × IsShellWord word variable.1
+    IsTrue (may_be_set variable.0) × (word : List ℕ) × IsShellWord word variable.1
     × (rest : List ℕ) × (text ≡ variable_line variable.0 word ++ rest) × SetsVariables rest others
 
 -- what a job does: for a user and with a flag of mail it sets a umask and variables, changes to a

@@ -39,17 +39,17 @@ is_no_zero byte = not (byte == 0)
 abbrev pub has_no_zero : List ℕ → Bool
 has_no_zero bytes = list_all is_no_zero bytes
 
--- a variable with this name may stand in a job
-abbrev pub may_stand : List ℕ → Bool
-may_stand name = is_variable_name name && not (is_reserved name)
+-- a job may set a variable of this name
+abbrev pub may_be_set : List ℕ → Bool
+may_be_set name = is_variable_name name && not (is_reserved name)
 
 -- a job keeps the variable
-abbrev pub is_kept : List ℕ × List ℕ → Bool
-is_kept variable = may_stand variable.0 && has_no_zero variable.1
+abbrev pub is_kept_variable : List ℕ × List ℕ → Bool
+is_kept_variable variable = may_be_set variable.0 && has_no_zero variable.1
 
 -- the variables that a job keeps, in their order
 abbrev pub kept : List (List ℕ × List ℕ) → List (List ℕ × List ℕ)
-kept variables = filter is_kept variables
+kept variables = filter is_kept_variable variables
 
 -- how many bytes a byte takes between single quotes: a single quote takes four
 abbrev pub quoted_byte : ℕ → ℕ

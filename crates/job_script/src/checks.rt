@@ -1,7 +1,7 @@
 //! Whether a job can take over what its caller has.
-ghost use Rattle.std.specs.Prelude.{◌≡◌, ◌↔◌, ◌<◌, ◌≤◌, min, IsTrue};
+ghost use Rattle.std.specs.Prelude.{◌≡◌, ◌↔◌, ◌<◌, ◌≤◌, min, IsTrue, Some, None, MatchResult};
 ghost use Rattle.spool_model.specs.Users.{IsUserName};
-ghost use Rattle.job_script.specs.Check.{IsDirectory, Checked};
+ghost use Rattle.job_script.specs.Check.{IsDirectory, Checked, first_fault};
 ghost use Rattle.job_script.specs.Variables.{line_length, lines_length};
 
 use crate::kept::{is_kept_by_a_job, is_without_zero};
@@ -9,15 +9,17 @@ use crate::{Context, ScriptFault, Variables};
 use spool_model::UserName;
 
 /// The greatest length of a directory.
-pub const MOST_DIRECTORY: usize = 4_096;
+pub const MAX_DIRECTORY: usize = 4_096;
 
 /// The greatest length of all lines of variables together.
-pub const MOST_ENVIRONMENT: usize = 262_144;
+pub const MAX_ENVIRONMENT: usize = 262_144;
 
 /// Whether a job can take over the context. The first fault is answered: its user, its directory,
 /// then its variables.
 pub fn check(context: &Context) -> Result<(), ScriptFault>
-    ensures { Checked context.now result }
+    ensures refused { Checked context.now result }
+    ensures first { MatchResult result (λ _. first_fault context.now ≡ None)
+        (λ fault. first_fault context.now ≡ Some fault) }
 {
     if UserName::of(context.user.as_str().as_bytes()).is_none() {
         return Err(ScriptFault::BadUser);
@@ -25,17 +27,18 @@ pub fn check(context: &Context) -> Result<(), ScriptFault>
     if !is_directory(context.directory.as_str()) {
         return Err(ScriptFault::BadDirectory);
     }
-    if length_of_lines(&context.environment) > MOST_ENVIRONMENT {
+    if length_of_lines(&context.environment) > MAX_ENVIRONMENT {
         return Err(ScriptFault::EnvironmentTooLarge);
     }
     Ok(())
 }
 
+// Whether a job can change to the directory.
 fn is_directory(directory: &str) -> bool
     ensures { IsTrue result ↔ IsDirectory directory.now }
 {
     let bytes = directory.as_bytes();
-    bytes.first() == Some(&b'/') && bytes.len() <= MOST_DIRECTORY && is_without_zero(bytes)
+    bytes.first() == Some(&b'/') && bytes.len() <= MAX_DIRECTORY && is_without_zero(bytes)
 }
 
 // The length of the lines of the variables that a job keeps. A sum that leaves `usize` stays at its
@@ -52,6 +55,7 @@ fn length_of_lines(variables: &Variables) -> usize
     total
 }
 
+// The length of a variable's line.
 fn length_of_line(name: &str, value: &str) -> usize
     ensures { result ≡ min (line_length (name.now, value.now)) usize.MAX }
 {

@@ -1,10 +1,10 @@
 //! Whether bytes have the form of a job text.
 ghost use Rattle.std.specs.Prelude.{◌≡◌, ◌≢◌, ◌≤◌, ◌<◌, ◌++◌, ◌↔◌, ℕ, List, IsTrue, MatchOption};
 ghost use Rattle.job_script.specs.Form.{IsJobText};
-ghost use Rattle.job_script.specs.Fronts.{HasLines, HasPlace, IsLineFront, IsPartFront, IsQuotedFront, IsUmaskFront, RunsName};
+ghost use Rattle.job_script.specs.inside.Fronts.{HasLines, HasDirectory, IsLineFront, IsPartFront, IsQuotedFront, IsUmaskFront, IsNameRun};
 
 use crate::headers::header;
-use crate::kept::{can_stand, may_stand_in_a_job};
+use crate::kept::{can_stand, may_be_set_in_a_job};
 
 const BEHIND_DIRECTORY: &[u8] =
     b" || {\n\techo 'Execution directory inaccessible' >&2\n\texit 1\n}\n";
@@ -62,7 +62,7 @@ fn has_lines(bytes: &[u8]) -> bool
     while let Some(more) = behind_variable(rest) {
         rest = more;
     }
-    has_place(rest)
+    has_directory(rest)
 }
 
 // What stands behind the line of a variable.
@@ -71,7 +71,7 @@ fn behind_variable(bytes: &[u8]) -> Option<&[u8]>
         (λ rest. IsLineFront bytes.now rest.now) }
 {
     let (name, rest) = bytes.split_at(name_length(bytes));
-    if !may_stand_in_a_job(name) {
+    if !may_be_set_in_a_job(name) {
         return None;
     }
     let word = behind(rest, b"=")?;
@@ -81,9 +81,9 @@ fn behind_variable(bytes: &[u8]) -> Option<&[u8]>
     behind(end, b"\n")
 }
 
-// How many bytes at the front may stand in a variable's name.
+// How many of the first bytes may stand in a variable's name.
 fn name_length(bytes: &[u8]) -> usize
-    ensures { RunsName bytes.now result }
+    ensures { IsNameRun bytes.now result }
 {
     for (i, byte) in bytes.iter().enumerate() {
         if !can_stand(*byte) {
@@ -94,8 +94,8 @@ fn name_length(bytes: &[u8]) -> usize
 }
 
 // Whether the lines stand there that change the directory.
-fn has_place(bytes: &[u8]) -> bool
-    ensures { IsTrue result ↔ HasPlace bytes.now }
+fn has_directory(bytes: &[u8]) -> bool
+    ensures { IsTrue result ↔ HasDirectory bytes.now }
 {
     let Some(word) = behind(bytes, b"cd ") else {
         return false;

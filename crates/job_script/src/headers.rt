@@ -2,7 +2,8 @@
 ghost use Rattle.std.specs.Prelude.{◌≡◌, ◌≤◌, ℕ, List, Bool, length, IfSome, MatchOption, MatchResult};
 ghost use Rattle.spool_model.specs.Users.{is_user_byte};
 ghost use Rattle.job_script.specs.Header.{BeginsWithHeader, HasHeader, IsHeaderFault, IsHeaderOf, Says, header_text};
-ghost use Rattle.job_script.specs.Scan.{Matches, Runs};
+ghost use Rattle.job_script.specs.declared.headers.TheConstants.{MAX_HEADER};
+ghost use Rattle.job_script.specs.inside.Scan.{Matches, IsUserRun};
 
 use spool_model::{MAX_USER_NAME, UserName};
 
@@ -11,6 +12,9 @@ const BEFORE_USER: [u8; 20] = *b"#!/bin/sh\n# at user=";
 const WITHOUT_MAIL: [u8; 8] = *b" mail=0\n";
 
 const WITH_MAIL: [u8; 8] = *b" mail=1\n";
+
+/// The greatest length of a header, in bytes.
+pub const MAX_HEADER: usize = 60;
 
 /// Whose a job is, and whether its output is mailed in any case.
 #[derive(Clone, Copy)]
@@ -24,7 +28,7 @@ pub fn header(bytes: &[u8]) -> Option<JobHeader>
     ensures read { MatchOption result (¬ HasHeader bytes.now) (IsHeaderOf bytes.now) }
     ensures only { (user : List ℕ) (mail : Bool) → BeginsWithHeader bytes.now user mail
         → IfSome result (Says user mail) }
-    ensures few { IfSome result (λ found. length (header_text found.user found.mail) ≤ 60) }
+    ensures few { IfSome result (λ found. length (header_text found.user found.mail) ≤ MAX_HEADER) }
 {
     read(bytes).ok()
 }
@@ -75,7 +79,7 @@ fn matched(bytes: &[u8], text: &[u8]) -> usize
 
 // How many bytes at the front are a user's name, at most.
 fn user_length(bytes: &[u8]) -> usize
-    ensures { Runs bytes.now result }
+    ensures { IsUserRun bytes.now result }
 {
     if !bytes.is_empty() && bytes[0] == b'-' {
         return 0;

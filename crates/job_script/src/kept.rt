@@ -1,16 +1,17 @@
 //! Which variables a job keeps.
 ghost use Rattle.std.specs.Prelude.{◌≡◌};
-ghost use Rattle.job_script.specs.Variables.{is_kept, may_stand, is_reserved, is_variable_name, is_variable_byte, are_variable_bytes, begins_variable, has_no_zero, is_no_zero};
+ghost use Rattle.job_script.specs.Variables.{is_kept_variable, may_be_set, is_reserved, is_variable_name, is_variable_byte, are_variable_bytes, begins_variable, has_no_zero, is_no_zero};
 
+/// Whether a job keeps the variable.
 pub(crate) fn is_kept_by_a_job(name: &str, value: &str) -> bool
-    ensures { result ≡ is_kept (name.now, value.now) }
+    ensures { result ≡ is_kept_variable (name.now, value.now) }
 {
-    may_stand_in_a_job(name.as_bytes()) && is_without_zero(value.as_bytes())
+    may_be_set_in_a_job(name.as_bytes()) && is_without_zero(value.as_bytes())
 }
 
 /// Whether a job may have a variable with this name.
-pub(crate) fn may_stand_in_a_job(name: &[u8]) -> bool
-    ensures { result ≡ may_stand name.now }
+pub(crate) fn may_be_set_in_a_job(name: &[u8]) -> bool
+    ensures { result ≡ may_be_set name.now }
 {
     is_name_of_a_variable(name) && !is_reserved_name(name)
 }
@@ -33,6 +34,7 @@ fn can_begin(byte: u8) -> bool
     byte.is_ascii_alphabetic() || byte == b'_'
 }
 
+/// Whether the byte may stand in a variable's name.
 pub(crate) fn can_stand(byte: u8) -> bool
     ensures { result ≡ is_variable_byte byte }
 {

@@ -12,14 +12,14 @@ mod laws;
 mod variables;
 mod writer;
 
-pub use checks::{MOST_DIRECTORY, MOST_ENVIRONMENT, check};
+pub use checks::{MAX_DIRECTORY, MAX_ENVIRONMENT, check};
 pub use context::Context;
 pub use fault::ScriptFault;
 pub use form::is_job_text;
-pub use headers::{JobHeader, header, header_fault};
-pub use laws::{headers_are_read_exactly, texts_and_meanings_are_one_to_one};
+pub use headers::{JobHeader, MAX_HEADER, header, header_fault};
+pub use laws::{checks_are_tests, headers_are_read_exactly, texts_and_meanings_are_one_to_one};
 pub use variables::Variables;
-pub use writer::{MOST_COMMANDS, write};
+pub use writer::{MAX_COMMANDS, write};
 
 #[cfg(test)]
 mod tests;

@@ -2,7 +2,7 @@
 ghost use Rattle.std.specs.Prelude.{◌≡◌, IfOk};
 
 use crate::{
-    Context, MOST_COMMANDS, ScriptFault, Variables, check, header, header_fault, is_job_text, write,
+    Context, MAX_COMMANDS, ScriptFault, Variables, check, header, header_fault, is_job_text, write,
 };
 use host_calls::Text;
 use std::alloc::{AllocError, Global};
@@ -111,7 +111,7 @@ fn commands_may_take_1_048_576_bytes(rt: HostRuntime) -> Result<(), Fail> {
     let alloc = rt.alloc();
     let caller = context(alloc, "ann", "/")?;
     let mut commands = Vec::new(alloc);
-    for _ in 0..MOST_COMMANDS {
+    for _ in 0..MAX_COMMANDS {
         commands.push(b'#')?;
     }
     assert!(rt; write(alloc, &caller, false, &commands).is_ok());

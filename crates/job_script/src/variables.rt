@@ -20,6 +20,7 @@ impl Model for Variables {
 }
 
 impl Variables {
+    /// An environment without variables.
     pub fn new(alloc: Global) -> Variables
         ensures { result ≡ [] }
     {

@@ -13,7 +13,7 @@ use host_calls::{Bytes, Text};
 use std::alloc::{AllocError, Global};
 
 /// The greatest length of the commands of a job.
-pub const MOST_COMMANDS: usize = 1_048_576;
+pub const MAX_COMMANDS: usize = 1_048_576;
 
 /// The text of a job that runs the commands as its caller would. It refuses as `check` does, and
 /// then commands that are too long.
@@ -32,7 +32,7 @@ pub fn write(
     ensures form { IfOk result IsJobText }
 {
     check(context)?;
-    if commands.len() > MOST_COMMANDS {
+    if commands.len() > MAX_COMMANDS {
         return Err(ScriptFault::TooLong);
     }
     match text_of(alloc, context, mail, commands) {

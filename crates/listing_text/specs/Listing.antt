@@ -1,27 +1,16 @@
 -- The listing of live jobs: whose jobs a user sees, and in which order (Debian atq(1) and at(1); the
 -- order is own).
-use Rattle.std.specs.Prelude.{◌≡◌, ◌⊎◌, ◌*◌, ◌<◌, ◌==◌, ◌&&◌, ◌||◌, ℕ, pos, Bool, true, Option, Some, None, List, codes, filter, AllPairs, IsPermutation}
-use Rattle.std.specs.FinMap as map
-use Rattle.std.specs.List.{AllZip, concat, filter_map, list_any}
+use Rattle.std.specs.Prelude.{◌≡◌, ◌⊎◌, ◌*◌, ◌<◌, ◌==◌, ◌&&◌, ◌||◌, ℕ, pos, Bool, true, List, codes, filter, AllPairs, IsPermutation}
+use Rattle.std.specs.List.{AllZip, concat, list_any}
 use Rattle.std.specs.Str.{bytes_eq}
 use Rattle.spool_model.specs.declared.row.Row.{Row}
-use Rattle.spool_model.specs.declared.entry.Entry.TheVariants.{Live, Done}
-use Rattle.spool_model.specs.JobTable.{JobTable, JobEntry}
+use Rattle.spool_model.specs.JobTable.{JobTable}
+use Rattle.spool_model.specs.Lists.{live_rows}
 use Rattle.civil_minute.specs.Civil.{IsCivilTime}
 use Rattle.civil_minute.specs.declared.civil.CivilMinute.{CivilMinute}
 use Rattle.civil_minute.specs.declared.zone.Zone.{Zone}
 use Rattle.listing_text.specs.Date.{date_text_of}
 use Rattle.listing_text.specs.Lines.{letter_of, queue_line_of}
-
--- the row of an entry under its number, if its job lives
-abbrev pub row_of : ℕ → JobEntry → Option Row
-row_of number (Live job state) =
-    Some (record { number = number; queue = job.queue; minute = job.minute; user = job.user; state = state })
-row_of number (Done fate) = None
-
--- the rows of the live jobs of a table, by number
-abbrev pub live_rows : JobTable → List Row
-live_rows table = filter_map (λ entry. row_of entry.0 entry.1) (map.entries table.entries)
 
 -- the user may see the job: it is the user's own, or the user is root
 abbrev pub may_see : List ℕ → Row → Bool

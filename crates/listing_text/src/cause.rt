@@ -30,6 +30,7 @@ pub enum Cause {
 }
 
 impl Cause {
+    /// Whether all of it was done, so that no line is printed.
     pub fn is_done(&self) -> bool
         ensures { result ≡ is_done self.now }
     {

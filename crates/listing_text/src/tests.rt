@@ -33,6 +33,32 @@ fn dates_are_those_of_the_posix_locale(rt: HostRuntime) {
     assert_eq!(rt; date_text(&last), *b"Thu Dec 31 23:59:59 9998");
 }
 
+// The first days of the months of 2025.
+#[test]
+fn months_and_weekdays_by_name(rt: HostRuntime) {
+    for (month, weekday, text) in [
+        (1, 3, "Wed Jan  1"),
+        (2, 6, "Sat Feb  1"),
+        (3, 6, "Sat Mar  1"),
+        (4, 2, "Tue Apr  1"),
+        (5, 4, "Thu May  1"),
+        (6, 0, "Sun Jun  1"),
+        (7, 2, "Tue Jul  1"),
+        (8, 5, "Fri Aug  1"),
+        (9, 1, "Mon Sep  1"),
+        (10, 3, "Wed Oct  1"),
+        (11, 6, "Sat Nov  1"),
+        (12, 1, "Mon Dec  1"),
+    ] {
+        assert!(rt; 1 <= month && month <= 12 && weekday <= 6);
+        let mut first = NEW_YEAR;
+        first.month = month;
+        first.weekday = weekday;
+        let date = date_text(&first);
+        assert!(rt; &date[..10] == text.as_bytes(), "{text}");
+    }
+}
+
 #[test]
 fn an_accepted_job_is_told_with_its_date(rt: HostRuntime) -> Result<(), Fail> {
     let line = accepted_line(rt.alloc(), 1, &date_text(&NEW_YEAR))?;

@@ -3,6 +3,7 @@
 use Rattle.std.specs.Prelude.{◌≡◌, ℕ, ◌+◌, ◌-◌, ◌*◌, ◌≤◌, Bool, true, ◌||◌, ◌==◌, IsTrue, List, [], ◌∷◌, ◌++◌, length, fold}
 use Rattle.std.specs.List.{list_all}
 use Rattle.std.specs.Char.{is_ascii_digit}
+use Rattle.load_reading.specs.declared.load.TheConstants.{MAX_DIGITS}
 
 -- what follows ends the field: it is nothing, or begins with a space or a newline
 abbrev pub ends_field : List ℕ → Bool
@@ -35,7 +36,7 @@ pub record SpellsLoad (text : List ℕ) (load : ℕ) : Type 0 where
   pub hundredths : ℕ
   pub spelled : text ≡ whole ++ rest
   pub some : 1 ≤ length whole
-  pub few : length whole ≤ 7
+  pub few : length whole ≤ MAX_DIGITS
   pub digits : IsTrue (list_all is_ascii_digit whole)
   pub fraction : SpellsFraction rest hundredths
   pub value : load ≡ number_of whole * 100 + hundredths

@@ -3,7 +3,7 @@
 
 mod load;
 
-pub use load::hundredths;
+pub use load::{MAX_DIGITS, hundredths};
 
 #[cfg(test)]
 mod tests;

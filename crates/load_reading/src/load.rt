@@ -4,16 +4,16 @@ ghost use Rattle.std.specs.List.{list_all, prefix_len};
 ghost use Rattle.std.specs.Char.{is_ascii_digit};
 ghost use Rattle.load_reading.specs.Load.{ends_field, number_of, SpellsFraction, SpellsLoad};
 
-/// The most digits that may stand before the point.
-const MOST_DIGITS: usize = 7;
+/// The greatest number of digits before the point.
+pub const MAX_DIGITS: usize = 7;
 
-/// The load in hundredths, as the first field tells it, if it is a number with two decimals.
+/// The load that the first field tells, in hundredths.
 pub fn hundredths(text: &[u8]) -> Option<u32>
     ensures some { IfSome result (SpellsLoad text.now) }
     ensures none { IfNone result ((load : ℕ) → ¬ SpellsLoad text.now load) }
 {
     let count = digit_count(text);
-    if count == 0 || count > MOST_DIGITS {
+    if count == 0 || count > MAX_DIGITS {
         return None;
     }
     let (whole, rest) = text.split_at(count);
@@ -27,7 +27,7 @@ fn digit_count(text: &[u8]) -> usize
     text.iter().take_while(|byte| byte.is_ascii_digit()).count()
 }
 
-/// The two digits behind the point at the front.
+// The two digits behind the point at the front.
 fn fraction(text: &[u8]) -> Option<u32>
     ensures some { IfSome result (SpellsFraction text.now) }
     ensures none { IfNone result ((number : ℕ) → ¬ SpellsFraction text.now number) }
@@ -59,12 +59,12 @@ fn digit(byte: u8) -> u32
     u32::from(byte - b'0')
 }
 
-/// The number that these digits spell.
+// The number that these digits spell.
 fn number(digits: &[u8]) -> u32
     requires each { IsTrue (list_all is_ascii_digit digits.now) }
-    requires few { length digits.now ≤ 7 }
+    requires few { length digits.now ≤ MAX_DIGITS }
     ensures value { result ≡ number_of digits.now }
-    ensures small { result < 10 ^ 7 }
+    ensures small { result < 10 ^ MAX_DIGITS }
 {
     let mut number = 0;
     for byte in digits {

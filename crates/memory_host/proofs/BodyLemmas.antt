@@ -3,7 +3,7 @@ use Rattle.std.proofs.Common.{◌≡◌, ◌+◌, ◌<◌, ◌≤◌, ℕ, Bool,
 use Rattle.std.proofs.Math.ListN.{set}
 use Rattle.std.proofs.Math.Seq.{drop-cons}
 use Rattle.std.proofs.lemmas.List.{take_more_set, drop-set-lt, set_past, take_all, drop_all}
-use Rattle.memory_host.specs.Bodies.{KeptBody, with_kept, with_each}
+use Rattle.memory_host.specs.inside.Bodies.{KeptBody, with_kept, with_each}
 use Rattle.memory_host.specs.Crash.{picked_byte, picked_bytes}
 
 -- one byte more is done

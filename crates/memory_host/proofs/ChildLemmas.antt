@@ -11,7 +11,8 @@ use Rattle.std.proofs.lemmas.Bool.Decides.{eqb_tells}
 use Rattle.host_calls.specs.declared.child.Asked.{Asked}
 use Rattle.host_calls.specs.declared.child.Child.{Child}
 use Rattle.host_calls.specs.declared.child.Ending.{Ending}
-use Rattle.memory_host.specs.Children.{AreAnswers, AreKin, AreWaits, answer_of, plan_of, questions_to}
+use Rattle.memory_host.specs.Children.{AreAnswers, answer_of, plan_of, questions_to}
+use Rattle.memory_host.specs.inside.Kin.{AreKin, AreWaits}
 use Rattle.memory_host.specs.declared.child_plans.ChildPlan.{ChildPlan}
 
 -- the first question counts, or not

@@ -1,6 +1,6 @@
 -- The moments of the host in memory, call after call.
 use Rattle.std.proofs.Common.{◌≡◌, ◌⊎◌, ◌==◌, ℕ, Bool, true, false, List, [], ◌∷◌, cond, sym, ap, subst, ◌∙◌, refl, inl, inr, arith, Result}
-use Rattle.std.specs.Prelude.{Option, Some, None, Ok, Err, option_map}
+use Rattle.std.specs.Prelude.{Option, Some, None, Ok, Err, is_some, option_map}
 use Rattle.std.specs.FinMap as finite
 use Rattle.std.specs.Cmp.Lexicographic.{nat_list_cmp_total}
 use Rattle.std.proofs.lemmas.Bool.{eqb-true}
@@ -10,10 +10,17 @@ use Rattle.host_calls.specs.declared.fault.HostFault.TheVariants.{Failed, Memory
 use Rattle.host_calls.specs.Folder.{Body, Files, Folder, IsFresh, IsHeldAt, IsImage, IsMade, IsMadeInPart, IsSameElsewhere, IsSynced, IsSyncedInPart, IsWritten, IsWrittenInPart, MayHold, MayStand, certain_body, names_of, settled, with_body, with_changed, with_file, with_names_certain, written_body}
 use Rattle.host_calls.specs.declared.child.Child.{Child}
 use Rattle.host_calls.specs.declared.fault.StartFault.TheVariants.{Failed as NoStart}
+use Rattle.host_calls.specs.Session.{CallsInside}
 use Rattle.host_calls.specs.World.{FileCall, HandsOver, StartCall, HasEachImage, LeavesOnly, WithinCall, World, moments}
 use Rattle.host_calls.proofs.FolderLemmas.{all_are_some, get-files_of, reading_of-settled, settled_image, reading_is_image}
-use Rattle.memory_host.specs.Host.{after_reboot, world_of}
-use Rattle.memory_host.specs.Past.{Story, after_call, history_of, moment_of, state_of, with_handed, with_next}
+use Rattle.memory_host.specs.Host.{after_reboot, memory_session, memory_world, progress_of, world_of}
+use Rattle.memory_host.specs.Plan.{next_part, progress_after_call}
+use Rattle.memory_host.specs.Planned.{ChangesAsPlanned}
+use Rattle.memory_host.specs.declared.failing_list.Part.{Part}
+use Rattle.memory_host.specs.declared.failing_list.Part.TheVariants.{Nothing}
+use Rattle.memory_host.specs.declared.memory_host.MemoryHost.{MemoryHost}
+use Rattle.memory_host.specs.Past.{Story, after_call, history_of, moment_of, with_handed}
+use Rattle.memory_host.specs.inside.Story.{state_of, with_next}
 use Rattle.memory_host.specs.declared.past_call.PastCall.{PastCall}
 use Rattle.memory_host.specs.declared.past_call.PastCall.TheVariants.{HandedOver, Rebooted}
 use Rattle.memory_host.proofs.PastLemmas.{history_next}
@@ -45,6 +52,23 @@ call_done call story asked new done part fails result is handed is_done is_part 
   by_answer : (b : Bool) → FileCall done part (world_of story asked) next (cond b (Err Failed) fine)
   by_answer true = record { outcome = inr is_part; handed = handed; asked = refl; leaves = leaves }
   by_answer false = record { outcome = is_done; handed = handed; asked = refl; leaves = leaves }
+
+no_memory : (fails : Bool) → cond fails (Err Failed) fine ≡ Err Memory → ⊥
+no_memory true is = cc
+no_memory false is = cc
+
+-- a call that changes the folder goes as planned: it did its work, and failed then or not
+pub change_done : (call : PastCall) (done part : Folder → Folder → Type 0) (old new : MemoryHost) (past : Story) (planned : Option Part) (result : Result (Unit {0}) HostFault) → past ≡ with_next call old.past → memory_world new ≡ world_of past old.asked.items → (after_call call (state_of old.past)).handed ≡ (state_of old.past).handed → done (state_of old.past).folder (after_call call (state_of old.past)).folder → part (state_of old.past).folder (after_call call (state_of old.past)).folder → CallsInside Failed (memory_session old) (memory_session new) result → progress_of new ≡ progress_after_call (progress_of old) → result ≡ cond (is_some planned) (Err Failed) fine → planned ≡ next_part (progress_of old) → ¬ (planned ≡ Some Nothing) → ChangesAsPlanned done part old new result
+change_done call done part old new past planned result goes_on told handed is_done is_part inside counted answer next works = record {
+  inside = inside;
+  files = call_done call old.past old.asked.items (memory_world new) done part (is_some planned) result world handed is_done is_part answer;
+  nothing = λ is. absurd (works (next ∙ is));
+  all = λ is some. (answer ∙ ap (λ one. cond (is_some one) (Err Failed) fine) (next ∙ is), subst (λ w. done (state_of old.past).folder w.now.folder) (sym (world ∙ world_next call old.past old.asked.items)) is_done);
+  passes = λ none failed. let passed : result ≡ fine = answer ∙ ap (λ one. cond (is_some one) (Err Failed) fine) (next ∙ none) in cc;
+  count = record { counted = λ some. counted; uncounted = λ memory. absurd (no_memory (is_some planned) (sym answer ∙ memory)) };
+} where
+  world : memory_world new ≡ world_of (with_next call old.past) old.asked.items
+  world = told ∙ ap (λ story. world_of story old.asked.items) goes_on
 
 -- What syncs leave.
 

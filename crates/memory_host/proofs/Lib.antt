@@ -2,11 +2,12 @@ pub mod AnswerLemmas
 pub mod BodiedLemmas
 pub mod BodyLemmas
 pub mod ChildLemmas
-pub mod CountLemmas
 pub mod CrashLemmas
+pub mod FaultLemmas
 pub mod FilesLemmas
 pub mod HostLemmas
 pub mod InputsLemmas
+pub mod LawLemmas
 pub mod NamedLemmas
 pub mod NamesLemmas
 pub mod OpenLemmas
@@ -14,4 +15,5 @@ pub mod PastLemmas
 pub mod ReadingsLemmas
 pub mod SinkLemmas
 pub mod SoundLemmas
+pub mod SpellingLemmas
 pub mod TableLemmas

@@ -10,8 +10,8 @@ use Rattle.std.specs.FinMap as finite
 use Rattle.std.specs.FinMap.{get-insert, get-remove}
 use Rattle.host_calls.specs.Folder.{Change, Made, Renamed, Removed, Names, name_cmp, changed, moved, names_after}
 use Rattle.memory_host.specs.Crash.{is_picked, picked_names}
-use Rattle.memory_host.specs.Table.{Holders, HoldsSameCertain, HoldsSameNow, KeepsPlaces, are_touching, certain_in, changed_at, is_kept, meant, moved_at, now_in, pending_of, picked_holders, put_at, touches, where_touched}
-use Rattle.memory_host.specs.Told.{AreNamed}
+use Rattle.memory_host.specs.inside.Table.{Holders, HoldsSameCertain, HoldsSameNow, KeepsPlaces, are_touching, certain_in, changed_at, has_place, meant, moved_at, now_in, pending_of, picked_holders, put_at, touches, where_touched}
+use Rattle.memory_host.specs.inside.Told.{AreNamed}
 use Rattle.memory_host.specs.declared.name_table.NameTable.{NameTable}
 use Rattle.memory_host.specs.declared.pending.Change.{Change as KeptChange}
 use Rattle.memory_host.specs.declared.pending.Change.TheVariants as kept
@@ -102,7 +102,7 @@ picked-untouched pick (change ∷ older) certain name off = by_pick (is_picked p
 
 module _ (certain : Names) (pending : List Change) (old new : NameTable) (is : AreNamed certain pending old) where
   -- a table that holds the same
-  pub named_same : HoldsSameNow old.held new.held → HoldsSameCertain old.held new.held → new.pending.items ≡ old.pending.items → ((name : List ℕ) → is_kept old.held name ≡ true → is_kept new.held name ≡ true) → AreNamed certain pending new
+  pub named_same : HoldsSameNow old.held new.held → HoldsSameCertain old.held new.held → new.pending.items ≡ old.pending.items → ((name : List ℕ) → has_place old.held name ≡ true → has_place new.held name ≡ true) → AreNamed certain pending new
   named_same same_now same_certain same_pending stays = record {
     certain_names = λ name. is.certain_names name ∙ sym (same_certain name);
     now_names = λ name. is.now_names name ∙ sym (same_now name);
@@ -111,7 +111,7 @@ module _ (certain : Names) (pending : List Change) (old new : NameTable) (is : A
   }
 
   -- one change more
-  pub named_change : (change : KeptChange) → ((name : List ℕ) → now_in new.held name ≡ changed_at (meant change) (now_in old.held) name) → HoldsSameCertain old.held new.held → KeepsPlaces old.held new.held → ((name : List ℕ) → touches change name ≡ true → is_kept old.held name ≡ true) → new.pending.items ≡ old.pending.items ++ change ∷ [] → AreNamed certain (meant change ∷ pending) new
+  pub named_change : (change : KeptChange) → ((name : List ℕ) → now_in new.held name ≡ changed_at (meant change) (now_in old.held) name) → HoldsSameCertain old.held new.held → KeepsPlaces old.held new.held → ((name : List ℕ) → touches change name ≡ true → has_place old.held name ≡ true) → new.pending.items ≡ old.pending.items ++ change ∷ [] → AreNamed certain (meant change ∷ pending) new
   named_change change now same_certain same_places has pushed = record {
     certain_names = λ name. is.certain_names name ∙ sym (same_certain name);
     now_names = λ name.
@@ -124,7 +124,7 @@ module _ (certain : Names) (pending : List Change) (old new : NameTable) (is : A
     split : (name : List ℕ) → are_touching new.pending.items name ≡ true → (are_touching old.pending.items name || (touches change name || false)) ≡ true
     split name touched = sym (list_any-append (λ other. touches other name) old.pending.items (change ∷ [])) ∙ ap (λ changes. are_touching changes name) (sym pushed) ∙ touched
 
-    by_cases : (name : List ℕ) (before now : Bool) → are_touching old.pending.items name ≡ before → touches change name ≡ now → (before || (now || false)) ≡ true → is_kept old.held name ≡ true
+    by_cases : (name : List ℕ) (before now : Bool) → are_touching old.pending.items name ≡ before → touches change name ≡ now → (before || (now || false)) ≡ true → has_place old.held name ≡ true
     by_cases name true now first second either = is.places name first
     by_cases name false true first second either = has name second
     by_cases name false false first second either = cc
@@ -146,7 +146,7 @@ module _ (certain : Names) (pending : List Change) (old new : NameTable) (is : A
           ∙ sym (names_after-untouched pending certain name (subst (λ changes. AreUntouched changes name) (sym is.changes) (untouched old.pending.items name e)))
           ∙ is.now_names name
 
-    absurd_of : (name : List ℕ) → are_touching [] name ≡ true → is_kept new.held name ≡ true
+    absurd_of : (name : List ℕ) → are_touching [] name ≡ true → has_place new.held name ≡ true
     absurd_of name e = cc
 
   -- the changes that are picked were made
@@ -178,5 +178,5 @@ module _ (certain : Names) (pending : List Change) (old new : NameTable) (is : A
       by_case true e = sym (picked name)
       by_case false e = sym (is.certain_names name) ∙ sym (picked-untouched pick pending certain name (free name e))
 
-    absurd_of : (name : List ℕ) → are_touching [] name ≡ true → is_kept new.held name ≡ true
+    absurd_of : (name : List ℕ) → are_touching [] name ≡ true → has_place new.held name ≡ true
     absurd_of name e = cc

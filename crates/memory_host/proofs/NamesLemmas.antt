@@ -15,8 +15,8 @@ use Rattle.std.specs.FinMap.Entries.{below_all, where_key, is_sorted-where_key}
 use Rattle.std.proofs.Math.Dec.{T}
 use Rattle.host_calls.specs.Folder.{Folder, name_cmp, names_of, reading_of}
 use Rattle.host_calls.proofs.FolderLemmas.{get-files_of}
-use Rattle.memory_host.specs.declared.name_table.Held.{Held}
-use Rattle.memory_host.specs.Table.{HeldNames, now_in, now_names, now_part}
+use Rattle.memory_host.specs.declared.held.Held.{Held}
+use Rattle.memory_host.specs.inside.Table.{HeldNames, now_in, now_names, now_part}
 use Rattle.memory_host.proofs.TableLemmas.{same_name}
 
 -- one value for all

@@ -16,14 +16,15 @@ use Rattle.std.specs.FinMap.Entries.{below_all}
 use Rattle.host_calls.specs.declared.child.Handed.{Handed}
 use Rattle.host_calls.specs.Folder.{Body, Files, IsImage, IsInNoImage, Made, Names, name_cmp, made_body, names_of, reading_of, settled, with_body}
 use Rattle.host_calls.proofs.FolderLemmas.{all_are_some, get-files_of, reading_of-settled, settled_image}
-use Rattle.memory_host.specs.Past.{Opens, State, history_of, nothing, opened, state_of, with_calls, with_files, with_folder, with_new_file}
-use Rattle.memory_host.specs.Table.{are_touching, certain_part, now_part, pending_of}
-use Rattle.memory_host.specs.Bodies.{body_of, kept_at}
+use Rattle.memory_host.specs.Past.{State, history_of, nothing, opened, with_calls, with_files, with_folder, with_new_file}
+use Rattle.memory_host.specs.inside.Story.{Opens, state_of}
+use Rattle.memory_host.specs.inside.Table.{are_touching, certain_part, now_part, pending_of}
+use Rattle.memory_host.specs.inside.Bodies.{body_of, kept_at}
 use Rattle.host_calls.specs.World.{World}
 use Rattle.memory_host.specs.Host.{IsNew, memory_world}
 use Rattle.memory_host.specs.declared.memory_host.MemoryHost.{MemoryHost}
 use Rattle.memory_host.specs.declared.plan.Plan.{Plan}
-use Rattle.memory_host.specs.Told.{IsCertain, IsSound, IsTold}
+use Rattle.memory_host.specs.inside.Told.{IsCertain, KeepsNumbersApart, IsTold}
 use Rattle.memory_host.specs.declared.bodies.Bodies.{Bodies}
 use Rattle.memory_host.specs.declared.name_table.NameTable.{NameTable}
 use Rattle.memory_host.specs.declared.past_call.PastCall.{PastCall}
@@ -42,7 +43,7 @@ pub with_files-handed : (files : List (List ℕ × List ℕ)) (at : State) → (
 with_files-handed [] at = refl
 with_files-handed (first ∷ others) at = with_files-handed others (with_new_file first.0 first.1 at)
 
-sound_made : (name bytes : List ℕ) (at : State) → IsSound at.folder.certain at.folder.pending at.next → IsSound (with_new_file name bytes at).folder.certain (with_new_file name bytes at).folder.pending (with_new_file name bytes at).next
+sound_made : (name bytes : List ℕ) (at : State) → KeepsNumbersApart at.folder.certain at.folder.pending at.next → KeepsNumbersApart (with_new_file name bytes at).folder.certain (with_new_file name bytes at).folder.pending (with_new_file name bytes at).next
 sound_made name bytes at is = sound_change at.folder.certain at.folder.pending at.next (Made name at.next) refl is
 
 -- a new body changes no other
@@ -57,7 +58,7 @@ own_bytes : (bodies : ℕ → Body) (next : ℕ) (bytes : List ℕ) → (with_bo
 own_bytes bodies next bytes = elim (eqb_tells next next) [ inl same ↦ ap (λ b. (cond b (made_body bytes) (bodies next)).bytes) same.0 | inr differ ↦ absurd (differ.1 refl) ]
 
 -- what the folder reads as after a file was made
-reading_made : (name bytes : List ℕ) (at : State) → IsSound at.folder.certain at.folder.pending at.next → (other : List ℕ) → finite.get (reading_of (with_new_file name bytes at).folder) other ≡ cond (eq_by_cmp name_cmp name other) (Some bytes) (finite.get (reading_of at.folder) other)
+reading_made : (name bytes : List ℕ) (at : State) → KeepsNumbersApart at.folder.certain at.folder.pending at.next → (other : List ℕ) → finite.get (reading_of (with_new_file name bytes at).folder) other ≡ cond (eq_by_cmp name_cmp name other) (Some bytes) (finite.get (reading_of at.folder) other)
 reading_made name bytes at is other =
     get-files_of (with_new_file name bytes at).folder.body (names_of (with_new_file name bytes at).folder) other
     ∙ ap (option_map (λ number. (with_body at.folder.body at.next (made_body bytes) number).bytes)) (get-changed (Made name at.next) (names_of at.folder) other)
@@ -90,7 +91,7 @@ find_below name (file ∷ others) below = by_order (name_cmp name file.0) (find_
   by_order Greater rest is = absurd is
 
 -- what the folder reads as after the files were made
-reading_files : (files : List (List ℕ × List ℕ)) (at : State) → T (is_sorted name_cmp files) → IsSound at.folder.certain at.folder.pending at.next → (name : List ℕ) → finite.get (reading_of (with_files files at).folder) name ≡ or_else (find name_cmp name files) (finite.get (reading_of at.folder) name)
+reading_files : (files : List (List ℕ × List ℕ)) (at : State) → T (is_sorted name_cmp files) → KeepsNumbersApart at.folder.certain at.folder.pending at.next → (name : List ℕ) → finite.get (reading_of (with_files files at).folder) name ≡ or_else (find name_cmp name files) (finite.get (reading_of at.folder) name)
 reading_files [] at sorted sound name = refl
 reading_files (file ∷ others) at sorted sound name =
     let below : T (below_all name_cmp file.0 others) = first_of_both (below_all name_cmp file.0 others) (is_sorted name_cmp others) sorted in
@@ -111,7 +112,7 @@ or_none : {X : Type 0} (found : Option X) → or_else found None ≡ found
 or_none None = refl
 or_none (Some x) = refl
 
-sound_nothing : IsSound nothing.folder.certain nothing.folder.pending nothing.next
+sound_nothing : KeepsNumbersApart nothing.folder.certain nothing.folder.pending nothing.next
 sound_nothing = record {
   below = λ names chosen name number held. absurd (no_name names chosen name number held);
   apart = λ names chosen first second number held also. absurd (no_name names chosen first number held);

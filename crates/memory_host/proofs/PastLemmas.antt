@@ -6,11 +6,12 @@ use Rattle.host_calls.specs.declared.child.Handed.{Handed}
 use Rattle.host_calls.specs.Folder.{Made, Renamed, Removed, names_of, IsFresh, IsHeldAt, made_body, reading_of, settled, with_body, with_changed, with_change, with_names_certain, written_body, certain_body}
 use Rattle.host_calls.proofs.FolderLemmas.{all_are_some, get-files_of}
 use Rattle.host_calls.specs.World.{IsWithinFile}
-use Rattle.memory_host.specs.Bodies.{body_of, kept_at, kept_made, kept_written, kept_synced, kept_crashed, none_kept, with_kept, with_each}
+use Rattle.memory_host.specs.inside.Bodies.{body_of, kept_at, kept_made, kept_written, kept_synced, kept_crashed, none_kept, with_kept, with_each}
 use Rattle.memory_host.specs.Crash.{picked_names, rebooted}
-use Rattle.memory_host.specs.Past.{History, State, Story, after_call, history_of, state_of, with_call, with_calls, with_folder, with_handed, with_new_file, with_next}
-use Rattle.memory_host.specs.Table.{HoldsSameCertain, HoldsSameNow, KeepsPlaces, certain_in, changed_at, is_kept, meant, now_in, pending_of, picked_holders, touches, where_touched}
-use Rattle.memory_host.specs.Told.{AreBodied, AreListed, AreNamed, IsTold}
+use Rattle.memory_host.specs.Past.{History, State, Story, after_call, history_of, with_call, with_calls, with_folder, with_handed, with_new_file}
+use Rattle.memory_host.specs.inside.Story.{state_of, with_next}
+use Rattle.memory_host.specs.inside.Table.{HoldsSameCertain, HoldsSameNow, KeepsPlaces, certain_in, changed_at, has_place, meant, now_in, pending_of, picked_holders, touches, where_touched}
+use Rattle.memory_host.specs.inside.Told.{AreBodied, ListsUnsettled, AreNamed, IsTold}
 use Rattle.memory_host.specs.declared.bodies.Bodies.{Bodies}
 use Rattle.memory_host.specs.declared.name_table.NameTable.{NameTable}
 use Rattle.memory_host.specs.declared.past_call.PastCall.{PastCall}
@@ -78,7 +79,7 @@ told_alike at names bodies more handed is list unsettled = record {
   named = is.named;
   bodied = record {
     each = λ number. is.bodied.each number ∙ ap (λ l. body_of (kept_at l number)) (sym list);
-    listed = subst (λ l. AreListed l more.unsettled.items) (sym list) (subst (AreListed bodies.list.items) (sym unsettled) is.bodied.listed);
+    listed = subst (λ l. ListsUnsettled l more.unsettled.items) (sym list) (subst (ListsUnsettled bodies.list.items) (sym unsettled) is.bodied.listed);
   };
   counted = is.counted ∙ ap length (sym list);
   scripts = is.scripts;
@@ -89,7 +90,7 @@ told_alike at names bodies more handed is list unsettled = record {
 
 module _ (at : State) (names after : NameTable) (bodies more : Bodies) (handed : List Handed) (is : IsTold at names bodies handed) where
   -- a table that holds the same
-  pub told_same : HoldsSameNow names.held after.held → HoldsSameCertain names.held after.held → after.pending.items ≡ names.pending.items → ((name : List ℕ) → is_kept names.held name ≡ true → is_kept after.held name ≡ true) → IsTold at after bodies handed
+  pub told_same : HoldsSameNow names.held after.held → HoldsSameCertain names.held after.held → after.pending.items ≡ names.pending.items → ((name : List ℕ) → has_place names.held name ≡ true → has_place after.held name ≡ true) → IsTold at after bodies handed
   told_same now certain pending places = record {
     named = named_same at.folder.certain at.folder.pending names after is.named now certain pending places;
     bodied = is.bodied;
@@ -99,7 +100,7 @@ module _ (at : State) (names after : NameTable) (bodies more : Bodies) (handed :
   }
 
   -- a file was made
-  pub told_made : (name bytes : List ℕ) (number : ℕ) → number ≡ length bodies.list.items → ((other : List ℕ) → now_in after.held other ≡ changed_at (meant (kept.Made name number)) (now_in names.held) other) → HoldsSameCertain names.held after.held → KeepsPlaces names.held after.held → ((other : List ℕ) → touches (kept.Made name number) other ≡ true → is_kept names.held other ≡ true) → after.pending.items ≡ names.pending.items ++ kept.Made name number ∷ [] → more.list.items ≡ bodies.list.items ++ kept_made bytes ∷ [] → more.unsettled.items ≡ bodies.unsettled.items ++ length bodies.list.items ∷ [] → IsTold (with_new_file name bytes at) after more handed
+  pub told_made : (name bytes : List ℕ) (number : ℕ) → number ≡ length bodies.list.items → ((other : List ℕ) → now_in after.held other ≡ changed_at (meant (kept.Made name number)) (now_in names.held) other) → HoldsSameCertain names.held after.held → KeepsPlaces names.held after.held → ((other : List ℕ) → touches (kept.Made name number) other ≡ true → has_place names.held other ≡ true) → after.pending.items ≡ names.pending.items ++ kept.Made name number ∷ [] → more.list.items ≡ bodies.list.items ++ kept_made bytes ∷ [] → more.unsettled.items ≡ bodies.unsettled.items ++ length bodies.list.items ∷ [] → IsTold (with_new_file name bytes at) after more handed
   told_made name bytes number is_next now certain places has pending list unsettled =
       let same : number ≡ at.next = is_next ∙ sym is.counted in
       record {
@@ -111,7 +112,7 @@ module _ (at : State) (names after : NameTable) (bodies more : Bodies) (handed :
       }
 
   -- a name was moved or removed
-  pub told_renamed : (from to : List ℕ) → ((other : List ℕ) → now_in after.held other ≡ changed_at (meant (kept.Renamed from to)) (now_in names.held) other) → HoldsSameCertain names.held after.held → KeepsPlaces names.held after.held → ((other : List ℕ) → touches (kept.Renamed from to) other ≡ true → is_kept names.held other ≡ true) → after.pending.items ≡ names.pending.items ++ kept.Renamed from to ∷ [] → IsTold (with_folder (with_change (Renamed from to) at.folder) at) after bodies handed
+  pub told_renamed : (from to : List ℕ) → ((other : List ℕ) → now_in after.held other ≡ changed_at (meant (kept.Renamed from to)) (now_in names.held) other) → HoldsSameCertain names.held after.held → KeepsPlaces names.held after.held → ((other : List ℕ) → touches (kept.Renamed from to) other ≡ true → has_place names.held other ≡ true) → after.pending.items ≡ names.pending.items ++ kept.Renamed from to ∷ [] → IsTold (with_folder (with_change (Renamed from to) at.folder) at) after bodies handed
   told_renamed from to now certain places has pending = record {
     named = named_change at.folder.certain at.folder.pending names after is.named (kept.Renamed from to) now certain places has pending;
     bodied = is.bodied;
@@ -120,7 +121,7 @@ module _ (at : State) (names after : NameTable) (bodies more : Bodies) (handed :
     sound = sound_change at.folder.certain at.folder.pending at.next (Renamed from to) tt is.sound;
   }
 
-  pub told_removed : (name : List ℕ) → ((other : List ℕ) → now_in after.held other ≡ changed_at (meant (kept.Removed name)) (now_in names.held) other) → HoldsSameCertain names.held after.held → KeepsPlaces names.held after.held → ((other : List ℕ) → touches (kept.Removed name) other ≡ true → is_kept names.held other ≡ true) → after.pending.items ≡ names.pending.items ++ kept.Removed name ∷ [] → IsTold (with_folder (with_change (Removed name) at.folder) at) after bodies handed
+  pub told_removed : (name : List ℕ) → ((other : List ℕ) → now_in after.held other ≡ changed_at (meant (kept.Removed name)) (now_in names.held) other) → HoldsSameCertain names.held after.held → KeepsPlaces names.held after.held → ((other : List ℕ) → touches (kept.Removed name) other ≡ true → has_place names.held other ≡ true) → after.pending.items ≡ names.pending.items ++ kept.Removed name ∷ [] → IsTold (with_folder (with_change (Removed name) at.folder) at) after bodies handed
   told_removed name now certain places has pending = record {
     named = named_change at.folder.certain at.folder.pending names after is.named (kept.Removed name) now certain places has pending;
     bodied = is.bodied;

@@ -5,8 +5,8 @@ use Rattle.std.specs.Ordering.{eq_by_cmp}
 use Rattle.std.specs.FinMap as finite
 use Rattle.host_calls.specs.Folder.{Change, Made, Renamed, Removed, Names, AreAfterSome, name_cmp, changed}
 use Rattle.memory_host.specs.Crash.{is_picked, picked_names}
-use Rattle.memory_host.specs.Table.{Holders, changed_at, moved_at, put_at}
-use Rattle.memory_host.specs.Told.{IsSound}
+use Rattle.memory_host.specs.inside.Table.{Holders, changed_at, moved_at, put_at}
+use Rattle.memory_host.specs.inside.Told.{KeepsNumbersApart}
 use Rattle.memory_host.proofs.NamedLemmas.{get-changed}
 use Rattle.memory_host.proofs.TableLemmas.{same_name, same_name-refl}
 
@@ -107,14 +107,14 @@ apart_same first second next same is = record {
 abbrev AreAllApart : Names → List Change → ℕ → Type 0
 AreAllApart certain pending next = (names : Names) → AreAfterSome pending certain names → AreApart (finite.get names) next
 
-all_apart : (certain : Names) (pending : List Change) (next : ℕ) → IsSound certain pending next → AreAllApart certain pending next
+all_apart : (certain : Names) (pending : List Change) (next : ℕ) → KeepsNumbersApart certain pending next → AreAllApart certain pending next
 all_apart certain pending next is = λ names chosen. record { below = is.below names chosen; apart = is.apart names chosen }
 
-sound_from : (certain : Names) (pending : List Change) (next : ℕ) → AreAllApart certain pending next → IsSound certain pending next
+sound_from : (certain : Names) (pending : List Change) (next : ℕ) → AreAllApart certain pending next → KeepsNumbersApart certain pending next
 sound_from certain pending next all = record { below = λ names chosen. (all names chosen).below; apart = λ names chosen. (all names chosen).apart }
 
 -- one change more
-pub sound_change : (certain : Names) (pending : List Change) (next : ℕ) (change : Change) → AllowsChange change next → IsSound certain pending next → IsSound certain (change ∷ pending) (next_after change next)
+pub sound_change : (certain : Names) (pending : List Change) (next : ℕ) (change : Change) → AllowsChange change next → KeepsNumbersApart certain pending next → KeepsNumbersApart certain (change ∷ pending) (next_after change next)
 sound_change certain pending next change new is = sound_from certain (change ∷ pending) (next_after change next) (λ names chosen. by_choice names chosen.0 (all_apart certain pending next is chosen.0 chosen.1) chosen.2) where
   by_choice : (names before : Names) → AreApart (finite.get before) next → (names ≡ before) ⊎ (names ≡ changed change before) → AreApart (finite.get names) (next_after change next)
   by_choice names before apart either = elim either [
@@ -123,7 +123,7 @@ sound_change certain pending next change new is = sound_from certain (change ∷
   ]
 
 -- one of the choices was taken
-pub sound_chosen : (certain : Names) (pending : List Change) (next : ℕ) (names : Names) → AreAfterSome pending certain names → IsSound certain pending next → IsSound names [] next
+pub sound_chosen : (certain : Names) (pending : List Change) (next : ℕ) (names : Names) → AreAfterSome pending certain names → KeepsNumbersApart certain pending next → KeepsNumbersApart names [] next
 sound_chosen certain pending next names chosen is = sound_from names [] next (λ taken same. subst (λ m. AreApart (finite.get m) next) (sym same) (all_apart certain pending next is names chosen))
 
 -- the changes that are picked are a choice

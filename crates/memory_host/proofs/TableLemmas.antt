@@ -7,11 +7,11 @@ use Rattle.std.proofs.lemmas.Map.Text.{is_eq-slice_cmp}
 use Rattle.std.proofs.lemmas.Slice.Eq.{bytes_eq-Decides}
 use Rattle.host_calls.specs.Folder.{Change, Made, Renamed, Removed, name_cmp}
 use Rattle.memory_host.specs.Crash.{is_picked}
-use Rattle.memory_host.specs.declared.name_table.Held.{Held}
+use Rattle.memory_host.specs.declared.held.Held.{Held}
 use Rattle.std.proofs.lemmas.List.Folds.{list_any_more, list_any_at}
 use Rattle.std.proofs.lemmas.List.{reverse-append, take_more, length-map, length-reverse, length-take-le}
 use Rattle.memory_host.specs.declared.pending.Change.{Change as KeptChange}
-use Rattle.memory_host.specs.Table.{HasPlaces, HaveAllPlaces, are_touching, changed_at, moved_at, meant, pending_of, picked_holders, touches, where_touched, Holders, HeldNames, IsPut, now_part, certain_part, now_in, certain_in, is_kept, put_at, HoldsSameNow, HoldsSameCertain, KeepsPlaces}
+use Rattle.memory_host.specs.inside.Table.{HasPlaces, HaveAllPlaces, are_touching, changed_at, moved_at, meant, pending_of, picked_holders, touches, where_touched, Holders, HeldNames, IsEntrySet, now_part, certain_part, now_in, certain_in, has_place, put_at, HoldsSameNow, HoldsSameCertain, KeepsPlaces}
 
 -- the order tells equal names
 pub same_name : (name other : List ℕ) → eq_by_cmp name_cmp name other ≡ true → name ≡ other
@@ -32,7 +32,7 @@ put_at-same name value holders is other = by_case (eq_by_cmp name_cmp name other
   by_case true same = is ∙ ap holders (same_name name other same)
   by_case false same = refl
 
-module _ (name : List ℕ) (kept : Option Held) (old new : HeldNames) (is : IsPut name kept old new) where
+module _ (name : List ℕ) (kept : Option Held) (old new : HeldNames) (is : IsEntrySet name kept old new) where
   pub put-now : (other : List ℕ) → now_in new other ≡ put_at name (now_part kept) (now_in old) other
   put-now other = ap now_part (is other) ∙ ap-cond now_part (eq_by_cmp name_cmp name other) kept (get name_cmp old other)
 
@@ -46,10 +46,10 @@ module _ (name : List ℕ) (kept : Option Held) (old new : HeldNames) (is : IsPu
   put-same_certain same other = put-certain other ∙ put_at-same name (certain_part kept) (certain_in old) same other
 
   -- a name that is kept stays so
-  pub put-places : is_some kept ≡ is_kept old name → KeepsPlaces old new
+  pub put-places : is_some kept ≡ has_place old name → KeepsPlaces old new
   put-places same other = ap is_some (is other) ∙ ap-cond is_some (eq_by_cmp name_cmp name other) kept (get name_cmp old other) ∙ by_case (eq_by_cmp name_cmp name other) refl where
-    by_case : (b : Bool) → eq_by_cmp name_cmp name other ≡ b → cond b (is_some kept) (is_kept old other) ≡ is_kept old other
-    by_case true e = same ∙ ap (is_kept old) (same_name name other e)
+    by_case : (b : Bool) → eq_by_cmp name_cmp name other ≡ b → cond b (is_some kept) (has_place old other) ≡ has_place old other
+    by_case true e = same ∙ ap (has_place old) (same_name name other e)
     by_case false e = refl
 
 -- what is put at a name stands there alone
@@ -92,11 +92,11 @@ pub touches_second : (first second : List ℕ) → (eq_by_cmp name_cmp first sec
 touches_second first second = rw (same_name-refl second) (or-true (eq_by_cmp name_cmp first second))
 
 -- two names that are kept
-pub kept_either : (held : HeldNames) (first second : List ℕ) → is_kept held first ≡ true → is_kept held second ≡ true → (name : List ℕ) → (eq_by_cmp name_cmp first name || eq_by_cmp name_cmp second name) ≡ true → is_kept held name ≡ true
+pub kept_either : (held : HeldNames) (first second : List ℕ) → has_place held first ≡ true → has_place held second ≡ true → (name : List ℕ) → (eq_by_cmp name_cmp first name || eq_by_cmp name_cmp second name) ≡ true → has_place held name ≡ true
 kept_either held first second is_first is_second name either = by_case (eq_by_cmp name_cmp first name) (eq_by_cmp name_cmp second name) refl refl either where
-  by_case : (a b : Bool) → eq_by_cmp name_cmp first name ≡ a → eq_by_cmp name_cmp second name ≡ b → (a || b) ≡ true → is_kept held name ≡ true
-  by_case true b one other e = subst (λ n. is_kept held n ≡ true) (same_name first name one) is_first
-  by_case false true one other e = subst (λ n. is_kept held n ≡ true) (same_name second name other) is_second
+  by_case : (a b : Bool) → eq_by_cmp name_cmp first name ≡ a → eq_by_cmp name_cmp second name ≡ b → (a || b) ≡ true → has_place held name ≡ true
+  by_case true b one other e = subst (λ n. has_place held n ≡ true) (same_name first name one) is_first
+  by_case false true one other e = subst (λ n. has_place held n ≡ true) (same_name second name other) is_second
   by_case false false one other e = cc
 
 cond_or : {X : Type 0} (a b : Bool) (x y : X) → cond (a || b) x y ≡ cond b x (cond a x y)

@@ -1,4 +1,4 @@
--- Which image a crash leaves, by a number that picks it.
+-- Which image a crash leaves, by a number that picks it (own).
 use Rattle.std.specs.Prelude.{◌+◌, ◌/◌, ◌%◌, ◌^◌, ◌==◌, [], ◌∷◌, ℕ, Bool, true, false, List, length, take, if◌then◌else◌}
 use Rattle.host_calls.specs.Folder.{Body, Change, Folder, Names, changed}
 

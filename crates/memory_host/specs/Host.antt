@@ -1,63 +1,16 @@
 -- What the host in memory tells.
-use Rattle.std.specs.Prelude.{◌≡◌, ◌++◌, [], ◌∷◌, ℕ, false, List, Option, Some, None, length, option_to_list}
+use Rattle.std.specs.Prelude.{◌≡◌, ◌++◌, [], ◌∷◌, ℕ, false, List, Option, length, option_to_list}
 use Rattle.std.specs.FinMap as map
 use Rattle.host_calls.specs.declared.child.Asked.{Asked}
-use Rattle.host_calls.specs.declared.child.Ending.{Ending}
-use Rattle.host_calls.specs.declared.child.Ending.TheVariants.{Exit, Signal, NotStarted}
 use Rattle.host_calls.specs.Session.{Session}
 use Rattle.host_calls.specs.World.{World, reading}
 use Rattle.host_calls.specs.Folder.{Files, IsImage}
 use Rattle.memory_host.specs.Crash.{rebooted}
 use Rattle.memory_host.specs.Past.{Story, history_of, moment_of}
-use Rattle.memory_host.specs.Plan.{fault_of}
-use Rattle.memory_host.specs.declared.child_plans.ChildPlan.{ChildPlan}
-use Rattle.memory_host.specs.declared.failing_list.Failing.{Failing}
-use Rattle.memory_host.specs.declared.failing_list.Part.{Part}
-use Rattle.memory_host.specs.declared.failing_list.Part.TheVariants.{Nothing, All}
+use Rattle.memory_host.specs.Plan.{Progress, first_progress, progress_after_reboot}
+use Rattle.memory_host.specs.Spelling.{spelled}
 use Rattle.memory_host.specs.declared.plan.Plan.{Plan}
 use Rattle.memory_host.specs.declared.memory_host.MemoryHost.{MemoryHost}
-
--- What it was made as: its plan and the fuses that its reboots have set, spelled as numbers.
-
--- how much a failing call does
-abbrev pub spelled_part : Part → ℕ
-spelled_part Nothing = 0
-spelled_part All = 1
-
--- the failing calls
-abbrev pub spelled_failing : List Failing → List ℕ
-spelled_failing [] = []
-spelled_failing (failing ∷ others) = failing.call ∷ spelled_part failing.part ∷ spelled_failing others
-
--- how a child ends
-abbrev pub spelled_ending : Ending → List ℕ
-spelled_ending (Exit status) = 0 ∷ status ∷ []
-spelled_ending (Signal signal) = 1 ∷ signal ∷ []
-spelled_ending NotStarted = 2 ∷ 0 ∷ []
-
--- the plans of children
-abbrev pub spelled_children : List ChildPlan → List ℕ
-spelled_children [] = []
-spelled_children (plan ∷ others) = plan.asks ∷ spelled_ending plan.ending ++ spelled_children others
-
--- a fuse, if there is one
-abbrev pub spelled_fuse : Option ℕ → List ℕ
-spelled_fuse None = []
-spelled_fuse (Some first) = first ∷ []
-
--- the numbers of a list, after how many they are
-abbrev pub counted : List ℕ → List ℕ
-counted numbers = length numbers ∷ numbers
-
--- the plan and the fuses
-unfoldable pub spelled : Plan → List ℕ → List ℕ
-spelled plan fuses =
-    counted (spelled_failing plan.failing)
-    ++ counted plan.taken
-    ++ counted plan.failing_starts
-    ++ counted (spelled_children plan.children)
-    ++ counted (spelled_fuse plan.fuse)
-    ++ fuses
 
 -- what every host tells
 abbrev pub memory_session : MemoryHost → Session
@@ -71,10 +24,6 @@ memory_session host =
       taken = host.taken;
     }
 
--- how much the next call does before it fails, if it fails
-abbrev pub next_fault : MemoryHost → Option Part
-next_fault host = fault_of host.plan.failing host.fuse host.turn.call host.turn.since_reboot
-
 -- the moments of a story, and the questions to children
 abbrev pub world_of : Story → List Asked → World
 world_of story asked = record { now = moment_of (history_of story).now; before = (history_of story).before; asked = asked }
@@ -83,13 +32,28 @@ world_of story asked = record { now = moment_of (history_of story).now; before =
 abbrev pub memory_world : MemoryHost → World
 memory_world host = world_of host.past host.asked.items
 
+-- its plan, and how far it has come in it
+abbrev pub progress_of : MemoryHost → Progress
+progress_of host =
+    record {
+      plan = host.plan;
+      fuse = host.fuse;
+      calls = host.turn.call;
+      since_reboot = host.turn.since_reboot;
+      starts = length host.waits.items;
+    }
+
+-- the fuses that its reboots have set
+abbrev pub fuses_of : MemoryHost → List ℕ
+fuses_of host = host.fuses.items
+
 -- the bytes of a name as they read now
 abbrev pub reading_at : MemoryHost → List ℕ → Option (List ℕ)
 reading_at host name = map.get (reading (memory_world host)) name
 
 -- how many calls there were, but for `leave`
 abbrev pub calls_of : MemoryHost → ℕ
-calls_of host = host.turn.call
+calls_of host = (progress_of host).calls
 
 -- the session of a host before its first call
 abbrev pub first_session : Plan → Session
@@ -104,7 +68,7 @@ pub record IsNew (files : Files) (plan : Plan) (host : MemoryHost) : Type 0 wher
   pub before : (memory_world host).before ≡ []
   pub asked : (memory_world host).asked ≡ []
   pub session : memory_session host ≡ first_session plan
-  pub calls : calls_of host ≡ 0
+  pub progress : progress_of host ≡ first_progress plan
 
 -- the world after the crash of this pick
 abbrev pub after_reboot : ℕ → World → World
@@ -122,14 +86,14 @@ pub record IsRebooted (pick : ℕ) (fuse : Option ℕ) (old new : MemoryHost) : 
   pub only : (image : Files) → IsImage (memory_world new).now.folder image → image ≡ reading (memory_world new)
   pub outside : (memory_session new).inside ≡ false
   pub children : (memory_session new).children ≡ []
-  pub made_as : (memory_session new).made_as ≡ spelled old.plan (old.fuses.items ++ option_to_list fuse)
+  pub made_as : (memory_session new).made_as ≡ spelled (progress_of old).plan (fuses_of old ++ option_to_list fuse)
   pub file_faults : (memory_session new).file_faults ≡ (memory_session old).file_faults
   pub start_faults : (memory_session new).start_faults ≡ (memory_session old).start_faults
   pub taken : (memory_session new).taken ≡ (memory_session old).taken
-  pub calls : calls_of new ≡ calls_of old
+  pub progress : progress_of new ≡ progress_after_reboot fuse (progress_of old)
 
 -- nothing of the host has changed
 pub record IsUnchanged (old new : MemoryHost) : Type 0 where
   pub world : memory_world new ≡ memory_world old
   pub session : memory_session new ≡ memory_session old
-  pub calls : calls_of new ≡ calls_of old
+  pub progress : progress_of new ≡ progress_of old

@@ -1,4 +1,4 @@
--- Inputs whose content is given.
+-- Inputs whose content is given (own).
 use Rattle.std.specs.Prelude.{◌≡◌, ◌++◌, [], ◌∷◌, ℕ, Bool, true, false, List, Option, Some, None, length}
 use Rattle.host_calls.specs.Inputs.{Contents}
 

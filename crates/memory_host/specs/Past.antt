@@ -1,8 +1,8 @@
 -- What a folder came to, call after call.
-use Rattle.std.specs.Prelude.{◌≡◌, ◌+◌, ◌++◌, [], ◌∷◌, ℕ, Bool, List, Result, Ok, Err}
+use Rattle.std.specs.Prelude.{◌+◌, ◌++◌, [], ◌∷◌, ℕ, Bool, List}
 use Rattle.std.specs.FinMap as map
 use Rattle.host_calls.specs.declared.child.Handed.{Handed}
-use Rattle.host_calls.specs.Folder.{Files, Folder, IsHeldAt, IsImage, names_of, reading_of, Renamed, Removed, with_file, with_changed, with_change, with_names_certain, settled, written_body, certain_body}
+use Rattle.host_calls.specs.Folder.{Folder, Renamed, Removed, with_file, with_changed, with_change, with_names_certain, settled, written_body, certain_body}
 use Rattle.host_calls.specs.World.{Moment}
 use Rattle.memory_host.specs.Crash.{no_body, rebooted}
 use Rattle.memory_host.specs.declared.past_call.PastCall.{PastCall}
@@ -48,6 +48,7 @@ pub record History : Type 0 where
   pub now : State
   pub before : List Moment
 
+-- the moment at which it is
 abbrev pub moment_of : State → Moment
 moment_of at = record { folder = at.folder; handed = at.handed }
 
@@ -78,26 +79,6 @@ pub record Story : Type 0 where
   pub opening : List (List ℕ × List ℕ)
   pub calls : List PastCall
 
--- the story with one call more
-abbrev pub with_next : PastCall → Story → Story
-with_next call story = record { opening = story.opening; calls = story.calls ++ call ∷ [] }
-
 -- what the story came to
 unfoldable pub history_of : Story → History
 history_of story = with_calls story.calls (opened story.opening)
-
--- the state that the story came to
-abbrev pub state_of : Story → State
-state_of story = (history_of story).now
-
--- The story goes on by a call on the body that the name alone holds, where there was room for it.
-abbrev pub Follows : {T E : Type 0} → (ℕ → PastCall) → List ℕ → Story → Story → Result T E → Type 0
-Follows call name old new (Ok value) = (number : ℕ) × IsHeldAt (names_of (state_of old).folder) name number × (new ≡ with_next (call number) old)
-Follows call name old new (Err fault) = new ≡ old
-
--- the story of a folder with these files, all of them certain, before its first call
-pub record Opens (files : Files) (story : Story) : Type 0 where
-  pub reading : reading_of (state_of story).folder ≡ files
-  pub settled : (image : Files) → IsImage (state_of story).folder image → image ≡ files
-  pub handed : (state_of story).handed ≡ []
-  pub before : (history_of story).before ≡ []

@@ -1,4 +1,4 @@
--- Readings that go along two lists of answers.
+-- Readings that go along two lists of answers (own).
 use Rattle.std.specs.Prelude.{◌≡◌, ◌+◌, ◌-◌, ◌*◌, ◌<◌, ◌++◌, [], ◌∷◌, ℕ, ℤ, pos, negsuc, zero, suc, List, Option, Some, None, length, map, min, slice_get, option_to_list}
 use Rattle.host_calls.specs.Clock.{Answers}
 

@@ -1,4 +1,4 @@
--- A sink that keeps what is put.
+-- A sink that keeps what is put (own).
 use Rattle.std.specs.Prelude.{◌≡◌, [], ◌∷◌, ℕ, List, Option, Some, None}
 
 -- what a sink is made as: the number of the put that fails, if one does

@@ -1,6 +1,6 @@
 //! The bodies of all files.
-ghost use Rattle.std.specs.Prelude.{◌≡◌, ◌+◌, ◌<◌, ◌≤◌, ◌++◌, [], ◌∷◌, length, vec_len, is_ok, if◌then◌else◌};
-ghost use Rattle.memory_host.specs.Bodies.{kept_at, kept_made, kept_written, kept_synced, kept_crashed, with_kept, with_each};
+ghost use Rattle.std.specs.Prelude.{◌≡◌, ◌+◌, ◌<◌, ◌≤◌, ◌++◌, [], ◌∷◌, length, is_ok, if◌then◌else◌};
+ghost use Rattle.memory_host.specs.inside.Bodies.{kept_at, kept_made, kept_written, kept_synced, kept_crashed, with_kept, with_each};
 
 use crate::body::Body;
 use std::alloc::{AllocError, Global};
@@ -13,6 +13,7 @@ pub struct Bodies {
 }
 
 impl Bodies {
+    /// No bodies.
     pub fn new(alloc: Global) -> Bodies
         ensures list { result.list.items ≡ [] }
         ensures unsettled { result.unsettled.items ≡ [] }
@@ -23,12 +24,14 @@ impl Bodies {
         }
     }
 
+    /// How many bodies there are, which is the number of the next one.
     pub fn count(&self) -> usize
         ensures { result ≡ length self.now.list.items }
     {
         self.list.len()
     }
 
+    /// The bytes of a body as they read now.
     pub fn bytes(&self, number: usize) -> &[u8]
         requires { number < length self.now.list.items }
         ensures { result.now ≡ (kept_at self.now.list.items number).bytes }
@@ -41,7 +44,8 @@ impl Bodies {
         ensures list { self.new.list.items
             ≡ (if is_ok result then self.old.list.items ++ kept_made bytes.now ∷ [] else self.old.list.items) }
         ensures unsettled { self.new.unsettled.items
-            ≡ (if is_ok result then self.old.unsettled.items ++ length self.old.list.items ∷ [] else self.old.unsettled.items) }
+            ≡ (if is_ok result then self.old.unsettled.items ++ length self.old.list.items ∷ []
+            else self.old.unsettled.items) }
     {
         self.list.reserve(1)?;
         self.unsettled.reserve(1)?;
@@ -56,7 +60,8 @@ impl Bodies {
         requires known { number < length self.old.list.items }
         requires range { offset + length bytes.now ≤ length (kept_at self.old.list.items number).bytes }
         ensures list { self.new.list.items
-            ≡ (if is_ok result then with_kept (kept_written offset bytes.now) number self.old.list.items else self.old.list.items) }
+            ≡ (if is_ok result then with_kept (kept_written offset bytes.now) number self.old.list.items
+            else self.old.list.items) }
         ensures unsettled { self.new.unsettled.items
             ≡ (if is_ok result then self.old.unsettled.items ++ number ∷ [] else self.old.unsettled.items) }
     {
@@ -95,7 +100,7 @@ impl Bodies {
     }
 }
 
-/// Makes the bodies of these numbers certain.
+// Makes the bodies of these numbers certain.
 fn sync_each(list: &mut [Body], numbers: &[usize])
     ensures { list.new ≡ with_each kept_synced numbers.now list.old }
 {
@@ -104,7 +109,7 @@ fn sync_each(list: &mut [Body], numbers: &[usize])
     }
 }
 
-/// Makes the bodies of these numbers what the crash of this pick leaves of them.
+// Makes the bodies of these numbers what the crash of this pick leaves of them.
 fn crash_each(list: &mut [Body], numbers: &[usize], pick: u64)
     ensures { list.new ≡ with_each (kept_crashed pick) numbers.now list.old }
 {
@@ -113,7 +118,7 @@ fn crash_each(list: &mut [Body], numbers: &[usize], pick: u64)
     }
 }
 
-/// Makes the body of this number certain, if there is one.
+// Makes the body of this number certain, if there is one.
 fn sync_one(list: &mut [Body], number: usize)
     ensures { list.new ≡ with_kept kept_synced number list.old }
 {
@@ -122,7 +127,7 @@ fn sync_one(list: &mut [Body], number: usize)
     }
 }
 
-/// Makes the body of this number what the crash of this pick leaves of it, if there is one.
+// Makes the body of this number what the crash of this pick leaves of it, if there is one.
 fn crash_one(list: &mut [Body], number: usize, pick: u64)
     ensures { list.new ≡ with_kept (kept_crashed pick) number list.old }
 {

@@ -1,7 +1,7 @@
 //! The body of a file.
 ghost use Rattle.std.specs.Prelude.{◌≡◌, ◌+◌, ◌≤◌, ◌%◌, ◌||◌, not, take, length, IfOk, OnErr, if◌then◌else◌};
 ghost use Rattle.host_calls.specs.Folder.{is_within};
-ghost use Rattle.memory_host.specs.Bodies.{kept_made, kept_written, kept_synced, kept_crashed, lies_in};
+ghost use Rattle.memory_host.specs.inside.Bodies.{kept_made, kept_written, kept_synced, kept_crashed, lies_in};
 ghost use Rattle.memory_host.specs.Crash.{picked_byte, picked_bytes};
 
 use std::alloc::{AllocError, Global};
@@ -24,11 +24,12 @@ pub struct Body {
 }
 
 impl Model for Body {
-    ghost use Rattle.memory_host.specs.Bodies.{KeptBody};
+    ghost use Rattle.memory_host.specs.inside.Bodies.{KeptBody};
 
     ghost Value = { KeptBody };
 
-    ghost view = { λ body. record { bytes = body.bytes.items; is_synced = body.is_synced; ranges = body.ranges.items } };
+    ghost view = { λ body.
+        record { bytes = body.bytes.items; is_synced = body.is_synced; ranges = body.ranges.items } };
 }
 
 impl Body {
@@ -43,6 +44,7 @@ impl Body {
         })
     }
 
+    /// The bytes as they read now.
     pub fn as_slice(&self) -> &[u8]
         ensures { result.now ≡ self.now.bytes }
     {
@@ -95,7 +97,7 @@ fn crashed_byte(pick: u64, place: usize) -> u8
     ((pick % 256 + place as u64 % 256) % 256) as u8
 }
 
-/// Cuts the bytes of a file that was never synced.
+// Cuts the bytes of a file that was never synced.
 fn cut(bytes: &mut Vec<u8>, pick: u64)
     ensures { bytes.new.items ≡ take (pick % (length bytes.old.items + 1)) bytes.old.items }
 {
@@ -103,14 +105,14 @@ fn cut(bytes: &mut Vec<u8>, pick: u64)
     bytes.truncate((pick % most) as usize);
 }
 
-/// Whether the place lies in one of the ranges.
+// Whether the place lies in one of the ranges.
 fn lies_in_one(ranges: &[Range], place: usize) -> bool
     ensures { result ≡ lies_in ranges.now place }
 {
     ranges.iter().any(|range| range.holds(place))
 }
 
-/// The byte that a crash leaves of this one.
+// The byte that a crash leaves of this one.
 fn byte_left(is_synced: bool, ranges: &[Range], pick: u64, place: usize, byte: u8) -> u8
     ensures { result ≡ (if not is_synced || lies_in ranges.now place then picked_byte pick place else byte) }
 {
@@ -121,7 +123,7 @@ fn byte_left(is_synced: bool, ranges: &[Range], pick: u64, place: usize, byte: u
     }
 }
 
-/// Changes the bytes at the uncertain places.
+// Changes the bytes at the uncertain places.
 fn change_bytes(bytes: &mut [u8], is_synced: bool, ranges: &[Range], pick: u64)
     ensures { bytes.new ≡ picked_bytes pick (λ place. not is_synced || lies_in ranges.now place) 0 bytes.old }
 {

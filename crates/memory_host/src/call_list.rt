@@ -1,6 +1,6 @@
 //! Numbers of calls.
-ghost use Rattle.std.specs.Prelude.{◌≡◌, ◌++◌, ◌==◌, [], ◌∷◌, is_ok, if◌then◌else◌};
-ghost use Rattle.std.specs.List.{list_any};
+ghost use Rattle.std.specs.Prelude.{◌≡◌, ◌++◌, [], ◌∷◌, is_ok, if◌then◌else◌};
+ghost use Rattle.memory_host.specs.Plan.{is_planned};
 
 use std::alloc::{AllocError, Global};
 use std::marker::Model;
@@ -20,6 +20,7 @@ impl Model for CallList {
 }
 
 impl CallList {
+    /// A list that names no call.
     pub fn new(alloc: Global) -> CallList
         ensures { result ≡ [] }
     {
@@ -28,6 +29,7 @@ impl CallList {
         }
     }
 
+    /// Adds the number of a call, counted from 0.
     pub fn push(&mut self, alloc: Global, call: u64) -> Result<(), AllocError>
         ensures { self.new ≡ (if is_ok result then self.old ++ call ∷ [] else self.old) }
     {
@@ -38,7 +40,7 @@ impl CallList {
 
     /// Whether the list names the call.
     pub fn names(&self, call: u64) -> bool
-        ensures { result ≡ list_any (λ named. named == call) self.now }
+        ensures { result ≡ is_planned call self.now }
     {
         self.inner.contains(&call)
     }

@@ -21,7 +21,7 @@ pub struct ChildPlans {
 
 impl Model for ChildPlans {
     ghost use Rattle.std.specs.Prelude.{List};
-    ghost use Rattle.memory_host.specs.Children.{AreEndings};
+    ghost use Rattle.memory_host.specs.inside.Kin.{AreEndings};
     ghost use Rattle.memory_host.specs.declared.child_plans.ChildPlan.{ChildPlan};
 
     ghost Value = { List ChildPlan };
@@ -32,6 +32,7 @@ impl Model for ChildPlans {
 }
 
 impl ChildPlans {
+    /// A list without a plan.
     pub fn new(alloc: Global) -> ChildPlans
         ensures { result ≡ [] }
     {

@@ -35,6 +35,7 @@ impl Model for FailingList {
 }
 
 impl FailingList {
+    /// A list that names no call.
     pub fn new(alloc: Global) -> FailingList
         ensures { result ≡ [] }
     {
@@ -43,6 +44,7 @@ impl FailingList {
         }
     }
 
+    /// Adds a failing call. Where several entries name one call, the first counts.
     pub fn push(&mut self, alloc: Global, failing: Failing) -> Result<(), AllocError>
         ensures { self.new ≡ (if is_ok result then self.old ++ failing ∷ [] else self.old) }
     {

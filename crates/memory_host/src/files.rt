@@ -27,6 +27,7 @@ impl Model for Files {
 }
 
 impl Files {
+    /// No files.
     pub fn new(alloc: Global) -> Files
         ensures { result ≡ map.empty }
     {

@@ -1,62 +1,17 @@
 //! The host in memory as a host.
-ghost use Rattle.std.specs.Prelude.{◌≡◌, ◌≤◌, true, Err, None, Ok, Some, ◌<◌, ◌-◌, ◌==◌, ◌||◌, IfOk, IsSome, is_some, length, slice_index_or, slice_set, vec_len, take, drop, if◌then◌else◌};
-ghost use Rattle.std.specs.List.{list_any};
-ghost use Rattle.host_calls.specs.Causes.{HasCause, Rose};
-ghost use Rattle.host_calls.specs.Session.{IsInside, StaysInside};
-ghost use Rattle.memory_host.specs.Host.{memory_session, memory_world, next_fault};
+ghost use Rattle.std.specs.Prelude.{◌≡◌, ◌≢◌, true, Err, None, Ok, Some, ◌<◌, ◌≤◌, ◌-◌, ◌==◌, Contains, IfOk, IsErrOf, IsSome, alloc_error, length, slice_index_or, slice_set, vec_len, take, drop, if◌then◌else◌};
+ghost use Rattle.std.specs.FinMap as map;
+ghost use Rattle.host_calls.specs.Causes.{Rose};
+ghost use Rattle.host_calls.specs.Folder.{HasNamesSynced, IsInNoImage, IsMade, IsMadeInPart, IsRemoved, IsRenamed, IsSettled, IsSynced, IsSyncedInPart, IsWritten, IsWrittenInPart};
+ghost use Rattle.host_calls.specs.Session.{Enters, IsInside, IsLeft, IsOutside, StaysInside};
+ghost use Rattle.host_calls.specs.World.{Asks, IsWithinFile, bytes_from, reading, size_of};
+ghost use Rattle.memory_host.specs.Host.{memory_session, memory_world, progress_of};
+ghost use Rattle.memory_host.specs.Plan.{next_entry, progress_after_call};
+ghost use Rattle.memory_host.specs.Planned.{ChangesAsPlanned, IsCounted, LooksAsPlanned, StartsAsPlanned};
 
-use crate::outcome::{is_blown, planned_fault};
 use crate::{MemoryHost, Part};
 use host_calls::{Asked, Child, Ending, EnterFault, Host, HostFault, Name, StartFault};
 use std::alloc::{AllocError, Global};
-
-impl MemoryHost {
-    /// How much the next call does before it fails, if it fails.
-    fn fault(&self) -> Option<Part>
-        ensures { result ≡ next_fault self.now }
-    {
-        planned_fault(&self.plan, self.fuse, self.turn)
-    }
-
-    /// Whether the next call, which is the start of this number, fails.
-    fn start_fails(&self, start: u64) -> bool
-        ensures { result ≡ (is_some (next_fault self.now)
-            || list_any (λ named. named == start) self.now.plan.failing_starts) }
-    {
-        self.fault().is_some() || self.plan.failing_starts.names(start)
-    }
-
-    /// Counts a call on the files that fails.
-    fn fail(&mut self) -> HostFault
-        requires inside { IsInside (memory_session self.old) }
-        requires planned { IsSome (next_fault self.old) }
-        ensures failed { result ≡ HostFault.Failed }
-        ensures inside { StaysInside (memory_session self.old) (memory_session self.new) }
-        ensures later { self.old.file_faults ≤ self.new.file_faults }
-        ensures rose { Rose self.old.file_faults self.new.file_faults }
-        ensures world { memory_world self.new ≡ memory_world self.old }
-    {
-        self.turn = self.turn.next();
-        self.file_faults = self.file_faults.saturating_add(1);
-        HostFault::Failed
-    }
-
-    /// Counts a call on the files that did its work, and fails where that was planned.
-    fn finish(&mut self, fault: Option<Part>) -> Result<(), HostFault>
-        requires inside { IsInside (memory_session self.old) }
-        requires planned { fault ≡ next_fault self.old }
-        ensures answer { result ≡ (if is_some fault then Err HostFault.Failed else Ok tt) }
-        ensures inside { StaysInside (memory_session self.old) (memory_session self.new) }
-        ensures cause { HasCause HostFault.Failed self.old.file_faults self.new.file_faults result }
-        ensures world { memory_world self.new ≡ memory_world self.old }
-    {
-        if fault.is_some() {
-            return Err(self.fail());
-        }
-        self.turn = self.turn.next();
-        Ok(())
-    }
-}
 
 impl Host for MemoryHost {
     ghost tells = { true };
@@ -67,45 +22,64 @@ impl Host for MemoryHost {
 
     ghost world = { memory_world };
 
-    fn enter(&mut self, alloc: Global) -> Result<(), EnterFault> {
-        let _ = alloc;
-        let fault = self.fault();
-        if !is_blown(self.fuse, self.turn) && self.plan.taken.names(self.turn.call) {
-            self.turn = self.turn.next();
+    fn enter(&mut self, _alloc: Global) -> Result<(), EnterFault>
+        requires { IsOutside (memory_session self.old) }
+        ensures enters { Enters (memory_session self.old) (memory_session self.new) result }
+        ensures taken { IsErrOf result EnterFault.Taken
+            → Rose (memory_session self.old).taken (memory_session self.new).taken }
+        ensures failed { IsErrOf result EnterFault.Failed
+            → Rose (memory_session self.old).file_faults (memory_session self.new).file_faults }
+        ensures world { memory_world self.new ≡ memory_world self.old }
+        ensures planned { result ≡ next_entry (progress_of self.old) }
+        ensures counted { progress_of self.new ≡ progress_after_call (progress_of self.old) }
+    {
+        let is_taken = self.finds_taken();
+        let fails = self.next_part().is_some();
+        self.turn = self.turn.next();
+        if is_taken {
             self.taken = self.taken.saturating_add(1);
             return Err(EnterFault::Taken);
         }
-        if fault.is_some() {
-            self.turn = self.turn.next();
+        if fails {
             self.file_faults = self.file_faults.saturating_add(1);
             return Err(EnterFault::Failed);
         }
-        self.turn = self.turn.next();
         self.is_inside = true;
         Ok(())
     }
 
-    fn leave(&mut self) {
+    fn leave(&mut self)
+        requires { IsInside (memory_session self.old) }
+        ensures left { IsLeft (memory_session self.old) (memory_session self.new) }
+        ensures world { memory_world self.new ≡ memory_world self.old }
+        ensures uncounted { progress_of self.new ≡ progress_of self.old }
+    {
         self.is_inside = false;
     }
 
-    fn names(&mut self, alloc: Global) -> Result<Vec<Name>, HostFault> {
-        if self.fault().is_some() {
-            return Err(self.fail());
+    fn names(&mut self, alloc: Global) -> Result<Vec<Name>, HostFault>
+        requires { IsInside (memory_session self.old) }
+        ensures looks { LooksAsPlanned self.old self.new result }
+        ensures listed { IfOk result (λ names. names.items ≡ map.keys (reading (memory_world self.old))) }
+    {
+        if self.next_part().is_some() {
+            return self.fail();
         }
         let names = self.past.names(alloc)?;
-        self.turn = self.turn.next();
-        Ok(names)
+        self.pass(names)
     }
 
-    fn length(&mut self, alloc: Global, name: &Name) -> Result<u64, HostFault> {
-        let _ = alloc;
-        if self.fault().is_some() {
-            return Err(self.fail());
+    fn length(&mut self, _alloc: Global, name: &Name) -> Result<u64, HostFault>
+        requires inside { IsInside (memory_session self.old) }
+        requires held { IsSome (map.get (reading (memory_world self.old)) name.now) }
+        ensures looks { LooksAsPlanned self.old self.new result }
+        ensures counted { IfOk result (λ count. size_of (reading (memory_world self.old)) name.now ≡ Some count) }
+    {
+        if self.next_part().is_some() {
+            return self.fail();
         }
         let count = self.past.bytes(name).len() as u64;
-        self.turn = self.turn.next();
-        Ok(count)
+        self.pass(count)
     }
 
     fn read(
@@ -114,22 +88,33 @@ impl Host for MemoryHost {
         name: &Name,
         offset: u64,
         most: usize,
-    ) -> Result<Vec<u8>, HostFault> {
-        if self.fault().is_some() {
-            return Err(self.fail());
+    ) -> Result<Vec<u8>, HostFault>
+        requires inside { IsInside (memory_session self.old) }
+        requires held { IsSome (map.get (reading (memory_world self.old)) name.now) }
+        ensures looks { LooksAsPlanned self.old self.new result }
+        ensures few { IfOk result (λ bytes. vec_len bytes ≤ most) }
+        ensures bytes { IfOk result (λ bytes.
+            bytes_from (reading (memory_world self.old)) name.now offset most ≡ Some bytes.items) }
+    {
+        if self.next_part().is_some() {
+            return self.fail();
         }
         let read = copy_from(alloc, self.past.bytes(name), offset, most)?;
-        self.turn = self.turn.next();
-        Ok(read)
+        self.pass(read)
     }
 
-    fn create(&mut self, alloc: Global, name: &Name, bytes: &[u8]) -> Result<(), HostFault> {
-        let fault = self.fault();
-        if fault == Some(Part::Nothing) {
-            return Err(self.fail());
+    fn create(&mut self, alloc: Global, name: &Name, bytes: &[u8]) -> Result<(), HostFault>
+        requires inside { IsInside (memory_session self.old) }
+        requires new_name { IsInNoImage (memory_world self.old).now.folder name.now }
+        ensures { ChangesAsPlanned (IsMade name.now bytes.now) (IsMadeInPart name.now bytes.now)
+            self.old self.new result }
+    {
+        let part = self.next_part();
+        if part == Some(Part::Nothing) {
+            return self.fail();
         }
         self.past.create(alloc, name, bytes)?;
-        self.finish(fault)
+        self.finish(part)
     }
 
     fn write(
@@ -138,63 +123,82 @@ impl Host for MemoryHost {
         name: &Name,
         offset: u64,
         bytes: &[u8],
-    ) -> Result<(), HostFault> {
-        let fault = self.fault();
-        if fault == Some(Part::Nothing) {
-            return Err(self.fail());
+    ) -> Result<(), HostFault>
+        requires inside { IsInside (memory_session self.old) }
+        requires range { IsWithinFile (reading (memory_world self.old)) name.now offset (length bytes.now) }
+        ensures { ChangesAsPlanned (IsWritten name.now offset bytes.now) (IsWrittenInPart name.now offset bytes.now)
+            self.old self.new result }
+    {
+        let part = self.next_part();
+        if part == Some(Part::Nothing) {
+            return self.fail();
         }
         self.past.write(alloc, name, offset, bytes)?;
-        self.finish(fault)
+        self.finish(part)
     }
 
-    fn sync(&mut self, alloc: Global, name: &Name) -> Result<(), HostFault> {
-        let _ = alloc;
-        let fault = self.fault();
-        if fault == Some(Part::Nothing) {
-            return Err(self.fail());
+    fn sync(&mut self, _alloc: Global, name: &Name) -> Result<(), HostFault>
+        requires inside { IsInside (memory_session self.old) }
+        requires held { IsSome (map.get (reading (memory_world self.old)) name.now) }
+        ensures { ChangesAsPlanned (IsSynced name.now) IsSyncedInPart self.old self.new result }
+    {
+        let part = self.next_part();
+        if part == Some(Part::Nothing) {
+            return self.fail();
         }
         self.past.sync(name)?;
-        self.finish(fault)
+        self.finish(part)
     }
 
-    fn sync_names(&mut self, alloc: Global) -> Result<(), HostFault> {
-        let _ = alloc;
-        let fault = self.fault();
-        if fault == Some(Part::Nothing) {
-            return Err(self.fail());
+    fn sync_names(&mut self, _alloc: Global) -> Result<(), HostFault>
+        requires { IsInside (memory_session self.old) }
+        ensures { ChangesAsPlanned HasNamesSynced IsSyncedInPart self.old self.new result }
+    {
+        // The names alone become certain, and no byte.
+        let part = self.next_part();
+        if part == Some(Part::Nothing) {
+            return self.fail();
         }
         self.past.sync_names()?;
-        self.finish(fault)
+        self.finish(part)
     }
 
-    fn settle(&mut self, alloc: Global) -> Result<(), HostFault> {
-        let _ = alloc;
-        let fault = self.fault();
-        if fault == Some(Part::Nothing) {
-            return Err(self.fail());
+    fn settle(&mut self, _alloc: Global) -> Result<(), HostFault>
+        requires { IsInside (memory_session self.old) }
+        ensures { ChangesAsPlanned IsSettled IsSyncedInPart self.old self.new result }
+    {
+        let part = self.next_part();
+        if part == Some(Part::Nothing) {
+            return self.fail();
         }
         self.past.settle()?;
-        self.finish(fault)
+        self.finish(part)
     }
 
-    fn rename(&mut self, alloc: Global, from: &Name, to: &Name) -> Result<(), HostFault> {
-        let _ = alloc;
-        let fault = self.fault();
-        if fault == Some(Part::Nothing) {
-            return Err(self.fail());
+    fn rename(&mut self, _alloc: Global, from: &Name, to: &Name) -> Result<(), HostFault>
+        requires inside { IsInside (memory_session self.old) }
+        requires held { IsSome (map.get (reading (memory_world self.old)) from.now) }
+        ensures { ChangesAsPlanned (IsRenamed from.now to.now) (IsRenamed from.now to.now) self.old self.new result }
+    {
+        let part = self.next_part();
+        if part == Some(Part::Nothing) {
+            return self.fail();
         }
         self.past.rename(from, to)?;
-        self.finish(fault)
+        self.finish(part)
     }
 
-    fn remove(&mut self, alloc: Global, name: &Name) -> Result<(), HostFault> {
-        let _ = alloc;
-        let fault = self.fault();
-        if fault == Some(Part::Nothing) {
-            return Err(self.fail());
+    fn remove(&mut self, _alloc: Global, name: &Name) -> Result<(), HostFault>
+        requires inside { IsInside (memory_session self.old) }
+        requires held { IsSome (map.get (reading (memory_world self.old)) name.now) }
+        ensures { ChangesAsPlanned (IsRemoved name.now) (IsRemoved name.now) self.old self.new result }
+    {
+        let part = self.next_part();
+        if part == Some(Part::Nothing) {
+            return self.fail();
         }
         self.past.remove(name)?;
-        self.finish(fault)
+        self.finish(part)
     }
 
     fn start(
@@ -203,9 +207,13 @@ impl Host for MemoryHost {
         number: u32,
         name: &Name,
         nice: u8,
-    ) -> Result<Child, StartFault> {
-        let id = count_of(&self.waits);
-        let fails = self.start_fails(id);
+    ) -> Result<Child, StartFault>
+        requires inside { IsInside (memory_session self.old) }
+        requires held { IsSome (map.get (reading (memory_world self.old)) name.now) }
+        ensures { StartsAsPlanned number name.now nice self.old self.new result }
+    {
+        let id = self.next_start();
+        let fails = self.next_start_fails();
         let asks = self.plan.children.plan(id).asks;
         self.children.reserve(1)?;
         self.waits.reserve(1)?;
@@ -221,8 +229,14 @@ impl Host for MemoryHost {
         Ok(child)
     }
 
-    fn ended(&mut self, alloc: Global, child: &Child) -> Result<Option<Ending>, AllocError> {
-        let _ = alloc;
+    fn ended(&mut self, _alloc: Global, child: &Child) -> Result<Option<Ending>, AllocError>
+        requires inside { IsInside (memory_session self.old) }
+        requires started { Contains (memory_session self.old).children child.now }
+        ensures inside { StaysInside (memory_session self.old) (memory_session self.new) }
+        ensures was_started { result ≢ Ok (Some Ending.NotStarted) }
+        ensures asked { Asks child.now (memory_world self.old) (memory_world self.new) result }
+        ensures count { IsCounted alloc_error self.old self.new result }
+    {
         self.asked.reserve(1)?;
         self.turn = self.turn.next();
         let ending = self.plan.children.plan(child.id).ending;
@@ -235,14 +249,7 @@ impl Host for MemoryHost {
     }
 }
 
-/// How many starts there were.
-fn count_of(waits: &Vec<u32>) -> u64
-    ensures { result ≡ length waits.now.items }
-{
-    waits.len() as u64
-}
-
-/// The answer of a child that ends so. This question counts.
+// The answer of a child that ends so. This question counts.
 fn ask(waits: &mut Vec<u32>, child: usize, ending: Ending) -> Option<Ending>
     requires { child < length waits.old.items }
     ensures answer { result ≡ (if slice_index_or waits.old.items child 0 == 0 then Some ending else None) }
@@ -253,7 +260,7 @@ fn ask(waits: &mut Vec<u32>, child: usize, ending: Ending) -> Option<Ending>
     if wait == 0 { Some(ending) } else { None }
 }
 
-/// A copy of at most `most` bytes from the offset on.
+// A copy of at most `most` bytes from the offset on.
 fn copy_from(alloc: Global, bytes: &[u8], offset: u64, most: usize) -> Result<Vec<u8>, AllocError>
     ensures few { IfOk result (λ copy. vec_len copy ≤ most) }
     ensures copy { IfOk result (λ copy. copy.items ≡ take most (drop offset bytes.now)) }

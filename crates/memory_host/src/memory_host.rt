@@ -1,10 +1,10 @@
 //! A spool folder in memory.
 ghost use Rattle.std.specs.Prelude.{◌≡◌, ◌<◌, ◌++◌, length, option_to_list, vec_len, vec_capacity};
-ghost use Rattle.memory_host.specs.Children.{AreKin};
-ghost use Rattle.memory_host.specs.Counts.{IsCounted};
+ghost use Rattle.memory_host.specs.inside.Faults.{AreFaultsPlanned};
+ghost use Rattle.memory_host.specs.inside.Kin.{AreKin};
 
-use crate::outcome::Turn;
 use crate::past::Past;
+use crate::turn::Turn;
 use crate::{Files, Plan};
 use host_calls::{Asked, Child, Handed, Name};
 use std::alloc::{AllocError, Global};
@@ -26,8 +26,16 @@ pub struct MemoryHost {
     pub(crate) file_faults: u64,
     pub(crate) start_faults: u64,
     pub(crate) taken: u64,
-    pub ghost counts: { IsCounted plan fuses.items fuse turn.call (length waits.items) file_faults start_faults taken },
-    pub ghost kin: { AreKin plan.children asked.items waits.items children.items },
+    ghost faults: { AreFaultsPlanned
+        (record {
+          plan = plan;
+          fuse = fuse;
+          calls = turn.call;
+          since_reboot = turn.since_reboot;
+          starts = length waits.items;
+        })
+        fuses.items file_faults start_faults taken },
+    ghost kin: { AreKin plan.children asked.items waits.items children.items },
 }
 
 impl MemoryHost {
@@ -104,7 +112,7 @@ impl MemoryHost {
     }
 }
 
-/// Adds the fuse, if there is one, for which there is room.
+// Adds the fuse, if there is one, for which there is room.
 fn add_fuse(fuses: &mut Vec<u64>, fuse: Option<u64>)
     requires { vec_len fuses.old < vec_capacity fuses.old }
     ensures { fuses.new.items ≡ fuses.old.items ++ option_to_list fuse }

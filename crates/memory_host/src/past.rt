@@ -1,11 +1,11 @@
 //! All that happened to a folder.
-ghost use Rattle.std.specs.Prelude.{◌≡◌, ℕ, IfOk, OnOk, IsSome, is_ok, length, if◌then◌else◌};
+ghost use Rattle.std.specs.Prelude.{◌≡◌, IfOk, IsSome, is_ok, length, if◌then◌else◌};
 ghost use Rattle.std.specs.Option.{option_copied};
 ghost use Rattle.std.specs.FinMap as map;
 ghost use Rattle.host_calls.specs.Folder.{IsFresh, IsHeldAt, names_of, reading_of};
 ghost use Rattle.host_calls.specs.World.{IsWithinFile};
-ghost use Rattle.memory_host.specs.Past.{Follows, Opens, state_of, with_next};
-ghost use Rattle.memory_host.specs.Told.{MakesFile};
+ghost use Rattle.memory_host.specs.inside.Story.{Follows, Opens, state_of, with_next};
+ghost use Rattle.memory_host.specs.inside.Told.{MakesFile};
 
 use crate::Files;
 use crate::bodies::Bodies;
@@ -28,8 +28,9 @@ pub struct Past {
 }
 
 impl Model for Past {
-    ghost use Rattle.memory_host.specs.Past.{Story, state_of};
-    ghost use Rattle.memory_host.specs.Told.{IsTold};
+    ghost use Rattle.memory_host.specs.Past.{Story};
+    ghost use Rattle.memory_host.specs.inside.Story.{state_of};
+    ghost use Rattle.memory_host.specs.inside.Told.{IsTold};
 
     ghost Value = { Story };
 
@@ -61,6 +62,7 @@ impl Past {
         })
     }
 
+    /// All scripts that were handed over.
     pub fn handed(&self) -> &[Handed]
         ensures { result.now ≡ (state_of self.now).handed }
     {
@@ -88,7 +90,7 @@ impl Past {
         }
     }
 
-    /// The number of a file that is there.
+    // The number of a file that is there.
     fn number(&self, name: &Name) -> usize
         requires { IsSome (map.get (reading_of (state_of self.now).folder) name.now) }
         ensures held { IsHeldAt (names_of (state_of self.now).folder) name.now result }
@@ -99,12 +101,14 @@ impl Past {
         }
     }
 
+    /// The names of the files, in byte order.
     pub fn names(&self, alloc: Global) -> Result<Vec<Name>, AllocError>
         ensures { IfOk result (λ names. names.items ≡ map.keys (reading_of (state_of self.now).folder)) }
     {
         self.names.names(alloc)
     }
 
+    /// Makes a file under the number of the next body.
     pub fn create(&mut self, alloc: Global, name: &Name, bytes: &[u8]) -> Result<(), AllocError>
         ensures fresh { IsFresh (state_of self.old).folder (state_of self.old).next }
         ensures made { self.new
@@ -117,6 +121,7 @@ impl Past {
         Ok(())
     }
 
+    /// Writes over a range of a file.
     pub fn write(
         &mut self,
         alloc: Global,
@@ -137,6 +142,7 @@ impl Past {
         Ok(())
     }
 
+    /// Makes the bytes of a file certain.
     pub fn sync(&mut self, name: &Name) -> Result<(), AllocError>
         requires { IsSome (map.get (reading_of (state_of self.old).folder) name.now) }
         ensures { Follows (λ number. PastCall.Synced number) name.now self.old self.new result }
@@ -148,6 +154,7 @@ impl Past {
         Ok(())
     }
 
+    /// Makes all names certain.
     pub fn sync_names(&mut self) -> Result<(), AllocError>
         ensures { self.new ≡ (if is_ok result then with_next PastCall.NamesSynced self.old else self.old) }
     {
@@ -157,6 +164,7 @@ impl Past {
         Ok(())
     }
 
+    /// Makes all names and all bytes certain.
     pub fn settle(&mut self) -> Result<(), AllocError>
         ensures { self.new ≡ (if is_ok result then with_next PastCall.Settled self.old else self.old) }
     {
@@ -167,6 +175,7 @@ impl Past {
         Ok(())
     }
 
+    /// Moves a file to another name.
     pub fn rename(&mut self, from: &Name, to: &Name) -> Result<(), AllocError>
         requires { IsSome (map.get (reading_of (state_of self.old).folder) from.now) }
         ensures { self.new
@@ -180,6 +189,7 @@ impl Past {
         Ok(())
     }
 
+    /// Removes a name.
     pub fn remove(&mut self, name: &Name) -> Result<(), AllocError>
         requires { IsSome (map.get (reading_of (state_of self.old).folder) name.now) }
         ensures { self.new ≡ (if is_ok result then with_next (PastCall.Removed name.now) self.old else self.old) }
@@ -230,8 +240,8 @@ impl Past {
     }
 }
 
-/// Makes a file under the next number. Where there is no room, at most a name that holds nothing is
-/// kept more.
+// Makes a file under the next number. Where there is no room, at most a name that holds nothing is
+// kept more.
 fn make_file(
     alloc: Global,
     names: &mut NameTable,

@@ -23,7 +23,7 @@ fn no_plan(alloc: Global) -> Plan {
     }
 }
 
-/// A host without a file, inside a session.
+// A host without a file, inside a session.
 fn empty_host(rt: &impl Abort, alloc: Global) -> MemoryHost
     ensures inside { IsInside (memory_session result) }
     ensures empty { (name : List ℕ) → IsInNoImage (memory_world result).now.folder name }
@@ -35,7 +35,7 @@ fn empty_host(rt: &impl Abort, alloc: Global) -> MemoryHost
     host
 }
 
-/// A host with the file `a`, before its first call.
+// A host with the file `a`, before its first call.
 fn host_with(rt: &impl Abort, alloc: Global, plan: Plan) -> MemoryHost
     ensures { IsOutside (memory_session result) }
 {

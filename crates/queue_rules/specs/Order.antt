@@ -1,5 +1,5 @@
 -- Which jobs may start now, and in which order: by minute, then number (own).
-use Rattle.std.specs.Prelude.{◌≡◌, ◌⊎◌, ◌<◌, ◌≤◌, ◌&&◌, ℕ, ℤ, Bool, true, false, not, List, map, filter, AllPairs, All, Contains, IsPermutation}
+use Rattle.std.specs.Prelude.{◌≡◌, ◌≢◌, ◌⊎◌, ◌<◌, ◌≤◌, ◌&&◌, ℕ, ℤ, Bool, true, false, not, List, map, filter, AllPairs, All, Contains, IsPermutation, IsTrue}
 use Rattle.spool_model.specs.declared.row.Row.{Row}
 use Rattle.spool_model.specs.declared.state.State.{State}
 use Rattle.spool_model.specs.declared.state.State.TheVariants.{Pending, Running}
@@ -51,3 +51,18 @@ pub record AreInDueOrder (rows : List Row) (now : ℤ) (numbers : List ℕ) : Ty
 pub record IsFirstBatch (rows : List Row) (now : ℤ) (number : ℕ) : Type 0 where
   pub minute : ℕ
   pub first : IsFirstOf (places_of (is_ready_batch now) rows) (minute, number)
+
+-- the number is that of a row that passes a test
+pub record IsNumberOf (test : Row → Bool) (rows : List Row) (number : ℕ) : Type 0 where
+  pub row : Row
+  pub listed : Contains rows row
+  pub passes : IsTrue (test row)
+  pub named : row.number ≡ number
+
+-- no two of the numbers are the same
+abbrev pub Differ : List ℕ → Type 0
+Differ numbers = AllPairs (λ first second. first ≢ second) numbers
+
+-- the numbers of the rows
+abbrev pub row_numbers : List Row → List ℕ
+row_numbers rows = map (λ row. row.number) rows

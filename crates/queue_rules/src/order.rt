@@ -15,12 +15,14 @@ pub fn due_order(alloc: Global, rows: &[Row], now: i64) -> Result<Vec<u32>, Allo
     numbers_of(alloc, &places)
 }
 
+// The numbers of places.
 fn numbers_of(alloc: Global, places: &[(u32, u32)]) -> Result<Vec<u32>, AllocError>
     ensures { IfOk result (λ numbers. numbers.items ≡ map (λ place. place.1) places.now) }
 {
     places.iter().map(|place| place.1).collect(alloc)
 }
 
+// The places of all ready jobs outside the batch queues.
 fn ready_places(alloc: Global, rows: &[Row], now: i64) -> Result<Vec<(u32, u32)>, AllocError>
     ensures { IfOk result (λ places. places.items ≡ map place_of (filter (is_ready_job now) rows.now)) }
 {
@@ -39,6 +41,7 @@ pub fn first_batch(rows: &[Row], now: i64) -> Option<u32>
     Some(place.1)
 }
 
+// The first place of a ready job of the batch queues.
 fn first_place(rows: &[Row], now: i64) -> Option<(u32, u32)>
     ensures some { IfSome result (IsFirstOf (places_of (is_ready_batch now) rows.now)) }
     ensures none { IfNone result (places_of (is_ready_batch now) rows.now ≡ []) }
@@ -49,13 +52,14 @@ fn first_place(rows: &[Row], now: i64) -> Option<(u32, u32)>
         .min()
 }
 
+// Whether the job waits, and its minute has begun.
 fn is_ready(row: &Row, now: i64) -> bool
     ensures { result ≡ is_ready now row.now }
 {
     row.state == State::Pending && is_due(row, now)
 }
 
-/// The place in the line.
+// The place in the line.
 fn place(row: &Row) -> (u32, u32)
     ensures { result ≡ place_of row.now }
 {

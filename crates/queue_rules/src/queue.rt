@@ -1,20 +1,13 @@
 //! The rules of one queue and of one job.
 ghost use Rattle.std.specs.Prelude.{◌≡◌, IsTrue, IfSome};
 ghost use Rattle.std.specs.Char.{is_ascii_alphabetic};
-ghost use Rattle.spool_model.specs.JobTable.{is_batch_queue};
-ghost use Rattle.queue_rules.specs.Queues.{niceness_of, is_due, IsClockSecond, has_rested, may_start_batch};
+ghost use Rattle.clock_range.specs.ClockRange.{IsClockSecond};
+ghost use Rattle.queue_rules.specs.Queues.{niceness_of, is_due, has_rested, may_start_batch};
 
 use spool_model::Row;
 
 /// The niceness that no job passes.
-const GREATEST_NICENESS: u8 = 19;
-
-/// Whether it is a batch queue.
-pub fn is_batch(queue: u8) -> bool
-    ensures { result ≡ is_batch_queue queue }
-{
-    queue == b'b' || queue.is_ascii_uppercase()
-}
+pub const MAX_NICENESS: u8 = 19;
 
 /// The niceness of the queue's jobs.
 pub fn nice_of(queue: u8) -> u8
@@ -26,7 +19,7 @@ pub fn nice_of(queue: u8) -> u8
     } else {
         queue - b'A'
     };
-    (2 * position).min(GREATEST_NICENESS)
+    (2 * position).min(MAX_NICENESS)
 }
 
 /// Whether the job's minute has begun.
@@ -54,6 +47,7 @@ pub fn may_start_batch(
     load < limit && has_rested(last, now, interval)
 }
 
+// Whether the last batch start is long ago, or lies in the future.
 fn has_rested(last: Option<i64>, now: i64, interval: u32) -> bool
     requires now { IsClockSecond now }
     requires last { IfSome last IsClockSecond }

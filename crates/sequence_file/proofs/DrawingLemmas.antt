@@ -6,7 +6,8 @@ use Rattle.host_calls.proofs.WorldLemmas.{leaves_weaker}
 use Rattle.whole_file.specs.Others.{ChangesFiles}
 use Rattle.whole_file.specs.Placing.{IsPlacing}
 use Rattle.sequence_file.specs.Drawing.{EachGives, IsDrawing}
-use Rattle.sequence_file.specs.Sequence.{Gives, SpellsSequence, sequence_file, temporary_file}
+use Rattle.sequence_file.specs.Sequence.{Gives, SpellsSequence, sequence_file}
+use Rattle.whole_file.specs.Temporary.{temporary_file}
 
 -- while the file of the next number is placed, an image gives the last number or the next one
 placing_drawing : (last : ℕ) (text : List ℕ) (start : Folder) (image : Files) → SpellsSequence text (last + 1) → EachGives last start → IsPlacing temporary_file sequence_file text start image → IsDrawing last start image

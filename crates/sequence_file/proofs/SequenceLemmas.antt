@@ -1,9 +1,6 @@
 -- Right sequence files, and the places where others break their form.
-use Rattle.std.proofs.Common.{◌≡◌, ℕ, zero, suc, ◌+◌, ◌-◌, ◌*◌, ◌/◌, ◌^◌, ◌<◌, ◌≤◌, Bool, true, false, List, [], ◌∷◌, ◌++◌, length, take, replicate, sym, ap, subst, ◌∙◌, refl, inl, inr, arith, length-append, get_or-take, Bor}
-use Rattle.std.specs.Prelude.{◌==◌, ◌&&◌, nat_le, nat_lt, if◌then◌else◌, slice_index, slice_get, Option, Some, None}
-use Rattle.std.specs.Option.{option_copied}
-use Rattle.std.specs.Slice.{IsGetResult}
-use Rattle.std.proofs.lemmas.Option.{slice_get-get_or, slice_get_past}
+use Rattle.std.proofs.Common.{◌≡◌, ℕ, zero, suc, ◌+◌, ◌-◌, ◌*◌, ◌/◌, ◌^◌, ◌<◌, ◌≤◌, Bool, true, false, List, [], ◌∷◌, ◌++◌, length, take, replicate, sym, ap, subst, ◌∙◌, refl, inl, inr, arith, length-append, get_or-take}
+use Rattle.std.specs.Prelude.{◌==◌, ◌&&◌, nat_le, nat_lt, if◌then◌else◌, slice_index, slice_get, Option}
 use Rattle.std.specs.Int.{is_in_range}
 use Rattle.std.proofs.Math.Nat.{eq-or-lt_of_le}
 use Rattle.std.proofs.lemmas.Bool.Decides.{nat_tests}
@@ -14,7 +11,9 @@ use Rattle.std.proofs.lemmas.Nat.{mod_below}
 use Rattle.std.proofs.Math.ListN.{get_or-append}
 use Rattle.hex_digits.specs.Digits.{SpellsNumber, digit_at, digit_byte}
 use Rattle.hex_digits.proofs.DigitLemmas.{read_more}
-use Rattle.sequence_file.specs.Places.{IsFittingFront, fits_at, is_digit}
+use Rattle.hex_digits.proofs.ValueLemmas.{digit_fits}
+use Rattle.sequence_file.specs.Places.{IsFittingFront, fits_at}
+use Rattle.hex_digits.specs.Values.{is_digit}
 use Rattle.sequence_file.specs.Sequence.{HasRightFront, IsFaultAt, SpellsSequence}
 
 -- the tests of the places, at each of them
@@ -23,10 +22,6 @@ fits_digit place byte early = let test : nat_lt place 5 ≡ true = grind (arith,
 
 fits_newline : (byte : ℕ) → fits_at 5 byte ≡ true → byte ≡ 10
 fits_newline byte fits = grind (arith, nat_tests)
-
--- the byte of a digit is one
-digit_fits : (digit : ℕ) → digit < 16 → is_digit (digit_byte digit) ≡ true
-digit_fits digit small = grind (arith, nat_tests)
 
 -- each byte of a right file fits its place
 spelled_fits : (bytes : List ℕ) (number place : ℕ) → SpellsSequence bytes number → place < 6 → fits_at place (slice_index bytes place) ≡ true
@@ -161,14 +156,3 @@ longest_front bytes count other fitting front = by_test (nat_le other count) ref
 -- where the bytes are no right file, they break its form behind those that fit
 pub fault_at : (bytes : List ℕ) (count : ℕ) (byte : Option ℕ) → ((number : ℕ) → ¬ (SpellsSequence bytes number)) → IsFittingFront bytes count → slice_get bytes count ≡ byte → IsFaultAt bytes count byte
 fault_at bytes count byte wrong fitting there = record { wrong = wrong; front = right_front bytes count fitting; longest = λ other front. longest_front bytes count other fitting front; there = there }
-
--- the byte that a look-up finds at a place
-pub byte_there : (bytes : List ℕ) (offset : ℕ) (got : Option (Bor ℕ)) → IsGetResult bytes offset offset got → slice_get bytes offset ≡ option_copied got
-byte_there bytes offset None is =
-    let test : false ≡ nat_lt offset (length bytes) = is.0 in
-    let past : length bytes ≤ offset = grind (arith, nat_tests) in
-    slice_get_past bytes offset past
-byte_there bytes offset (Some byte) is =
-    let test : true ≡ nat_lt offset (length bytes) = is.0 in
-    let inside : offset < length bytes = grind (arith, nat_tests) in
-    slice_get-get_or bytes offset byte.now inside ∙ ap Some (sym is.1)

@@ -4,7 +4,8 @@ use Rattle.std.specs.FinMap as map
 use Rattle.host_calls.specs.Folder.{Files, Folder, IsImage}
 use Rattle.whole_file.specs.Others.{IsEither, LeavesOthers}
 use Rattle.whole_file.specs.Placing.{IsPlaced}
-use Rattle.sequence_file.specs.Sequence.{Gives, SpellsSequence, sequence_file, temporary_file}
+use Rattle.sequence_file.specs.Sequence.{Gives, SpellsSequence, sequence_file}
+use Rattle.whole_file.specs.Temporary.{temporary_file}
 
 -- the sequence file gives the number in every image
 abbrev pub EachGives : ℕ → Folder → Type 0

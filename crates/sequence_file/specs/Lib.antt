@@ -1,4 +1,6 @@
 pub mod Drawing
 pub mod Faults
+pub mod LastNumber
+pub mod Laws
 pub mod Places
 pub mod Sequence

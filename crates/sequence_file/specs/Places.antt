@@ -1,10 +1,6 @@
 -- Which bytes may stand at which place of the sequence file.
-use Rattle.std.specs.Prelude.{◌≡◌, ◌≤◌, ◌<◌, ◌==◌, ◌&&◌, ◌||◌, ℕ, Bool, true, false, List, length, slice_index, nat_lt, if◌then◌else◌}
-use Rattle.std.specs.Int.{is_in_range}
-
--- `0` to `9` and `a` to `f`
-abbrev pub is_digit : ℕ → Bool
-is_digit byte = is_in_range 48 57 byte || is_in_range 97 102 byte
+use Rattle.std.specs.Prelude.{◌≡◌, ◌≤◌, ◌<◌, ◌==◌, ◌&&◌, ℕ, Bool, true, false, List, length, slice_index, nat_lt, if◌then◌else◌}
+use Rattle.hex_digits.specs.Values.{is_digit}
 
 -- five digits, then a newline, and nothing behind it
 abbrev pub fits_at : ℕ → ℕ → Bool

@@ -6,10 +6,6 @@ use Rattle.hex_digits.specs.Digits.{SpellsNumber}
 abbrev pub sequence_file : List ℕ
 sequence_file = codes ".SEQ"
 
--- the name of a file that is being made
-abbrev pub temporary_file : List ℕ
-temporary_file = codes ".TMP"
-
 -- the bytes are five digits of the number and a newline
 pub record SpellsSequence (bytes : List ℕ) (number : ℕ) : Type 0 where
   pub counted : length bytes ≡ 6

@@ -1,28 +1,26 @@
 //! Drawing the next number.
 ghost use Rattle.std.specs.Prelude.{◌≡◌, ◌<◌, ◌+◌, IfOk, IsTrue, OnOk};
-ghost use Rattle.host_calls.specs.Causes.{HasCause};
 ghost use Rattle.host_calls.specs.Folder.{IsInNoImage};
-ghost use Rattle.host_calls.specs.Session.{IsInside, StaysInside};
+ghost use Rattle.host_calls.specs.Session.{CallsInside, IsInside};
 ghost use Rattle.whole_file.specs.Others.{ChangesFiles};
-ghost use Rattle.sequence_file.specs.Sequence.{temporary_file};
+ghost use Rattle.whole_file.specs.Temporary.{temporary_file};
+ghost use Rattle.spool_model.specs.declared.number.TheConstants.{LAST_NUMBER};
 ghost use Rattle.sequence_file.specs.Drawing.{EachGives, IsDrawing, IsDrawn};
 
-use crate::names::{sequence_name, temp_name};
+use crate::names::sequence_name;
 use crate::text::text_of;
 use host_calls::{Host, HostFault};
 use std::alloc::Global;
-use whole_file::place;
+use whole_file::{place, temporary_name};
 
 /// Draws the number after the last one. A number that was drawn stays drawn, also where the call that
 /// drew it has failed since.
 pub fn draw<H: Host>(alloc: Global, host: &mut H, last: u32) -> Result<u32, HostFault>
     requires inside { IsInside (H.session host.old) }
-    requires few { last < 1048575 }
+    requires few { last < LAST_NUMBER }
     requires last { IsTrue H.tells → EachGives last (H.world host.old).now.folder }
     requires no_temp { IsTrue H.tells → IsInNoImage (H.world host.old).now.folder temporary_file }
-    ensures inside { StaysInside (H.session host.old) (H.session host.new) }
-    ensures cause { HasCause HostFault.Failed
-        (H.session host.old).file_faults (H.session host.new).file_faults result }
+    ensures inside { CallsInside HostFault.Failed (H.session host.old) (H.session host.new) result }
     ensures next { IfOk result (λ number. number ≡ last + 1) }
     ensures files { IsTrue H.tells
         → ChangesFiles (IsDrawing last (H.world host.old).now.folder) (H.world host.old) (H.world host.new) }
@@ -30,6 +28,12 @@ pub fn draw<H: Host>(alloc: Global, host: &mut H, last: u32) -> Result<u32, Host
         (H.world host.old).now.folder (H.world host.new).now.folder) }
 {
     let next = last + 1;
-    place(alloc, host, &temp_name(), &sequence_name(), &text_of(next))?;
+    place(
+        alloc,
+        host,
+        &temporary_name(),
+        &sequence_name(),
+        &text_of(next),
+    )?;
     Ok(next)
 }

@@ -1,11 +1,12 @@
 //! The last number that was drawn.
 ghost use Rattle.std.specs.Prelude.{◌≡◌, ◌≤◌, IfOk, IsTrue};
 ghost use Rattle.std.specs.FinMap as map;
-ghost use Rattle.host_calls.specs.Causes.{HasCause};
-ghost use Rattle.host_calls.specs.Session.{IsInside, StaysInside};
+ghost use Rattle.host_calls.specs.Damages.{IfDamaged};
+ghost use Rattle.host_calls.specs.Session.{CallsInside, IsInside};
 ghost use Rattle.host_calls.specs.World.{reading};
+ghost use Rattle.spool_model.specs.declared.number.TheConstants.{LAST_NUMBER};
 ghost use Rattle.sequence_file.specs.Sequence.{Gives, sequence_file};
-ghost use Rattle.sequence_file.specs.Faults.{IsDamage, IfDamaged};
+ghost use Rattle.sequence_file.specs.Faults.{IsDamage};
 
 use crate::SequenceFault;
 use crate::names::sequence_name;
@@ -17,15 +18,13 @@ use whole_file::content;
 /// The last number that was drawn: 0 where there is no sequence file.
 pub fn last<H: Host>(alloc: Global, host: &mut H) -> Result<u32, SequenceFault>
     requires { IsInside (H.session host.old) }
-    ensures inside { StaysInside (H.session host.old) (H.session host.new) }
-    ensures cause { HasCause SequenceFault.Failed
-        (H.session host.old).file_faults (H.session host.new).file_faults result }
+    ensures inside { CallsInside SequenceFault.Failed (H.session host.old) (H.session host.new) result }
     ensures looks { IsTrue H.tells → H.world host.new ≡ H.world host.old }
-    ensures few { IfOk result (λ number. number ≤ 1048575) }
+    ensures few { IfOk result (λ number. number ≤ LAST_NUMBER) }
     ensures number { IsTrue H.tells
         → IfOk result (Gives (map.get (reading (H.world host.old)) sequence_file)) }
     ensures damaged { IsTrue H.tells
-        → IfDamaged (IsDamage (map.get (reading (H.world host.old)) sequence_file)) result }
+        → IfDamaged SequenceFault.Damaged (IsDamage (map.get (reading (H.world host.old)) sequence_file)) result }
 {
     let Some(bytes) = content(alloc, host, &sequence_name())? else {
         return Ok(0);

@@ -4,12 +4,14 @@
 mod drawing;
 mod fault;
 mod last_number;
+mod laws;
 mod names;
 mod text;
 
 pub use drawing::draw;
 pub use fault::SequenceFault;
 pub use last_number::last;
+pub use laws::last_numbers_are_read;
 pub use names::sequence_name;
 
 #[cfg(test)]

@@ -1,6 +1,6 @@
-//! The names of the files that a draw writes.
+//! The name of the sequence file.
 ghost use Rattle.std.specs.Prelude.{◌≡◌};
-ghost use Rattle.sequence_file.specs.Sequence.{sequence_file, temporary_file};
+ghost use Rattle.sequence_file.specs.Sequence.{sequence_file};
 
 use host_calls::Name;
 
@@ -9,11 +9,4 @@ pub fn sequence_name() -> Name
     ensures { result ≡ sequence_file }
 {
     Name::of(b".SEQ").unwrap()
-}
-
-/// The name of the file that is being made.
-pub fn temp_name() -> Name
-    ensures { result ≡ temporary_file }
-{
-    Name::of(b".TMP").unwrap()
 }

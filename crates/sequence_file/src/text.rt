@@ -1,17 +1,19 @@
 //! The bytes of the sequence file.
 ghost use Rattle.std.specs.Prelude.{◌≡◌, ◌≤◌, ℕ, IfOk, IfErr, IfSome, IfNone};
+ghost use Rattle.spool_model.specs.declared.number.TheConstants.{LAST_NUMBER};
 ghost use Rattle.sequence_file.specs.Sequence.{SpellsSequence, IsFaultAt, sequence_file};
 ghost use Rattle.sequence_file.specs.Places.{IsFittingFront, fits_at};
 
 use crate::names::sequence_name;
+use hex_digits::is_digit;
 use host_calls::Damage;
 
-/// How many digits the file has.
+// How many digits the file has.
 const DIGITS: usize = 5;
 
 /// The file of a number.
 pub fn text_of(number: u32) -> [u8; 6]
-    requires { number ≤ 1048575 }
+    requires { number ≤ LAST_NUMBER }
     ensures { SpellsSequence result number }
 {
     let mut text = *b"00000\n";
@@ -47,15 +49,10 @@ fn damage_of(bytes: &[u8]) -> Damage
     ensures name { result.name ≡ sequence_file }
     ensures fault { IsFaultAt bytes.now result.offset result.byte }
 {
-    let offset = fitting(bytes);
-    Damage {
-        name: sequence_name(),
-        offset: offset as u64,
-        byte: bytes.get(offset).copied(),
-    }
+    Damage::at(sequence_name(), bytes, fitting(bytes))
 }
 
-/// How many of the first bytes may stand in their places.
+// How many of the first bytes may stand in their places.
 fn fitting(bytes: &[u8]) -> usize
     ensures { IsFittingFront bytes.now result }
 {
@@ -71,7 +68,7 @@ fn fits(place: usize, byte: u8) -> bool
     ensures { result ≡ fits_at place byte }
 {
     if place < DIGITS {
-        matches!(byte, b'0'..=b'9' | b'a'..=b'f')
+        is_digit(byte)
     } else {
         place == DIGITS && byte == b'\n'
     }

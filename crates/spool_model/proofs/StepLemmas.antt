@@ -8,7 +8,7 @@ use Rattle.std.specs.FinMap.{get-empty}
 use Rattle.spool_model.specs.declared.entry.Entry.TheVariants.{Live}
 use Rattle.spool_model.specs.declared.job.Job.{Job}
 use Rattle.spool_model.specs.declared.state.State.TheVariants.{Pending, Running}
-use Rattle.spool_model.specs.declared.number.TheConstants.{GREATEST_NUMBER}
+use Rattle.spool_model.specs.declared.number.TheConstants.{LAST_NUMBER}
 use Rattle.spool_model.specs.declared.step.Step.{Step}
 use Rattle.spool_model.specs.declared.step.Step.TheVariants.{Draw, Accept, Remove, Start, End, Interrupt, Forget}
 use Rattle.spool_model.specs.JobTable.{JobTable, JobEntries, JobEntry, IsSound, IsDrawn, entry_at}
@@ -87,7 +87,7 @@ free_is_drawn : (table : JobTable) (number : ℕ) → IsFree table number → Is
 free_is_drawn table number free = record { some = free.some; drawn = omega (arith, free.last) }
 
 -- no step leads past the greatest number
-few_after : (table : JobTable) (step : Step) → IsSound table → IsLegal table step → last_after table.last step ≤ GREATEST_NUMBER
+few_after : (table : JobTable) (step : Step) → IsSound table → IsLegal table step → last_after table.last step ≤ LAST_NUMBER
 few_after table Draw sound legal = omega (arith, legal)
 few_after table (Accept number job) sound legal = sound.few
 few_after table (Remove number) sound legal = sound.few

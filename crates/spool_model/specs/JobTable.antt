@@ -10,7 +10,7 @@ use Rattle.spool_model.specs.declared.fate.Fate.{Fate}
 use Rattle.spool_model.specs.declared.job.Job.{Job}
 use Rattle.spool_model.specs.declared.state.State.{State}
 use Rattle.spool_model.specs.declared.state.State.TheVariants.{Pending, Running}
-use Rattle.spool_model.specs.declared.number.TheConstants.{GREATEST_NUMBER}
+use Rattle.spool_model.specs.declared.number.TheConstants.{LAST_NUMBER}
 
 -- the entry of a job: Live with the job and its state, or Done with its fate
 abbrev pub JobEntry : Type 0
@@ -62,7 +62,7 @@ pub record IsDrawn (table : JobTable) (number : ℕ) : Type 0 where
 
 -- The table is sound: its numbers lie within the numbers of jobs, and each entry has one that was drawn.
 pub record IsSound (table : JobTable) : Type 0 where
-  pub few : table.last ≤ GREATEST_NUMBER
+  pub few : table.last ≤ LAST_NUMBER
   pub each : (number : ℕ) → IsSome (entry_at table number) → IsDrawn table number
 
 -- The queue is a batch queue: b, or A to Z (POSIX at: queue b is that of batch; the others as Debian's at has them).

@@ -6,7 +6,7 @@ use Rattle.spool_model.specs.declared.fate.Fate.TheVariants.{Removed, Finished, 
 use Rattle.spool_model.specs.declared.state.State.TheVariants.{Pending, Running}
 use Rattle.spool_model.specs.declared.step.Step.{Step}
 use Rattle.spool_model.specs.declared.step.Step.TheVariants.{Draw, Accept, Remove, Start, End, Interrupt, Forget}
-use Rattle.spool_model.specs.declared.number.TheConstants.{GREATEST_NUMBER}
+use Rattle.spool_model.specs.declared.number.TheConstants.{LAST_NUMBER}
 use Rattle.spool_model.specs.JobTable.{JobTable, JobEntries, JobEntry, JobState, entry_at, is_batch_queue, IsPending, IsRunning, IsDone}
 
 -- the number is the one that was drawn last, and no job has it
@@ -17,7 +17,7 @@ pub record IsFree (table : JobTable) (number : ℕ) : Type 0 where
 
 -- The step is legal on the table.
 abbrev pub IsLegal : JobTable → Step → Type 0
-IsLegal table Draw = table.last < GREATEST_NUMBER
+IsLegal table Draw = table.last < LAST_NUMBER
 IsLegal table (Accept number job) = IsFree table number
 IsLegal table (Remove number) = IsPending table number
 IsLegal table (Start number second) = IsPending table number

@@ -29,6 +29,7 @@ impl Model for Entries {
 }
 
 impl Entries {
+    /// No entries. It takes no memory yet.
     pub fn new(alloc: Global) -> Entries
         ensures { result ≡ finite.empty }
     {
@@ -37,6 +38,7 @@ impl Entries {
         }
     }
 
+    /// The entry under the number, if there is one.
     pub fn get(&self, number: u32) -> Option<&Entry>
         ensures { option_copied result ≡ finite.get self.now number }
     {

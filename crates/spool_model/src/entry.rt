@@ -14,7 +14,7 @@ impl Entry {
     ghost use Rattle.spool_model.specs.Steps.{in_state};
     ghost use Rattle.spool_model.specs.declared.entry.Entry.TheVariants.{Done};
 
-    /// Brings the job, if it lives, to this state.
+    // Brings the job, if it lives, to this state.
     pub(crate) fn set_state(&mut self, state: State)
         ensures { self.new ≡ in_state state self.old }
     {
@@ -23,7 +23,7 @@ impl Entry {
         }
     }
 
-    /// Puts the fate in the place of what was here.
+    // Puts the fate in the place of what was here.
     pub(crate) fn decide(&mut self, fate: Fate)
         ensures { self.new ≡ Done fate }
     {

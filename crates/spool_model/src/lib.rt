@@ -10,6 +10,7 @@ mod fate;
 mod job;
 mod laws;
 mod number;
+mod queue;
 mod row;
 mod state;
 mod step;
@@ -24,7 +25,8 @@ pub use laws::{
     fronts_are_legal, last_never_falls, no_step_leads_back_to_pending, numbers_are_accepted_once,
     steps_keep_the_table_sound,
 };
-pub use number::GREATEST_NUMBER;
+pub use number::LAST_NUMBER;
+pub use queue::is_batch;
 pub use row::Row;
 pub use state::State;
 pub use step::Step;

@@ -1,4 +1,4 @@
 //! Job numbers.
 
-/// The greatest job number. It has five hexadecimal digits.
-pub const GREATEST_NUMBER: u32 = 1_048_575;
+/// The last job number that can be drawn. It has five hexadecimal digits.
+pub const LAST_NUMBER: u32 = 1_048_575;

@@ -1,16 +1,18 @@
 //! The job table.
 ghost use Rattle.std.specs.Prelude.{◌≡◌, ◌↔◌, ◌≤◌, OnOk, OnErr, IsTrue, IsSome};
 ghost use Rattle.std.specs.Option.{option_copied};
-ghost use Rattle.spool_model.specs.JobTable.{new_table, entry_at, is_batch_queue, IsPending, IsRunning, IsDone, IsDrawn};
+ghost use Rattle.spool_model.specs.JobTable.{new_table, entry_at, IsPending, IsRunning, IsDone, IsDrawn};
 ghost use Rattle.spool_model.specs.Steps.{IsFree, IsLegal, after_step, is_batch_entry, last_batch_after};
 
 use crate::entries::Entries;
-use crate::{Entry, Fate, GREATEST_NUMBER, Job, State, Step};
+use crate::{Entry, Fate, Job, LAST_NUMBER, State, Step, is_batch};
 use std::alloc::{AllocError, Global};
 use std::marker::Model;
 
-/// The job table: the number that was drawn last, each job by its number, and the second of the
-/// last start in a batch queue.
+/// The executable model of the job table, which tests and definitions compute with: the store keeps more.
+///
+/// It has the number that was drawn last, each job by its number, and the second of the last start in a
+/// batch queue.
 #[derive(Drop)]
 pub struct Table {
     last: u32,
@@ -46,11 +48,12 @@ impl Table {
     /// The number that was drawn last, 0 before the first.
     pub fn last(&self) -> u32
         ensures last { result ≡ self.now.last }
-        ensures few { result ≤ GREATEST_NUMBER }
+        ensures few { result ≤ LAST_NUMBER }
     {
         self.last
     }
 
+    /// The entry under the number, if there is one: a number without one was not accepted, or was forgotten.
     pub fn entry(&self, number: u32) -> Option<&Entry>
         ensures entry { option_copied result ≡ entry_at self.now number }
         ensures drawn { IsSome result → IsDrawn self.now number }
@@ -70,7 +73,7 @@ impl Table {
         ensures { IsTrue result ↔ IsLegal self.now step.now }
     {
         match step {
-            Step::Draw => self.last < GREATEST_NUMBER,
+            Step::Draw => self.last < LAST_NUMBER,
             Step::Accept(number, _) => {
                 *number == self.last && *number >= 1 && self.entry(*number).is_none()
             }
@@ -120,7 +123,7 @@ impl Table {
         self.last_batch = last_batch;
     }
 
-    /// The second of the last batch start once this job has started.
+    // The second of the last batch start once this job has started.
     fn last_batch_after(&self, number: u32, second: i64) -> Option<i64>
         ensures { result ≡ last_batch_after self.now (Step.Start number second) }
     {
@@ -157,10 +160,4 @@ impl Table {
     {
         matches!(self.entry(number), Some(Entry::Done(_)))
     }
-}
-
-fn is_batch(queue: u8) -> bool
-    ensures { result ≡ is_batch_queue queue }
-{
-    queue == b'b' || queue.is_ascii_uppercase()
 }

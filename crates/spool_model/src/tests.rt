@@ -16,7 +16,7 @@ fn job(alloc: Global, queue: u8, user: UserName) -> Result<Job, AllocError> {
     })
 }
 
-/// Steps of which any five may follow one another.
+// Steps of which any five may follow one another.
 fn nine_steps(alloc: Global, user: UserName) -> Result<Vec<Step>, AllocError> {
     let mut steps = Vec::new(alloc);
     steps.push(Step::Draw)?;
@@ -31,7 +31,7 @@ fn nine_steps(alloc: Global, user: UserName) -> Result<Vec<Step>, AllocError> {
     Ok(steps)
 }
 
-/// Tries each of five steps on both tables, and says whether they always agree.
+// Tries each of five steps on both tables, and says whether they always agree.
 fn agree(alloc: Global, steps: &[Step], code: u32) -> Result<bool, AllocError> {
     let mut table = Table::new(alloc);
     let mut plain = Plain::new(alloc);
@@ -61,7 +61,7 @@ fn all_lists_of_five_steps(rt: HostRuntime) -> Result<(), Fail> {
     Ok(())
 }
 
-/// A job of each queue is drawn, accepted and started, each a minute after the one before.
+// A job of each queue is drawn, accepted and started, each a minute after the one before.
 fn starts(alloc: Global, user: UserName) -> Result<Vec<(Step, bool, Option<i64>)>, AllocError> {
     let mut rows = Vec::new(alloc);
     rows.push((Step::Accept(0, job(alloc, b'a', user)?), false, None))?;

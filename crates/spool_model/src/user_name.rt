@@ -54,6 +54,7 @@ impl UserName {
         })
     }
 
+    /// The 1 to 32 bytes of the name, without padding.
     pub fn as_bytes(&self) -> &[u8]
         ensures bytes { result.now ≡ self.now }
         ensures name { IsUserName result.now }

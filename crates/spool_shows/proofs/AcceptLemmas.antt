@@ -5,7 +5,8 @@ use Rattle.std.specs.FinMap as map
 use Rattle.std.proofs.lemmas.Bool.Decides.{eqb_tells}
 use Rattle.host_calls.specs.Folder.{Files}
 use Rattle.job_script.specs.HeaderIn.{header_in}
-use Rattle.sequence_file.specs.Sequence.{sequence_file, temporary_file}
+use Rattle.sequence_file.specs.Sequence.{sequence_file}
+use Rattle.whole_file.specs.Temporary.{temporary_file}
 use Rattle.spool_model.specs.declared.entry.Entry.TheVariants.{Live}
 use Rattle.spool_model.specs.declared.job.Job.{Job}
 use Rattle.spool_model.specs.declared.state.State.TheVariants.{Pending}
@@ -18,7 +19,8 @@ use Rattle.start_journal.specs.Journals.{are_drawn, journal_file, journal_in}
 use Rattle.start_journal.specs.Marks.{is_decided}
 use Rattle.whole_file.proofs.OthersLemmas.{one_or_other}
 use Rattle.spool_shows.specs.ByName.{AreSound, HasFile, IsJobFile, IsWhole, ShowsByName, ShowsDone, ShowsEntry, ShowsLive}
-use Rattle.spool_shows.specs.JobFiles.{JobFile, NamedJob, job_named}
+use Rattle.spool_shows.specs.JobFiles.{JobFile}
+use Rattle.job_name.specs.JobName.{NamedJob, job_named}
 use Rattle.spool_shows.specs.Laws.{HasAccepted}
 use Rattle.spool_shows.specs.Shown.{job_of, live_entry, state_since, user_of}
 use Rattle.spool_shows.proofs.FreshNumbers.{fresh_not_started, fresh_undecided}

@@ -16,7 +16,7 @@ use Rattle.start_journal.specs.Journals.{JournalRead, journal_file, journal_in}
 use Rattle.start_journal.specs.Marks.{AreLegal, is_decided}
 use Rattle.spool_shows.specs.ByName.{AreSound, ShowsByName, ShowsDone, ShowsEntry, ShowsLive}
 use Rattle.spool_shows.specs.JobFiles.{JobFile, files_damage}
-use Rattle.spool_shows.specs.LastNumber.{last_in}
+use Rattle.sequence_file.specs.LastNumber.{last_in}
 use Rattle.spool_shows.specs.Laws.{FoldersAreShownByName}
 use Rattle.spool_shows.specs.Shown.{Shows, damage_of_jobs, entries_shown, live_entry, shown_behind_journal, shown_behind_last, shown_by, starts_damage, table_or_damage, table_shown}
 use Rattle.spool_shows.proofs.DeciderLemmas.{one_done_entry}

@@ -13,7 +13,7 @@ use Rattle.spool_model.specs.JobTable.{JobEntry}
 use Rattle.start_journal.specs.declared.mark.Mark.{Mark}
 use Rattle.start_journal.specs.declared.mark.Mark.TheVariants.{Removed, Started, Ended, Interrupted, Forgotten, Batch}
 use Rattle.start_journal.specs.Marks.{decides, is_decided, is_forgotten}
-use Rattle.start_journal.proofs.MarkLemmas.{same_number}
+use Rattle.std.proofs.lemmas.Bool.{eqb-true}
 use Rattle.spool_shows.specs.ByName.{IsJobFile, ShowsDone, ShowsEntry, ShowsLive}
 use Rattle.spool_shows.specs.JobFiles.{JobFile}
 use Rattle.spool_shows.specs.Shown.{done_as, done_entry, entries_shown, live_entry}
@@ -49,7 +49,7 @@ done_decides marks (Batch second) number entry is = absurd (none_some (number, e
 
 done_by : (marks : List Mark) (of : ℕ) (with : Fate) (number : ℕ) → (of == number) ≡ true → is_forgotten number marks ≡ false → (entry : JobEntry) × (done_as marks of with ≡ Some (number, entry))
 done_by marks of with number test kept =
-    let same : of ≡ number = same_number of number test in
+    let same : of ≡ number = eqb-true of number test in
     let here : is_forgotten of marks ≡ false = ap (λ at. is_forgotten at marks) same ∙ kept in
     (Done with, rw here (λ i. Some (same i, Done with)))
 

@@ -15,11 +15,11 @@ use Rattle.host_calls.specs.Folder.{Files}
 use Rattle.spool_shows.proofs.Membership.{Has, filtered_has, given_has}
 
 -- of a conjunction
-left : (a b : Bool) → T (a && b) → T a
+pub left : (a b : Bool) → T (a && b) → T a
 left true b is = tt
 left false b is = absurd is
 
-right : (a b : Bool) → T (a && b) → T b
+pub right : (a b : Bool) → T (a && b) → T b
 right true b is = is
 right false b is = absurd is
 
@@ -34,7 +34,7 @@ equal Equal is = refl
 equal Greater is = let impossible : false ≡ true = is in cc
 
 -- a key below all others is below each of them
-below : {K X : Type 0} → (R : K → K → Ordering) (low : K) (es : List (K × X)) (e : K × X) → T (below_all R low es) → Has es e → R low e.0 ≡ Less
+pub below : {K X : Type 0} → (R : K → K → Ordering) (low : K) (es : List (K × X)) (e : K × X) → T (below_all R low es) → Has es e → R low e.0 ≡ Less
 below R low [] e under has = absurd has
 below R low (first ∷ later) e under (inl same) = ap (λ entry. R low entry.0) (sym same) ∙ less _ (left _ _ under)
 below R low (first ∷ later) e under (inr has) = below R low later e (right _ _ under) has

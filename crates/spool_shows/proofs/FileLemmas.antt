@@ -1,5 +1,5 @@
 -- The files of jobs that count.
-use Rattle.std.proofs.Common.{◌≡◌, ℕ, Bool, true, false, not, List, sym, ap, ◌∙◌, refl}
+use Rattle.std.proofs.Common.{◌≡◌, ℕ, true, false, not, List, sym, ap, ◌∙◌}
 use Rattle.std.specs.Prelude.{Option, Some, None}
 use Rattle.std.specs.List.{filter}
 use Rattle.std.specs.Cmp.Lexicographic.{nat_list_cmp_total}
@@ -8,9 +8,10 @@ use Rattle.std.specs.FinMap.{entries, entries_sorted}
 use Rattle.host_calls.specs.Folder.{Files, name_cmp}
 use Rattle.start_journal.specs.declared.mark.Mark.{Mark}
 use Rattle.start_journal.specs.Marks.{is_decided}
-use Rattle.start_journal.proofs.MarkLemmas.{not_true}
+use Rattle.std.proofs.lemmas.Bool.{not-true}
 use Rattle.spool_shows.specs.ByName.{IsJobFile}
-use Rattle.spool_shows.specs.JobFiles.{JobFile, NamedJob, counts, counts_as, file_named, job_file, job_files, job_named}
+use Rattle.spool_shows.specs.JobFiles.{JobFile, counts, counts_as, file_named, job_file, job_files}
+use Rattle.job_name.specs.JobName.{NamedJob, job_named}
 use Rattle.spool_shows.proofs.EntryLists.{AreApart, apart_filtered, apart_given, apart_sorted, entry_is_file, file_is_entry}
 use Rattle.spool_shows.proofs.Membership.{Has, filtered_has, given_has, has_filtered, has_given}
 
@@ -26,7 +27,7 @@ file_says name bytes (Some job) file is =
     (ap (λ (of : JobFile). of.name) (sym same), ap (λ (of : JobFile). of.bytes) (sym same), ap (λ (of : JobFile). Some of.job) same)
 
 undecided_of : (marks : List Mark) (named : Option NamedJob) (job : NamedJob) → named ≡ Some job → counts_as marks named ≡ true → is_decided job.number marks ≡ false
-undecided_of marks named job is counted = not_true (is_decided job.number marks) (sym (ap (counts_as marks) is) ∙ counted)
+undecided_of marks named job is counted = not-true (is_decided job.number marks) (sym (ap (counts_as marks) is) ∙ counted)
 
 -- a file of the list is there, and counts
 pub counted_is_file : (marks : List Mark) (files : Files) (file : JobFile) → Has (files_that_count marks files) file → IsJobFile marks files file

@@ -8,7 +8,7 @@ use Rattle.start_journal.specs.declared.mark.Mark.{Mark}
 use Rattle.start_journal.specs.declared.mark.Mark.TheVariants.{Removed, Started, Ended, Interrupted, Forgotten, Batch}
 use Rattle.start_journal.specs.Journals.{are_drawn, is_drawn}
 use Rattle.start_journal.specs.Marks.{decides, is_decided, is_named, names}
-use Rattle.start_journal.proofs.ByteLemmas.{both}
+use Rattle.std.proofs.lemmas.Bool.{and_parts}
 use Rattle.start_journal.proofs.MarkLemmas.{decides_names}
 use Rattle.spool_shows.specs.Shown.{start_second, started_at}
 
@@ -28,7 +28,7 @@ mark_unnamed last number (Batch second) greater drawn = refl
 pub fresh_unnamed : (last number : ℕ) (marks : List Mark) → last < number → are_drawn last marks ≡ true → is_named number marks ≡ false
 fresh_unnamed last number [] greater drawn = refl
 fresh_unnamed last number (mark ∷ later) greater drawn =
-    let tests : (is_drawn last mark ≡ true) × (are_drawn last later ≡ true) = both (is_drawn last mark) (are_drawn last later) drawn in
+    let tests : (is_drawn last mark ≡ true) × (are_drawn last later ≡ true) = and_parts (is_drawn last mark) (are_drawn last later) drawn in
     ap (λ b. b || is_named number later) (mark_unnamed last number mark greater tests.0) ∙ fresh_unnamed last number later greater tests.1
 
 -- where no mark names a number, no mark passes a test that only those pass
@@ -62,5 +62,5 @@ mark_no_start last number (Batch second) greater drawn = refl
 pub fresh_not_started : (last number : ℕ) (marks : List Mark) → last < number → are_drawn last marks ≡ true → started_at number marks ≡ None
 fresh_not_started last number [] greater drawn = refl
 fresh_not_started last number (mark ∷ later) greater drawn =
-    let tests : (is_drawn last mark ≡ true) × (are_drawn last later ≡ true) = both (is_drawn last mark) (are_drawn last later) drawn in
+    let tests : (is_drawn last mark ≡ true) × (are_drawn last later ≡ true) = and_parts (is_drawn last mark) (are_drawn last later) drawn in
     ap (λ first. option_or first (started_at number later)) (mark_no_start last number mark greater tests.0) ∙ fresh_not_started last number later greater tests.1

@@ -5,7 +5,10 @@ pub mod DeciderLemmas
 pub mod DrawLemmas
 pub mod EntryLemmas
 pub mod EntryLists
+pub mod FileDamages
 pub mod FileLemmas
+pub mod FileOrder
+pub mod FirstDamages
 pub mod FreshNumbers
 pub mod MarkTests
 pub mod Membership
@@ -16,7 +19,8 @@ pub mod RewriteLemmas
 pub mod ShownEntries
 pub mod ShownStates
 pub mod SoundLemmas
-pub mod Spellings
+pub mod SoundTables
+pub mod StartDamages
 pub mod StartLemmas
 pub mod StepLaws
 pub mod StepLegal

@@ -5,7 +5,8 @@ use Rattle.std.specs.FinMap as map
 use Rattle.std.specs.Str.{bytes_eq}
 use Rattle.std.proofs.lemmas.Slice.Eq.{bytes_eq-Decides}
 use Rattle.host_calls.specs.Folder.{Files}
-use Rattle.sequence_file.specs.Sequence.{sequence_file, temporary_file}
+use Rattle.sequence_file.specs.Sequence.{sequence_file}
+use Rattle.whole_file.specs.Temporary.{temporary_file}
 use Rattle.spool_model.specs.JobTable.{JobEntry}
 use Rattle.start_journal.specs.declared.mark.Mark.{Mark}
 use Rattle.start_journal.specs.Journals.{journal_file}
@@ -13,7 +14,8 @@ use Rattle.start_journal.specs.Marks.{is_decided}
 use Rattle.whole_file.specs.Others.{IsEither}
 use Rattle.whole_file.proofs.OthersLemmas.{neither}
 use Rattle.spool_shows.specs.ByName.{AreSound, HasFile, IsJobFile, IsWhole, ShowsDone, ShowsEntry, ShowsLive}
-use Rattle.spool_shows.specs.JobFiles.{JobFile, NamedJob, job_named}
+use Rattle.spool_shows.specs.JobFiles.{JobFile}
+use Rattle.job_name.specs.JobName.{NamedJob, job_named}
 
 -- the names of the other files are not those of jobs
 pub sequence_no_job : job_named sequence_file ≡ None

@@ -6,7 +6,8 @@ use Rattle.std.proofs.lemmas.Bool.Decides.{eqb_tells}
 use Rattle.std.proofs.lemmas.List.Elements.{Contains-push, Contains-push_cases}
 use Rattle.host_calls.specs.declared.damage.Damage.{Damage}
 use Rattle.host_calls.specs.Folder.{Files}
-use Rattle.sequence_file.specs.Sequence.{sequence_file, temporary_file}
+use Rattle.sequence_file.specs.Sequence.{sequence_file}
+use Rattle.whole_file.specs.Temporary.{temporary_file}
 use Rattle.spool_model.specs.declared.entry.Entry.TheVariants.{Done}
 use Rattle.spool_model.specs.declared.fate.Fate.{Fate}
 use Rattle.spool_model.specs.JobTable.{JobEntries, JobTable, entry_at, table_of}
@@ -18,7 +19,7 @@ use Rattle.whole_file.specs.Others.{IsEither}
 use Rattle.spool_shows.specs.ByName.{AreSound, HasFile, IsJobFile, ShowsByName, ShowsEntry}
 use Rattle.spool_shows.specs.JobFiles.{JobFile}
 use Rattle.spool_shows.specs.Laws.{AgreeElsewhere, HasMarked, HasMarks}
-use Rattle.spool_shows.specs.LastNumber.{last_in}
+use Rattle.sequence_file.specs.LastNumber.{last_in}
 use Rattle.spool_shows.specs.Shown.{done_entry}
 use Rattle.start_journal.proofs.JournalReads.{journal_legal}
 use Rattle.spool_shows.proofs.MarkTests.{batch_more, marks_of_other, none_before, tell_same}

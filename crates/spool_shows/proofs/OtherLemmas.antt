@@ -12,7 +12,7 @@ use Rattle.sequence_file.specs.Sequence.{sequence_file}
 use Rattle.start_journal.specs.declared.mark.Mark.{Mark}
 use Rattle.start_journal.specs.Journals.{JournalRead, journal_file, journal_in}
 use Rattle.spool_shows.specs.JobFiles.{counts, job_file, job_files}
-use Rattle.spool_shows.specs.LastNumber.{last_in}
+use Rattle.sequence_file.specs.LastNumber.{last_in}
 use Rattle.spool_shows.specs.Laws.{AgreeOnJobs, HasMarks, OtherFilesCountForNothing}
 use Rattle.spool_shows.specs.Shown.{shown_behind_journal, shown_behind_last, shown_by, shown_by_files}
 

@@ -1,7 +1,7 @@
 -- A folder whose journal was written anew with the same marks shows the same table.
-use Rattle.std.proofs.Common.{◌≡◌, ◌≤◌, ℕ, List, ap, subst, ◌∙◌, arith}
+use Rattle.std.proofs.Common.{◌≡◌, ◌≤◌, List, ap, subst, ◌∙◌, arith}
 use Rattle.host_calls.specs.Folder.{Files}
-use Rattle.sequence_file.specs.Sequence.{temporary_file}
+use Rattle.whole_file.specs.Temporary.{temporary_file}
 use Rattle.spool_model.specs.JobTable.{JobTable, entry_at}
 use Rattle.start_journal.specs.declared.mark.Mark.{Mark}
 use Rattle.start_journal.specs.Journals.{journal_file}

@@ -5,7 +5,7 @@ use Rattle.std.specs.Prelude.{◌==◌, MatchBool}
 use Rattle.std.specs.FinMap as map
 use Rattle.std.proofs.lemmas.Bool.Decides.{nat_tests}
 use Rattle.host_calls.specs.Folder.{Files}
-use Rattle.sequence_file.specs.Sequence.{temporary_file}
+use Rattle.whole_file.specs.Temporary.{temporary_file}
 use Rattle.spool_model.specs.declared.entry.Entry.TheVariants.{Live, Done}
 use Rattle.spool_model.specs.declared.fate.Fate.{Fate}
 use Rattle.spool_model.specs.declared.fate.Fate.TheVariants as fate
@@ -17,7 +17,8 @@ use Rattle.start_journal.specs.Marks.{decides, is_decided, is_forgotten}
 use Rattle.start_journal.proofs.MarkLemmas.{decides_names}
 use Rattle.whole_file.specs.Others.{IsEither}
 use Rattle.spool_shows.specs.ByName.{IsJobFile, ShowsDone, ShowsEntry, ShowsLive}
-use Rattle.spool_shows.specs.JobFiles.{JobFile, NamedJob, job_named}
+use Rattle.spool_shows.specs.JobFiles.{JobFile}
+use Rattle.job_name.specs.JobName.{NamedJob, job_named}
 use Rattle.spool_shows.specs.Laws.{AgreeElsewhere}
 use Rattle.spool_shows.specs.Shown.{done_as, done_entry, job_of, live_entry, started_at, state_since}
 use Rattle.spool_shows.proofs.MarkTests.{TellSame}

@@ -22,7 +22,7 @@ pub neither_first : {X : Type 0} → (one other : Option X) → option_or one ot
 neither_first None other is = (refl, is)
 neither_first (Some x) other is = let impossible : Some x ≡ None = is in cc
 
-no_place : (file : JobFile) (place : Option ℕ) → damage_of file place ≡ None → place ≡ None
+pub no_place : (file : JobFile) (place : Option ℕ) → damage_of file place ≡ None → place ≡ None
 no_place file None is = refl
 no_place file (Some place) is = let impossible : None ≡ Some (place) = cc in cc
 
@@ -35,7 +35,7 @@ no_header_fault bytes None is = let impossible : false ≡ true = is in cc
 no_header_fault bytes (Some header) is = refl
 
 -- a file without a place of damage is whole and has a new number
-no_fault : (last : ℕ) (before : List ℕ) (file : JobFile) → file_place last before file ≡ None → IsWhole last file × (list_any (λ number. number == file.job.number) before ≡ false)
+pub no_fault : (last : ℕ) (before : List ℕ) (file : JobFile) → file_place last before file ≡ None → IsWhole last file × (list_any (λ number. number == file.job.number) before ≡ false)
 no_fault last before file is = by_test (nat_lt last file.job.number || list_any (λ number. number == file.job.number) before) refl is where
   by_test : (b : Bool) → (nat_lt last file.job.number || list_any (λ number. number == file.job.number) before) ≡ b → (if b then Some 0 else header_fault_in file.bytes (header_in file.bytes)) ≡ None → IsWhole last file × (list_any (λ number. number == file.job.number) before ≡ false)
   by_test true test none = let impossible : ◌≡◌ {A = Option ℕ} (Some 0) None = none in cc
@@ -44,7 +44,7 @@ no_fault last before file is = by_test (nat_lt last file.job.number || list_any 
       let late : nat_lt last file.job.number ≡ false = both.0 in
       (record { drawn = grind (arith, nat_tests); header = header_there file.bytes (header_in file.bytes) none }, both.1)
 
-fault_free : (last : ℕ) (before : List ℕ) (file : JobFile) → IsWhole last file → list_any (λ number. number == file.job.number) before ≡ false → file_place last before file ≡ None
+pub fault_free : (last : ℕ) (before : List ℕ) (file : JobFile) → IsWhole last file → list_any (λ number. number == file.job.number) before ≡ false → file_place last before file ≡ None
 fault_free last before file whole new =
     let drawn : file.job.number ≤ last = whole.drawn in
     let test : nat_lt last file.job.number ≡ false = grind (arith, nat_tests) in

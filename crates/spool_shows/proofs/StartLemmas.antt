@@ -1,14 +1,14 @@
 -- Starts without damage: each number that is started and not decided has its file.
-use Rattle.std.proofs.Common.{◌≡◌, ℕ, ℤ, ◌+◌, ◌*◌, Bool, true, false, List, [], ◌∷◌, sym, ap, ◌∙◌, refl, inl, inr, arith}
+use Rattle.std.proofs.Common.{◌≡◌, ℕ, ℤ, ◌+◌, Bool, true, false, List, [], ◌∷◌, sym, ap, ◌∙◌, refl, inl, inr, arith}
 use Rattle.std.specs.Prelude.{◌==◌, Option, Some, None, if◌then◌else◌}
 use Rattle.std.proofs.lemmas.Bool.Decides.{nat_tests}
 use Rattle.host_calls.specs.declared.damage.Damage.{Damage}
 use Rattle.host_calls.specs.Folder.{Files}
 use Rattle.start_journal.specs.declared.mark.Mark.{Mark}
 use Rattle.start_journal.specs.declared.mark.Mark.TheVariants.{Removed, Started, Ended, Interrupted, Forgotten, Batch}
-use Rattle.start_journal.specs.Journals.{journal_file}
+use Rattle.start_journal.specs.Journals.{gate_damage, queue_damage}
 use Rattle.start_journal.specs.Marks.{is_decided}
-use Rattle.start_journal.proofs.MarkLemmas.{same_number}
+use Rattle.std.proofs.lemmas.Bool.{eqb-true}
 use Rattle.spool_shows.specs.ByName.{HasFile, IsJobFile}
 use Rattle.spool_shows.specs.JobFiles.{JobFile, file_of}
 use Rattle.spool_shows.specs.Shown.{mark_damage, start_damage, starts_damage}
@@ -35,27 +35,28 @@ whole_starts marks files place [] each = refl
 whole_starts marks files place (first ∷ later) each =
     rw (each place first (inl refl)) (whole_starts marks files (place + 1) later (λ at mark has. each at mark (inr has)))
 
--- the damage of a start whose file has another queue
-abbrev queue_damage : ℕ → ℕ → Damage
-queue_damage place queue = record { name = journal_file; offset = 32 * place + 10; byte = Some queue }
-
 -- a start without damage has a file of its queue
 file_there : (place queue : ℕ) (found : Option JobFile) → start_damage place queue found ≡ None → (file : JobFile) × (found ≡ Some file) × (file.job.queue ≡ queue)
-file_there place queue None is = let impossible : ◌≡◌ {A = Option Damage} (Some (record { name = journal_file; offset = 32 * place; byte = Some 43 })) None = is in cc
+file_there place queue None is = let impossible : ◌≡◌ {A = Option Damage} (Some (gate_damage place)) None = is in cc
 file_there place queue (Some file) is = by_test (file.job.queue == queue) refl is where
   by_test : (b : Bool) → (file.job.queue == queue) ≡ b → (if b then None else Some (queue_damage place queue)) ≡ None → (of : JobFile) × (Some file ≡ Some of) × (of.job.queue ≡ queue)
-  by_test true test none = (file, refl, same_number _ _ test)
+  by_test true test none = (file, refl, eqb-true _ _ test)
   by_test false test none = let impossible : Some (queue_damage place queue) ≡ None = none in cc
+
+-- a start that is not decided, and without damage, has its file
+pub has_its_file : (marks : List Mark) (files : Files) (at number queue : ℕ) (second : ℤ) → mark_damage marks (files_that_count marks files) at (Started number queue second) ≡ None → is_decided number marks ≡ false → HasFile marks files number queue
+has_its_file marks files at number queue second whole undecided =
+    let here : start_damage at queue (file_of number (files_that_count marks files)) ≡ None =
+    sym (ap (λ b. if b then None else start_damage at queue (file_of number (files_that_count marks files))) undecided) ∙ whole in
+    let found : (file : JobFile) × (file_of number (files_that_count marks files) ≡ Some file) × (file.job.queue ≡ queue) = file_there at queue _ here in
+    let stands : Has (files_that_count marks files) found.0 × ((found.0.job.number == number) ≡ true) = found_has (λ (file : JobFile). file.job.number == number) (files_that_count marks files) found.0 found.1 in
+    record { file = found.0; is = counted_is_file marks files found.0 stands.0; number_is = eqb-true _ _ stands.1; queue_is = found.2 }
 
 -- the file of a start
 pub start_has_file : (marks : List Mark) (files : Files) (number queue : ℕ) (second : ℤ) → starts_damage marks (files_that_count marks files) 0 marks ≡ None → Has marks (Started number queue second) → is_decided number marks ≡ false → HasFile marks files number queue
 start_has_file marks files number queue second none has undecided =
     let whole : (at : ℕ) × (mark_damage marks (files_that_count marks files) at (Started number queue second) ≡ None) = starts_whole marks (files_that_count marks files) 0 marks (Started number queue second) none has in
-    let here : start_damage whole.0 queue (file_of number (files_that_count marks files)) ≡ None =
-    sym (ap (λ b. if b then None else start_damage whole.0 queue (file_of number (files_that_count marks files))) undecided) ∙ whole.1 in
-    let found : (file : JobFile) × (file_of number (files_that_count marks files) ≡ Some file) × (file.job.queue ≡ queue) = file_there whole.0 queue _ here in
-    let stands : Has (files_that_count marks files) found.0 × ((found.0.job.number == number) ≡ true) = found_has (λ (file : JobFile). file.job.number == number) (files_that_count marks files) found.0 found.1 in
-    record { file = found.0; is = counted_is_file marks files found.0 stands.0; number_is = same_number _ _ stands.1; queue_is = found.2 }
+    has_its_file marks files whole.0 number queue second whole.1 undecided
 
 -- the file of a number is found, where no number has two
 pub file_found : (marks : List Mark) (files : Files) (file : JobFile) → IsJobFile marks files file → ((first second : JobFile) → IsJobFile marks files first → IsJobFile marks files second → first.job.number ≡ second.job.number → first ≡ second) → file_of file.job.number (files_that_count marks files) ≡ Some file
@@ -64,9 +65,9 @@ file_found marks files file is once = by_found (file_of file.job.number (files_t
   by_found None none = absurd (not_found (λ (of : JobFile). of.job.number == file.job.number) (files_that_count marks files) file none (file_is_counted marks files file is) (number_passes _ _ refl))
   by_found (Some other) found =
       let stands : Has (files_that_count marks files) other × ((other.job.number == file.job.number) ≡ true) = found_has (λ (of : JobFile). of.job.number == file.job.number) (files_that_count marks files) other found in
-      found ∙ ap Some (once other file (counted_is_file marks files other stands.0) is (same_number _ _ stands.1))
+      found ∙ ap Some (once other file (counted_is_file marks files other stands.0) is (eqb-true _ _ stands.1))
 
-queue_fits : (place queue : ℕ) (file : JobFile) → file.job.queue ≡ queue → start_damage place queue (Some file) ≡ None
+pub queue_fits : (place queue : ℕ) (file : JobFile) → file.job.queue ≡ queue → start_damage place queue (Some file) ≡ None
 queue_fits place queue file same = rw (number_passes file.job.queue queue same) refl
 
 -- no start is damaged, where each has its file

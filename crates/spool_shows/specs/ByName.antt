@@ -9,8 +9,9 @@ use Rattle.start_journal.specs.declared.mark.Mark.{Mark}
 use Rattle.start_journal.specs.declared.mark.Mark.TheVariants.{Started}
 use Rattle.start_journal.specs.Journals.{JournalRead, journal_file, journal_in}
 use Rattle.start_journal.specs.Marks.{is_decided, is_forgotten, last_batch}
-use Rattle.spool_shows.specs.JobFiles.{JobFile, job_named}
-use Rattle.spool_shows.specs.LastNumber.{last_in}
+use Rattle.spool_shows.specs.JobFiles.{JobFile}
+use Rattle.job_name.specs.JobName.{job_named}
+use Rattle.sequence_file.specs.LastNumber.{last_in}
 use Rattle.spool_shows.specs.Shown.{done_entry, live_entry}
 
 -- the file is there under the name of a job whose number is not decided

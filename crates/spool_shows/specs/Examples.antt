@@ -7,36 +7,43 @@ use Rattle.spool_model.specs.declared.entry.Entry.TheVariants.{Live, Done}
 use Rattle.spool_model.specs.declared.fate.Fate.TheVariants.{Finished}
 use Rattle.spool_model.specs.declared.state.State.TheVariants.{Pending, Running}
 use Rattle.spool_model.specs.JobTable.{JobEntry, JobState, JobTable, table_of}
-use Rattle.start_journal.specs.Journals.{free_slot}
+use Rattle.sequence_file.specs.Sequence.{sequence_file}
+use Rattle.start_journal.specs.Journals.{free_slot, journal_file}
 use Rattle.spool_shows.specs.Shown.{shown}
 
 -- a file by its name and its bytes
 abbrev pub File : Type 0
 File = List ℕ × List ℕ
 
+-- the sequence file with these bytes
 abbrev pub sequence : List ℕ → File
-sequence bytes = (codes ".SEQ", bytes)
+sequence bytes = (sequence_file, bytes)
 
+-- the journal with these bytes
 abbrev pub journal : List ℕ → File
-journal bytes = (codes ".JRN", bytes)
+journal bytes = (journal_file, bytes)
 
--- the file of the first job, of ann in queue a
+-- the script of the first job, of ann
 abbrev pub script : List ℕ
 script = codes "#!/bin/sh\n# at user=ann mail=0\necho hi\n"
 
+-- the file of that job, in queue a
 abbrev pub first_job : File
 first_job = (codes "a0000101b968a0", script)
 
+-- an empty list of users that are denied
 abbrev pub deny : File
 deny = (codes "at.deny", [])
 
--- slots of that job's start and of its end
+-- the slot of that job's start
 abbrev pub started : List ℕ
 started = codes "+S00000001a-000000000067748580.\n"
 
+-- the slot of its end
 abbrev pub ended : List ℕ
 ended = codes "+E00000001-x000000000000000000.\n"
 
+-- the slot of its removal
 abbrev pub removed : List ℕ
 removed = codes "+R00000001--000000000000000000.\n"
 
@@ -48,9 +55,11 @@ without_jobs last = table_of last (from_entries []) None
 abbrev pub with_first : JobEntry → JobTable
 with_first entry = table_of 1 (from_entries ((1, entry) ∷ [])) None
 
+-- the entry of that job, in this state
 abbrev pub live : JobState → JobEntry
 live state = Live (record { queue = 97; minute = 28928160; user = codes "ann"; script = script }) state
 
+-- the damage of the file of a name, at an offset, with the byte there
 abbrev pub damaged : List ℕ → ℕ → Option ℕ → Damage
 damaged name offset byte = record { name = name; offset = offset; byte = byte }
 
@@ -67,17 +76,17 @@ pub record SmallFoldersShow : Type 0 where
 
 -- damage that small folders show
 pub record SmallFoldersAreDamaged : Type 0 where
-  pub sequence_digit : shown (sequence (codes "0000g\n") ∷ []) ≡ Err (damaged (codes ".SEQ") 4 (Some 103))
-  pub sequence_short : shown (sequence (codes "00001") ∷ []) ≡ Err (damaged (codes ".SEQ") 5 None)
-  pub sequence_long : shown (sequence (codes "00001\n\n") ∷ []) ≡ Err (damaged (codes ".SEQ") 6 (Some 10))
-  pub sequence_empty : shown (sequence [] ∷ []) ≡ Err (damaged (codes ".SEQ") 0 None)
-  pub rest : shown (journal (codes ".................................") ∷ sequence (codes "00001\n") ∷ []) ≡ Err (damaged (codes ".JRN") 32 (Some 46))
-  pub start_without_file : shown (journal started ∷ sequence (codes "00001\n") ∷ []) ≡ Err (damaged (codes ".JRN") 0 (Some 43))
-  pub start_in_another_queue : shown (journal started ∷ sequence (codes "00001\n") ∷ (codes "b0000101b968a0", script) ∷ []) ≡ Err (damaged (codes ".JRN") 10 (Some 97))
-  pub kind : shown (journal (codes "+Z00000001--000000000000000000.\n") ∷ sequence (codes "00001\n") ∷ []) ≡ Err (damaged (codes ".JRN") 1 (Some 90))
-  pub number_of_zeros : shown (journal (codes "+S00000000a-000000000067748580.\n") ∷ sequence (codes "00001\n") ∷ []) ≡ Err (damaged (codes ".JRN") 9 (Some 48))
-  pub second_start : shown (journal (started ++ started) ∷ sequence (codes "00001\n") ∷ first_job ∷ []) ≡ Err (damaged (codes ".JRN") 32 (Some 43))
-  pub open_behind_closed : shown (journal (free_slot ++ removed) ∷ sequence (codes "00001\n") ∷ []) ≡ Err (damaged (codes ".JRN") 32 (Some 43))
+  pub sequence_digit : shown (sequence (codes "0000g\n") ∷ []) ≡ Err (damaged sequence_file 4 (Some 103))
+  pub sequence_short : shown (sequence (codes "00001") ∷ []) ≡ Err (damaged sequence_file 5 None)
+  pub sequence_long : shown (sequence (codes "00001\n\n") ∷ []) ≡ Err (damaged sequence_file 6 (Some 10))
+  pub sequence_empty : shown (sequence [] ∷ []) ≡ Err (damaged sequence_file 0 None)
+  pub rest : shown (journal (codes ".................................") ∷ sequence (codes "00001\n") ∷ []) ≡ Err (damaged journal_file 32 (Some 46))
+  pub start_without_file : shown (journal started ∷ sequence (codes "00001\n") ∷ []) ≡ Err (damaged journal_file 0 (Some 43))
+  pub start_in_another_queue : shown (journal started ∷ sequence (codes "00001\n") ∷ (codes "b0000101b968a0", script) ∷ []) ≡ Err (damaged journal_file 10 (Some 97))
+  pub kind : shown (journal (codes "+Z00000001--000000000000000000.\n") ∷ sequence (codes "00001\n") ∷ []) ≡ Err (damaged journal_file 1 (Some 90))
+  pub number_of_zeros : shown (journal (codes "+S00000000a-000000000067748580.\n") ∷ sequence (codes "00001\n") ∷ []) ≡ Err (damaged journal_file 9 (Some 48))
+  pub second_start : shown (journal (started ++ started) ∷ sequence (codes "00001\n") ∷ first_job ∷ []) ≡ Err (damaged journal_file 32 (Some 43))
+  pub open_behind_closed : shown (journal (free_slot ++ removed) ∷ sequence (codes "00001\n") ∷ []) ≡ Err (damaged journal_file 32 (Some 43))
   pub not_drawn : shown (sequence (codes "00001\n") ∷ (codes "a0000201b968a0", script) ∷ []) ≡ Err (damaged (codes "a0000201b968a0") 0 (Some 35))
   pub header : shown (sequence (codes "00001\n") ∷ (codes "a0000101b968a0", codes "#!/bin/sh\n# at user=ann mail=2\n") ∷ []) ≡ Err (damaged (codes "a0000101b968a0") 29 (Some 50))
   pub long_user : shown (sequence (codes "00001\n") ∷ (codes "a0000101b968a0", codes "#!/bin/sh\n# at user=abcdefghijklmnopqrstuvwxyzabcdefg mail=0\n") ∷ []) ≡ Err (damaged (codes "a0000101b968a0") 52 (Some 103))

@@ -1,36 +1,13 @@
 -- The files of jobs in a spool folder (own): which count, and where they are damaged.
-use Rattle.std.specs.Prelude.{◌==◌, ◌&&◌, ◌||◌, [], ◌∷◌, ℕ, Bool, false, not, List, Option, Some, None, length, nat_le, nat_lt, slice_index, slice_range, if◌then◌else◌}
-use Rattle.std.specs.Char.{is_ascii_alphabetic}
+use Rattle.std.specs.Prelude.{◌==◌, ◌||◌, [], ◌∷◌, ℕ, Bool, false, not, List, Option, Some, None, nat_lt, if◌then◌else◌}
 use Rattle.std.specs.List.{filter, filter_map, find, list_any}
 use Rattle.std.specs.Option.{option_or}
 use Rattle.host_calls.specs.declared.damage.Damage.{Damage}
 use Rattle.job_script.specs.HeaderIn.{header_in, header_place}
 use Rattle.start_journal.specs.declared.mark.Mark.{Mark}
 use Rattle.start_journal.specs.Marks.{is_decided}
-use Rattle.spool_shows.specs.Digits.{number_in}
-use Rattle.spool_shows.specs.LastNumber.{damage_at}
-
--- what the name of a job's file says
-pub record NamedJob : Type 0 where
-  pub queue : ℕ
-  pub number : ℕ
-  pub minute : ℕ
-
--- the job of this queue, number and minute, if they are in range
-abbrev pub job_in_range : ℕ → Option ℕ → Option ℕ → Option NamedJob
-job_in_range queue (Some number) (Some minute) =
-    if is_ascii_alphabetic queue && nat_le 1 number && nat_le minute 4222846079
-    then Some (record { queue = queue; number = number; minute = minute })
-    else None
-job_in_range queue (Some number) None = None
-job_in_range queue None minute = None
-
--- the job that a name is that of: a letter, five digits of its number and eight of its minute
-abbrev pub job_named : List ℕ → Option NamedJob
-job_named name =
-    if length name == 14
-    then job_in_range (slice_index name 0) (number_in (slice_range name 1 6)) (number_in (slice_range name 6 14))
-    else None
+use Rattle.host_calls.specs.Damages.{damage_at}
+use Rattle.job_name.specs.JobName.{NamedJob, job_named}
 
 -- a job's file counts as long as its number is not decided
 abbrev pub counts_as : List Mark → Option NamedJob → Bool
@@ -52,6 +29,7 @@ abbrev pub file_named : List ℕ → List ℕ → Option NamedJob → Option Job
 file_named name bytes (Some job) = Some (record { name = name; job = job; bytes = bytes })
 file_named name bytes None = None
 
+-- that of an entry of the folder
 abbrev pub job_file : List ℕ × List ℕ → Option JobFile
 job_file file = file_named file.0 file.1 (job_named file.0)
 

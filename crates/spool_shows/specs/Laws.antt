@@ -3,13 +3,14 @@ use Rattle.std.specs.Prelude.{◌≡◌, ◌+◌, ◌++◌, [], ◌∷◌, ℕ, 
 use Rattle.std.specs.FinMap as map
 use Rattle.host_calls.specs.Folder.{Files}
 use Rattle.job_script.specs.HeaderIn.{header_in}
-use Rattle.sequence_file.specs.Sequence.{sequence_file, temporary_file}
+use Rattle.sequence_file.specs.Sequence.{sequence_file}
+use Rattle.whole_file.specs.Temporary.{temporary_file}
 use Rattle.spool_model.specs.declared.entry.Entry.TheVariants.{Live}
 use Rattle.spool_model.specs.declared.job.Job.{Job}
 use Rattle.spool_model.specs.declared.state.State.TheVariants.{Pending}
 use Rattle.spool_model.specs.declared.step.Step.{Step}
 use Rattle.spool_model.specs.declared.step.Step.TheVariants.{Draw, Accept, Remove, Start, End, Interrupt, Forget}
-use Rattle.spool_model.specs.JobTable.{JobTable, entry_at}
+use Rattle.spool_model.specs.JobTable.{IsSound, JobTable, entry_at}
 use Rattle.spool_model.specs.Steps.{IsLegal, after_step, after_steps}
 use Rattle.start_journal.specs.declared.mark.Mark.{Mark}
 use Rattle.start_journal.specs.declared.mark.Mark.TheVariants as mark
@@ -17,8 +18,9 @@ use Rattle.start_journal.specs.Journals.{journal_file, journal_in}
 use Rattle.start_journal.specs.Marks.{IsLegalAfter, is_forgotten, kept_marks}
 use Rattle.whole_file.specs.Others.{IsEither}
 use Rattle.spool_shows.specs.ByName.{ShowsByName}
-use Rattle.spool_shows.specs.JobFiles.{counts, job_named}
-use Rattle.spool_shows.specs.LastNumber.{last_in}
+use Rattle.spool_shows.specs.JobFiles.{counts}
+use Rattle.job_name.specs.JobName.{job_named}
+use Rattle.sequence_file.specs.LastNumber.{last_in}
 use Rattle.spool_shows.specs.Shown.{Shows, shown_by}
 
 -- what a folder shows, and what its names and numbers show, are one
@@ -26,8 +28,13 @@ pub record IsShownByName (files : Files) (table : JobTable) : Type 0 where
   pub by_name : Shows files table → ShowsByName files table
   pub shown : ShowsByName files table → Shows files table
 
+-- for every folder and table
 abbrev pub FoldersAreShownByName : Type 0
 FoldersAreShownByName = (files : Files) (table : JobTable) → IsShownByName files table
+
+-- a table that a folder shows is sound
+abbrev pub ShownTablesAreSound : Type 0
+ShownTablesAreSound = (files : Files) (table : JobTable) → Shows files table → IsSound table
 
 -- the journal of the folder gives these marks
 pub record HasMarks (files : Files) (marks : List Mark) : Type 0 where
@@ -56,6 +63,7 @@ pub record HasDrawn (table : JobTable) (before after : Files) : Type 0 where
   pub number : last_in (map.get after sequence_file) ≡ Ok (table.last + 1)
   pub others : AgreeElsewhere temporary_file sequence_file before after
 
+-- it shows the table after the draw
 abbrev pub DrawsAreShown : Type 0
 DrawsAreShown = (before after : Files) (table : JobTable) → Shows before table → HasDrawn table before after →
     Shows after (after_step table Draw)
@@ -71,6 +79,7 @@ pub record HasAccepted (table : JobTable) (job : Job) (before after : Files) : T
   pub others : (other : List ℕ) → ¬ (IsEither temporary_file sequence_file other) → ¬ (other ≡ name) →
       map.get after other ≡ map.get before other
 
+-- it shows the table after the draw and the accept
 abbrev pub AcceptsAreShown : Type 0
 AcceptsAreShown = (before after : Files) (table : JobTable) (job : Job) → Shows before table →
     HasAccepted table job before after →
@@ -95,6 +104,7 @@ pub record HasMarked (table : JobTable) (added : Mark) (before after : Files) : 
   pub journal : journal_in table.last (map.get after journal_file) ≡ Ok (record { marks = marks ++ added ∷ []; free = free })
   pub others : AgreeElsewhere temporary_file journal_file before after
 
+-- it shows the table after the step of that mark
 abbrev pub MarksAreShown : Type 0
 MarksAreShown = (before after : Files) (table : JobTable) (step : Step) (added : Mark) → Shows before table →
     IsLegal table step → AddsMark table step added → HasMarked table added before after →
@@ -121,6 +131,7 @@ pub record HasCompacted (table : JobTable) (before after : Files) : Type 0 where
   pub journal : journal_in table.last (map.get after journal_file) ≡ Ok (record { marks = kept_marks marks; free = free })
   pub others : AgreeElsewhere temporary_file journal_file before after
 
+-- it shows the same table
 abbrev pub CompactionsAreShown : Type 0
 CompactionsAreShown = (before after : Files) (table : JobTable) → Shows before table → HasCompacted table before after →
     Shows after table
@@ -133,6 +144,7 @@ pub record HasRewritten (table : JobTable) (before after : Files) : Type 0 where
   pub journal : journal_in table.last (map.get after journal_file) ≡ Ok (record { marks = marks; free = free })
   pub others : AgreeElsewhere temporary_file journal_file before after
 
+-- it shows the same table
 abbrev pub RewritesAreShown : Type 0
 RewritesAreShown = (before after : Files) (table : JobTable) → Shows before table → HasRewritten table before after →
     Shows after table

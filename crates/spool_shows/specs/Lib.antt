@@ -1,7 +1,7 @@
 pub mod ByName
-pub mod Digits
+pub mod DamageLaws
 pub mod Examples
+pub mod FirstDamage
 pub mod JobFiles
-pub mod LastNumber
 pub mod Laws
 pub mod Shown

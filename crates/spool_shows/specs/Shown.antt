@@ -2,7 +2,7 @@
 --
 -- The checks go in this order, and the first fault counts: the sequence file, the journal, the files of
 -- jobs in byte order of their names, and the numbers that are started and not decided.
-use Rattle.std.specs.Prelude.{◌+◌, ◌*◌, ◌==◌, ◌++◌, ◌≡◌, [], ◌∷◌, ℕ, ℤ, Bool, List, Option, Some, None, Result, Ok, Err, map, if◌then◌else◌}
+use Rattle.std.specs.Prelude.{◌+◌, ◌==◌, ◌++◌, ◌≡◌, [], ◌∷◌, ℕ, ℤ, Bool, List, Option, Some, None, Result, Ok, Err, map, if◌then◌else◌}
 use Rattle.std.specs.FinMap.{entries, find, from_entries}
 use Rattle.std.specs.List.{filter_map}
 use Rattle.std.specs.Option.{option_or}
@@ -18,19 +18,18 @@ use Rattle.spool_model.specs.declared.state.State.TheVariants.{Pending, Running}
 use Rattle.spool_model.specs.JobTable.{JobEntry, JobState, JobTable, table_of}
 use Rattle.start_journal.specs.declared.mark.Mark.{Mark}
 use Rattle.start_journal.specs.declared.mark.Mark.TheVariants.{Removed, Started, Ended, Interrupted, Forgotten, Batch}
-use Rattle.start_journal.specs.Journals.{JournalRead, journal_file, journal_in}
+use Rattle.start_journal.specs.Journals.{JournalRead, gate_damage, journal_file, journal_in, queue_damage}
 use Rattle.start_journal.specs.Marks.{is_decided, is_forgotten, last_batch}
 use Rattle.spool_shows.specs.JobFiles.{JobFile, file_of, files_damage, job_files}
-use Rattle.spool_shows.specs.LastNumber.{last_in}
+use Rattle.sequence_file.specs.LastNumber.{last_in}
 
 -- Numbers that are started and not decided.
 
 -- the damage of the journal at the slot of a start, whose job has this file or none
 abbrev pub start_damage : ℕ → ℕ → Option JobFile → Option Damage
-start_damage place queue None = Some (record { name = journal_file; offset = 32 * place; byte = Some 43 })
+start_damage place queue None = Some (gate_damage place)
 start_damage place queue (Some file) =
-    if file.job.queue == queue then None
-    else Some (record { name = journal_file; offset = 32 * place + 10; byte = Some queue })
+    if file.job.queue == queue then None else Some (queue_damage place queue)
 
 -- the damage that a mark at this place of the journal shows: its job is started and not decided, and
 -- has no file, or one of another queue
@@ -101,6 +100,7 @@ done_entry marks (Batch second) = None
 abbrev pub entries_shown : List Mark → List JobFile → List (ℕ × JobEntry)
 entries_shown marks files = map (live_entry marks) files ++ filter_map (done_entry marks) marks
 
+-- the table of a last number, of marks, and of the files that count
 abbrev pub table_shown : ℕ → List Mark → List JobFile → JobTable
 table_shown last marks files = table_of last (from_entries (entries_shown marks files)) (last_batch marks)
 
@@ -110,17 +110,21 @@ table_shown last marks files = table_of last (from_entries (entries_shown marks 
 abbrev pub damage_of_jobs : ℕ → List Mark → List JobFile → Option Damage
 damage_of_jobs last marks files = option_or (files_damage last [] files) (starts_damage marks files 0 marks)
 
+-- that table, where there is no damage
 abbrev pub table_or_damage : ℕ → List Mark → List JobFile → Option Damage → Result JobTable Damage
 table_or_damage last marks files (Some damage) = Err damage
 table_or_damage last marks files None = Ok (table_shown last marks files)
 
+-- what such files show, behind a last number and marks
 abbrev pub shown_by_files : ℕ → List Mark → List JobFile → Result JobTable Damage
 shown_by_files last marks files = table_or_damage last marks files (damage_of_jobs last marks files)
 
+-- what files show behind a last number, by what the journal gives
 abbrev pub shown_behind_journal : ℕ → Result JournalRead Damage → List (List ℕ × List ℕ) → Result JobTable Damage
 shown_behind_journal last (Err damage) files = Err damage
 shown_behind_journal last (Ok read) files = shown_by_files last read.marks (job_files read.marks files)
 
+-- what files show, by what the sequence file gives
 abbrev pub shown_behind_last : Result ℕ Damage → List (List ℕ × List ℕ) → Result JobTable Damage
 shown_behind_last (Err damage) files = Err damage
 shown_behind_last (Ok last) files = shown_behind_journal last (journal_in last (find name_cmp journal_file files)) files

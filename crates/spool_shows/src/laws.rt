@@ -1,6 +1,7 @@
 //! What holds of every folder, each law as the contract of a function.
+ghost use Rattle.spool_shows.specs.DamageLaws.{FoldersShowTheirFirstDamage, UndamagedFoldersShowTables};
 ghost use Rattle.spool_shows.specs.Examples.{SmallFoldersAreDamaged, SmallFoldersShow};
-ghost use Rattle.spool_shows.specs.Laws.{AcceptsAreShown, CompactionsAreShown, DrawsAreShown, FoldersAreShownByName, LegalStepsAddLegalMarks, MarksAreShown, OtherFilesCountForNothing, RewritesAreShown};
+ghost use Rattle.spool_shows.specs.Laws.{AcceptsAreShown, CompactionsAreShown, DrawsAreShown, FoldersAreShownByName, LegalStepsAddLegalMarks, MarksAreShown, OtherFilesCountForNothing, RewritesAreShown, ShownTablesAreSound};
 
 /// What small folders show, computed.
 pub fn small_folders()
@@ -11,6 +12,17 @@ pub fn small_folders()
 /// What a folder shows is what each of its names and numbers shows.
 pub fn folders_are_shown_by_name()
     ensures { FoldersAreShownByName }
+{}
+
+/// A folder shows its first damage, and a table exactly where it has none.
+pub fn folders_show_their_first_damage()
+    ensures damage { FoldersShowTheirFirstDamage }
+    ensures table { UndamagedFoldersShowTables }
+{}
+
+/// The table that a folder shows is sound.
+pub fn shown_tables_are_sound()
+    ensures { ShownTablesAreSound }
 {}
 
 /// Files under other names, and those of decided numbers, count for nothing.

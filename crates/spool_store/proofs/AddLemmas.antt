@@ -5,7 +5,7 @@ use Rattle.std.specs.FinMap as finite
 use Rattle.host_calls.specs.declared.fault.HostFault.{HostFault}
 use Rattle.host_calls.specs.Folder.{Files, Folder, IsImage}
 use Rattle.host_calls.specs.World.{World}
-use Rattle.sequence_file.specs.Sequence.{temporary_file}
+use Rattle.whole_file.specs.Temporary.{temporary_file}
 use Rattle.spool_model.specs.declared.step.Step.{Step}
 use Rattle.spool_model.specs.JobTable.{JobTable}
 use Rattle.spool_model.specs.Steps.{after_step}
@@ -17,7 +17,7 @@ use Rattle.whole_file.specs.Others.{ChangesFiles, IsEither, LeavesOthers}
 use Rattle.job_runs.specs.Calls.{IsSteppingOn}
 use Rattle.job_runs.specs.Current.{IsCurrent, IsSpoolName}
 use Rattle.spool_shows.specs.Shown.{Shows}
-use Rattle.spool_store.specs.Marking.{AreSameOrKept, IsMarkOf, IsMarked, KeepsFiles, kept_with}
+use Rattle.spool_store.specs.inside.Marking.{AreSameOrKept, IsMarkOf, IsMarked, KeepsFiles, kept_with}
 use Rattle.spool_store.proofs.KeptMarks.{legal_when_kept}
 use Rattle.spool_store.proofs.ChangesJoined.{changes_end, changes_join, changes_weaker}
 use Rattle.spool_store.proofs.MarkingCalls.{journal_is_spool, leaves_through, stepping_more, stepping_none, stepping_one, stepping_start}

@@ -4,7 +4,7 @@ use Rattle.std.specs.Prelude.{Some}
 use Rattle.std.specs.FinMap as map
 use Rattle.host_calls.specs.Folder.{Files, Folder, reading_of}
 use Rattle.host_calls.proofs.FolderLemmas.{reading_is_image}
-use Rattle.sequence_file.specs.Sequence.{temporary_file}
+use Rattle.whole_file.specs.Temporary.{temporary_file}
 use Rattle.spool_model.specs.declared.job.Job.{Job}
 use Rattle.spool_model.specs.declared.step.Step.{Step}
 use Rattle.spool_model.specs.JobTable.{JobTable}
@@ -13,17 +13,18 @@ use Rattle.start_journal.specs.declared.mark.Mark.TheVariants.{Removed, Ended, I
 use Rattle.start_journal.specs.Journals.{JournalRead, journal_file}
 use Rattle.start_journal.specs.Marks.{AreLegal, decides, is_decided, kept_marks}
 use Rattle.start_journal.proofs.LifeLemmas.{any_more, any_with}
-use Rattle.start_journal.proofs.MarkLemmas.{either, same_number}
+use Rattle.std.proofs.lemmas.Bool.{eqb-true, or_cases}
 use Rattle.whole_file.specs.Clearing.{AreFiles}
 use Rattle.spool_shows.specs.ByName.{IsJobFile, ShowsByName}
-use Rattle.spool_shows.specs.JobFiles.{JobFile, NamedJob, job_named}
+use Rattle.spool_shows.specs.JobFiles.{JobFile}
+use Rattle.job_name.specs.JobName.{NamedJob, job_named}
 use Rattle.spool_shows.proofs.Membership.{Has, contained, has_contained}
 use Rattle.spool_shows.proofs.NameLemmas.{job_name_apart, journal_no_job, temporary_no_job}
 use Rattle.spool_shows.proofs.ShownStates.{IsLiveBy}
-use Rattle.spool_shows.proofs.Spellings.{name_given, one_job_name}
+use Rattle.job_name.proofs.NamedJobs.{name_given, one_job_name}
 use Rattle.spool_shows.proofs.StepLaws.{by_name}
 use Rattle.spool_shows.proofs.StepMarks.{live_in}
-use Rattle.spool_store.specs.Marking.{HaveOneMore, IsDecisionOf, KeepsFiles}
+use Rattle.spool_store.specs.inside.Marking.{HaveOneMore, IsDecisionOf, KeepsFiles}
 use Rattle.spool_store.specs.Scripts.{IsFileOf}
 use Rattle.spool_store.proofs.KeptMarks.{kept_decided}
 use Rattle.spool_store.proofs.MarkingLemmas.{IsShownWith, reads_as}
@@ -114,16 +115,16 @@ decided_by_it before after mark number (inr kept) is = ap (is_decided number) ke
 -- what is decided with one more was decided before, or is decided by it
 pub decided_before_or_by_it : (before after : List Mark) (mark : Mark) (number : ℕ) → AreLegal before → HaveOneMore before mark after → is_decided number after ≡ true → (is_decided number before ≡ true) ⊎ (decides number mark ≡ true)
 decided_before_or_by_it before after mark number legal (inl more) is =
-    either (is_decided number before) (decides number mark) (sym (any_more (decides number) before mark) ∙ sym (ap (is_decided number) more) ∙ is)
+    or_cases (is_decided number before) (decides number mark) (sym (any_more (decides number) before mark) ∙ sym (ap (is_decided number) more) ∙ is)
 decided_before_or_by_it before after mark number legal (inr kept) is =
-    elim (either (is_decided number (kept_marks before)) (decides number mark) (sym (any_more (decides number) (kept_marks before) mark) ∙ sym (ap (is_decided number) kept) ∙ is)) [
+    elim (or_cases (is_decided number (kept_marks before)) (decides number mark) (sym (any_more (decides number) (kept_marks before) mark) ∙ sym (ap (is_decided number) kept) ∙ is)) [
       | inl old ↦ inl (kept_decided before number legal old)
       | inr new ↦ inr new
     ]
 
 -- a mark decides one number
 pub one_decided : (mark : Mark) (one other : ℕ) → decides one mark ≡ true → decides other mark ≡ true → one ≡ other
-one_decided (Removed number) one other is also = sym (same_number number one is) ∙ same_number number other also
-one_decided (Ended number ending) one other is also = sym (same_number number one is) ∙ same_number number other also
-one_decided (Interrupted number) one other is also = sym (same_number number one is) ∙ same_number number other also
+one_decided (Removed number) one other is also = sym (eqb-true number one is) ∙ eqb-true number other also
+one_decided (Ended number ending) one other is also = sym (eqb-true number one is) ∙ eqb-true number other also
+one_decided (Interrupted number) one other is also = sym (eqb-true number one is) ∙ eqb-true number other also
 one_decided _ one other is also = cc

@@ -5,7 +5,8 @@ use Rattle.std.specs.FinMap as finite
 use Rattle.host_calls.specs.Folder.{Files, Folder, IsImage, reading_of}
 use Rattle.host_calls.specs.World.{World}
 use Rattle.host_calls.proofs.FolderLemmas.{reading_is_image}
-use Rattle.sequence_file.specs.Sequence.{sequence_file, temporary_file}
+use Rattle.sequence_file.specs.Sequence.{sequence_file}
+use Rattle.whole_file.specs.Temporary.{temporary_file}
 use Rattle.spool_model.specs.declared.step.Step.{Step}
 use Rattle.spool_model.specs.JobTable.{JobTable}
 use Rattle.spool_model.specs.Steps.{after_step}
@@ -18,14 +19,15 @@ use Rattle.whole_file.specs.Others.{ChangesFiles, LeavesOthers}
 use Rattle.whole_file.proofs.OthersLemmas.{one_or_other}
 use Rattle.job_runs.specs.Calls.{IsSteppingOn, KeepsOthers}
 use Rattle.job_runs.specs.Current.{HasNoDecidedFile, IsCurrent, IsSpoolName}
-use Rattle.spool_shows.specs.JobFiles.{NamedJob, counts, counts_as, job_named}
+use Rattle.spool_shows.specs.JobFiles.{counts, counts_as}
+use Rattle.job_name.specs.JobName.{NamedJob, job_named}
 use Rattle.spool_shows.specs.Laws.{HasMarks}
 use Rattle.spool_shows.specs.Shown.{Shows}
 use Rattle.spool_shows.proofs.NameLemmas.{job_name_apart, job_name_differs, journal_no_job, sequence_no_job, temporary_no_job}
 use Rattle.spool_shows.proofs.OneMark.{had_same}
 use Rattle.spool_shows.proofs.OtherLemmas.{other_files_count_for_nothing}
 use Rattle.spool_shows.proofs.StepLaws.{by_name}
-use Rattle.spool_store.specs.Marking.{HaveOneMore, IsDecisionOf, IsMarked, KeepsFiles, kept_with}
+use Rattle.spool_store.specs.inside.Marking.{HaveOneMore, IsDecisionOf, IsMarked, KeepsFiles, kept_with}
 use Rattle.spool_store.proofs.DecideLemmas.{IsItsFile, apart_from, decided_before_or_by_it, decided_by_it, decided_file, is_the_one, one_decided, only_one}
 use Rattle.spool_store.proofs.MarkingLemmas.{IsShownWith, reads_as}
 use Rattle.spool_store.proofs.ChangesJoined.{changes_end, changes_join}
@@ -139,6 +141,7 @@ module _ (journal new : JournalRead) (table : JobTable) (step : Step) (mark : Ma
         shows = λ image is. without_file image (each image is);
         bare_is = refl;
         journal = record {
+          certain = cleared.certain;
           same = λ image is. (each image is).others journal_file no_journal
               ∙ marked.holds.same (each image is).from (each image is).was ∙ sym (cleared.others journal_file no_journal);
           gives = subst (λ content. Gives content new) (sym (cleared.others journal_file no_journal)) marked.holds.gives;

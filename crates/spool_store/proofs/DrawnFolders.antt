@@ -5,7 +5,8 @@ use Rattle.std.specs.FinMap as finite
 use Rattle.host_calls.specs.Folder.{Files, Folder, IsImage}
 use Rattle.job_script.specs.HeaderIn.{header_in}
 use Rattle.sequence_file.specs.Drawing.{EachGives, IsDrawing}
-use Rattle.sequence_file.specs.Sequence.{sequence_file, temporary_file}
+use Rattle.sequence_file.specs.Sequence.{sequence_file}
+use Rattle.whole_file.specs.Temporary.{temporary_file}
 use Rattle.spool_model.specs.declared.job.Job.{Job}
 use Rattle.spool_model.specs.declared.step.Step.TheVariants.{Draw}
 use Rattle.spool_model.specs.JobTable.{JobTable, entry_at}
@@ -14,12 +15,12 @@ use Rattle.whole_file.specs.Others.{IsEither, LeavesOthers}
 use Rattle.whole_file.specs.Placing.{IsPlacing}
 use Rattle.whole_file.proofs.OthersLemmas.{neither, one_or_other}
 use Rattle.spool_shows.specs.ByName.{ShowsByName}
-use Rattle.spool_shows.specs.JobFiles.{job_named}
-use Rattle.spool_shows.specs.LastNumber.{last_in}
+use Rattle.job_name.specs.JobName.{job_named}
+use Rattle.sequence_file.specs.LastNumber.{last_in}
 use Rattle.spool_shows.specs.Laws.{AgreeElsewhere, HasAccepted, HasDrawn}
 use Rattle.spool_shows.specs.Shown.{Shows}
 use Rattle.spool_shows.proofs.NameLemmas.{AgreeOnNames, agreeing_keep, differ_by, entry_kept, job_name_apart, job_name_differs, journal_apart, sequence_no_job, sound_kept, temporary_no_job}
-use Rattle.spool_shows.proofs.Spellings.{last_given, last_spelled}
+use Rattle.sequence_file.proofs.LastNumbers.{last_given, last_spelled}
 use Rattle.spool_shows.proofs.StepLaws.{accepts_are_shown, by_name, draws_are_shown, shown}
 use Rattle.job_runs.specs.Calls.{IsSteppingOn}
 use Rattle.job_runs.specs.Current.{EachShows, IsSpoolName}

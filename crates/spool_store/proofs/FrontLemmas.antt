@@ -1,13 +1,12 @@
--- The fronts of files tell of them what the whole files do.
+-- The findings of files tell of them what the whole files do.
 use Rattle.std.proofs.Common.{◌≡◌, ℕ, zero, suc, ◌+◌, ◌<◌, ◌≤◌, Bool, true, false, cond, List, Option, Some, None, [], ◌∷◌, ◌++◌, length, map, take, drop, max, eqb, sym, ap, ◌∙◌, refl, arith}
-use Rattle.std.specs.Prelude.{◌==◌, ◌||◌, ◌&&◌, Err, nat_lt, option_map, slice_get, slice_index}
+use Rattle.std.specs.Prelude.{◌==◌, ◌||◌, ◌&&◌, nat_lt, option_map, slice_get}
 use Rattle.std.specs.List.{cons_option, filter, filter_map, list_any}
 use Rattle.std.specs.Option.{option_or}
 use Rattle.std.specs.Cmp.{nat_cmp_total}
 use Rattle.std.specs.FinMap.{find as find_entry, get-from_entries, nat_cmp-IsAntisymmetric, same_map}
 use Rattle.std.specs.Ordering.{eq_by_cmp, nat_cmp}
 use Rattle.std.proofs.lemmas.Bool.{eqb-false}
-use Rattle.host_calls.specs.declared.damage.Damage.{Damage}
 use Rattle.job_script.specs.Header.{before_user, behind_user}
 use Rattle.job_script.specs.HeaderIn.{alike, flag_alike, has_user, header_in, header_place, user_in}
 use Rattle.job_script.proofs.HeaderInLemmas.{header_in-take, header_place-take}
@@ -16,19 +15,15 @@ use Rattle.job_script.proofs.HeaderLemmas.{eight_behind}
 use Rattle.start_journal.specs.declared.mark.Mark.{Mark}
 use Rattle.start_journal.specs.declared.mark.Mark.TheVariants.{Removed, Started, Ended, Interrupted, Forgotten, Batch}
 use Rattle.start_journal.specs.Marks.{is_decided, last_batch}
-use Rattle.spool_shows.specs.JobFiles.{JobFile, NamedJob, counts, damage_of, file_named, file_of, file_place, files_damage, header_fault_in, job_file, job_files, job_named}
-use Rattle.spool_shows.specs.LastNumber.{damage_at, fitting, last_in, number_or_damage, sequence_in}
+use Rattle.spool_shows.specs.JobFiles.{JobFile, counts, damage_of, file_named, file_of, file_place, files_damage, header_fault_in, job_file, job_files}
+use Rattle.job_name.specs.JobName.{NamedJob, job_named}
+use Rattle.host_calls.specs.Damages.{damage_at}
 use Rattle.spool_shows.specs.Shown.{damage_of_jobs, done_entry, entries_shown, job_of, live_entry, mark_damage, start_damage, started_at, starts_damage, state_since, table_shown, user_of}
-use Rattle.spool_shows.proofs.Spellings.{last_spelled}
-use Rattle.sequence_file.specs.Faults.{IsDamage}
-use Rattle.sequence_file.specs.Places.{IsFittingFront, fits_at}
-use Rattle.sequence_file.specs.Sequence.{IsFaultAt, sequence_file}
-use Rattle.sequence_file.proofs.SequenceLemmas.{fault_at}
 use Rattle.job_runs.specs.Bare.{bare, bare_entry, bare_job}
 use Rattle.job_runs.proofs.BareLemmas.{entries_are_bare}
 use Rattle.spool_model.specs.declared.entry.Entry.TheVariants.{Live}
 use Rattle.spool_model.specs.JobTable.{JobEntry, entry_at, table_of}
-use Rattle.spool_store.specs.Looking.{front_of}
+use Rattle.spool_store.specs.inside.Survey.{front_of}
 
 -- a file by its first bytes
 abbrev pub cut : JobFile → JobFile
@@ -185,52 +180,3 @@ table_same last marks files =
     at_shown last marks (map cut files) number
     ∙ find_same marks number files (filter_map (done_entry marks) marks)
     ∙ sym (at_shown last marks files number)))
-
--- The number that was drawn last.
-
-fitting_front : (place : ℕ) (bytes : List ℕ) → fitting place bytes ≤ length bytes
-fitting_front place [] = omega arith
-fitting_front place (byte ∷ rest) = by_test (fits_at place byte) (fitting_front (place + 1) rest) where
-  by_test : (b : Bool) → fitting (place + 1) rest ≤ length rest → cond b (1 + fitting (place + 1) rest) 0 ≤ length (byte ∷ rest)
-  by_test true few = omega arith
-  by_test false few = omega arith
-
-fitting_each : (place : ℕ) (bytes : List ℕ) (at : ℕ) → at < fitting place bytes → fits_at (place + at) (slice_index bytes at) ≡ true
-fitting_each place [] at few = absurd (omega arith)
-fitting_each place (byte ∷ rest) at few = by_test (fits_at place byte) refl at few (λ other less. fitting_each (place + 1) rest other less) where
-  by_test : (b : Bool) → fits_at place byte ≡ b → (at : ℕ) → at < cond b (1 + fitting (place + 1) rest) 0 → ((other : ℕ) → other < fitting (place + 1) rest → fits_at (place + 1 + other) (slice_index rest other) ≡ true) → fits_at (place + at) (slice_index (byte ∷ rest) at) ≡ true
-  by_test true is zero less later = let here : place + 0 ≡ place = omega arith in ap (λ p. fits_at p byte) here ∙ is
-  by_test true is (suc other) less later = let here : place + suc other ≡ place + 1 + other = omega arith in ap (λ p. fits_at p (slice_index rest other)) here ∙ later other (omega arith)
-  by_test false is other less later = absurd (omega arith)
-
-fitting_next : (place : ℕ) (bytes : List ℕ) → fitting place bytes < length bytes → fits_at (place + fitting place bytes) (slice_index bytes (fitting place bytes)) ≡ false
-fitting_next place [] few = absurd (omega arith)
-fitting_next place (byte ∷ rest) few = by_test (fits_at place byte) refl few (fitting_next (place + 1) rest) where
-  by_test : (b : Bool) → fits_at place byte ≡ b → cond b (1 + fitting (place + 1) rest) 0 < length (byte ∷ rest) → (fitting (place + 1) rest < length rest → fits_at (place + 1 + fitting (place + 1) rest) (slice_index rest (fitting (place + 1) rest)) ≡ false) → fits_at (place + cond b (1 + fitting (place + 1) rest) 0) (slice_index (byte ∷ rest) (cond b (1 + fitting (place + 1) rest) 0)) ≡ false
-  by_test true is less later =
-      let more : 1 + fitting (place + 1) rest ≡ suc (fitting (place + 1) rest) = omega arith in
-      let here : place + (1 + fitting (place + 1) rest) ≡ place + 1 + fitting (place + 1) rest = omega arith in
-      (λ i. fits_at (here i) (slice_index (byte ∷ rest) (more i))) ∙ later (omega arith)
-  by_test false is less later = let here : place + 0 ≡ place = omega arith in ap (λ p. fits_at p byte) here ∙ is
-
-fits_so : (bytes : List ℕ) → IsFittingFront bytes (fitting 0 bytes)
-fits_so bytes = record {
-  inside = fitting_front 0 bytes;
-  each = λ at few. let here : 0 + at ≡ at = omega arith in ap (λ p. fits_at p (slice_index bytes at)) (sym here) ∙ fitting_each 0 bytes at few;
-  next = λ few. let here : 0 + fitting 0 bytes ≡ fitting 0 bytes = omega arith in ap (λ p. fits_at p (slice_index bytes (fitting 0 bytes))) (sym here) ∙ fitting_next 0 bytes few;
-}
-
-one_fault : (bytes : List ℕ) (damage : Damage) → damage.name ≡ sequence_file → IsFaultAt bytes damage.offset damage.byte → damage_at sequence_file bytes (fitting 0 bytes) ≡ damage
-one_fault bytes damage name fault =
-    let other : IsFaultAt bytes (fitting 0 bytes) (slice_get bytes (fitting 0 bytes)) = fault_at bytes (fitting 0 bytes) _ fault.wrong (fits_so bytes) refl in
-    let one = fault.longest (fitting 0 bytes) other.front in
-    let two = other.longest damage.offset fault.front in
-    let same : fitting 0 bytes ≡ damage.offset = omega (arith, one, two) in
-    let byte : slice_get bytes (fitting 0 bytes) ≡ damage.byte = ap (slice_get bytes) same ∙ fault.there in
-    λ i. record { name = sym name i; offset = same i; byte = byte i }
-
-pub last_damage : (content : Option (List ℕ)) (damage : Damage) → IsDamage content damage → last_in content ≡ Err damage
-last_damage content damage is = ap last_in is.held ∙ by_number (sequence_in is.bytes) refl where
-  by_number : (found : Option ℕ) → sequence_in is.bytes ≡ found → number_or_damage is.bytes found ≡ Err damage
-  by_number (Some number) given = absurd (is.fault.wrong number (last_spelled (Some is.bytes) number (ap (number_or_damage is.bytes) given)))
-  by_number None given = ap Err (one_fault is.bytes damage is.name_is is.fault)

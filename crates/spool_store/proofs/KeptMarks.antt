@@ -9,9 +9,9 @@ use Rattle.start_journal.specs.declared.mark.Mark.{Mark}
 use Rattle.start_journal.specs.declared.mark.Mark.TheVariants.{Removed, Started, Ended, Interrupted, Forgotten, Batch}
 use Rattle.start_journal.specs.Journals.{JournalRead, are_drawn, are_sound, is_drawn}
 use Rattle.start_journal.specs.Marks.{AreLegal, AreLegalAfter, IsLegalAfter, batch_mark, decides, ends, forgets, is_decided, is_ended, is_forgotten, is_kept, is_named, is_started, kept_marks, last_batch, marks_of, names, starts}
-use Rattle.start_journal.proofs.ByteLemmas.{and_then, both}
+use Rattle.std.proofs.lemmas.Bool.{and_from, and_parts, eqb-true}
 use Rattle.start_journal.proofs.LifeLemmas.{any_with, any_without}
-use Rattle.start_journal.proofs.MarkLemmas.{decides_names, ends_names, forgets_names, forgotten_was_decided, kept_marks_keep_what_counts, same_number, starts_names}
+use Rattle.start_journal.proofs.MarkLemmas.{decides_names, ends_names, forgets_names, forgotten_was_decided, kept_marks_keep_what_counts, starts_names}
 use Rattle.start_journal.proofs.ReadLemmas.{sound_legal}
 use Rattle.spool_shows.proofs.MarkTests.{neither, not_forgotten}
 
@@ -21,17 +21,17 @@ use Rattle.spool_shows.proofs.MarkTests.{neither, not_forgotten}
 pub all_filtered : (test keep : Mark → Bool) (marks : List Mark) → list_all test marks ≡ true → list_all test (filter keep marks) ≡ true
 all_filtered test keep [] all = refl
 all_filtered test keep (mark ∷ later) all =
-    let tests : (test mark ≡ true) × (list_all test later ≡ true) = both _ _ all in
+    let tests : (test mark ≡ true) × (list_all test later ≡ true) = and_parts _ _ all in
     by_keep (keep mark) tests.0 (all_filtered test keep later tests.1) where
       by_keep : (kept : Bool) → test mark ≡ true → list_all test (filter keep later) ≡ true → list_all test (cond kept (mark ∷ filter keep later) (filter keep later)) ≡ true
-      by_keep true here rest = and_then (test mark) _ here rest
+      by_keep true here rest = and_from (test mark) _ here rest
       by_keep false here rest = rest
 
 -- what a compaction keeps names drawn numbers
 pub kept_drawn : (last : ℕ) (marks : List Mark) → are_drawn last marks ≡ true → are_drawn last (kept_marks marks) ≡ true
 kept_drawn last marks drawn =
     list_all-append (is_drawn last) (filter (is_kept marks) marks) (batch_mark (last_batch marks))
-    ∙ and_then _ _ (all_filtered (is_drawn last) (is_kept marks) marks drawn) (by_batch (last_batch marks)) where
+    ∙ and_from _ _ (all_filtered (is_drawn last) (is_kept marks) marks drawn) (by_batch (last_batch marks)) where
       by_batch : (second : Option ℤ) → are_drawn last (batch_mark second) ≡ true
       by_batch (Some second) = refl
       by_batch None = refl
@@ -98,11 +98,11 @@ runs_silent number before mark no_start no_end undecided old = λ started runnin
 -- nor does a mark of the number that is legal
 runs_named : (number : ℕ) (before : List Mark) (mark : Mark) → names number mark ≡ true → IsLegalAfter before mark → RunsUndecided number before → RunsUndecided number (before ++ mark ∷ [])
 runs_named number before (Removed other) named legal old = λ started running.
-    let unnamed : is_named number before ≡ false = ap (λ n. is_named n before) (sym (same_number other number named)) ∙ legal in
+    let unnamed : is_named number before ≡ false = ap (λ n. is_named n before) (sym (eqb-true other number named)) ∙ legal in
     let impossible : true ≡ false = sym started ∙ any_without (starts number) before (Removed other) refl ∙ none_narrower (starts number) (names number) before (starts_names number) unnamed in
     cc
 runs_named number before (Started other queue second) named legal old = λ started running.
-    let unnamed : is_named number before ≡ false = ap (λ n. is_named n before) (sym (same_number other number named)) ∙ legal in
+    let unnamed : is_named number before ≡ false = ap (λ n. is_named n before) (sym (eqb-true other number named)) ∙ legal in
     any_without (decides number) before (Started other queue second) refl ∙ none_narrower (decides number) (names number) before (decides_names number) unnamed
 runs_named number before (Ended other ending) named legal old = λ started running.
     let impossible : true ≡ false = sym (any_with (ends number) before (Ended other ending) named) ∙ running in

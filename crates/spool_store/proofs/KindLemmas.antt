@@ -3,31 +3,31 @@ use Rattle.std.proofs.Common.{◌≡◌, ℕ, Bool, true, false, not, List, Opti
 use Rattle.std.specs.Prelude.{◌||◌, is_some, nat_eq}
 use Rattle.std.specs.Cmp.Lexicographic.{pointwise, unequal}
 use Rattle.job_name.specs.declared.job.JobName.{JobName}
-use Rattle.job_name.specs.JobName.{SpellsJobName}
-use Rattle.sequence_file.specs.Sequence.{temporary_file}
+use Rattle.job_name.specs.JobName.{SpellsJobName, NamedJob, job_named}
+use Rattle.whole_file.specs.Temporary.{temporary_file}
 use Rattle.start_journal.specs.declared.mark.Mark.{Mark}
 use Rattle.start_journal.specs.Marks.{is_decided}
 use Rattle.start_journal.proofs.MarkLemmas.{or_true}
-use Rattle.spool_shows.specs.JobFiles.{NamedJob, counts_as, job_named}
-use Rattle.spool_shows.proofs.Spellings.{name_given, name_spelled}
-use Rattle.spool_store.specs.declared.fronts.Kind.TheVariants.{Counts, LeftOver, Other}
-use Rattle.spool_store.specs.declared.lives.Life.{Life}
-use Rattle.spool_store.specs.declared.lives.Lives.{Lives}
-use Rattle.spool_store.specs.Lives.{TellLives, life_in}
-use Rattle.spool_store.specs.Looking.{IsKind, is_decided_job}
-use Rattle.spool_store.specs.Seen.{job_of_name}
+use Rattle.spool_shows.specs.JobFiles.{counts_as}
+use Rattle.job_name.proofs.NamedJobs.{name_given, name_spelled}
+use Rattle.spool_store.specs.declared.findings.Kind.TheVariants.{Counts, LeftOver, Other}
+use Rattle.spool_store.specs.declared.lifecycles.Lifecycle.{Lifecycle}
+use Rattle.spool_store.specs.declared.lifecycles.Lifecycles.{Lifecycles}
+use Rattle.spool_store.specs.inside.Lifecycles.{TellLifecycles, lifecycle_in}
+use Rattle.spool_store.specs.inside.Survey.{IsKind, is_decided_job}
+use Rattle.spool_store.specs.inside.FoundJobs.{job_of_name}
 use Rattle.spool_store.proofs.StartLemmas.{decided_has_fate}
 
 -- a number is decided where its life has a fate
-decided_as : (marks : List Mark) (lives : Lives) (number : ℕ) (life : Life) (fated : Bool) → TellLives marks lives → life ≡ life_in lives number → fated ≡ is_some life.fate → is_decided number marks ≡ fated
+decided_as : (marks : List Mark) (lives : Lifecycles) (number : ℕ) (life : Lifecycle) (fated : Bool) → TellLifecycles marks lives → life ≡ lifecycle_in lives number → fated ≡ is_some life.fate → is_decided number marks ≡ fated
 decided_as marks lives number life fated tells is fate =
-    decided_has_fate number marks ∙ sym (ap (λ (l : Life). is_some l.fate) (is ∙ tells number)) ∙ sym fate
+    decided_has_fate number marks ∙ sym (ap (λ (l : Lifecycle). is_some l.fate) (is ∙ tells number)) ∙ sym fate
 
 -- the name of a job is not that of a file that is being made
 pub not_temporary : (name : List ℕ) (job : NamedJob) → job_named name ≡ Some job → pointwise nat_eq name temporary_file ≡ false
 not_temporary name job is = unequal nat_eq name temporary_file (λ same. absurd (omega (arith, same, (name_spelled name job is).counted)))
 
-pub decided_kind : (marks : List Mark) (lives : Lives) (name : List ℕ) (job : JobName) (life : Life) → TellLives marks lives → SpellsJobName name job.queue job.number job.minute → life ≡ life_in lives job.number → true ≡ is_some life.fate → IsKind marks name LeftOver
+pub decided_kind : (marks : List Mark) (lives : Lifecycles) (name : List ℕ) (job : JobName) (life : Lifecycle) → TellLifecycles marks lives → SpellsJobName name job.queue job.number job.minute → life ≡ lifecycle_in lives job.number → true ≡ is_some life.fate → IsKind marks name LeftOver
 decided_kind marks lives name job life tells spelled is fate =
     let named : job_named name ≡ Some (job_of_name job) = name_given name job.queue job.number job.minute spelled in
     let decided : is_decided job.number marks ≡ true = decided_as marks lives job.number life true tells is fate in (
@@ -35,7 +35,7 @@ decided_kind marks lives name job life tells spelled is fate =
       ap (λ one. pointwise nat_eq name temporary_file || is_decided_job marks one) named ∙ ap (λ b. pointwise nat_eq name temporary_file || b) decided ∙ or_true (pointwise nat_eq name temporary_file),
     )
 
-pub counted_kind : (marks : List Mark) (lives : Lives) (name : List ℕ) (job : JobName) (life : Life) → TellLives marks lives → SpellsJobName name job.queue job.number job.minute → life ≡ life_in lives job.number → false ≡ is_some life.fate → IsKind marks name (Counts job)
+pub counted_kind : (marks : List Mark) (lives : Lifecycles) (name : List ℕ) (job : JobName) (life : Lifecycle) → TellLifecycles marks lives → SpellsJobName name job.queue job.number job.minute → life ≡ lifecycle_in lives job.number → false ≡ is_some life.fate → IsKind marks name (Counts job)
 counted_kind marks lives name job life tells spelled is fate =
     let named : job_named name ≡ Some (job_of_name job) = name_given name job.queue job.number job.minute spelled in
     let decided : is_decided job.number marks ≡ false = decided_as marks lives job.number life false tells is fate in (

@@ -8,11 +8,11 @@ pub mod Edits
 pub mod FrontLemmas
 pub mod KeptMarks
 pub mod KindLemmas
-pub mod LifeLemmas
+pub mod LifecycleLemmas
 pub mod ListLemmas
 pub mod ListedLemmas
 pub mod Listing
-pub mod LookLemmas
+pub mod SurveyLemmas
 pub mod MarkingCalls
 pub mod MarkingLemmas
 pub mod Places
@@ -22,8 +22,8 @@ pub mod RecoveryNames
 pub mod RoomLemmas
 pub mod RowRanges
 pub mod ScriptLemmas
-pub mod SeeLemmas
-pub mod SeenLemmas
+pub mod FindingLemmas
+pub mod FoundJobLemmas
 pub mod ShownLemmas
 pub mod StartLemmas
 pub mod StepCalls

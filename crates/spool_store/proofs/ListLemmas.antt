@@ -1,10 +1,9 @@
 -- The lists of rows and decided numbers: their numbers, and what they are.
 use Rattle.std.proofs.Common.{◌≡◌, ℕ, ◌≤◌, Bool, true, false, cond, List, Option, Some, None, [], ◌∷◌, map, sym, ap, subst, ◌∙◌, refl, arith, inl, inr}
-use Rattle.std.specs.Prelude.{◌==◌, ◌&&◌, Contains, is_some, nat_le, option_map}
+use Rattle.std.specs.Prelude.{Contains, is_some, nat_le, option_map, unwrap_or, ◌==◌, ◌&&◌}
 use Rattle.std.specs.BTreeMap.{IsOrdered, get, values}
 use Rattle.std.specs.List.{filter_map, list_all}
 use Rattle.std.specs.Ordering.{nat_cmp}
-use Rattle.std.specs.Prelude.{unwrap_or}
 use Rattle.std.proofs.lemmas.Bool.Decides.{nat_tests}
 use Rattle.std.proofs.lemmas.List.Elements.{All-contains}
 use Rattle.spool_model.specs.declared.decided.Decided.{Decided}
@@ -20,15 +19,15 @@ use Rattle.spool_shows.specs.Shown.{damage_of_jobs}
 use Rattle.spool_shows.proofs.Membership.{Has, contained, found_has, given_has, has_contained, made_has, one_passes}
 use Rattle.spool_shows.proofs.ShownEntries.{some_same}
 use Rattle.spool_shows.proofs.SoundLemmas.{fine_is_whole, no_damage_is_fine}
-use Rattle.start_journal.proofs.MarkLemmas.{same_number}
-use Rattle.spool_store.specs.declared.lives.Life.{Life}
-use Rattle.spool_store.specs.declared.lives.Lives.{Lives}
-use Rattle.spool_store.specs.declared.seen.Seen.{Seen}
-use Rattle.spool_store.specs.Lives.{Rise, TellLives, decided_of, remembered_fate, untold}
-use Rattle.spool_store.specs.Looks.{AreRowsOf, RowMap, row_of}
+use Rattle.std.proofs.lemmas.Bool.{eqb-true}
+use Rattle.spool_store.specs.declared.lifecycles.Lifecycle.{Lifecycle}
+use Rattle.spool_store.specs.declared.lifecycles.Lifecycles.{Lifecycles}
+use Rattle.spool_store.specs.declared.found_job.FoundJob.{FoundJob}
+use Rattle.spool_store.specs.inside.Lifecycles.{Rise, TellLifecycles, decided_of, remembered_fate, untold}
+use Rattle.spool_store.specs.inside.JobRows.{AreRowsOf, RowMap, row_of}
 use Rattle.spool_store.specs.Rows.{listed_table}
-use Rattle.spool_store.specs.Seen.{file_seen, files_seen}
-use Rattle.spool_store.specs.Tables.{AreUndecided, IsDrawn, ListsDrawn, ListsTable}
+use Rattle.spool_store.specs.inside.FoundJobs.{file_found, files_found}
+use Rattle.spool_store.specs.inside.Tables.{AreUndecided, IsDrawn, ListsDrawn, ListsTable}
 use Rattle.spool_store.proofs.StartLemmas.{decided_has_fate}
 use Rattle.spool_store.proofs.TableLemmas.{decided_rise, entry_found, rows_rise, table_same}
 
@@ -52,21 +51,21 @@ row_file marks files rows are ordered row has =
 -- Decided numbers.
 
 -- a life whose fate is remembered has a fate
-has_fate : (life : Life) (f : Fate) → remembered_fate life ≡ Some f → is_some life.fate ≡ true
+has_fate : (life : Lifecycle) (f : Fate) → remembered_fate life ≡ Some f → is_some life.fate ≡ true
 has_fate life f is = by_test life.forgotten is where
   by_test : (forgotten : Bool) → cond forgotten None life.fate ≡ Some f → is_some life.fate ≡ true
   by_test true none = cc
   by_test false fated = ap is_some fated
 
-remembered_decided : (marks : List Mark) (lives : Lives) → TellLives marks lives → (number : ℕ) (life : Life) (f : Fate) → get nat_cmp lives.by_number number ≡ Some life → remembered_fate life ≡ Some f → is_decided number marks ≡ true
+remembered_decided : (marks : List Mark) (lives : Lifecycles) → TellLifecycles marks lives → (number : ℕ) (life : Lifecycle) (f : Fate) → get nat_cmp lives.by_number number ≡ Some life → remembered_fate life ≡ Some f → is_decided number marks ≡ true
 remembered_decided marks lives tells number life f kept fated =
-    decided_has_fate number marks ∙ ap (λ (l : Life). is_some l.fate) (sym (tells number) ∙ ap (λ o. unwrap_or o untold) kept) ∙ has_fate life f fated
+    decided_has_fate number marks ∙ ap (λ (l : Lifecycle). is_some l.fate) (sym (tells number) ∙ ap (λ o. unwrap_or o untold) kept) ∙ has_fate life f fated
 
-made_decided : (entry : ℕ × Life) (one : Decided) (given : Option Fate) → remembered_fate entry.1 ≡ given → option_map (λ f. record { number = entry.0; fate = f }) given ≡ Some one → (f : Fate) × (remembered_fate entry.1 ≡ Some f) × (entry.0 ≡ one.number)
+made_decided : (entry : ℕ × Lifecycle) (one : Decided) (given : Option Fate) → remembered_fate entry.1 ≡ given → option_map (λ f. record { number = entry.0; fate = f }) given ≡ Some one → (f : Fate) × (remembered_fate entry.1 ≡ Some f) × (entry.0 ≡ one.number)
 made_decided entry one None is made = cc
 made_decided entry one (Some f) is made = (f, is, ap (λ (d : Decided). d.number) (some_same made))
 
-decided_is_decided : (marks : List Mark) (lives : Lives) → TellLives marks lives → IsOrdered nat_cmp lives.by_number → (one : Decided) → Has (filter_map decided_of lives.by_number.entries) one → is_decided one.number marks ≡ true
+decided_is_decided : (marks : List Mark) (lives : Lifecycles) → TellLifecycles marks lives → IsOrdered nat_cmp lives.by_number → (one : Decided) → Has (filter_map decided_of lives.by_number.entries) one → is_decided one.number marks ≡ true
 decided_is_decided marks lives tells ordered one has =
     let entry = given_has decided_of lives.by_number.entries one has in
     let fated = made_decided entry.0 one (remembered_fate entry.0.1) refl entry.2 in
@@ -85,7 +84,7 @@ all_pass test (first ∷ later) mark all (inr has) = all_pass test later mark (o
 all_pass test [] mark all has = absurd has
 
 up_to : (last other number : ℕ) → (other == number) ≡ true → nat_le other last ≡ true → 1 ≤ other → IsDrawn last number
-up_to last other number same below some = let is : other ≡ number = same_number other number same in (omega arith, let le : other ≤ last = grind (arith, nat_tests) in omega arith)
+up_to last other number same below some = let is : other ≡ number = eqb-true other number same in (omega arith, let le : other ≤ last = grind (arith, nat_tests) in omega arith)
 
 decider_drawn : (last number : ℕ) (mark : Mark) → decides number mark ≡ true → is_drawn last mark ≡ true → IsWritable mark → IsDrawn last number
 decider_drawn last number (Removed other) same drawn some = up_to last other number same drawn some
@@ -102,14 +101,14 @@ number_drawn last marks number writable drawn decided =
     decider_drawn last number mark.0 mark.2 (all_pass (is_drawn last) marks mark.0 drawn mark.1) (All-contains IsWritable marks mark.0 writable (contained marks mark.0 mark.1))
 
 -- a file that was seen has the number of a job
-pub seen_number : (seen : List Seen) (file : JobFile) → Has (files_seen seen) file → 1 ≤ file.job.number
+pub seen_number : (seen : List FoundJob) (file : JobFile) → Has (files_found seen) file → 1 ≤ file.job.number
 seen_number seen file has =
-    let of = made_has file_seen seen file has in
+    let of = made_has file_found seen file has in
     let one : 1 ≤ of.0.job.number = of.0.job.drawn in
     subst (λ (f : JobFile). 1 ≤ f.job.number) of.2 one
 
 -- lists that are those of the rows and of the lives are those of the table
-pub lists_table : (last : ℕ) (marks : List Mark) (files : List JobFile) (rows : RowMap) (lives : Lives) (row_list : List Row) (decided : List Decided) → TellLives marks lives → AreRowsOf marks files rows → IsOrdered nat_cmp rows → IsOrdered nat_cmp lives.by_number
+pub lists_table : (last : ℕ) (marks : List Mark) (files : List JobFile) (rows : RowMap) (lives : Lifecycles) (row_list : List Row) (decided : List Decided) → TellLifecycles marks lives → AreRowsOf marks files rows → IsOrdered nat_cmp rows → IsOrdered nat_cmp lives.by_number
     → row_list ≡ values rows → decided ≡ filter_map decided_of lives.by_number.entries → damage_of_jobs last marks files ≡ None → ListsTable last marks files row_list decided
 lists_table last marks files rows lives row_list decided tells are ordered orders rows_is decided_is whole = record {
   whole = whole;
@@ -119,7 +118,7 @@ lists_table last marks files rows lives row_list decided tells are ordered order
 }
 
 -- and their numbers were drawn
-pub lists_drawn : (last : ℕ) (marks : List Mark) (files : List JobFile) (rows : RowMap) (lives : Lives) (row_list : List Row) (decided : List Decided) → TellLives marks lives → AreRowsOf marks files rows → IsOrdered nat_cmp rows → IsOrdered nat_cmp lives.by_number
+pub lists_drawn : (last : ℕ) (marks : List Mark) (files : List JobFile) (rows : RowMap) (lives : Lifecycles) (row_list : List Row) (decided : List Decided) → TellLifecycles marks lives → AreRowsOf marks files rows → IsOrdered nat_cmp rows → IsOrdered nat_cmp lives.by_number
     → row_list ≡ values rows → decided ≡ filter_map decided_of lives.by_number.entries → files_damage last [] files ≡ None → AreUndecided marks files → AreWritable marks → are_drawn last marks ≡ true → ((file : JobFile) → Has files file → 1 ≤ file.job.number) → ListsDrawn last row_list decided
 lists_drawn last marks files rows lives row_list decided tells are ordered orders rows_is decided_is whole undecided writable drawn named = record {
   rows_drawn = λ row has.

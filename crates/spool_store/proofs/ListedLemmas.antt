@@ -12,23 +12,23 @@ use Rattle.spool_model.specs.declared.decided.Decided.{Decided}
 use Rattle.spool_model.specs.declared.row.Row.{Row}
 use Rattle.spool_model.specs.JobTable.{JobEntry}
 use Rattle.start_journal.specs.declared.mark.Mark.{Mark}
-use Rattle.start_journal.proofs.ByteLemmas.{and_then}
+use Rattle.std.proofs.lemmas.Bool.{and_from}
 use Rattle.spool_shows.specs.JobFiles.{JobFile}
 use Rattle.spool_shows.proofs.EntryLists.{key_has}
 use Rattle.spool_shows.proofs.Membership.{Has, contained, made_has}
 use Rattle.spool_store.specs.Listed.{AreListed, entry_in}
 use Rattle.spool_store.specs.Rows.{decided_entry, row_entry}
-use Rattle.spool_store.specs.Tables.{IsDrawn, ListsDrawn, ListsTable}
+use Rattle.spool_store.specs.inside.Tables.{IsDrawn, ListsDrawn, ListsTable}
 use Rattle.spool_store.proofs.Listing.{found_in_both, or_else}
 
 below_from : (low : ℕ) (entries : List (ℕ × JobEntry)) → AllByRecursion (λ other. nat_cmp low other ≡ Less) (map (λ (e : ℕ × JobEntry). e.0) entries) → below_all nat_cmp low entries ≡ true
 below_from low [] below = refl
-below_from low (entry ∷ later) below = and_then (is_lt (nat_cmp low entry.0)) (below_all nat_cmp low later) (ap is_lt below.0) (below_from low later below.1)
+below_from low (entry ∷ later) below = and_from (is_lt (nat_cmp low entry.0)) (below_all nat_cmp low later) (ap is_lt below.0) (below_from low later below.1)
 
 rises_from : (entries : List (ℕ × JobEntry)) → IsStrictlySortedBy nat_cmp (map (λ (e : ℕ × JobEntry). e.0) entries) → is_sorted nat_cmp entries ≡ true
 rises_from [] sorted = refl
 rises_from (entry ∷ later) sorted =
-    and_then (below_all nat_cmp entry.0 later) (is_sorted nat_cmp later) (below_from entry.0 later (sorted_head nat_cmp _ _ sorted)) (rises_from later (sorted_tail nat_cmp _ _ sorted))
+    and_from (below_all nat_cmp entry.0 later) (is_sorted nat_cmp later) (below_from entry.0 later (sorted_head nat_cmp _ _ sorted)) (rises_from later (sorted_tail nat_cmp _ _ sorted))
 
 row_keys : (rows : List Row) → map (λ (row : Row). row.number) rows ≡ map (λ (e : ℕ × JobEntry). e.0) (map row_entry rows)
 row_keys [] = refl

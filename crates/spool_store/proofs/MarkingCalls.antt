@@ -1,7 +1,7 @@
 -- Which files calls leave alone, and how far steps were made.
 use Rattle.std.proofs.Common.{ℕ, List, [], ◌∷◌, ◌∙◌, refl, inl, inr}
 use Rattle.host_calls.specs.Folder.{Files, Folder, IsImage}
-use Rattle.sequence_file.specs.Sequence.{temporary_file}
+use Rattle.whole_file.specs.Temporary.{temporary_file}
 use Rattle.spool_model.specs.declared.step.Step.{Step}
 use Rattle.spool_model.specs.JobTable.{JobTable}
 use Rattle.spool_model.specs.Steps.{IsFront, after_step}

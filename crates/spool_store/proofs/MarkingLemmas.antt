@@ -5,7 +5,7 @@ use Rattle.std.specs.FinMap as map
 use Rattle.std.proofs.lemmas.Bool.Decides.{nat_tests}
 use Rattle.std.proofs.lemmas.List.Folds.{list_all-append}
 use Rattle.host_calls.specs.Folder.{Files}
-use Rattle.sequence_file.specs.Sequence.{temporary_file}
+use Rattle.whole_file.specs.Temporary.{temporary_file}
 use Rattle.spool_model.specs.declared.entry.Entry.TheVariants.{Live, Done}
 use Rattle.spool_model.specs.declared.fate.Fate.{Fate}
 use Rattle.spool_model.specs.declared.job.Job.{Job}
@@ -19,8 +19,7 @@ use Rattle.start_journal.specs.declared.mark.Mark.TheVariants.{Removed, Started,
 use Rattle.start_journal.specs.Changing.{Gives, added, compacted}
 use Rattle.start_journal.specs.Journals.{JournalRead, are_drawn, is_drawn, journal_file, journal_in}
 use Rattle.start_journal.specs.Marks.{AreLegal, decides, is_decided}
-use Rattle.start_journal.proofs.ByteLemmas.{and_then, both}
-use Rattle.start_journal.proofs.MarkLemmas.{either}
+use Rattle.std.proofs.lemmas.Bool.{and_from, and_parts, or_cases}
 use Rattle.spool_shows.specs.ByName.{ShowsByName}
 use Rattle.spool_shows.specs.Laws.{AddsMark, AgreeElsewhere, HasMarks, HasNoForgotten}
 use Rattle.spool_shows.specs.Shown.{Shows}
@@ -58,13 +57,13 @@ all_drawn_from [] = (0, λ last least. refl)
 all_drawn_from (mark ∷ later) =
     let rest : (least : ℕ) × ((last : ℕ) → least ≤ last → are_drawn last later ≡ true) = all_drawn_from later in (
       least_for mark + rest.0,
-      λ last least. and_then (is_drawn last mark) _ (drawn_from mark last (omega arith)) (rest.1 last (omega arith)),
+      λ last least. and_from (is_drawn last mark) _ (drawn_from mark last (omega arith)) (rest.1 last (omega arith)),
     )
 
 -- drawn numbers are named by marks with one more that names one
 pub more_drawn : (last : ℕ) (marks : List Mark) (mark : Mark) → are_drawn last marks ≡ true → is_drawn last mark ≡ true → are_drawn last (marks ++ mark ∷ []) ≡ true
 more_drawn last marks mark drawn here =
-    list_all-append (is_drawn last) marks (mark ∷ []) ∙ and_then _ _ drawn (and_then (is_drawn last mark) true here refl)
+    list_all-append (is_drawn last) marks (mark ∷ []) ∙ and_from _ _ drawn (and_from (is_drawn last mark) true here refl)
 
 -- The journal of a folder that shows a table.
 
@@ -134,8 +133,8 @@ decides_drawn last number _ drawn is = cc
 decided_drawn : (last number : ℕ) (marks : List Mark) → are_drawn last marks ≡ true → is_decided number marks ≡ true → nat_le number last ≡ true
 decided_drawn last number [] drawn is = cc
 decided_drawn last number (mark ∷ later) drawn is =
-    let tests : (is_drawn last mark ≡ true) × (are_drawn last later ≡ true) = both _ _ drawn in
-    elim (either (decides number mark) (is_decided number later) is) [
+    let tests : (is_drawn last mark ≡ true) × (are_drawn last later ≡ true) = and_parts _ _ drawn in
+    elim (or_cases (decides number mark) (is_decided number later) is) [
       | inl here ↦ decides_drawn last number mark tests.0 here
       | inr behind ↦ decided_drawn last number later tests.1 behind
     ]

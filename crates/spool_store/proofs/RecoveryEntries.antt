@@ -11,9 +11,9 @@ use Rattle.start_journal.specs.declared.mark.Mark.{Mark}
 use Rattle.start_journal.specs.declared.mark.Mark.TheVariants.{Removed, Started, Ended, Interrupted, Forgotten, Batch}
 use Rattle.start_journal.specs.Journals.{AreWritable, are_drawn}
 use Rattle.start_journal.specs.Marks.{AreLegal, batch_second, first_of_two, is_decided, is_forgotten, last_batch}
-use Rattle.start_journal.specs.Slots.{IsSecond, IsWritable}
-use Rattle.start_journal.proofs.ByteLemmas.{and_then}
-use Rattle.start_journal.proofs.MarkLemmas.{same_number}
+use Rattle.start_journal.specs.Slots.{IsWritable}
+use Rattle.clock_range.specs.ClockRange.{IsClockSecond}
+use Rattle.std.proofs.lemmas.Bool.{and_from, eqb-true}
 use Rattle.spool_shows.specs.JobFiles.{JobFile, file_of}
 use Rattle.spool_shows.specs.Shown.{damage_of_jobs, job_of, live_entry, start_second, started_at, starts_damage, state_since, table_shown}
 use Rattle.spool_shows.proofs.MarkTests.{not_forgotten}
@@ -21,22 +21,23 @@ use Rattle.spool_shows.proofs.Membership.{Has, contained, found_has, made_has}
 use Rattle.spool_shows.proofs.SoundLemmas.{fine_is_whole, neither_first, no_damage_is_fine}
 use Rattle.spool_shows.proofs.StepLegal.{is_started_since, unnamed}
 use Rattle.job_runs.specs.Bare.{bare, bare_entry, bare_job}
-use Rattle.spool_store.specs.declared.seen.Seen.{Seen}
-use Rattle.spool_store.specs.Lives.{fate_at, remembered_at}
-use Rattle.spool_store.specs.Seen.{file_seen, files_seen}
+use Rattle.spool_store.specs.declared.found_job.FoundJob.{FoundJob}
+use Rattle.spool_store.specs.inside.Lifecycles.{fate_at, remembered_at}
+use Rattle.spool_store.specs.inside.FoundJobs.{file_found, files_found}
 use Rattle.spool_store.specs.Stored.{IsEntryBy, IsLiveBy, IsStateBy, IsStored, RunsSince}
-use Rattle.spool_store.specs.Tables.{AreUndecided, IsDrawn, IsTableShown}
+use Rattle.spool_store.specs.inside.Tables.{AreUndecided, IsDrawn, IsTableShown}
 use Rattle.spool_store.proofs.FrontLemmas.{at_shown}
 use Rattle.spool_store.proofs.ListLemmas.{number_drawn}
 use Rattle.spool_store.proofs.StartLemmas.{decided_has_fate}
 use Rattle.spool_store.proofs.TableLemmas.{found_shown}
+use Rattle.spool_model.specs.declared.number.TheConstants.{LAST_NUMBER}
 
 -- The seconds of marks that can be written.
 
 -- the second of the mark, if it starts the number, lies in the clock's range
-start_in_range : (number : ℕ) (mark : Mark) → IsWritable mark → IfSome (start_second number mark) IsSecond
+start_in_range : (number : ℕ) (mark : Mark) → IsWritable mark → IfSome (start_second number mark) IsClockSecond
 start_in_range number (Started other queue second) writable = by_test (other == number) where
-  by_test : (same : Bool) → IfSome (cond same (Some second) None) IsSecond
+  by_test : (same : Bool) → IfSome (cond same (Some second) None) IsClockSecond
   by_test true = writable.second_of
   by_test false = tt
 start_in_range number (Removed other) writable = tt
@@ -46,21 +47,21 @@ start_in_range number (Forgotten other) writable = tt
 start_in_range number (Batch second) writable = tt
 
 -- the first of two does where both do
-either_in_range : (one other : Option ℤ) → IfSome one IsSecond → IfSome other IsSecond → IfSome (option_or one other) IsSecond
+either_in_range : (one other : Option ℤ) → IfSome one IsClockSecond → IfSome other IsClockSecond → IfSome (option_or one other) IsClockSecond
 either_in_range (Some second) other here there = here
 either_in_range None other here there = there
 
 -- so does the second at which the number was started
-since_in_range : (number : ℕ) (marks : List Mark) → AreWritable marks → IfSome (started_at number marks) IsSecond
+since_in_range : (number : ℕ) (marks : List Mark) → AreWritable marks → IfSome (started_at number marks) IsClockSecond
 since_in_range number [] writable = tt
 since_in_range number (mark ∷ later) writable =
     either_in_range (start_second number mark) (started_at number later)
     (start_in_range number mark (All-head IsWritable mark later writable)) (since_in_range number later (All-tail IsWritable mark later writable))
 
 -- the second of a start in a batch queue
-batch_in_range : (mark : Mark) → IsWritable mark → IfSome (batch_second mark) IsSecond
+batch_in_range : (mark : Mark) → IsWritable mark → IfSome (batch_second mark) IsClockSecond
 batch_in_range (Started number queue second) writable = by_test (is_batch_queue queue) where
-  by_test : (batch : Bool) → IfSome (cond batch (Some second) None) IsSecond
+  by_test : (batch : Bool) → IfSome (cond batch (Some second) None) IsClockSecond
   by_test true = writable.second_of
   by_test false = tt
 batch_in_range (Batch second) writable = writable
@@ -70,12 +71,12 @@ batch_in_range (Interrupted number) writable = tt
 batch_in_range (Forgotten number) writable = tt
 
 -- the same of two as the last batch start is chosen
-last_in_range : (one other : Option ℤ) → IfSome one IsSecond → IfSome other IsSecond → IfSome (first_of_two one other) IsSecond
+last_in_range : (one other : Option ℤ) → IfSome one IsClockSecond → IfSome other IsClockSecond → IfSome (first_of_two one other) IsClockSecond
 last_in_range (Some second) other here there = here
 last_in_range None other here there = there
 
 -- the second of the last batch start
-last_batch_in_range : (marks : List Mark) → AreWritable marks → IfSome (last_batch marks) IsSecond
+last_batch_in_range : (marks : List Mark) → AreWritable marks → IfSome (last_batch marks) IsClockSecond
 last_batch_in_range [] writable = tt
 last_batch_in_range (mark ∷ later) writable =
     last_in_range (last_batch later) (batch_second mark)
@@ -84,7 +85,7 @@ last_batch_in_range (mark ∷ later) writable =
 -- States.
 
 -- a job runs since a second of the range
-runs_since : (since : Option ℤ) → IfSome since IsSecond → RunsSince (state_since since)
+runs_since : (since : Option ℤ) → IfSome since IsClockSecond → RunsSince (state_since since)
 runs_since (Some second) in_range = in_range
 runs_since None in_range = tt
 
@@ -92,7 +93,7 @@ runs_since None in_range = tt
 state_by : (marks : List Mark) (number : ℕ) (since : Option ℤ) → started_at number marks ≡ since → AreLegal marks → is_decided number marks ≡ false → IsStateBy marks number (state_since since)
 state_by marks number None is legal undecided = unnamed number marks undecided (not_forgotten marks number legal undecided) is
 state_by marks number (Some second) is legal undecided =
-    and_then _ (not (is_decided number marks)) (is_started_since number marks second is) (ap not undecided)
+    and_from _ (not (is_decided number marks)) (is_started_since number marks second is) (ap not undecided)
 
 -- a number whose fate is remembered is decided and not forgotten
 remembered_is : (marks : List Mark) (number : ℕ) (fate : Fate) → remembered_at number marks ≡ Some fate → (is_decided number marks ≡ true) × (is_forgotten number marks ≡ false)
@@ -105,7 +106,7 @@ remembered_is marks number fate is = by_test (is_forgotten number marks) refl is
 
 -- a look has seen these marks and these files, and no damage
 pub record HasSeen (last : ℕ) (marks : List Mark) (files : List JobFile) : Type 0 where
-  pub few : last ≤ 1048575
+  pub few : last ≤ LAST_NUMBER
   pub legal : AreLegal marks
   pub writable : AreWritable marks
   pub drawn : IsTrue (are_drawn last marks)
@@ -114,9 +115,9 @@ pub record HasSeen (last : ℕ) (marks : List Mark) (files : List JobFile) : Typ
   pub whole : damage_of_jobs last marks files ≡ None
 
 -- a file that was seen has the name of a job in range
-pub seen_named : (seen : List Seen) (file : JobFile) → Has (files_seen seen) file → IsInRange file.job.queue file.job.number file.job.minute
+pub seen_named : (seen : List FoundJob) (file : JobFile) → Has (files_found seen) file → IsInRange file.job.queue file.job.number file.job.minute
 seen_named seen file has =
-    let of : (one : Seen) × Has seen one × (file_seen one ≡ file) = made_has file_seen seen file has in
+    let of : (one : FoundJob) × Has seen one × (file_found one ≡ file) = made_has file_found seen file has in
     subst (λ (f : JobFile). IsInRange f.job.queue f.job.number f.job.minute) of.2
     (record { letter = of.0.job.letter; drawn = of.0.job.drawn; in_calendar = of.0.job.in_calendar })
 
@@ -137,10 +138,10 @@ module _ (last : ℕ) (marks : List Mark) (files : List JobFile) (seen : HasSeen
   entry_by : (number : ℕ) (found : Option JobFile) (given : Option Fate) → file_of number files ≡ found → remembered_at number marks ≡ given → IsEntryBy marks number (entry_of marks found given)
   entry_by number (Some file) given is other =
       let there : Has files file × ((file.job.number == number) ≡ true) = found_has (λ (f : JobFile). f.job.number == number) files file is in
-      subst (λ at. IsLiveBy marks at (bare_job (job_of file)) (state_since (started_at file.job.number marks))) (same_number file.job.number number there.1) (live_by file there.0)
+      subst (λ at. IsLiveBy marks at (bare_job (job_of file)) (state_since (started_at file.job.number marks))) (eqb-true file.job.number number there.1) (live_by file there.0)
   entry_by number None (Some fate) is other =
       let both = remembered_is marks number fate other in
-      and_then (is_decided number marks) (not (is_forgotten number marks)) both.0 (ap not both.1)
+      and_from (is_decided number marks) (not (is_forgotten number marks)) both.0 (ap not both.1)
   entry_by number None None is other = tt
 
   -- a number with an entry was drawn
@@ -148,7 +149,7 @@ module _ (last : ℕ) (marks : List Mark) (files : List JobFile) (seen : HasSeen
   number_in number (Some file) given is other some =
       let there : Has files file × ((file.job.number == number) ≡ true) = found_has (λ (f : JobFile). f.job.number == number) files file is in
       let whole = (neither_first _ (starts_damage marks files 0 marks) seen.whole).0 in
-      subst (IsDrawn last) (same_number file.job.number number there.1)
+      subst (IsDrawn last) (eqb-true file.job.number number there.1)
       ((seen.named file there.0).drawn, (fine_is_whole last [] files file (no_damage_is_fine last [] files whole) there.0).drawn)
   number_in number None (Some fate) is other some = number_drawn last marks number seen.writable seen.drawn (remembered_is marks number fate other).0
   number_in number None None is other some = let impossible : false ≡ true = some in cc

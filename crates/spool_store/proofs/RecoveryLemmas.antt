@@ -1,5 +1,5 @@
 -- What a recovery leaves: each moment shows what the folder showed, and at the end what is kept is current.
-use Rattle.std.proofs.Common.{◌≡◌, ℕ, true, false, List, Option, Some, None, [], sym, ap, subst, ◌∙◌, refl, inl, inr, arith}
+use Rattle.std.proofs.Common.{◌≡◌, ℕ, true, false, List, Option, Some, None, [], sym, ap, subst, ◌∙◌, refl, inl, inr, arith, ◌∷◌}
 use Rattle.std.specs.Prelude.{◌≢◌, Contains, IsErrAnd, Ok, Err, Result, is_some}
 use Rattle.std.specs.FinMap as finite
 use Rattle.std.specs.List.{filter}
@@ -8,7 +8,8 @@ use Rattle.host_calls.specs.Folder.{Files, Folder, IsImage, IsInNoImage, IsSettl
 use Rattle.host_calls.specs.World.{FileCall, World, reading}
 use Rattle.host_calls.proofs.FolderLemmas.{reading_is_image, reading_of-settled, settled_image}
 use Rattle.host_calls.proofs.WorldLemmas.{at_end}
-use Rattle.sequence_file.specs.Sequence.{sequence_file, temporary_file}
+use Rattle.sequence_file.specs.Sequence.{sequence_file}
+use Rattle.whole_file.specs.Temporary.{temporary_file}
 use Rattle.start_journal.specs.declared.mark.Mark.{Mark}
 use Rattle.start_journal.specs.Changing.{Gives}
 use Rattle.start_journal.specs.Journals.{journal_file}
@@ -26,9 +27,10 @@ use Rattle.job_runs.specs.Calls.{ShowsAsBefore}
 use Rattle.job_runs.specs.Current.{IsCurrent, IsSpoolName, Kept}
 use Rattle.spool_store.specs.declared.fault.StoreFault.{StoreFault}
 use Rattle.spool_store.specs.declared.fault.StoreFault.TheVariants.{Damaged, FileFault, Memory, NumbersUsedUp, QueueFull}
-use Rattle.spool_store.specs.declared.look.Look.{Look}
-use Rattle.spool_store.specs.Faults.{IfDamaged, IsOfReading}
-use Rattle.spool_store.specs.Looking.{IsLook, is_left_over}
+use Rattle.spool_store.specs.declared.survey.Survey.{Survey}
+use Rattle.host_calls.specs.Damages.{IfDamaged}
+use Rattle.spool_store.specs.Faults.{IsOfReading}
+use Rattle.spool_store.specs.inside.Survey.{IsSurvey, is_left_over}
 use Rattle.spool_store.specs.Recovering.{IsRecovered, Recovered}
 use Rattle.spool_store.proofs.ChangesJoined.{changes_join}
 use Rattle.spool_store.proofs.RecoveryNames.{are_files, counting_stays, decided_left, journal_stays, left_among, left_is_spool, left_there, sequence_stays, stays_apart, temporary_left}
@@ -55,21 +57,21 @@ settling old new result call =
 -- The look at the settled folder.
 
 -- the folder was settled and looked at, and no file has changed
-pub record HasSettled (old looked : World) (look : Look) : Type 0 where
+pub record HasSettled (old looked : World) (look : Survey) : Type 0 where
   pub files : ChangesFiles (ShowsAsBefore old.now.folder) old looked
   pub settled : looked.now.folder ≡ settled old.now.folder
-  pub found : IsLook (reading old) look
+  pub found : IsSurvey (reading old) look
 
 -- the reading is that of before
 settled_reading : (old new : World) → IsSettled old.now.folder new.now.folder → reading new ≡ reading old
 settled_reading old new done = ap reading_of done ∙ reading_of-settled old.now.folder
 
 -- a look at a folder that was settled
-pub has_settled : {T : Type 0} (old settled looked : World) (value : T) (look : Look) → FileCall IsSettled IsSyncedInPart old settled (Ok value) → looked ≡ settled → IsLook (reading settled) look → HasSettled old looked look
+pub has_settled : {T : Type 0} (old settled looked : World) (value : T) (look : Survey) → FileCall IsSettled IsSyncedInPart old settled (Ok value) → looked ≡ settled → IsSurvey (reading settled) look → HasSettled old looked look
 has_settled old settled looked value look call same is = record {
   files = subst (ChangesFiles (ShowsAsBefore old.now.folder) old) (sym same) (settling old settled (Ok value) call);
   settled = ap (λ (world : World). world.now.folder) same ∙ call.outcome;
-  found = subst (λ files. IsLook files look) (settled_reading old settled call.outcome) is;
+  found = subst (λ files. IsSurvey files look) (settled_reading old settled call.outcome) is;
 }
 
 -- a look that failed: no file has changed
@@ -77,30 +79,20 @@ pub only_settled : {T : Type 0} (old settled looked : World) (result : Result T 
 only_settled old settled looked result call same = subst (ChangesFiles (ShowsAsBefore old.now.folder) old) (sym same) (settling old settled result call)
 
 -- and where it answers a damage, the reading shows it
-pub settled_damage : {T : Type 0} (old settled : World) (new : Folder) (value : T) (fault : StoreFault) (result : Result Kept StoreFault) → FileCall IsSettled IsSyncedInPart old settled (Ok value) → IsErrAnd result (λ one. one ≡ fault) → IsOfReading fault → IfDamaged {T = Look} (λ damage. shown_by (reading settled) ≡ Err damage) (Err fault)
+pub settled_damage : {T : Type 0} (old settled : World) (new : Folder) (value : T) (fault : StoreFault) (result : Result Kept StoreFault) → FileCall IsSettled IsSyncedInPart old settled (Ok value) → IsErrAnd result (λ one. one ≡ fault) → IsOfReading fault → IfDamaged {T = Survey} Damaged (λ damage. shown_by (reading settled) ≡ Err damage) (Err fault)
     → Recovered old.now.folder new result
 settled_damage old settled new value fault (Ok kept) call is of_reading damaged = absurd is
 settled_damage old settled new value fault (Err other) call is of_reading damaged = subst (λ one. Recovered old.now.folder new (Err one)) (sym is) (by_fault fault of_reading damaged) where
-  by_fault : (one : StoreFault) → IsOfReading one → IfDamaged {T = Look} (λ damage. shown_by (reading settled) ≡ Err damage) (Err one) → Recovered old.now.folder new (Err one)
-  by_fault (Damaged damage) of shows = ap shown_by (sym (settled_reading old settled call.outcome)) ∙ shows
+  by_fault : (one : StoreFault) → IsOfReading one → IfDamaged {T = Survey} Damaged (λ damage. shown_by (reading settled) ≡ Err damage) (Err one) → Recovered old.now.folder new (Err one)
+  by_fault (Damaged damage) of shows = ap shown_by (sym (settled_reading old settled call.outcome)) ∙ shows damage refl
   by_fault Memory of shows = tt
   by_fault FileFault of shows = tt
   by_fault QueueFull of shows = absurd of
   by_fault NumbersUsedUp of shows = absurd of
 
 -- where a damage is answered, all reads as before
-pub settled_untouched : {T : Type 0} (old settled new : World) (value : T) (result : Result Kept StoreFault) → FileCall IsSettled IsSyncedInPart old settled (Ok value) → new ≡ settled → IfDamaged (λ damage. reading new ≡ reading old) result
-settled_untouched old settled new value result call same = by_answer result where
-  reads : reading new ≡ reading old
-  reads = ap reading same ∙ settled_reading old settled call.outcome
-
-  by_answer : (answer : Result Kept StoreFault) → IfDamaged (λ damage. reading new ≡ reading old) answer
-  by_answer (Ok kept) = tt
-  by_answer (Err (Damaged damage)) = reads
-  by_answer (Err Memory) = tt
-  by_answer (Err FileFault) = tt
-  by_answer (Err QueueFull) = tt
-  by_answer (Err NumbersUsedUp) = tt
+pub settled_untouched : {T : Type 0} (old settled new : World) (value : T) (result : Result Kept StoreFault) → FileCall IsSettled IsSyncedInPart old settled (Ok value) → new ≡ settled → IfDamaged Damaged (λ damage. reading new ≡ reading old) result
+settled_untouched old settled new value result call same = λ damage is. ap reading same ∙ settled_reading old settled call.outcome
 
 -- The files that were left over, and removed.
 
@@ -108,7 +100,7 @@ settled_untouched old settled new value result call same = by_answer result wher
 none_among : (name : List ℕ) → Contains [] name → ⊥
 none_among name among = omega (arith, among.1)
 
-module _ (old looked : World) (look : Look) (at : HasSettled old looked look) (names : List (List ℕ)) (same : names ≡ look.leftover.items) where
+module _ (old looked : World) (look : Survey) (at : HasSettled old looked look) (names : List (List ℕ)) (same : names ≡ look.leftover.items) where
   abbrev files : Files
   files = reading old
 
@@ -167,7 +159,14 @@ module _ (old looked : World) (look : Look) (at : HasSettled old looked look) (n
 
   -- The end.
 
-  module _ (new : World) (changes : ChangesFiles IsLeft looked new) (cleared : names ≢ [] → AreCleared names looked.now.folder new.now.folder) where
+  module _ (new : World) (changes : ChangesFiles IsLeft looked new) (nothing : names ≡ [] → new ≡ looked) (cleared : names ≢ [] → AreCleared names looked.now.folder new.now.folder) where
+    -- no change of names is pending: the folder is settled still, or its names were synced
+    certain : new.now.folder.pending ≡ []
+    certain = by_names names nothing cleared where
+      by_names : (list : List (List ℕ)) → (list ≡ [] → new ≡ looked) → (list ≢ [] → AreCleared list looked.now.folder new.now.folder) → new.now.folder.pending ≡ []
+      by_names [] none some = ap (λ (world : World). world.now.folder.pending) (none refl) ∙ ap (λ (folder : Folder). folder.pending) at.settled
+      by_names (name ∷ others) none some = (some (λ is. cc)).certain
+
     -- each image of the end is left so
     end_left : (image : Files) → IsImage new.now.folder image → IsLeft image
     end_left image is =
@@ -198,6 +197,7 @@ module _ (old looked : World) (look : Look) (at : HasSettled old looked look) (n
       shows = λ image is. shows_same image (end_left image is) ∙ at.found.shows;
       bare_is = at.found.jobs;
       journal = record {
+        certain = certain;
         same = same_in_each journal_file (journal_stays marks);
         gives = subst (λ content. Gives content look.journal) (sym (end_reads journal_file (journal_stays marks))) (recalled_gives at.found.table.last (finite.get files journal_file) look.journal at.found.journal);
         no_temp = gone temporary_file (temporary_left marks);

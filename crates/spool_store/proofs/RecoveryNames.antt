@@ -8,18 +8,21 @@ use Rattle.std.specs.List.{filter}
 use Rattle.std.proofs.lemmas.List.Elements.{All-contains_itself}
 use Rattle.std.proofs.lemmas.List.Kept.{AllPairs-cons}
 use Rattle.host_calls.specs.Folder.{Files}
-use Rattle.sequence_file.specs.Sequence.{sequence_file, temporary_file}
+use Rattle.sequence_file.specs.Sequence.{sequence_file}
+use Rattle.whole_file.specs.Temporary.{temporary_file}
 use Rattle.start_journal.specs.declared.mark.Mark.{Mark}
 use Rattle.start_journal.specs.Journals.{journal_file}
 use Rattle.start_journal.specs.Marks.{is_decided}
-use Rattle.start_journal.proofs.MarkLemmas.{either, not_true, or_false, or_true}
+use Rattle.std.proofs.lemmas.Bool.{not-true, or_cases}
+use Rattle.start_journal.proofs.MarkLemmas.{or_false, or_true}
 use Rattle.whole_file.specs.Clearing.{AreFiles}
-use Rattle.spool_shows.specs.JobFiles.{NamedJob, counts, counts_as, job_named}
+use Rattle.spool_shows.specs.JobFiles.{counts, counts_as}
+use Rattle.job_name.specs.JobName.{NamedJob, job_named}
 use Rattle.spool_shows.proofs.EntryLists.{AreApart, apart_filtered, apart_sorted, entry_is_file, file_is_entry}
 use Rattle.spool_shows.proofs.Membership.{Has, contained, filtered_has, has_contained, has_filtered, has_made, made_has}
 use Rattle.spool_shows.proofs.NameLemmas.{journal_no_job, sequence_no_job}
 use Rattle.job_runs.specs.Current.{IsSpoolName}
-use Rattle.spool_store.specs.Looking.{is_decided_job, is_left_over}
+use Rattle.spool_store.specs.inside.Survey.{is_decided_job, is_left_over}
 use Rattle.spool_store.proofs.KindLemmas.{not_temporary}
 
 -- Which names are left over.
@@ -39,7 +42,7 @@ counting_stays marks name counted = by_named (job_named name) refl counted where
   by_named None is none = cc
   by_named (Some job) is undecided =
       ap (λ one. pointwise nat_eq name temporary_file || is_decided_job marks one) is
-      ∙ ap (λ b. pointwise nat_eq name temporary_file || b) (not_true (is_decided job.number marks) undecided)
+      ∙ ap (λ b. pointwise nat_eq name temporary_file || b) (not-true (is_decided job.number marks) undecided)
       ∙ or_false (pointwise nat_eq name temporary_file) ∙ not_temporary name job is
 
 -- a file that is being made is left over
@@ -54,7 +57,7 @@ decided_left marks name job named decided =
 
 -- a name that is left over belongs to the store
 pub left_is_spool : (marks : List Mark) (name : List ℕ) → is_left_over marks name ≡ true → IsSpoolName name
-left_is_spool marks name is = elim (either (pointwise nat_eq name temporary_file) (is_decided_job marks (job_named name)) is) [
+left_is_spool marks name is = elim (or_cases (pointwise nat_eq name temporary_file) (is_decided_job marks (job_named name)) is) [
   | inl same ↦ inr (inr (inl ((bytes_decides name temporary_file).0 same)))
   | inr decided ↦ inr (inr (inr (is_job (job_named name) decided)))
 ] where

@@ -6,7 +6,8 @@ use Rattle.host_calls.specs.declared.fault.HostFault.{HostFault}
 use Rattle.host_calls.specs.Folder.{Files, Folder, HasNamesSynced, IsImage, IsSyncedInPart, MayStand, Names, AreAfterSome, Change, names_after, names_of, reading_of, with_names_certain}
 use Rattle.host_calls.specs.World.{FileCall, IsWithin, World}
 use Rattle.host_calls.proofs.FolderLemmas.{reading_is_image}
-use Rattle.sequence_file.specs.Sequence.{sequence_file, temporary_file}
+use Rattle.sequence_file.specs.Sequence.{sequence_file}
+use Rattle.whole_file.specs.Temporary.{temporary_file}
 use Rattle.spool_model.specs.JobTable.{JobTable}
 use Rattle.start_journal.specs.declared.mark.Mark.{Mark}
 use Rattle.start_journal.specs.Changing.{Gives, HoldsJournal, IsChanged, IsChanging, compacted}
@@ -20,7 +21,7 @@ use Rattle.job_runs.specs.Current.{EachShows, HasNoDecidedFile, IsCurrent, IsSpo
 use Rattle.spool_shows.specs.Laws.{HasNoForgotten}
 use Rattle.spool_shows.specs.Shown.{Shows}
 use Rattle.spool_shows.proofs.NameLemmas.{job_name_apart, journal_no_job, sequence_apart, temporary_no_job}
-use Rattle.spool_store.specs.Marking.{KeepsFiles, kept_with}
+use Rattle.spool_store.specs.inside.Marking.{KeepsFiles, kept_with}
 use Rattle.spool_store.proofs.KeptMarks.{kept_decided}
 use Rattle.spool_store.proofs.ChangesJoined.{changes_end, changes_join, left_alone}
 use Rattle.spool_store.proofs.MarkingCalls.{journal_is_spool, leaves_through, stepping_none, stepping_start}
@@ -46,6 +47,7 @@ synced_current kept folder table current = record {
   shows = λ image is. current.shows image (names_certain folder image is);
   bare_is = current.bare_is;
   journal = record {
+    certain = refl;
     same = λ image is. current.journal.same image (names_certain folder image is);
     gives = current.journal.gives;
     no_temp = λ image is. current.journal.no_temp image (names_certain folder image is);

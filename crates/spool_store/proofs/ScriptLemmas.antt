@@ -6,7 +6,7 @@ use Rattle.std.proofs.lemmas.List.{take_all}
 use Rattle.host_calls.specs.Folder.{Files, Folder, reading_of}
 use Rattle.host_calls.specs.World.{bytes_from, size_of}
 use Rattle.host_calls.proofs.FolderLemmas.{reading_is_image}
-use Rattle.job_name.specs.JobName.{SpellsJobName}
+use Rattle.job_name.specs.JobName.{SpellsJobName, NamedJob, job_named}
 use Rattle.spool_model.specs.declared.entry.Entry.TheVariants.{Live, Done}
 use Rattle.spool_model.specs.declared.fate.Fate.{Fate}
 use Rattle.spool_model.specs.declared.job.Job.{Job}
@@ -18,10 +18,10 @@ use Rattle.job_runs.specs.Bare.{bare_entry, bare_job}
 use Rattle.job_runs.specs.Current.{IsCurrent, Kept}
 use Rattle.job_runs.proofs.BareLemmas.{entries_are_bare}
 use Rattle.spool_shows.specs.ByName.{IsJobFile, ShowsByName, ShowsDone, ShowsLive}
-use Rattle.spool_shows.specs.JobFiles.{JobFile, NamedJob, job_named}
+use Rattle.spool_shows.specs.JobFiles.{JobFile}
 use Rattle.spool_shows.specs.Shown.{job_of, live_entry}
 use Rattle.spool_shows.proofs.ShownEntries.{entry_left}
-use Rattle.spool_shows.proofs.Spellings.{name_given, one_job_name}
+use Rattle.job_name.proofs.NamedJobs.{name_given, one_job_name}
 use Rattle.spool_shows.proofs.StepLaws.{by_name}
 use Rattle.spool_store.specs.Rows.{row_entry}
 use Rattle.spool_store.specs.Scripts.{HoldsScript, IsFileOf, IsScriptOf}

@@ -1,5 +1,5 @@
 -- A look finds what the folder shows.
-use Rattle.std.proofs.Common.{◌≡◌, ℕ, List, Option, Some, map, sym, ap, subst, ◌∙◌}
+use Rattle.std.proofs.Common.{◌≡◌, ℕ, List, Option, Some, map, sym, ap, subst, ◌∙◌, refl}
 use Rattle.std.specs.Prelude.{Result, Ok, Err, IsErrAnd}
 use Rattle.std.specs.FinMap as finite
 use Rattle.std.specs.FinMap.{entries, get-entries}
@@ -7,63 +7,53 @@ use Rattle.host_calls.specs.declared.damage.Damage.{Damage}
 use Rattle.host_calls.specs.Folder.{Files}
 use Rattle.sequence_file.specs.declared.fault.SequenceFault.{SequenceFault}
 use Rattle.sequence_file.specs.declared.fault.SequenceFault.TheVariants as sequence
-use Rattle.sequence_file.specs.Faults as sequence_faults
 use Rattle.sequence_file.specs.Sequence.{sequence_file}
 use Rattle.start_journal.specs.declared.fault.JournalFault.{JournalFault}
 use Rattle.start_journal.specs.declared.fault.JournalFault.TheVariants as journal
 use Rattle.start_journal.specs.declared.mark.Mark.{Mark}
-use Rattle.start_journal.specs.JournalFaults as journal_faults
 use Rattle.start_journal.specs.Journals.{JournalRead, journal_file, journal_in}
 use Rattle.job_runs.specs.Bare.{bare}
 use Rattle.spool_shows.specs.JobFiles.{job_files}
-use Rattle.spool_shows.specs.LastNumber.{last_in}
+use Rattle.sequence_file.specs.LastNumber.{last_in}
 use Rattle.spool_shows.specs.Shown.{damage_of_jobs, shown_behind_journal, shown_behind_last, shown_by, shown_by_files, table_or_damage, table_shown}
 use Rattle.spool_store.specs.declared.fault.StoreFault.{StoreFault}
-use Rattle.spool_store.specs.declared.fault.StoreFault.TheVariants.{Damaged, FileFault, Memory, NumbersUsedUp, QueueFull}
-use Rattle.spool_store.specs.declared.fronts.Fronts.{Fronts}
-use Rattle.spool_store.specs.declared.look.Look.{Look}
-use Rattle.spool_store.specs.declared.seen.Seen.{Seen}
-use Rattle.spool_store.specs.Faults.{IfDamaged, IsFound, fault_of_journal, fault_of_sequence}
+use Rattle.spool_store.specs.declared.fault.StoreFault.TheVariants.{Damaged}
+use Rattle.spool_store.specs.declared.findings.Findings.{Findings}
+use Rattle.spool_store.specs.declared.survey.Survey.{Survey}
+use Rattle.spool_store.specs.declared.found_job.FoundJob.{FoundJob}
+use Rattle.host_calls.specs.Damages.{IfDamaged}
+use Rattle.spool_store.specs.Faults.{IsFound, fault_of_journal, fault_of_sequence}
 use Rattle.std.specs.List.{filter}
-use Rattle.spool_store.specs.Looking.{AreFronts, IsLook, is_left_over}
-use Rattle.spool_store.specs.Seen.{files_seen}
-use Rattle.spool_store.specs.Tables.{IsTableShown}
+use Rattle.spool_store.specs.inside.Survey.{AreFindings, IsSurvey, is_left_over}
+use Rattle.spool_store.specs.inside.FoundJobs.{files_found}
+use Rattle.spool_store.specs.inside.Tables.{IsTableShown}
 use Rattle.spool_store.proofs.FrontLemmas.{cut, damage_of_jobs_same, files_cut, table_same}
 
 -- Answers that are a damage.
 
-pub sequence_damage : {T : Type 0} → (P Q : Damage → Type 0) (f : SequenceFault) (result : Result T StoreFault) → IsErrAnd result (λ fault. fault ≡ fault_of_sequence f) → sequence_faults.IfDamaged {T = ℕ} Q (Err f) → ((damage : Damage) → Q damage → P damage) → IfDamaged P result
-sequence_damage P Q f (Ok value) is of go = absurd is
-sequence_damage {T} P Q (sequence.Damaged damage) (Err fault) is of go = subst (λ one. IfDamaged {T = T} P (Err one)) (sym is) (go damage of)
-sequence_damage {T} P Q sequence.Failed (Err fault) is of go = subst (λ one. IfDamaged {T = T} P (Err one)) (sym is) tt
-sequence_damage {T} P Q sequence.Memory (Err fault) is of go = subst (λ one. IfDamaged {T = T} P (Err one)) (sym is) tt
+-- a fault that is the fault of this damage
+of_damage : {T : Type 0} (fault : StoreFault) (result : Result T StoreFault) (damage : Damage) → IsErrAnd result (λ one. one ≡ fault) → result ≡ Err (Damaged damage) → fault ≡ Damaged damage
+of_damage fault (Ok value) damage is same = absurd is
+of_damage {T} fault (Err one) damage is same = sym is ∙ inner same where
+  inner : ◌≡◌ {A = Result T StoreFault} (Err one) (Err (Damaged damage)) → one ≡ Damaged damage
+  inner same = cc
 
-pub recalled_damage : {T : Type 0} → (P Q : Damage → Type 0) (f : JournalFault) (result : Result T StoreFault) → IsErrAnd result (λ fault. fault ≡ fault_of_journal f) → journal_faults.IfDamaged {T = JournalRead} Q (Err f) → ((damage : Damage) → Q damage → P damage) → IfDamaged P result
-recalled_damage P Q f (Ok value) is of go = absurd is
-recalled_damage {T} P Q (journal.Damaged damage) (Err fault) is of go = subst (λ one. IfDamaged {T = T} P (Err one)) (sym is) (go damage of)
-recalled_damage {T} P Q journal.Failed (Err fault) is of go = subst (λ one. IfDamaged {T = T} P (Err one)) (sym is) tt
-recalled_damage {T} P Q journal.Memory (Err fault) is of go = subst (λ one. IfDamaged {T = T} P (Err one)) (sym is) tt
+pub sequence_damage : {T : Type 0} → (P Q : Damage → Type 0) (f : SequenceFault) (result : Result T StoreFault) → IsErrAnd result (λ fault. fault ≡ fault_of_sequence f) → IfDamaged {T = ℕ} sequence.Damaged Q (Err f) → ((damage : Damage) → Q damage → P damage) → IfDamaged Damaged P result
+sequence_damage P Q f result is of go = λ damage same. by_fault f of damage (of_damage (fault_of_sequence f) result damage is same) where
+  by_fault : (one : SequenceFault) → IfDamaged {T = ℕ} sequence.Damaged Q (Err one) → (damage : Damage) → fault_of_sequence one ≡ Damaged damage → P damage
+  by_fault (sequence.Damaged other) of damage same = let here : other ≡ damage = cc in subst P here (go other (of other refl))
+  by_fault sequence.Failed of damage same = cc
+  by_fault sequence.Memory of damage same = cc
 
-damage_of_fault : (S T : Type 0) (P Q : Damage → Type 0) (f : StoreFault) → IfDamaged {T = S} Q (Err f) → ((damage : Damage) → Q damage → P damage) → IfDamaged {T = T} P (Err f)
-damage_of_fault S T P Q (Damaged damage) of go = go damage of
-damage_of_fault S T P Q Memory of go = tt
-damage_of_fault S T P Q FileFault of go = tt
-damage_of_fault S T P Q QueueFull of go = tt
-damage_of_fault S T P Q NumbersUsedUp of go = tt
+pub recalled_damage : {T : Type 0} → (P Q : Damage → Type 0) (f : JournalFault) (result : Result T StoreFault) → IsErrAnd result (λ fault. fault ≡ fault_of_journal f) → IfDamaged {T = JournalRead} journal.Damaged Q (Err f) → ((damage : Damage) → Q damage → P damage) → IfDamaged Damaged P result
+recalled_damage P Q f result is of go = λ damage same. by_fault f of damage (of_damage (fault_of_journal f) result damage is same) where
+  by_fault : (one : JournalFault) → IfDamaged {T = JournalRead} journal.Damaged Q (Err one) → (damage : Damage) → fault_of_journal one ≡ Damaged damage → P damage
+  by_fault (journal.Damaged other) of damage same = let here : other ≡ damage = cc in subst P here (go other (of other refl))
+  by_fault journal.Failed of damage same = cc
+  by_fault journal.Memory of damage same = cc
 
-pub same_damage : {T : Type 0} → (S : Type 0) (P Q : Damage → Type 0) (f : StoreFault) (result : Result T StoreFault) → IsErrAnd result (λ fault. fault ≡ f) → IfDamaged {T = S} Q (Err f) → ((damage : Damage) → Q damage → P damage) → IfDamaged P result
-same_damage S P Q f (Ok value) is of go = absurd is
-same_damage {T} S P Q f (Err fault) is of go = subst (λ one. IfDamaged {T = T} P (Err one)) (sym is) (damage_of_fault S T P Q f of go)
-
-found_is : (S : Type 0) (found : Option Damage) (f : StoreFault) → IsFound found f → IfDamaged {T = S} (λ damage. found ≡ Some damage) (Err f)
-found_is S found (Damaged damage) is = is
-found_is S found Memory is = tt
-found_is S found FileFault is = tt
-found_is S found QueueFull is = tt
-found_is S found NumbersUsedUp is = tt
-
-pub found_damage : {T : Type 0} → (P : Damage → Type 0) (found : Option Damage) (f : StoreFault) (result : Result T StoreFault) → IsErrAnd result (λ fault. fault ≡ f) → IsFound found f → ((damage : Damage) → found ≡ Some damage → P damage) → IfDamaged P result
-found_damage P found f result is of go = same_damage ℕ P (λ damage. found ≡ Some damage) f result is (found_is ℕ found f of) go
+pub found_damage : {T : Type 0} → (P : Damage → Type 0) (found : Option Damage) (f : StoreFault) (result : Result T StoreFault) → IsErrAnd result (λ fault. fault ≡ f) → IsFound found f → ((damage : Damage) → found ≡ Some damage → P damage) → IfDamaged Damaged P result
+found_damage P found f result is of go = λ damage same. go damage (subst (IsFound found) (of_damage f result damage is same) of)
 
 -- What is shown.
 
@@ -80,21 +70,21 @@ shown_at files last is =
 pub journal_damage : (files : Files) (last : ℕ) (damage : Damage) → last_in (finite.get files sequence_file) ≡ Ok last → journal_in last (finite.get files journal_file) ≡ Err damage → shown_by files ≡ Err damage
 journal_damage files last damage number is = shown_at files last number ∙ ap (λ read. shown_behind_journal last read (entries files)) is
 
-module _ (files : Files) (last : ℕ) (journal : JournalRead) (fronts : Fronts) (marks : List Mark) (slice : List Seen) (number : last_in (finite.get files sequence_file) ≡ Ok last) (read : journal_in last (finite.get files journal_file) ≡ Ok journal) (are : AreFronts journal.marks (entries files) fronts) (marks_is : marks ≡ journal.marks) (slice_is : slice ≡ fronts.seen.items) where
+module _ (files : Files) (last : ℕ) (journal : JournalRead) (findings : Findings) (marks : List Mark) (slice : List FoundJob) (number : last_in (finite.get files sequence_file) ≡ Ok last) (read : journal_in last (finite.get files journal_file) ≡ Ok journal) (are : AreFindings journal.marks (entries files) findings) (marks_is : marks ≡ journal.marks) (slice_is : slice ≡ findings.seen.items) where
   shown_of : shown_by files ≡ shown_by_files last journal.marks (job_files journal.marks (entries files))
   shown_of = shown_at files last number ∙ ap (λ one. shown_behind_journal last one (entries files)) read
 
-  seen_is : files_seen slice ≡ map cut (job_files journal.marks (entries files))
-  seen_is = ap files_seen slice_is ∙ are.seen ∙ files_cut journal.marks (entries files)
+  seen_is : files_found slice ≡ map cut (job_files journal.marks (entries files))
+  seen_is = ap files_found slice_is ∙ are.seen ∙ files_cut journal.marks (entries files)
 
-  damage_is : damage_of_jobs last marks (files_seen slice) ≡ damage_of_jobs last journal.marks (job_files journal.marks (entries files))
+  damage_is : damage_of_jobs last marks (files_found slice) ≡ damage_of_jobs last journal.marks (job_files journal.marks (entries files))
   damage_is = (λ i. damage_of_jobs last (marks_is i) (seen_is i)) ∙ damage_of_jobs_same last journal.marks (job_files journal.marks (entries files))
 
-  pub jobs_damage : (damage : Damage) → damage_of_jobs last marks (files_seen slice) ≡ Some damage → shown_by files ≡ Err damage
+  pub jobs_damage : (damage : Damage) → damage_of_jobs last marks (files_found slice) ≡ Some damage → shown_by files ≡ Err damage
   jobs_damage damage is = shown_of ∙ ap (table_or_damage last journal.marks (job_files journal.marks (entries files))) (sym damage_is ∙ is)
 
-  pub is_look : (look : Look) → look.journal ≡ journal → look.leftover.items ≡ fronts.leftover.items → IsTableShown last marks (files_seen slice) look.jobs → IsLook files look
-  is_look look journal_same left shown = record {
+  pub is_survey : (look : Survey) → look.journal ≡ journal → look.leftover.items ≡ findings.leftover.items → IsTableShown last marks (files_found slice) look.jobs → IsSurvey files look
+  is_survey look journal_same left shown = record {
     table = table_shown last journal.marks (job_files journal.marks (entries files));
     shows = shown_of ∙ ap (table_or_damage last journal.marks (job_files journal.marks (entries files))) (sym damage_is ∙ shown.0);
     jobs = shown.1 ∙ (λ i. bare (table_shown last (marks_is i) (seen_is i))) ∙ table_same last journal.marks (job_files journal.marks (entries files));

@@ -13,10 +13,10 @@ use Rattle.start_journal.specs.Marks.{decides, is_decided}
 use Rattle.spool_shows.specs.JobFiles.{JobFile, file_of}
 use Rattle.spool_shows.specs.Shown.{mark_damage, start_damage, starts_damage}
 use Rattle.spool_shows.proofs.ShownEntries.{fails_other, some_same}
-use Rattle.spool_store.specs.declared.lives.Life.{Life}
-use Rattle.spool_store.specs.declared.lives.Lives.{Lives}
-use Rattle.spool_store.specs.Lives.{TellLives, fate_at, fate_given, life_in}
-use Rattle.spool_store.specs.Looks.{row_of}
+use Rattle.spool_store.specs.declared.lifecycles.Lifecycle.{Lifecycle}
+use Rattle.spool_store.specs.declared.lifecycles.Lifecycles.{Lifecycles}
+use Rattle.spool_store.specs.inside.Lifecycles.{TellLifecycles, fate_at, fate_given, lifecycle_in}
+use Rattle.spool_store.specs.inside.JobRows.{row_of}
 
 some_if : (same : Bool) (fate : Fate) → same ≡ is_some (cond same (Some fate) None)
 some_if true fate = refl
@@ -42,9 +42,9 @@ decided_has_fate number (mark ∷ later) =
     ∙ some_or (fate_given number mark) (fate_at number later)
 
 -- what is kept of a number tells whether it is decided
-pub life_decides : (marks : List Mark) (lives : Lives) (number : ℕ) (life : Life) (test : Bool) → TellLives marks lives → life ≡ life_in lives number → is_some life.fate ≡ test → is_decided number marks ≡ test
+pub life_decides : (marks : List Mark) (lives : Lifecycles) (number : ℕ) (life : Lifecycle) (test : Bool) → TellLifecycles marks lives → life ≡ lifecycle_in lives number → is_some life.fate ≡ test → is_decided number marks ≡ test
 life_decides marks lives number life test tells is fated =
-    decided_has_fate number marks ∙ ap (λ (l : Life). is_some l.fate) (sym (is ∙ tells number)) ∙ fated
+    decided_has_fate number marks ∙ ap (λ (l : Lifecycle). is_some l.fate) (sym (is ∙ tells number)) ∙ fated
 
 pub start_decided : (marks : List Mark) (files : List JobFile) (place number queue : ℕ) (second : ℤ) → is_decided number marks ≡ true → None ≡ mark_damage marks files place (Started number queue second)
 start_decided marks files place number queue second is = sym (ap (λ b. cond b None (start_damage place queue (file_of number files))) is)

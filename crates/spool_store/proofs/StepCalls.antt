@@ -22,7 +22,7 @@ use Rattle.job_runs.specs.Current.{IsCurrent, Kept}
 use Rattle.job_runs.proofs.BareLemmas.{entries_are_bare, legal_as_on_the_table, steps_as_on_the_table}
 use Rattle.spool_shows.specs.Laws.{AddsMark}
 use Rattle.spool_store.specs.declared.fault.StoreFault.{StoreFault}
-use Rattle.spool_store.specs.Marking.{HaveOneMore, IsDecisionOf, IsMarkOf, IsMarked, KeepsFiles, kept_with}
+use Rattle.spool_store.specs.inside.Marking.{HaveOneMore, IsDecisionOf, IsMarkOf, IsMarked, KeepsFiles, kept_with}
 use Rattle.spool_store.specs.Scripts.{IsFileOf}
 use Rattle.spool_store.specs.Stored.{IsStored}
 use Rattle.spool_store.proofs.DecideLemmas.{decided_before_or_by_it}

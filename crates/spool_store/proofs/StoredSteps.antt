@@ -18,15 +18,15 @@ use Rattle.start_journal.specs.declared.mark.Mark.{Mark}
 use Rattle.start_journal.specs.declared.mark.Mark.TheVariants as mark
 use Rattle.start_journal.specs.Journals.{are_drawn, is_drawn}
 use Rattle.start_journal.specs.Marks.{AreLegal, decides, ends, forgets, is_decided, is_ended, is_forgotten, is_started, kept_marks, names, starts}
-use Rattle.start_journal.specs.Slots.{IsSecond}
-use Rattle.start_journal.proofs.ByteLemmas.{and_then, both}
+use Rattle.clock_range.specs.ClockRange.{IsClockSecond}
+use Rattle.std.proofs.lemmas.Bool.{and_from, and_parts, not-true}
 use Rattle.start_journal.proofs.LifeLemmas.{any_with, any_without}
-use Rattle.start_journal.proofs.MarkLemmas.{decides_names, forgets_names, kept_marks_are_legal, not_true}
+use Rattle.start_journal.proofs.MarkLemmas.{decides_names, forgets_names, kept_marks_are_legal}
 use Rattle.job_runs.specs.Current.{Kept}
 use Rattle.spool_shows.specs.Laws.{AddsMark}
 use Rattle.spool_shows.proofs.MarkTests.{not_forgotten}
 use Rattle.spool_shows.proofs.ShownEntries.{fails_other, passes_same}
-use Rattle.spool_store.specs.Marking.{HaveOneMore}
+use Rattle.spool_store.specs.inside.Marking.{HaveOneMore}
 use Rattle.spool_store.specs.Stored.{IsEntryBy, IsLiveBy, IsStored}
 use Rattle.spool_store.proofs.KeptMarks.{ends_decides, kept_drawn, none_narrower}
 use Rattle.spool_store.proofs.MarkingLemmas.{drawn_is, more_drawn}
@@ -44,7 +44,7 @@ record IsStepAt (table : JobTable) (marks : List Mark) (step : Step) (mark : Mar
   here : IsEntryBy (marks ++ mark ∷ []) number (entry_at (after_step table step) number)
   drawn : is_drawn table.last mark ≡ true
   last : (after_step table step).last ≡ table.last
-  batch : IfSome (after_step table step).last_batch IsSecond
+  batch : IfSome (after_step table step).last_batch IsClockSecond
 
 -- The mark decides the number of a live job, which was not forgotten, and the step leaves its fate.
 record DecidesLive (table : JobTable) (marks : List Mark) (step : Step) (mark : Mark) (number : ℕ) : Type 0 where
@@ -81,8 +81,8 @@ module _ (table : JobTable) (marks : List Mark) (is : IsStored (stored table mar
   running_open : (number : ℕ) (job : Job) (second : ℤ) → entry_at table number ≡ Some (Live job (Running second)) → (is_started number marks ≡ true) × (is_decided number marks ≡ false)
   running_open number job second held =
       let entry : IsLiveBy marks number job (Running second) = entry_by number (Live job (Running second)) held in
-      let tests : (is_started number marks ≡ true) × (not (is_decided number marks) ≡ true) = both _ _ entry.state_by in
-      (tests.0, not_true _ tests.1)
+      let tests : (is_started number marks ≡ true) × (not (is_decided number marks) ≡ true) = and_parts _ _ entry.state_by in
+      (tests.0, not-true _ tests.1)
 
   -- so its end may follow
   pub running_unended : (number : ℕ) (job : Job) (second : ℤ) → entry_at table number ≡ Some (Live job (Running second)) → (is_started number marks ≡ true) × (is_ended number marks ≡ false)
@@ -109,11 +109,11 @@ module _ (table : JobTable) (marks : List Mark) (is : IsStored (stored table mar
     silent = live.silent;
     kept = λ other differ. ap (λ t. entry_at t other) live.after ∙ get-put_other table.entries number other (Done live.fate) differ;
     here = subst (IsEntryBy (marks ++ mark ∷ []) number) (sym (ap (λ t. entry_at t number) live.after ∙ get-put_same table.entries number (Done live.fate)))
-        (and_then _ _ (any_with (decides number) marks mark live.decided)
+        (and_from _ _ (any_with (decides number) marks mark live.decided)
         (ap not (any_without (forgets number) marks mark live.not_forgets ∙ live.remembered)));
     drawn = live.drawn ∙ number_drawn number live.old live.held;
     last = ap (λ (t : JobTable). t.last) live.after;
-    batch = subst (λ (t : JobTable). IfSome t.last_batch IsSecond) (sym live.after) is.batch;
+    batch = subst (λ (t : JobTable). IfSome t.last_batch IsClockSecond) (sym live.after) is.batch;
   }
 
   -- a step that forgets a number
@@ -128,7 +128,7 @@ module _ (table : JobTable) (marks : List Mark) (is : IsStored (stored table mar
   }
 
   -- a step that starts a job
-  started_at : (number : ℕ) (second : ℤ) (job : Job) → entry_at table number ≡ Some (Live job Pending) → IsSecond second → IsStepAt table marks (Start number second) (mark.Started number job.queue second) number
+  started_at : (number : ℕ) (second : ℤ) (job : Job) → entry_at table number ≡ Some (Live job Pending) → IsClockSecond second → IsStepAt table marks (Start number second) (mark.Started number job.queue second) number
   started_at number second job held range =
       let added : Mark = mark.Started number job.queue second in
       let old : IsLiveBy marks number job Pending = entry_by number (Live job Pending) held in
@@ -139,7 +139,7 @@ module _ (table : JobTable) (marks : List Mark) (is : IsStored (stored table mar
       let new : IsLiveBy (marks ++ added ∷ []) number job (Running second) = record {
         named = old.named;
         since = range;
-        state_by = and_then _ _ (any_with (starts number) marks added (passes_same number number refl)) (ap not undecided);
+        state_by = and_from _ _ (any_with (starts number) marks added (passes_same number number refl)) (ap not undecided);
       } in
       record {
         silent = silent_other number;
@@ -150,13 +150,13 @@ module _ (table : JobTable) (marks : List Mark) (is : IsStored (stored table mar
         last = refl;
         batch = in_range (is_batch_entry (entry_at table number));
       } where
-        in_range : (batch : Bool) → IfSome (if batch then Some second else table.last_batch) IsSecond
+        in_range : (batch : Bool) → IfSome (if batch then Some second else table.last_batch) IsClockSecond
         in_range true = range
         in_range false = is.batch
 
 -- a start has a second of the clock's range
 abbrev pub IsStartInRange : Step → Type 0
-IsStartInRange (Start number second) = IsSecond second
+IsStartInRange (Start number second) = IsClockSecond second
 IsStartInRange Draw = Unit {0}
 IsStartInRange (Accept number job) = Unit {0}
 IsStartInRange (Remove number) = Unit {0}

@@ -10,7 +10,7 @@ use Rattle.job_script.specs.Header.{HasHeader, IsHeaderOf}
 use Rattle.job_script.specs.HeaderIn.{header_in}
 use Rattle.job_script.proofs.HeaderInLemmas.{header_in-none}
 use Rattle.spool_model.specs.declared.job.Job.{Job}
-use Rattle.spool_model.specs.declared.number.TheConstants.{GREATEST_NUMBER}
+use Rattle.spool_model.specs.declared.number.TheConstants.{LAST_NUMBER}
 use Rattle.spool_model.specs.declared.row.Row.{Row}
 use Rattle.spool_model.specs.declared.step.Step.{Step}
 use Rattle.spool_model.specs.declared.step.Step.TheVariants.{Draw, Accept}
@@ -24,10 +24,12 @@ use Rattle.job_runs.specs.Current.{IsCurrent, Kept}
 use Rattle.spool_store.specs.declared.fault.StoreFault.{StoreFault}
 use Rattle.spool_store.specs.Listed.{ListsLive}
 use Rattle.spool_store.specs.Stored.{IsStored}
-use Rattle.spool_store.specs.Submitting.{IsFull, IsNextNumber, IsNextOn, IsUsedUp, job_of_script, kept_of, live_count, submission, with_job}
+use Rattle.spool_store.specs.Submitting.{IsFull, IsNextNumber, IsNextOn, IsUsedUp, job_of_script, kept_of, submission, with_job}
+use Rattle.spool_model.specs.Lists.{live_count}
 use Rattle.spool_store.proofs.CountLemmas.{rows_counted}
-use Rattle.spool_store.proofs.SeenLemmas.{user_read}
+use Rattle.spool_store.proofs.FoundJobLemmas.{user_read}
 use Rattle.spool_store.proofs.SubmittedFolders.{last_bare}
+use Rattle.spool_store.specs.declared.submitting.TheConstants.{MAX_LIVE}
 
 -- nothing is not something
 not_some : (found : Option (List ℕ × Bool)) → found ≡ None → IsSome found → ⊥
@@ -62,23 +64,23 @@ module _ (kept : Kept) (jobs : JobTable) (journal : JournalRead) (view : ◌≡�
   jobs_are = ap (λ (at : Kept). at.table) view
 
   -- whether there is room, by the number of rows
-  pub no_room : (rows : List Row) → ListsLive jobs rows → 10000 ≤ length rows → IsFull kept.table
-  no_room rows lists many = subst IsFull jobs_are (subst (λ count. 10000 ≤ count) (rows_counted jobs rows lists) many)
+  pub no_room : (rows : List Row) → ListsLive jobs rows → MAX_LIVE ≤ length rows → IsFull kept.table
+  no_room rows lists many = subst IsFull jobs_are (subst (λ count. MAX_LIVE ≤ count) (rows_counted jobs rows lists) many)
 
-  room : (rows : List Row) → ListsLive jobs rows → length rows < 10000 → live_count kept.table < 10000
-  room rows lists few = subst (λ table. live_count table < 10000) jobs_are (subst (λ count. count < 10000) (rows_counted jobs rows lists) few)
+  room : (rows : List Row) → ListsLive jobs rows → length rows < MAX_LIVE → live_count kept.table < MAX_LIVE
+  room rows lists few = subst (λ table. live_count table < MAX_LIVE) jobs_are (subst (λ count. count < MAX_LIVE) (rows_counted jobs rows lists) few)
 
-  pub no_number : IsStored (record { table = jobs; journal = journal }) → (rows : List Row) (last : ℕ) → ListsLive jobs rows → length rows < 10000 → last ≡ jobs.last → GREATEST_NUMBER ≤ last → IsUsedUp kept.table
+  pub no_number : IsStored (record { table = jobs; journal = journal }) → (rows : List Row) (last : ℕ) → ListsLive jobs rows → length rows < MAX_LIVE → last ≡ jobs.last → LAST_NUMBER ≤ last → IsUsedUp kept.table
   no_number stored rows last lists few is greatest =
-      let most : jobs.last ≤ GREATEST_NUMBER = stored.sound.few in
-      let all : jobs.last ≡ GREATEST_NUMBER = omega arith in
+      let most : jobs.last ≤ LAST_NUMBER = stored.sound.few in
+      let all : jobs.last ≡ LAST_NUMBER = omega arith in
       record { room = room rows lists few; greatest = ap (λ (table : JobTable). table.last) (sym jobs_are) ∙ all }
 
-  pub next_number : (rows : List Row) (last : ℕ) → ListsLive jobs rows → length rows < 10000 → last ≡ jobs.last → last < GREATEST_NUMBER → IsNextNumber kept.table (last + 1)
+  pub next_number : (rows : List Row) (last : ℕ) → ListsLive jobs rows → length rows < MAX_LIVE → last ≡ jobs.last → last < LAST_NUMBER → IsNextNumber kept.table (last + 1)
   next_number rows last lists few is more =
       let last_is : last ≡ kept.table.last = is ∙ ap (λ (table : JobTable). table.last) jobs_are in
       record {
-        room = record { room = room rows lists few; more = subst (λ number. number < GREATEST_NUMBER) last_is more };
+        room = record { room = room rows lists few; more = subst (λ number. number < LAST_NUMBER) last_is more };
         next = ap (λ n. n + 1) last_is;
       }
 

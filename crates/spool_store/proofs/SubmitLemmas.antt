@@ -9,13 +9,15 @@ use Rattle.host_calls.specs.World.{World}
 use Rattle.job_name.specs.JobName.{SpellsJobName}
 use Rattle.job_script.specs.HeaderIn.{header_in}
 use Rattle.sequence_file.specs.Drawing.{IsDrawing, IsDrawn}
-use Rattle.sequence_file.specs.Sequence.{Gives as GivesNumber, sequence_file, temporary_file}
+use Rattle.sequence_file.specs.Sequence.{Gives as GivesNumber, sequence_file}
+use Rattle.whole_file.specs.Temporary.{temporary_file}
 use Rattle.spool_model.specs.declared.job.Job.{Job}
 use Rattle.spool_model.specs.JobTable.{JobTable}
 use Rattle.whole_file.specs.Others.{ChangesFiles}
 use Rattle.whole_file.specs.Placing.{IsPlaced, IsPlacing}
 use Rattle.spool_shows.specs.Shown.{user_of}
-use Rattle.spool_shows.proofs.Spellings.{last_given, name_given}
+use Rattle.sequence_file.proofs.LastNumbers.{last_given}
+use Rattle.job_name.proofs.NamedJobs.{name_given}
 use Rattle.job_runs.specs.Calls.{IsSteppingOn, StoreCall}
 use Rattle.job_runs.specs.Current.{EachShows, Kept}
 use Rattle.spool_store.specs.Submitting.{IsNextOn, job_of_script, submission, with_job_if}

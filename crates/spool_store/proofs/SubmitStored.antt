@@ -5,7 +5,7 @@ use Rattle.std.specs.FinMap as finite
 use Rattle.std.proofs.lemmas.Bool.Decides.{eqb_tells, nat_tests}
 use Rattle.spool_model.specs.declared.entry.Entry.TheVariants.{Live}
 use Rattle.spool_model.specs.declared.job.Job.{Job}
-use Rattle.spool_model.specs.declared.number.TheConstants.{GREATEST_NUMBER}
+use Rattle.spool_model.specs.declared.number.TheConstants.{LAST_NUMBER}
 use Rattle.spool_model.specs.declared.state.State.TheVariants.{Pending}
 use Rattle.spool_model.specs.JobTable.{IsDrawn, IsSound, JobEntry, JobTable, entry_at}
 use Rattle.spool_model.specs.Steps.{AreLegal}
@@ -14,7 +14,7 @@ use Rattle.spool_model.proofs.TableLemmas.{get-put_other, get-put_same}
 use Rattle.start_journal.specs.declared.mark.Mark.{Mark}
 use Rattle.start_journal.specs.declared.mark.Mark.TheVariants.{Removed, Started, Ended, Interrupted, Forgotten, Batch}
 use Rattle.start_journal.specs.Journals.{are_drawn, is_drawn}
-use Rattle.start_journal.proofs.ByteLemmas.{and_then, both}
+use Rattle.std.proofs.lemmas.Bool.{and_from, and_parts}
 use Rattle.spool_shows.proofs.FreshNumbers.{fresh_unnamed}
 use Rattle.job_runs.specs.Bare.{bare_job}
 use Rattle.job_runs.specs.Current.{Kept}
@@ -31,7 +31,7 @@ next_is_free table sound = by_entry (entry_at table (table.last + 1)) refl where
       absurd (omega (arith, drawn.drawn))
 
 -- the steps of a submission are legal where a number is left
-submission_legal : (table : JobTable) (job : Job) → IsSound table → table.last < GREATEST_NUMBER → AreLegal table (submission table job)
+pub submission_legal : (table : JobTable) (job : Job) → IsSound table → table.last < LAST_NUMBER → AreLegal table (submission table job)
 submission_legal table job sound more = (more, (record { last = refl; some = omega arith; absent = next_is_free table sound }, tt))
 
 -- a number that was drawn was drawn before a later one too
@@ -46,11 +46,11 @@ mark_drawn last (Batch second) drawn = refl
 marks_drawn : (last : ℕ) (marks : List Mark) → are_drawn last marks ≡ true → are_drawn (last + 1) marks ≡ true
 marks_drawn last [] drawn = refl
 marks_drawn last (mark ∷ later) drawn =
-    let tests : (is_drawn last mark ≡ true) × (are_drawn last later ≡ true) = both (is_drawn last mark) (are_drawn last later) drawn in
-    and_then (is_drawn (last + 1) mark) (are_drawn (last + 1) later) (mark_drawn last mark tests.0) (marks_drawn last later tests.1)
+    let tests : (is_drawn last mark ≡ true) × (are_drawn last later ≡ true) = and_parts (is_drawn last mark) (are_drawn last later) drawn in
+    and_from (is_drawn (last + 1) mark) (are_drawn (last + 1) later) (mark_drawn last mark tests.0) (marks_drawn last later tests.1)
 
 -- what is kept with one job more is as it has to be
-pub submitted_stored : (kept : Kept) (job : Job) → IsStored kept → kept.table.last < GREATEST_NUMBER → CanBeNamed job.queue job.minute → IsStored (with_job kept job)
+pub submitted_stored : (kept : Kept) (job : Job) → IsStored kept → kept.table.last < LAST_NUMBER → CanBeNamed job.queue job.minute → IsStored (with_job kept job)
 submitted_stored kept job stored more named = record {
   sound = steps_keep_the_table_sound table (submission table (bare_job job)) stored.sound (submission_legal table (bare_job job) stored.sound more);
   drawn = marks_drawn table.last marks stored.drawn;

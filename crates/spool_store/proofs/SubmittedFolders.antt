@@ -5,7 +5,8 @@ use Rattle.std.specs.FinMap as finite
 use Rattle.host_calls.specs.Folder.{Files, Folder, IsImage, reading_of}
 use Rattle.host_calls.proofs.FolderLemmas.{reading_is_image}
 use Rattle.sequence_file.specs.Drawing.{IsDrawn}
-use Rattle.sequence_file.specs.Sequence.{sequence_file, temporary_file}
+use Rattle.sequence_file.specs.Sequence.{sequence_file}
+use Rattle.whole_file.specs.Temporary.{temporary_file}
 use Rattle.spool_model.specs.declared.job.Job.{Job}
 use Rattle.spool_model.specs.declared.step.Step.TheVariants.{Draw, Accept}
 use Rattle.spool_model.specs.JobTable.{JobTable}
@@ -15,7 +16,7 @@ use Rattle.start_journal.specs.Journals.{are_drawn, journal_file}
 use Rattle.start_journal.specs.Marks.{is_decided}
 use Rattle.whole_file.specs.Placing.{IsPlaced, IsPlacing}
 use Rattle.whole_file.proofs.OthersLemmas.{neither, one_or_other}
-use Rattle.spool_shows.specs.JobFiles.{NamedJob, job_named}
+use Rattle.job_name.specs.JobName.{NamedJob, job_named}
 use Rattle.spool_shows.proofs.FreshNumbers.{fresh_undecided}
 use Rattle.spool_shows.proofs.NameLemmas.{differ_by, job_name_apart, job_name_differs, journal_apart, journal_no_job, sequence_no_job, temporary_no_job}
 use Rattle.spool_shows.proofs.StepLaws.{accepts_are_shown}
@@ -94,6 +95,7 @@ module _ (kept : Kept) (table : JobTable) (job : Job) (name : List ℕ) (file : 
     shows = shows;
     bare_is = ap (λ at. after_steps at (submission at (bare_job job))) next.current.bare_is ∙ sym (bare_submission table job);
     journal = record {
+      certain = is.placed.certain;
       same = λ image of. journal_same image of ∙ sym (journal_same (reading_of new) (reading_is_image new));
       gives = subst (λ content. Gives content kept.journal) (sym (journal_same (reading_of new) (reading_is_image new))) next.current.journal.gives;
       no_temp = is.placed.no_temp;

@@ -25,15 +25,15 @@ use Rattle.spool_shows.specs.Shown.{damage_of_jobs, done_as, done_entry, entries
 use Rattle.spool_shows.proofs.Membership.{Has, found_has}
 use Rattle.spool_shows.proofs.ShownEntries.{fails_other, some_same}
 use Rattle.spool_shows.proofs.StartLemmas.{number_passes}
-use Rattle.start_journal.proofs.MarkLemmas.{same_number}
+use Rattle.std.proofs.lemmas.Bool.{eqb-true}
 use Rattle.job_runs.specs.Bare.{bare, bare_entries, bare_entry}
-use Rattle.spool_store.specs.declared.lives.Life.{Life}
-use Rattle.spool_store.specs.declared.lives.Lives.{Lives}
-use Rattle.spool_store.specs.Lives.{Rise, TellLives, decided_of, fate_at, remembered_at, remembered_fate, untold}
-use Rattle.spool_store.specs.Looks.{AreRowsOf, RowMap, row_of}
+use Rattle.spool_store.specs.declared.lifecycles.Lifecycle.{Lifecycle}
+use Rattle.spool_store.specs.declared.lifecycles.Lifecycles.{Lifecycles}
+use Rattle.spool_store.specs.inside.Lifecycles.{Rise, TellLifecycles, decided_of, fate_at, remembered_at, remembered_fate, untold}
+use Rattle.spool_store.specs.inside.JobRows.{AreRowsOf, RowMap, row_of}
 use Rattle.spool_store.specs.Rows.{decided_entry, listed_entries, listed_table, row_entry}
-use Rattle.spool_store.proofs.LifeLemmas.{key_is}
-use Rattle.spool_store.proofs.LookLemmas.{equal_self}
+use Rattle.spool_store.proofs.LifecycleLemmas.{key_is}
+use Rattle.spool_store.proofs.SurveyLemmas.{equal_self}
 
 -- a number, as a key and as a test
 same_test : (one other : ℕ) → eq_by_cmp nat_cmp one other ≡ (other == one)
@@ -83,11 +83,11 @@ one_given marks number other is given rest before = by_test (is_forgotten other 
   by_test : (forgotten : Bool) → is_forgotten other marks ≡ forgotten → (same : Bool) → (other == number) ≡ same
       → find_entry nat_cmp number (cons_option (cond forgotten None (Some (other, Done is))) rest) ≡ option_map Done (cond (is_forgotten number marks) None (option_or (cond same (Some is) None) given))
   by_test true gone true same =
-      let gone_too : is_forgotten number marks ≡ true = ap (λ n. is_forgotten n marks) (sym (same_number other number same)) ∙ gone in
+      let gone_too : is_forgotten number marks ≡ true = ap (λ n. is_forgotten n marks) (sym (eqb-true other number same)) ∙ gone in
       before ∙ ap (λ b. option_map Done (cond b None given)) gone_too ∙ sym (ap (λ b. option_map Done (cond b None (Some is))) gone_too)
   by_test true gone false same = before
   by_test false kept true same =
-      let kept_too : is_forgotten number marks ≡ false = ap (λ n. is_forgotten n marks) (sym (same_number other number same)) ∙ kept in
+      let kept_too : is_forgotten number marks ≡ false = ap (λ n. is_forgotten n marks) (sym (eqb-true other number same)) ∙ kept in
       ap (λ b. cond b (Some (Done is)) (find_entry nat_cmp number rest)) (same_test number other ∙ same) ∙ sym (ap (λ b. option_map Done (cond b None (Some is))) kept_too)
   by_test false kept false same = ap (λ b. cond b (Some (Done is)) (find_entry nat_cmp number rest)) (same_test number other ∙ same) ∙ before
 
@@ -124,9 +124,9 @@ entry_found (entry ∷ list) key value sorted (inr later) = by_test (is_at (nat_
   by_test false at found = found
 
 -- the decided numbers of lives
-decided_found : (number : ℕ) (entry : ℕ × Life) (list : List (ℕ × Life)) (tail : List Decided)
+decided_found : (number : ℕ) (entry : ℕ × Lifecycle) (list : List (ℕ × Lifecycle)) (tail : List Decided)
     → find_entry nat_cmp number (map decided_entry tail) ≡ option_map Done (option_and_then remembered_fate (lookup (is_at (nat_cmp number)) list))
-    → AllByRecursion (λ key. nat_cmp entry.0 key ≡ Less) (map (λ (e : ℕ × Life). e.0) list)
+    → AllByRecursion (λ key. nat_cmp entry.0 key ≡ Less) (map (λ (e : ℕ × Lifecycle). e.0) list)
     → find_entry nat_cmp number (map decided_entry (cons_option (decided_of entry) tail)) ≡ option_map Done (option_and_then remembered_fate (lookup (is_at (nat_cmp number)) (entry ∷ list)))
 decided_found number entry list tail rest below = by_test (remembered_fate entry.1) refl (is_at (nat_cmp number) entry.0) refl where
   by_test : (given : Option Fate) → remembered_fate entry.1 ≡ given → (at : Bool) → is_at (nat_cmp number) entry.0 ≡ at
@@ -138,7 +138,7 @@ decided_found number entry list tail rest below = by_test (remembered_fate entry
   by_test (Some f) is true at = ap (λ b. cond b (Some (Done f)) (find_entry nat_cmp number (map decided_entry tail))) at ∙ sym (ap (option_map Done) is)
   by_test (Some f) is false at = ap (λ b. cond b (Some (Done f)) (find_entry nat_cmp number (map decided_entry tail))) at ∙ rest
 
-find_decided : (number : ℕ) (list : List (ℕ × Life)) → IsStrictlySortedBy nat_cmp (map (λ (e : ℕ × Life). e.0) list)
+find_decided : (number : ℕ) (list : List (ℕ × Lifecycle)) → IsStrictlySortedBy nat_cmp (map (λ (e : ℕ × Lifecycle). e.0) list)
     → find_entry nat_cmp number (map decided_entry (filter_map decided_of list)) ≡ option_map Done (option_and_then remembered_fate (lookup (is_at (nat_cmp number)) list))
 find_decided number [] sorted = refl
 find_decided number (entry ∷ list) sorted =
@@ -159,7 +159,7 @@ find_rows number (entry ∷ list) keyed =
 row_keyed : (marks : List Mark) (files : List JobFile) (key : ℕ) (row : Row) (found : Option JobFile) → file_of key files ≡ found → option_map (row_of marks) found ≡ Some row → row.number ≡ key
 row_keyed marks files key row None is made = cc
 row_keyed marks files key row (Some file) is made =
-    ap (λ (r : Row). r.number) (sym (some_same made)) ∙ same_number file.job.number key (found_has (λ (f : JobFile). f.job.number == key) files file is).1
+    ap (λ (r : Row). r.number) (sym (some_same made)) ∙ eqb-true file.job.number key (found_has (λ (f : JobFile). f.job.number == key) files file is).1
 
 pub rows_keyed : (marks : List Mark) (files : List JobFile) (rows : RowMap) → AreRowsOf marks files rows → IsOrdered nat_cmp rows → (key : ℕ) (row : Row) → Has rows.entries (key, row) → row.number ≡ key
 rows_keyed marks files rows are ordered key row has =
@@ -174,11 +174,11 @@ joined marks (Some file) given = refl
 joined marks None (Some f) = refl
 joined marks None None = refl
 
-remembered : (kept : Option Life) → option_and_then remembered_fate kept ≡ remembered_fate (unwrap_or kept untold)
+remembered : (kept : Option Lifecycle) → option_and_then remembered_fate kept ≡ remembered_fate (unwrap_or kept untold)
 remembered None = refl
 remembered (Some life) = refl
 
-lives_decided : (marks : List Mark) (lives : Lives) → TellLives marks lives → IsOrdered nat_cmp lives.by_number → (number : ℕ)
+lives_decided : (marks : List Mark) (lives : Lifecycles) → TellLifecycles marks lives → IsOrdered nat_cmp lives.by_number → (number : ℕ)
     → find_entry nat_cmp number (map decided_entry (filter_map decided_of lives.by_number.entries)) ≡ option_map Done (remembered_at number marks)
 lives_decided marks lives tells ordered number =
     find_decided number lives.by_number.entries ordered
@@ -191,7 +191,7 @@ found_shown number marks files =
     ∙ ap (λ o. option_or o (find_entry nat_cmp number (filter_map (done_entry marks) marks))) (find_live number marks files)
     ∙ ap (option_or (option_map (λ file. (live_entry marks file).1) (file_of number files))) (find_done number marks marks)
 
-found_same : (marks : List Mark) (files : List JobFile) (rows : RowMap) (lives : Lives) → TellLives marks lives → AreRowsOf marks files rows → IsOrdered nat_cmp rows → IsOrdered nat_cmp lives.by_number → (number : ℕ)
+found_same : (marks : List Mark) (files : List JobFile) (rows : RowMap) (lives : Lifecycles) → TellLifecycles marks lives → AreRowsOf marks files rows → IsOrdered nat_cmp rows → IsOrdered nat_cmp lives.by_number → (number : ℕ)
     → find_entry nat_cmp number (listed_entries (values rows) (filter_map decided_of lives.by_number.entries)) ≡ option_map bare_entry (find_entry nat_cmp number (entries_shown marks files))
 found_same marks files rows lives tells are ordered orders number =
     find_in_two number (map row_entry (values rows)) (map decided_entry (filter_map decided_of lives.by_number.entries))
@@ -201,7 +201,7 @@ found_same marks files rows lives tells are ordered orders number =
     ∙ joined marks (file_of number files) (remembered_at number marks)
     ∙ ap (option_map bare_entry) (sym (found_shown number marks files))
 
-pub table_same : (last : ℕ) (marks : List Mark) (files : List JobFile) (rows : RowMap) (lives : Lives) → TellLives marks lives → AreRowsOf marks files rows → IsOrdered nat_cmp rows → IsOrdered nat_cmp lives.by_number
+pub table_same : (last : ℕ) (marks : List Mark) (files : List JobFile) (rows : RowMap) (lives : Lifecycles) → TellLifecycles marks lives → AreRowsOf marks files rows → IsOrdered nat_cmp rows → IsOrdered nat_cmp lives.by_number
     → listed_table last (values rows) (filter_map decided_of lives.by_number.entries) (last_batch marks) ≡ bare (table_shown last marks files)
 unfolding bare
 table_same last marks files rows lives tells are ordered orders =
@@ -233,7 +233,7 @@ pub rows_rise : (marks : List Mark) (files : List JobFile) (rows : RowMap) → A
 rows_rise marks files rows are ordered = subst (IsStrictlySortedBy nat_cmp) (sym (numbers_are_keys rows.entries (rows_keyed marks files rows are ordered))) ordered
 
 -- what holds of all keys holds of the decided numbers
-kept_all : (P : ℕ → Type 0) (list : List (ℕ × Life)) → AllByRecursion P (map (λ (e : ℕ × Life). e.0) list) → AllByRecursion P (map (λ (one : Decided). one.number) (filter_map decided_of list))
+kept_all : (P : ℕ → Type 0) (list : List (ℕ × Lifecycle)) → AllByRecursion P (map (λ (e : ℕ × Lifecycle). e.0) list) → AllByRecursion P (map (λ (one : Decided). one.number) (filter_map decided_of list))
 kept_all P [] all = tt
 kept_all P (entry ∷ list) all = by_fate (remembered_fate entry.1) (kept_all P list all.1) where
   by_fate : (given : Option Fate) → AllByRecursion P (map (λ (one : Decided). one.number) (filter_map decided_of list))
@@ -241,7 +241,7 @@ kept_all P (entry ∷ list) all = by_fate (remembered_fate entry.1) (kept_all P 
   by_fate None rest = rest
   by_fate (Some f) rest = (all.0, rest)
 
-pub decided_rise : (list : List (ℕ × Life)) → IsStrictlySortedBy nat_cmp (map (λ (e : ℕ × Life). e.0) list) → Rise (map (λ (one : Decided). one.number) (filter_map decided_of list))
+pub decided_rise : (list : List (ℕ × Lifecycle)) → IsStrictlySortedBy nat_cmp (map (λ (e : ℕ × Lifecycle). e.0) list) → Rise (map (λ (one : Decided). one.number) (filter_map decided_of list))
 decided_rise [] sorted = rise_none
 decided_rise (entry ∷ list) sorted = by_fate (remembered_fate entry.1) (decided_rise list (sorted_tail nat_cmp _ _ sorted)) where
   by_fate : (given : Option Fate) → Rise (map (λ (one : Decided). one.number) (filter_map decided_of list))

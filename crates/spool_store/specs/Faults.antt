@@ -1,5 +1,5 @@
 -- Why a call of the store did not succeed (own).
-use Rattle.std.specs.Prelude.{◌≡◌, Option, Some, Result, Ok, Err}
+use Rattle.std.specs.Prelude.{◌≡◌, Option, Some}
 use Rattle.host_calls.specs.declared.damage.Damage.{Damage}
 use Rattle.host_calls.specs.declared.fault.HostFault.{HostFault}
 use Rattle.host_calls.specs.declared.fault.HostFault.TheVariants.{Failed as HostFailed, Memory as HostMemory}
@@ -26,15 +26,6 @@ abbrev pub fault_of_journal : JournalFault → StoreFault
 fault_of_journal journal.Failed = FileFault
 fault_of_journal journal.Memory = Memory
 fault_of_journal (journal.Damaged damage) = Damaged damage
-
--- where the answer is a damage, it has P
-abbrev pub IfDamaged : {T : Type 0} → (Damage → Type 0) → Result T StoreFault → Type 0
-IfDamaged P (Ok value) = Unit {0}
-IfDamaged P (Err (Damaged damage)) = P damage
-IfDamaged P (Err Memory) = Unit {0}
-IfDamaged P (Err FileFault) = Unit {0}
-IfDamaged P (Err QueueFull) = Unit {0}
-IfDamaged P (Err NumbersUsedUp) = Unit {0}
 
 -- the fault is one of reading: the queue is not full, and the numbers are not used up
 abbrev pub IsOfReading : StoreFault → Type 0

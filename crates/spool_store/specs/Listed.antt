@@ -34,17 +34,24 @@ pub record AreListed (last : ℕ) (live decided : List (ℕ × JobEntry)) : Type
 abbrev pub IsLive : JobTable → ℕ → Type 0
 IsLive table number = (job : Job) × (state : JobState) × (entry_at table number ≡ Some (Live job state))
 
+-- the row is that of the live job under the number
+pub record IsRowOf (table : JobTable) (number : ℕ) (row : Row) : Type 0 where
+  pub number_is : row.number ≡ number
+  pub held : entry_at table number ≡ Some (row_entry row).1
+
 -- The rows are those of the table's live jobs, in order.
 pub record ListsLive (table : JobTable) (rows : List Row) : Type 0 where
   pub rise : Rises (map row_entry rows)
   pub each : (row : Row) → Contains rows row → entry_at table row.number ≡ Some (row_entry row).1
-  pub all : (number : ℕ) (job : Job) (state : JobState) → entry_at table number ≡ Some (Live job state) → (row : Row) × Contains rows row × (row_entry row ≡ (number, Live job state))
+  pub all : (number : ℕ) (job : Job) (state : JobState) → entry_at table number ≡ Some (Live job state)
+      → (row : Row) × Contains rows row × (row_entry row ≡ (number, Live job state))
 
 -- These are the table's decided numbers, in order.
 pub record ListsDecided (table : JobTable) (decided : List Decided) : Type 0 where
   pub rise : Rises (map decided_entry decided)
   pub each : (done : Decided) → Contains decided done → entry_at table done.number ≡ Some (Done done.fate)
-  pub all : (number : ℕ) (fate : Fate) → entry_at table number ≡ Some (Done fate) → (done : Decided) × Contains decided done × (decided_entry done ≡ (number, Done fate))
+  pub all : (number : ℕ) (fate : Fate) → entry_at table number ≡ Some (Done fate)
+      → (done : Decided) × Contains decided done × (decided_entry done ≡ (number, Done fate))
 
 -- The new list, in order, is the old one but for what it has under the number.
 pub record IsEdited (old new : List (ℕ × JobEntry)) (number : ℕ) (put : Option JobEntry) : Type 0 where

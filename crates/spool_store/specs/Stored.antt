@@ -1,5 +1,5 @@
 -- What every store keeps, over any host (own): a sound table, and a journal that speaks of the same jobs.
-use Rattle.std.specs.Prelude.{◌≡◌, ◌≤◌, ℕ, List, Option, Some, None, IfSome, IsTrue, true, false}
+use Rattle.std.specs.Prelude.{◌≡◌, ℕ, List, Option, Some, None, IfSome, IsTrue, true, false}
 use Rattle.std.specs.Char.{is_ascii_alphabetic}
 use Rattle.spool_model.specs.declared.entry.Entry.TheVariants.{Live, Done}
 use Rattle.spool_model.specs.declared.job.Job.{Job}
@@ -10,18 +10,18 @@ use Rattle.spool_model.specs.JobTable.{IsSound, JobEntry, entry_at}
 use Rattle.start_journal.specs.declared.mark.Mark.{Mark}
 use Rattle.start_journal.specs.Journals.{are_drawn}
 use Rattle.start_journal.specs.Marks.{is_named, is_open, is_remembered}
-use Rattle.start_journal.specs.Slots.{IsSecond}
+use Rattle.clock_range.specs.ClockRange.{IsClockMinute, IsClockSecond}
 use Rattle.job_runs.specs.Current.{Kept}
 
 -- the queue and the minute can stand in the name of a job's file
 pub record CanBeNamed (queue minute : ℕ) : Type 0 where
   pub letter : IsTrue (is_ascii_alphabetic queue)
-  pub in_calendar : minute ≤ 4222846079
+  pub in_calendar : IsClockMinute minute
 
 -- a running job has a second of the clock's range
 abbrev pub RunsSince : State → Type 0
 RunsSince Pending = Unit {0}
-RunsSince (Running second) = IsSecond second
+RunsSince (Running second) = IsClockSecond second
 
 -- the marks that tell of a live job in this state: none names one that is pending, and one that runs was
 -- started and not decided
@@ -47,7 +47,7 @@ pub record IsStored (kept : Kept) : Type 0 where
   pub sound : IsSound kept.table
   pub drawn : IsTrue (are_drawn kept.table.last kept.journal.marks)
   pub entries : (number : ℕ) → IsEntryBy kept.journal.marks number (entry_at kept.table number)
-  pub batch : IfSome kept.table.last_batch IsSecond
+  pub batch : IfSome kept.table.last_batch IsClockSecond
 
 -- the row of a live job can have a file, and a running one has a second of the clock's range
 pub record IsRowInRange (row : Row) : Type 0 where

@@ -1,45 +1,35 @@
 -- A submission (own): whether there is room for its job, and the steps that it makes.
-use Rattle.std.specs.Prelude.{◌≡◌, ◌≤◌, ◌<◌, ◌+◌, [], ◌∷◌, ℕ, Bool, true, false, List, Result, Ok, Err, length}
-use Rattle.std.specs.FinMap.{entries}
-use Rattle.std.specs.List.{filter}
+use Rattle.std.specs.Prelude.{◌≡◌, ◌≤◌, ◌<◌, ◌+◌, [], ◌∷◌, ℕ, List, Result, Ok, Err}
 use Rattle.host_calls.specs.Folder.{Folder}
 use Rattle.job_script.specs.HeaderIn.{header_in}
-use Rattle.spool_model.specs.declared.entry.Entry.TheVariants.{Live, Done}
 use Rattle.spool_model.specs.declared.job.Job.{Job}
-use Rattle.spool_model.specs.declared.number.TheConstants.{GREATEST_NUMBER}
+use Rattle.spool_model.specs.declared.number.TheConstants.{LAST_NUMBER}
 use Rattle.spool_model.specs.declared.step.Step.{Step}
 use Rattle.spool_model.specs.declared.step.Step.TheVariants.{Draw, Accept}
-use Rattle.spool_model.specs.JobTable.{JobEntry, JobTable}
+use Rattle.spool_model.specs.JobTable.{JobTable}
 use Rattle.spool_model.specs.Steps.{after_steps}
 use Rattle.spool_shows.specs.Shown.{user_of}
 use Rattle.job_runs.specs.Bare.{bare_job}
 use Rattle.job_runs.specs.Current.{IsCurrent, Kept}
 use Rattle.spool_store.specs.declared.fault.StoreFault.{StoreFault}
 use Rattle.spool_store.specs.declared.fault.StoreFault.TheVariants.{FileFault, Memory, NumbersUsedUp, QueueFull, Damaged}
+use Rattle.spool_store.specs.declared.submitting.TheConstants.{MAX_LIVE}
 use Rattle.spool_store.specs.Stored.{IsStored}
-
--- the job lives
-abbrev pub is_live : JobEntry → Bool
-is_live (Live job state) = true
-is_live (Done fate) = false
-
--- how many jobs live
-abbrev pub live_count : JobTable → ℕ
-live_count table = length (filter (λ entry. is_live entry.1) (entries table.entries))
+use Rattle.spool_model.specs.Lists.{live_count}
 
 -- 10,000 jobs or more live: there is no room for one more
 abbrev pub IsFull : JobTable → Type 0
-IsFull table = 10000 ≤ live_count table
+IsFull table = MAX_LIVE ≤ live_count table
 
 -- there is room, and the greatest number was drawn
 pub record IsUsedUp (table : JobTable) : Type 0 where
-  pub room : live_count table < 10000
-  pub greatest : table.last ≡ GREATEST_NUMBER
+  pub room : live_count table < MAX_LIVE
+  pub greatest : table.last ≡ LAST_NUMBER
 
 -- there is room for one more job, and a number for it
 pub record HasRoom (table : JobTable) : Type 0 where
-  pub room : live_count table < 10000
-  pub more : table.last < GREATEST_NUMBER
+  pub room : live_count table < MAX_LIVE
+  pub more : table.last < LAST_NUMBER
 
 -- why a submission is refused: there is no room, or no number
 abbrev pub IsRefusal : JobTable → StoreFault → Type 0

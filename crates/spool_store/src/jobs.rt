@@ -11,13 +11,12 @@ ghost use Rattle.spool_store.specs.Rows.{decided_entry, listed_table, row_entry}
 
 use crate::sorted;
 use host_calls::Ending;
-use queue_rules::is_batch;
-use spool_model::{Decided, Fate, Row};
+use spool_model::{Decided, Fate, Row, is_batch};
 use std::alloc::AllocError;
 use std::marker::Model;
 
-/// The job table without scripts: the last number, the rows of the live jobs and the decided
-/// numbers, both in the order of their numbers, and the second of the last batch start.
+// The job table without scripts: the last number, the rows of the live jobs and the decided
+// numbers, both in the order of their numbers, and the second of the last batch start.
 #[derive(Drop)]
 pub(crate) struct Jobs {
     last: u32,
@@ -43,7 +42,7 @@ impl Model for Jobs {
 }
 
 impl Jobs {
-    /// The jobs of these rows and decided numbers, both in the order of their numbers.
+    // The jobs of these rows and decided numbers, both in the order of their numbers.
     pub(crate) fn of(
         last: u32,
         last_batch: Option<i64>,
@@ -61,35 +60,35 @@ impl Jobs {
         }
     }
 
-    /// The number that was drawn last, 0 before the first.
+    // The number that was drawn last, 0 before the first.
     pub(crate) fn last(&self) -> u32
         ensures { result ≡ self.now.last }
     {
         self.last
     }
 
-    /// The second of the last start in a batch queue, if there was one.
+    // The second of the last start in a batch queue, if there was one.
     pub(crate) fn last_batch(&self) -> Option<i64>
         ensures { result ≡ self.now.last_batch }
     {
         self.last_batch
     }
 
-    /// The live jobs, by number.
+    // The live jobs, by number.
     pub(crate) fn rows(&self) -> &[Row]
         ensures { ListsLive self.now result.now }
     {
         self.rows.as_slice()
     }
 
-    /// The jobs that are done, by number.
+    // The jobs that are done, by number.
     pub(crate) fn decided(&self) -> &[Decided]
         ensures { ListsDecided self.now result.now }
     {
         self.decided.as_slice()
     }
 
-    /// The live job of this number.
+    // The live job of this number.
     pub(crate) fn row(&self, number: u32) -> Option<&Row>
         ensures found { IfSome result (λ row. entry_at self.now number ≡ Some (row_entry row.now).1) }
         ensures number { IfSome result (λ row. row.now.number ≡ number) }
@@ -103,7 +102,7 @@ impl Jobs {
         }
     }
 
-    /// Whether the job of this number is done.
+    // Whether the job of this number is done.
     pub(crate) fn is_decided(&self, number: u32) -> bool
         ensures { IsTrue result ↔ IsDone self.now number }
     {
@@ -116,7 +115,7 @@ impl Jobs {
         }
     }
 
-    /// Draws the next number.
+    // Draws the next number.
     pub(crate) fn draw(&mut self)
         requires { IsLegal self.old Draw }
         ensures { self.new ≡ after_step self.old Draw }
@@ -124,8 +123,8 @@ impl Jobs {
         self.last += 1;
     }
 
-    /// Accepts a pending job under the number that was drawn. Where memory is wanting nothing
-    /// changes.
+    // Accepts a pending job under the number that was drawn. Where memory is wanting nothing
+    // changes.
     pub(crate) fn accept(&mut self, row: Row) -> Result<(), AllocError>
         requires free { IsLegal self.old (Accept row.number (row_job row)) }
         requires pending { row.state ≡ Pending }
@@ -136,7 +135,7 @@ impl Jobs {
         Ok(())
     }
 
-    /// Takes the pending job of this number back. Where memory is wanting nothing changes.
+    // Takes the pending job of this number back. Where memory is wanting nothing changes.
     pub(crate) fn remove(&mut self, number: u32) -> Result<(), AllocError>
         requires { IsLegal self.old (Remove number) }
         ensures taken { OnOk result (self.new ≡ after_step self.old (Remove number)) }
@@ -145,7 +144,7 @@ impl Jobs {
         self.decide(number, Fate::Removed)
     }
 
-    /// Starts the pending job of this number at this second.
+    // Starts the pending job of this number at this second.
     pub(crate) fn start(&mut self, number: u32, second: i64)
         requires { IsLegal self.old (Start number second) }
         ensures { self.new ≡ after_step self.old (Start number second) }
@@ -154,7 +153,7 @@ impl Jobs {
         self.last_batch = last_batch_after(self.last_batch, row.queue, second);
     }
 
-    /// Ends the running job of this number. Where memory is wanting nothing changes.
+    // Ends the running job of this number. Where memory is wanting nothing changes.
     pub(crate) fn end(&mut self, number: u32, ending: Ending) -> Result<(), AllocError>
         requires { IsLegal self.old (End number ending) }
         ensures taken { OnOk result (self.new ≡ after_step self.old (End number ending)) }
@@ -163,7 +162,7 @@ impl Jobs {
         self.decide(number, Fate::Finished(ending))
     }
 
-    /// Gives the running job of this number up. Where memory is wanting nothing changes.
+    // Gives the running job of this number up. Where memory is wanting nothing changes.
     pub(crate) fn interrupt(&mut self, number: u32) -> Result<(), AllocError>
         requires { IsLegal self.old (Interrupt number) }
         ensures taken { OnOk result (self.new ≡ after_step self.old (Interrupt number)) }
@@ -172,7 +171,7 @@ impl Jobs {
         self.decide(number, Fate::Interrupted)
     }
 
-    /// Forgets the fate of the job of this number, which is done.
+    // Forgets the fate of the job of this number, which is done.
     pub(crate) fn forget(&mut self, number: u32)
         requires { IsLegal self.old (Forget number) }
         ensures { self.new ≡ after_step self.old (Forget number) }
@@ -180,7 +179,7 @@ impl Jobs {
         sorted::remove_decided(&mut self.decided, number);
     }
 
-    /// Puts the fate of the live job of this number in the place of its row.
+    // Puts the fate of the live job of this number in the place of its row.
     fn decide(&mut self, number: u32, fate: Fate) -> Result<(), AllocError>
         requires { IsLive self.old number }
         ensures decided { OnOk result (self.new
@@ -193,7 +192,7 @@ impl Jobs {
     }
 }
 
-/// The second of the last batch start once a job of this queue has started at this second.
+// The second of the last batch start once a job of this queue has started at this second.
 fn last_batch_after(last_batch: Option<i64>, queue: u8, second: i64) -> Option<i64>
     ensures { result ≡ if is_batch_queue queue then Some second else last_batch }
 {

@@ -2,24 +2,26 @@
 #![tactic(auto)]
 
 mod fault;
-mod fronts;
+mod findings;
+mod found_job;
+mod job_rows;
 mod jobs;
-mod lives;
-mod look;
-mod looks;
+mod laws;
+mod lifecycles;
 mod marking;
 mod recovery;
 mod scripts;
-mod seen;
 mod sorted;
 mod starts;
 mod stepping;
 mod store;
 mod submitting;
+mod survey;
 mod tables;
 
 pub use fault::StoreFault;
 pub(crate) use jobs::Jobs;
+pub use laws::lists_are_of_the_table;
 pub use store::Store;
 pub use submitting::MAX_LIVE;
 

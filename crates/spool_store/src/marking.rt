@@ -1,23 +1,23 @@
 //! One mark more in the journal, and the file of a job that it decides.
-ghost use Rattle.std.specs.Prelude.{◌≤◌, [], ◌∷◌, IfOk, IsTrue, OnOk};
-ghost use Rattle.host_calls.specs.Causes.{HasCause};
-ghost use Rattle.host_calls.specs.Session.{IsInside, StaysInside};
+ghost use Rattle.std.specs.Prelude.{◌≡◌, ◌≤◌, [], ◌∷◌, IfOk, IsTrue, OnOk};
+ghost use Rattle.host_calls.specs.Session.{CallsInside, IsInside};
 ghost use Rattle.spool_model.specs.declared.step.Step.{Step};
 ghost use Rattle.spool_model.specs.JobTable.{JobTable};
 ghost use Rattle.spool_model.specs.Steps.{after_step};
+ghost use Rattle.start_journal.specs.Changing.{added};
 ghost use Rattle.start_journal.specs.Marks.{AreLegal, IsLegalAfter};
 ghost use Rattle.start_journal.specs.Slots.{IsWritable};
 ghost use Rattle.whole_file.specs.Others.{ChangesFiles};
 ghost use Rattle.job_runs.specs.Calls.{IsSteppingOn, KeepsOthers};
 ghost use Rattle.job_runs.specs.Current.{IsCurrent};
-ghost use Rattle.spool_store.specs.Marking.{AreSameOrKept, HaveOneMore, IsDecisionOf, IsMarkOf, IsMarked, KeepsFiles, kept_with};
+ghost use Rattle.spool_store.specs.inside.Marking.{AreSameOrKept, HaveOneMore, IsDecisionOf, IsMarkOf, IsMarked, KeepsFiles, kept_with};
 
 use host_calls::{Host, HostFault, Name};
 use start_journal::{Journal, Mark};
 use std::alloc::Global;
 use whole_file::clear;
 
-/// Adds the mark. Where no slot is free, it syncs the names and compacts the journal first.
+// Adds the mark. Where no slot is free, it syncs the names and compacts the journal first.
 pub(crate) fn add_mark<H: Host>(
     alloc: Global,
     host: &mut H,
@@ -29,10 +29,10 @@ pub(crate) fn add_mark<H: Host>(
     requires legal { IsLegalAfter journal.marks mark }
     requires current { IsTrue H.tells → (table : JobTable) × (step : Step)
         × IsMarkOf journal (H.world host.old).now.folder table step mark }
-    ensures inside { StaysInside (H.session host.old) (H.session host.new) }
-    ensures cause { HasCause HostFault.Failed (H.session host.old).file_faults (H.session host.new).file_faults result }
+    ensures inside { CallsInside HostFault.Failed (H.session host.old) (H.session host.new) result }
     ensures legal { AreLegal journal.marks }
     ensures marks { IfOk result (λ new. HaveOneMore journal.marks mark new.marks) }
+    ensures free { 1 ≤ journal.free → IfOk result (λ new. new ≡ added journal mark) }
     ensures files { IsTrue H.tells → (table : JobTable) (step : Step)
         → IsMarkOf journal (H.world host.old).now.folder table step mark
         → ChangesFiles (IsSteppingOn table (step ∷ []) (H.world host.old).now.folder)
@@ -47,14 +47,15 @@ pub(crate) fn add_mark<H: Host>(
     journal.add(alloc, host, mark)
 }
 
-/// A journal with a free slot.
+// A journal with a free slot.
 fn make_room<H: Host>(alloc: Global, host: &mut H, journal: Journal) -> Result<Journal, HostFault>
     requires inside { IsInside (H.session host.old) }
     requires current { IsTrue H.tells → (table : JobTable)
         × IsCurrent (kept_with journal table) (H.world host.old).now.folder table }
-    ensures inside { StaysInside (H.session host.old) (H.session host.new) }
-    ensures cause { HasCause HostFault.Failed (H.session host.old).file_faults (H.session host.new).file_faults result }
+    ensures inside { CallsInside HostFault.Failed (H.session host.old) (H.session host.new) result }
     ensures room { IfOk result (λ new. 1 ≤ new.free) }
+    ensures free { 1 ≤ journal.free → IfOk result (λ new. new ≡ journal) }
+    ensures untouched { 1 ≤ journal.free → host.new ≡ host.old }
     ensures legal { AreLegal journal.marks }
     ensures marks { IfOk result (λ new. AreSameOrKept journal.marks new.marks) }
     ensures files { IsTrue H.tells → (table : JobTable)
@@ -74,7 +75,7 @@ fn make_room<H: Host>(alloc: Global, host: &mut H, journal: Journal) -> Result<J
     journal.compact(alloc, host)
 }
 
-/// Adds the mark that decides a job, and then removes the job's file.
+// Adds the mark that decides a job, and then removes the job's file.
 pub(crate) fn decide<H: Host>(
     alloc: Global,
     host: &mut H,
@@ -87,8 +88,7 @@ pub(crate) fn decide<H: Host>(
     requires legal { IsLegalAfter journal.marks mark }
     requires current { IsTrue H.tells → (table : JobTable) × (step : Step)
         × IsDecisionOf journal (H.world host.old).now.folder table step mark file.now }
-    ensures inside { StaysInside (H.session host.old) (H.session host.new) }
-    ensures cause { HasCause HostFault.Failed (H.session host.old).file_faults (H.session host.new).file_faults result }
+    ensures inside { CallsInside HostFault.Failed (H.session host.old) (H.session host.new) result }
     ensures legal { AreLegal journal.marks }
     ensures marks { IfOk result (λ new. HaveOneMore journal.marks mark new.marks) }
     ensures files { IsTrue H.tells → (table : JobTable) (step : Step)

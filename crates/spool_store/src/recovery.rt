@@ -1,14 +1,14 @@
 //! Recovery: what a spool folder shows, once nothing in it can vanish any more.
 ghost use Rattle.std.specs.Prelude.{◌≡◌, IfErr, IsTrue};
-ghost use Rattle.host_calls.specs.Causes.{HasCause};
-ghost use Rattle.host_calls.specs.Session.{IsInside, StaysInside};
+ghost use Rattle.host_calls.specs.Session.{CallsInside, IsInside};
 ghost use Rattle.host_calls.specs.World.{reading};
 ghost use Rattle.whole_file.specs.Others.{ChangesFiles};
 ghost use Rattle.job_runs.specs.Calls.{ShowsAsBefore};
-ghost use Rattle.spool_store.specs.Faults.{IfDamaged, IsOfReading};
+ghost use Rattle.host_calls.specs.Damages.{IfDamaged};
+ghost use Rattle.spool_store.specs.Faults.{IsOfReading};
 ghost use Rattle.spool_store.specs.Recovering.{Recovered};
 
-use crate::look::{Look, take_look};
+use crate::survey::{Survey, take_survey};
 use crate::{Store, StoreFault};
 use host_calls::Host;
 use std::alloc::Global;
@@ -19,24 +19,22 @@ impl Store {
     /// Damage is answered exactly where the folder shows it, and all reads as before then.
     pub fn recover<H: Host>(alloc: Global, host: &mut H) -> Result<Store, StoreFault>
         requires { IsInside (H.session host.old) }
-        ensures inside { StaysInside (H.session host.old) (H.session host.new) }
-        ensures cause { HasCause StoreFault.FileFault
-            (H.session host.old).file_faults (H.session host.new).file_faults result }
+        ensures inside { CallsInside StoreFault.FileFault (H.session host.old) (H.session host.new) result }
         ensures of_reading { IfErr result IsOfReading }
         ensures files { IsTrue H.tells
             → ChangesFiles (ShowsAsBefore (H.world host.old).now.folder) (H.world host.old) (H.world host.new) }
         ensures recovered { IsTrue H.tells
             → Recovered (H.world host.old).now.folder (H.world host.new).now.folder result }
         ensures untouched { IsTrue H.tells
-            → IfDamaged (λ damage. reading (H.world host.new) ≡ reading (H.world host.old)) result }
+            → IfDamaged StoreFault.Damaged (λ damage. reading (H.world host.new) ≡ reading (H.world host.old)) result }
     {
         // What others left unsynced could still vanish: only after this is the reading all that a crash leaves.
         host.settle(alloc)?;
-        let Look {
+        let Survey {
             jobs,
             journal,
             leftover,
-        } = take_look(alloc, host)?;
+        } = take_survey(alloc, host)?;
         clear(alloc, host, leftover.as_slice())?;
         Ok(Store { jobs, journal })
     }

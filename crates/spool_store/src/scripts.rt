@@ -1,8 +1,7 @@
 //! The files of live jobs.
 ghost use Rattle.std.specs.Prelude.{◌≡◌, IfNone, IfOk, IfSome, IsTrue};
-ghost use Rattle.host_calls.specs.Causes.{HasCause};
 ghost use Rattle.host_calls.specs.Folder.{Folder};
-ghost use Rattle.host_calls.specs.Session.{IsInside, StaysInside};
+ghost use Rattle.host_calls.specs.Session.{CallsInside, IsInside};
 ghost use Rattle.spool_model.specs.JobTable.{JobTable};
 ghost use Rattle.job_runs.specs.Current.{IsCurrent};
 ghost use Rattle.spool_store.specs.Listed.{IsLive};
@@ -41,9 +40,7 @@ impl Store {
         requires live { IsLive self.now.table number }
         requires current { IsTrue H.tells → (table : JobTable)
             × IsCurrent self.now (H.world host.old).now.folder table }
-        ensures inside { StaysInside (H.session host.old) (H.session host.new) }
-        ensures cause { HasCause HostFault.Failed
-            (H.session host.old).file_faults (H.session host.new).file_faults result }
+        ensures inside { CallsInside HostFault.Failed (H.session host.old) (H.session host.new) result }
         ensures looks { IsTrue H.tells → H.world host.new ≡ H.world host.old }
         ensures script { IsTrue H.tells → (table : JobTable)
             → IsCurrent self.now (H.world host.old).now.folder table → IfOk result (IsScriptOf table number) }

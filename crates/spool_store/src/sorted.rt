@@ -9,7 +9,7 @@ ghost use Rattle.spool_store.specs.Rows.{decided_entry, row_entry};
 use spool_model::{Decided, Row, State};
 use std::alloc::AllocError;
 
-/// How many rows have a smaller number: the place of the row of this number.
+// How many rows have a smaller number: the place of the row of this number.
 pub(crate) fn row_place(rows: &[Row], number: u32) -> usize
     requires { Rises (map row_entry rows.now) }
     ensures bound { result ≤ length rows.now }
@@ -18,7 +18,7 @@ pub(crate) fn row_place(rows: &[Row], number: u32) -> usize
     rows.partition_point(|row| row.number < number)
 }
 
-/// How many decided numbers are smaller: the place of this number.
+// How many decided numbers are smaller: the place of this number.
 pub(crate) fn decided_place(decided: &[Decided], number: u32) -> usize
     requires { Rises (map decided_entry decided.now) }
     ensures bound { result ≤ length decided.now }
@@ -27,7 +27,7 @@ pub(crate) fn decided_place(decided: &[Decided], number: u32) -> usize
     decided.partition_point(|done| done.number < number)
 }
 
-/// Takes the row of this number out.
+// Takes the row of this number out.
 pub(crate) fn remove_row(rows: &mut Vec<Row>, number: u32)
     requires order { Rises (map row_entry rows.old.items) }
     requires present { IsSome (entry_in (map row_entry rows.old.items) number) }
@@ -37,7 +37,7 @@ pub(crate) fn remove_row(rows: &mut Vec<Row>, number: u32)
     rows.remove(place);
 }
 
-/// Brings the row of this number to running since this second, and gives it as it was.
+// Brings the row of this number to running since this second, and gives it as it was.
 pub(crate) fn start_row(rows: &mut Vec<Row>, number: u32, second: i64) -> Row
     requires order { Rises (map row_entry rows.old.items) }
     requires present { IsSome (entry_in (map row_entry rows.old.items) number) }
@@ -54,7 +54,7 @@ pub(crate) fn start_row(rows: &mut Vec<Row>, number: u32, second: i64) -> Row
     row
 }
 
-/// Puts a number that is not there among the decided ones.
+// Puts a number that is not there among the decided ones.
 pub(crate) fn insert_decided(decided: &mut Vec<Decided>, done: Decided) -> Result<(), AllocError>
     requires order { Rises (map decided_entry decided.old.items) }
     requires absent { entry_in (map decided_entry decided.old.items) done.number ≡ None }
@@ -67,7 +67,7 @@ pub(crate) fn insert_decided(decided: &mut Vec<Decided>, done: Decided) -> Resul
     Ok(())
 }
 
-/// Takes this number out of the decided ones.
+// Takes this number out of the decided ones.
 pub(crate) fn remove_decided(decided: &mut Vec<Decided>, number: u32)
     requires order { Rises (map decided_entry decided.old.items) }
     requires present { IsSome (entry_in (map decided_entry decided.old.items) number) }

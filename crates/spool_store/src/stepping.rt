@@ -1,14 +1,7 @@
 //! The steps of a job that the store makes, each by one mark in the journal.
-ghost use Rattle.std.specs.Prelude.{◌≡◌, [], ◌∷◌, IfErr, IfOk, IsTrue};
-ghost use Rattle.host_calls.specs.Causes.{HasCause};
-ghost use Rattle.host_calls.specs.Session.{IsInside, StaysInside};
 ghost use Rattle.spool_model.specs.declared.step.Step.TheVariants.{Remove, Start, End, Interrupt, Forget};
-ghost use Rattle.spool_model.specs.JobTable.{JobTable};
-ghost use Rattle.spool_model.specs.Steps.{IsLegal, after_step};
-ghost use Rattle.start_journal.specs.Slots.{IsSecond};
-ghost use Rattle.job_runs.specs.Calls.{StoreCall};
-ghost use Rattle.job_runs.specs.Current.{IsCurrent};
-ghost use Rattle.spool_store.specs.Faults.{IsOfStep};
+ghost use Rattle.clock_range.specs.ClockRange.{IsClockSecond};
+ghost use Rattle.spool_store.specs.Stepping.{MakesStep, MayStep};
 
 use crate::marking::{add_mark, decide};
 use crate::{Store, StoreFault};
@@ -24,17 +17,9 @@ impl Store {
         host: &mut H,
         number: u32,
     ) -> Result<Store, StoreFault>
-        requires inside { IsInside (H.session host.old) }
-        requires legal { IsLegal self.table (Remove number) }
-        requires current { IsTrue H.tells → (table : JobTable)
-            × IsCurrent self (H.world host.old).now.folder table }
-        ensures inside { StaysInside (H.session host.old) (H.session host.new) }
-        ensures cause { HasCause StoreFault.FileFault
-            (H.session host.old).file_faults (H.session host.new).file_faults result }
-        ensures faults { IfErr result IsOfStep }
-        ensures kept { IfOk result (λ store. store.table ≡ after_step self.table (Remove number)) }
-        ensures files { IsTrue H.tells → (table : JobTable) → IsCurrent self (H.world host.old).now.folder table
-            → StoreCall table (Remove number ∷ []) (H.world host.old) (H.world host.new) result }
+        requires may { MayStep H.tells (H.session host.old) (H.world host.old) self (Remove number) }
+        ensures makes { MakesStep H.tells (H.session host.old) (H.session host.new)
+            (H.world host.old) (H.world host.new) self (Remove number) result }
     {
         let file = self.file(number).unwrap();
         let Store { mut jobs, journal } = self;
@@ -52,18 +37,10 @@ impl Store {
         number: u32,
         second: i64,
     ) -> Result<Store, StoreFault>
-        requires inside { IsInside (H.session host.old) }
-        requires legal { IsLegal self.table (Start number second) }
-        requires second { IsSecond second }
-        requires current { IsTrue H.tells → (table : JobTable)
-            × IsCurrent self (H.world host.old).now.folder table }
-        ensures inside { StaysInside (H.session host.old) (H.session host.new) }
-        ensures cause { HasCause StoreFault.FileFault
-            (H.session host.old).file_faults (H.session host.new).file_faults result }
-        ensures faults { IfErr result IsOfStep }
-        ensures kept { IfOk result (λ store. store.table ≡ after_step self.table (Start number second)) }
-        ensures files { IsTrue H.tells → (table : JobTable) → IsCurrent self (H.world host.old).now.folder table
-            → StoreCall table (Start number second ∷ []) (H.world host.old) (H.world host.new) result }
+        requires may { MayStep H.tells (H.session host.old) (H.world host.old) self (Start number second) }
+        requires second { IsClockSecond second }
+        ensures makes { MakesStep H.tells (H.session host.old) (H.session host.new)
+            (H.world host.old) (H.world host.new) self (Start number second) result }
     {
         let queue = self.jobs.row(number).unwrap().queue;
         let Store { mut jobs, journal } = self;
@@ -85,17 +62,9 @@ impl Store {
         number: u32,
         ending: Ending,
     ) -> Result<Store, StoreFault>
-        requires inside { IsInside (H.session host.old) }
-        requires legal { IsLegal self.table (End number ending) }
-        requires current { IsTrue H.tells → (table : JobTable)
-            × IsCurrent self (H.world host.old).now.folder table }
-        ensures inside { StaysInside (H.session host.old) (H.session host.new) }
-        ensures cause { HasCause StoreFault.FileFault
-            (H.session host.old).file_faults (H.session host.new).file_faults result }
-        ensures faults { IfErr result IsOfStep }
-        ensures kept { IfOk result (λ store. store.table ≡ after_step self.table (End number ending)) }
-        ensures files { IsTrue H.tells → (table : JobTable) → IsCurrent self (H.world host.old).now.folder table
-            → StoreCall table (End number ending ∷ []) (H.world host.old) (H.world host.new) result }
+        requires may { MayStep H.tells (H.session host.old) (H.world host.old) self (End number ending) }
+        ensures makes { MakesStep H.tells (H.session host.old) (H.session host.new)
+            (H.world host.old) (H.world host.new) self (End number ending) result }
     {
         let file = self.file(number).unwrap();
         let Store { mut jobs, journal } = self;
@@ -111,17 +80,9 @@ impl Store {
         host: &mut H,
         number: u32,
     ) -> Result<Store, StoreFault>
-        requires inside { IsInside (H.session host.old) }
-        requires legal { IsLegal self.table (Interrupt number) }
-        requires current { IsTrue H.tells → (table : JobTable)
-            × IsCurrent self (H.world host.old).now.folder table }
-        ensures inside { StaysInside (H.session host.old) (H.session host.new) }
-        ensures cause { HasCause StoreFault.FileFault
-            (H.session host.old).file_faults (H.session host.new).file_faults result }
-        ensures faults { IfErr result IsOfStep }
-        ensures kept { IfOk result (λ store. store.table ≡ after_step self.table (Interrupt number)) }
-        ensures files { IsTrue H.tells → (table : JobTable) → IsCurrent self (H.world host.old).now.folder table
-            → StoreCall table (Interrupt number ∷ []) (H.world host.old) (H.world host.new) result }
+        requires may { MayStep H.tells (H.session host.old) (H.world host.old) self (Interrupt number) }
+        ensures makes { MakesStep H.tells (H.session host.old) (H.session host.new)
+            (H.world host.old) (H.world host.new) self (Interrupt number) result }
     {
         let file = self.file(number).unwrap();
         let Store { mut jobs, journal } = self;
@@ -137,17 +98,9 @@ impl Store {
         host: &mut H,
         number: u32,
     ) -> Result<Store, StoreFault>
-        requires inside { IsInside (H.session host.old) }
-        requires legal { IsLegal self.table (Forget number) }
-        requires current { IsTrue H.tells → (table : JobTable)
-            × IsCurrent self (H.world host.old).now.folder table }
-        ensures inside { StaysInside (H.session host.old) (H.session host.new) }
-        ensures cause { HasCause StoreFault.FileFault
-            (H.session host.old).file_faults (H.session host.new).file_faults result }
-        ensures faults { IfErr result IsOfStep }
-        ensures kept { IfOk result (λ store. store.table ≡ after_step self.table (Forget number)) }
-        ensures files { IsTrue H.tells → (table : JobTable) → IsCurrent self (H.world host.old).now.folder table
-            → StoreCall table (Forget number ∷ []) (H.world host.old) (H.world host.new) result }
+        requires may { MayStep H.tells (H.session host.old) (H.world host.old) self (Forget number) }
+        ensures makes { MakesStep H.tells (H.session host.old) (H.session host.new)
+            (H.world host.old) (H.world host.new) self (Forget number) result }
     {
         let Store { mut jobs, journal } = self;
         let journal = add_mark(alloc, host, journal, Mark::Forgotten(number))?;

@@ -1,9 +1,9 @@
 //! The store: the jobs of a spool folder, and the journal that it has of them.
-ghost use Rattle.std.specs.Prelude.{◌≡◌, IfSome, IsTrue, Contains};
-ghost use Rattle.start_journal.specs.Slots.{IsSecond};
+ghost use Rattle.std.specs.Prelude.{◌≡◌, IfNone, IfSome, IsTrue, Contains};
+ghost use Rattle.clock_range.specs.ClockRange.{IsClockSecond};
 ghost use Rattle.spool_model.specs.declared.row.Row.{Row};
 ghost use Rattle.spool_model.specs.JobTable.{IsSound};
-ghost use Rattle.spool_store.specs.Listed.{ListsDecided, ListsLive};
+ghost use Rattle.spool_store.specs.Listed.{IsLive, IsRowOf, ListsDecided, ListsLive};
 ghost use Rattle.spool_store.specs.Stored.{IsRowInRange, IsStored};
 
 use crate::Jobs;
@@ -45,6 +45,14 @@ impl Store {
         self.jobs.rows()
     }
 
+    /// The row of the live job of this number. None where no live job has the number.
+    pub fn row(&self, number: u32) -> Option<&Row>
+        ensures found { IfSome result (λ row. IsRowOf self.now.table number row.now) }
+        ensures absent { IfNone result (IsLive self.now.table number → ⊥) }
+    {
+        self.jobs.row(number)
+    }
+
     /// The jobs that are done and not forgotten, by number.
     pub fn decided(&self) -> &[Decided]
         ensures { ListsDecided self.now.table result.now }
@@ -63,7 +71,7 @@ impl Store {
     /// The second of the last start in a batch queue, if there was one.
     pub fn last_batch(&self) -> Option<i64>
         ensures last_batch { result ≡ self.now.table.last_batch }
-        ensures range { IfSome result IsSecond }
+        ensures range { IfSome result IsClockSecond }
     {
         self.jobs.last_batch()
     }

@@ -1,8 +1,8 @@
 //! Submissions.
-ghost use Rattle.std.specs.Prelude.{◌≡◌, ◌≤◌, codes, IfErr, IfOk, IsErrOf, IsSome, IsTrue};
+ghost use Rattle.std.specs.Prelude.{◌≡◌, IfErr, IfOk, IsErrOf, IsSome, IsTrue};
 ghost use Rattle.std.specs.Char.{is_ascii_alphabetic};
-ghost use Rattle.host_calls.specs.Causes.{HasCause};
-ghost use Rattle.host_calls.specs.Session.{IsInside, StaysInside};
+ghost use Rattle.clock_range.specs.ClockRange.{IsClockMinute};
+ghost use Rattle.host_calls.specs.Session.{CallsInside, IsInside};
 ghost use Rattle.job_script.specs.HeaderIn.{header_in};
 ghost use Rattle.spool_model.specs.JobTable.{JobTable};
 ghost use Rattle.spool_model.specs.Steps.{after_steps};
@@ -12,13 +12,13 @@ ghost use Rattle.job_runs.specs.Current.{IsCurrent, Kept};
 ghost use Rattle.spool_store.specs.Submitting.{IsAnswerOn, IsNextNumber, IsNextOn, IsRefusal, job_of_script, kept_of, submission, with_job_if};
 
 use crate::{Store, StoreFault};
-use host_calls::{Host, HostFault, Name};
-use job_name::{JobName, LAST_NUMBER};
+use host_calls::{Host, HostFault};
+use job_name::JobName;
 use job_script::header;
 use sequence_file::draw;
-use spool_model::{Row, State};
+use spool_model::{LAST_NUMBER, Row, State};
 use std::alloc::Global;
-use whole_file::place;
+use whole_file::{place, temporary_name};
 
 /// How many jobs may live at a time.
 pub const MAX_LIVE: usize = 10_000;
@@ -36,13 +36,11 @@ impl Store {
     ) -> Result<(Store, u32), StoreFault>
         requires inside { IsInside (H.session host.old) }
         requires queue { IsTrue (is_ascii_alphabetic queue) }
-        requires minute { minute ≤ 4222846079 }
+        requires minute { IsClockMinute minute }
         requires header { IsSome (header_in script.now) }
         requires current { IsTrue H.tells → (table : JobTable)
             × IsCurrent self (H.world host.old).now.folder table }
-        ensures inside { StaysInside (H.session host.old) (H.session host.new) }
-        ensures cause { HasCause StoreFault.FileFault
-            (H.session host.old).file_faults (H.session host.new).file_faults result }
+        ensures inside { CallsInside StoreFault.FileFault (H.session host.old) (H.session host.new) result }
         ensures answer { IsAnswerOn self.table result }
         ensures queue_full { IsErrOf result StoreFault.QueueFull → host.new ≡ host.old }
         ensures used_up { IsErrOf result StoreFault.NumbersUsedUp → host.new ≡ host.old }
@@ -73,7 +71,7 @@ impl Store {
         Ok((Store { jobs, journal }, number))
     }
 
-    /// The number of the next job, where there is room for one.
+    // The number of the next job, where there is room for one.
     fn next_number(&self) -> Result<u32, StoreFault>
         ensures number { IfOk result (IsNextNumber self.now.table) }
         ensures refused { IfErr result (IsRefusal self.now.table) }
@@ -89,7 +87,7 @@ impl Store {
     }
 }
 
-/// Draws the number of the job, which is the next one, and places the file of the job under it.
+// Draws the number of the job, which is the next one, and places the file of the job under it.
 fn file_job<H: Host>(
     alloc: Global,
     host: &mut H,
@@ -100,9 +98,7 @@ fn file_job<H: Host>(
     requires header { IsSome (header_in script.now) }
     requires current { IsTrue H.tells → (kept : Kept) × (table : JobTable)
         × IsNextOn kept (H.world host.old).now.folder table job.now.number }
-    ensures inside { StaysInside (H.session host.old) (H.session host.new) }
-    ensures cause { HasCause HostFault.Failed
-        (H.session host.old).file_faults (H.session host.new).file_faults result }
+    ensures inside { CallsInside HostFault.Failed (H.session host.old) (H.session host.new) result }
     ensures files { IsTrue H.tells → (kept : Kept) (table : JobTable)
         → IsNextOn kept (H.world host.old).now.folder table job.now.number
         → StoreCall table (submission table (job_of_script job.now.queue job.now.minute script.now))
@@ -112,11 +108,5 @@ fn file_job<H: Host>(
     let name = job.name();
     // A file whose number was not drawn would be damage.
     draw(alloc, host, job.number - 1)?;
-    place(alloc, host, &temp_name(), &name, script)
-}
-
-fn temp_name() -> Name
-    ensures { result ≡ codes ".TMP" }
-{
-    Name::of(b".TMP").unwrap()
+    place(alloc, host, &temporary_name(), &name, script)
 }

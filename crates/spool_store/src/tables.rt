@@ -5,39 +5,39 @@ ghost use Rattle.std.specs.Ordering.{nat_cmp};
 ghost use Rattle.spool_shows.specs.Shown.{damage_of_jobs};
 ghost use Rattle.start_journal.specs.Journals.{AreWritable, are_drawn};
 ghost use Rattle.spool_store.specs.Faults.{IsFound};
-ghost use Rattle.spool_store.specs.Lives.{TellLives};
-ghost use Rattle.spool_store.specs.Seen.{files_seen};
-ghost use Rattle.spool_store.specs.Tables.{AreUndecided, IsTableShown, ListsDrawn, ListsTable};
+ghost use Rattle.spool_store.specs.inside.Lifecycles.{TellLifecycles};
+ghost use Rattle.spool_store.specs.inside.FoundJobs.{files_found};
+ghost use Rattle.spool_store.specs.inside.Tables.{AreUndecided, IsTableShown, ListsDrawn, ListsTable};
 
 use crate::fault::StoreFault;
+use crate::found_job::FoundJob;
+use crate::job_rows::rows_of_files;
 use crate::jobs::Jobs;
-use crate::lives::Lives;
-use crate::looks::look_at;
-use crate::seen::Seen;
+use crate::lifecycles::Lifecycles;
 use crate::starts::starts_fault;
 use spool_model::{Decided, Row};
 use start_journal::{Mark, last_batch};
 use std::alloc::{AllocError, Global};
 use std::collections::BTreeMap;
 
-/// The rows and the decided numbers of the table that the marks and the files show, or their first
-/// damage.
+// The rows and the decided numbers of the table that the marks and the files show, or their first
+// damage.
 pub(crate) fn listed(
     alloc: Global,
     last: u32,
     marks: &[Mark],
-    lives: &Lives,
-    seen: &[Seen],
+    lives: &Lifecycles,
+    seen: &[FoundJob],
 ) -> Result<(Vec<Row>, Vec<Decided>), StoreFault>
-    requires told { TellLives marks.now lives.now }
+    requires told { TellLifecycles marks.now lives.now }
     requires fits { 32 * length marks.now < 2 ^ 64 }
     ensures table { MatchResult result
-        (λ lists. ListsTable last marks.now (files_seen seen.now) lists.0.items lists.1.items)
-        (IsFound (damage_of_jobs last marks.now (files_seen seen.now))) }
-    ensures drawn { AreUndecided marks.now (files_seen seen.now) → AreWritable marks.now
+        (λ lists. ListsTable last marks.now (files_found seen.now) lists.0.items lists.1.items)
+        (IsFound (damage_of_jobs last marks.now (files_found seen.now))) }
+    ensures drawn { AreUndecided marks.now (files_found seen.now) → AreWritable marks.now
         → IsTrue (are_drawn last marks.now) → IfOk result (λ lists. ListsDrawn last lists.0.items lists.1.items) }
 {
-    let by_number = look_at(alloc, last, lives, seen)?;
+    let by_number = rows_of_files(alloc, last, lives, seen)?;
     if let Some(damage) = starts_fault(marks, lives, &by_number) {
         return Err(StoreFault::Damaged(damage));
     }
@@ -46,22 +46,22 @@ pub(crate) fn listed(
     Ok((rows, decided))
 }
 
-/// The jobs that the marks and the files show, without scripts, or their first damage.
+// The jobs that the marks and the files show, without scripts, or their first damage.
 pub(crate) fn jobs_shown(
     alloc: Global,
     last: u32,
     marks: &[Mark],
-    lives: &Lives,
-    seen: &[Seen],
+    lives: &Lifecycles,
+    seen: &[FoundJob],
 ) -> Result<Jobs, StoreFault>
-    requires told { TellLives marks.now lives.now }
-    requires undecided { AreUndecided marks.now (files_seen seen.now) }
+    requires told { TellLifecycles marks.now lives.now }
+    requires undecided { AreUndecided marks.now (files_found seen.now) }
     requires writable { AreWritable marks.now }
     requires drawn { IsTrue (are_drawn last marks.now) }
     requires fits { 32 * length marks.now < 2 ^ 64 }
     ensures { MatchResult result
-        (IsTableShown last marks.now (files_seen seen.now))
-        (IsFound (damage_of_jobs last marks.now (files_seen seen.now))) }
+        (IsTableShown last marks.now (files_found seen.now))
+        (IsFound (damage_of_jobs last marks.now (files_found seen.now))) }
 {
     let (rows, decided) = listed(alloc, last, marks, lives, seen)?;
     Ok(Jobs::of(last, last_batch(marks), rows, decided))

@@ -1,83 +1,20 @@
 -- Digits, and the mark that the bytes of a slot give.
-use Rattle.std.proofs.Common.{◌≡◌, ℕ, zero, suc, ℤ, pos, negsuc, ◌≤ℤ◌, ◌+◌, ◌-◌, ◌*◌, ◌/◌, ◌^◌, ◌<◌, ◌≤◌, Bool, true, false, List, [], ◌∷◌, ◌++◌, Option, Some, None, length, sym, ap, subst, ◌∙◌, refl, arith, eq-eqb, append_assoc}
-use Rattle.std.specs.Prelude.{◌==◌, ◌&&◌, fold, slice_index, slice_range, nat_le, if◌then◌else◌}
+use Rattle.std.proofs.Common.{◌≡◌, ℕ, ◌≤◌, Bool, true, false, List, Option, Some, None, length, sym, ap, subst, ◌∙◌, refl, arith, eq-eqb}
+use Rattle.std.specs.Prelude.{◌==◌, ◌&&◌, slice_index, slice_range, nat_le, if◌then◌else◌}
 use Rattle.std.specs.Char.{is_ascii_alphabetic}
-use Rattle.std.specs.List.{list_all}
 use Rattle.std.proofs.lemmas.Bool.Decides.{nat_tests}
-use Rattle.std.proofs.lemmas.Int.{ints}
-use Rattle.std.proofs.lemmas.List.{append-nil}
-use Rattle.std.proofs.lemmas.Nat.{mod_below}
-use Rattle.hex_digits.specs.Digits.{SpellsNumber, digit_byte}
-use Rattle.hex_digits.proofs.DigitLemmas.{one_number, spells_more}
 use Rattle.start_journal.specs.declared.fields.Fields.{Fields}
 use Rattle.start_journal.specs.declared.mark.Mark.{Mark}
 use Rattle.start_journal.specs.declared.mark.Mark.TheVariants.{Removed, Started, Ended, Interrupted, Forgotten, Batch}
 use Rattle.start_journal.specs.JournalLaws.{SlotsGiveTheirMarks}
-use Rattle.start_journal.specs.SlotBytes.{are_digits, are_same_fields, can_write, digit_value, fields_in, has_form, is_digit, is_second, mark_in, mark_saying, value_of}
-use Rattle.start_journal.specs.Slots.{IsSecond, IsWritable, SpellsFields, SpellsMark, fields_of, mark_with}
-use Rattle.start_journal.proofs.MarkLemmas.{same_number}
+use Rattle.start_journal.specs.SlotBytes.{are_same_fields, can_write, fields_in, has_form, mark_in, mark_saying}
+use Rattle.hex_digits.specs.Values.{are_digits}
+use Rattle.clock_range.specs.ClockRange.{is_clock_second}
+use Rattle.clock_range.proofs.RangeLemmas.{second_is, second_tested}
+use Rattle.start_journal.specs.Slots.{IsWritable, SpellsFields, SpellsMark, fields_of, mark_with}
+use Rattle.std.proofs.lemmas.Bool.{and_from, and_parts, eqb-true}
 use Rattle.start_journal.proofs.SlotLemmas.{mark_again, one_fields}
-
--- both tests pass
-pub both : (one other : Bool) → (one && other) ≡ true → (one ≡ true) × (other ≡ true)
-both true true is = (refl, refl)
-both true false is = cc
-both false other is = cc
-
-pub and_then : (one other : Bool) → one ≡ true → other ≡ true → (one && other) ≡ true
-and_then one other of_one of_other = ap (λ b. b && other) of_one ∙ of_other
-
--- the byte of a digit is one, and stands for it
-pub digit_fits : (digit : ℕ) → digit < 16 → is_digit (digit_byte digit) ≡ true
-digit_fits digit small = grind (arith, nat_tests)
-
--- a digit is the byte of what it stands for
-pub digit_found : (byte : ℕ) → is_digit byte ≡ true → (digit_value byte < 16) × (byte ≡ digit_byte (digit_value byte))
-digit_found byte is = (grind (arith, nat_tests), grind (arith, nat_tests))
-
--- what holds of the byte at each place holds of all bytes
-pub all_by_place : (test : ℕ → Bool) (bytes : List ℕ) → ((place : ℕ) → place < length bytes → test (slice_index bytes place) ≡ true) → list_all test bytes ≡ true
-all_by_place test [] each = refl
-all_by_place test (byte ∷ bytes) each =
-    and_then (test byte) (list_all test bytes) (each 0 (omega arith)) (all_by_place test bytes (λ place inside. each (suc place) (omega arith)))
-
--- and what holds of all holds of each
-pub place_of_all : (test : ℕ → Bool) (bytes : List ℕ) (place : ℕ) → list_all test bytes ≡ true → place < length bytes → test (slice_index bytes place) ≡ true
-place_of_all test [] place all inside = absurd (omega arith)
-place_of_all test (byte ∷ bytes) zero all inside = (both (test byte) (list_all test bytes) all).0
-place_of_all test (byte ∷ bytes) (suc place) all inside = place_of_all test bytes place (both (test byte) (list_all test bytes) all).1 (omega arith)
-
--- what spells a number are digits
-pub spelled_digits : (bytes : List ℕ) (number : ℕ) → SpellsNumber bytes number → are_digits bytes ≡ true
-spelled_digits bytes number spelled = all_by_place is_digit bytes (λ place inside.
-    ap is_digit (spelled.each place inside) ∙ digit_fits _ (mod_below (number / 16 ^ (length bytes - 1 - place)) 16 (omega arith)))
-
--- digits behind others spell what both come to
-digits_behind : (front bytes : List ℕ) (number : ℕ) → SpellsNumber front number → are_digits bytes ≡ true → SpellsNumber (front ++ bytes) (fold (λ value byte. value * 16 + digit_value byte) number bytes)
-digits_behind front [] number spelled digits = subst (λ list. SpellsNumber list number) (sym (append-nil front)) spelled
-digits_behind front (byte ∷ bytes) number spelled digits =
-    let tests : (is_digit byte ≡ true) × (are_digits bytes ≡ true) = both (is_digit byte) (are_digits bytes) digits in
-    let digit : (digit_value byte < 16) × (byte ≡ digit_byte (digit_value byte)) = digit_found byte tests.0 in
-    let more : SpellsNumber (front ++ byte ∷ []) (number * 16 + digit_value byte) =
-    subst (λ last. SpellsNumber (front ++ last ∷ []) (number * 16 + digit_value byte)) (sym digit.1) (spells_more front number (digit_value byte) spelled digit.0) in
-    subst (λ list. SpellsNumber list (fold (λ value b. value * 16 + digit_value b) (number * 16 + digit_value byte) bytes)) (append_assoc front (byte ∷ []) bytes) (digits_behind (front ++ byte ∷ []) bytes (number * 16 + digit_value byte) more tests.1)
-
--- digits spell their value
-pub digits_spell : (bytes : List ℕ) → are_digits bytes ≡ true → SpellsNumber bytes (value_of bytes)
-digits_spell bytes digits = digits_behind [] bytes 0 (record { fits = omega arith; each = λ place none. absurd (omega arith) }) digits
-
--- and no other number
-pub value_spelled : (bytes : List ℕ) (number : ℕ) → SpellsNumber bytes number → value_of bytes ≡ number
-value_spelled bytes number spelled = one_number bytes (value_of bytes) number (digits_spell bytes (spelled_digits bytes number spelled)) spelled
-
--- the tests of a mark that can be written
-second_tested : (second : ℤ) → IsSecond second → is_second second ≡ true
-second_tested (pos second) is = let to : pos second ≤ℤ pos 253370764799 = is.to in grind (arith, ints, nat_tests)
-second_tested (negsuc second) is = let from : pos 0 ≤ℤ negsuc second = is.from in grind (arith, ints)
-
-pub second_is : (second : ℤ) → is_second second ≡ true → IsSecond second
-second_is (pos second) is = let at_most : second ≤ 253370764799 = grind (arith, nat_tests) in record { from = grind (arith, ints); to = grind (arith, ints) }
-second_is (negsuc second) is = cc
+use Rattle.hex_digits.proofs.ValueLemmas.{spelled_digits, digits_spell}
 
 one_at_least : (number : ℕ) → 1 ≤ number → nat_le 1 number ≡ true
 one_at_least number some = grind (arith, nat_tests)
@@ -88,7 +25,7 @@ at_least_one number is = grind (arith, nat_tests)
 pub writable_tested : (mark : Mark) → IsWritable mark → can_write mark ≡ true
 writable_tested (Removed number) is = one_at_least number is
 writable_tested (Started number queue second) is =
-    and_then (nat_le 1 number && is_ascii_alphabetic queue) (is_second second) (and_then (nat_le 1 number) (is_ascii_alphabetic queue) (one_at_least number is.drawn) is.letter) (second_tested second is.second_of)
+    and_from (nat_le 1 number && is_ascii_alphabetic queue) (is_clock_second second) (and_from (nat_le 1 number) (is_ascii_alphabetic queue) (one_at_least number is.drawn) is.letter) (second_tested second is.second_of)
 writable_tested (Ended number ending) is = one_at_least number is
 writable_tested (Interrupted number) is = one_at_least number is
 writable_tested (Forgotten number) is = one_at_least number is
@@ -97,8 +34,8 @@ writable_tested (Batch second) is = second_tested second is
 pub writable_is : (mark : Mark) → can_write mark ≡ true → IsWritable mark
 writable_is (Removed number) is = at_least_one number is
 writable_is (Started number queue second) is =
-    let tests : ((nat_le 1 number && is_ascii_alphabetic queue) ≡ true) × (is_second second ≡ true) = both (nat_le 1 number && is_ascii_alphabetic queue) (is_second second) is in
-    let front : (nat_le 1 number ≡ true) × (is_ascii_alphabetic queue ≡ true) = both (nat_le 1 number) (is_ascii_alphabetic queue) tests.0 in
+    let tests : ((nat_le 1 number && is_ascii_alphabetic queue) ≡ true) × (is_clock_second second ≡ true) = and_parts (nat_le 1 number && is_ascii_alphabetic queue) (is_clock_second second) is in
+    let front : (nat_le 1 number ≡ true) × (is_ascii_alphabetic queue ≡ true) = and_parts (nat_le 1 number) (is_ascii_alphabetic queue) tests.0 in
     record { drawn = at_least_one number front.0; letter = front.1; second_of = second_is second tests.1 }
 writable_is (Ended number ending) is = at_least_one number is
 writable_is (Interrupted number) is = at_least_one number is
@@ -108,23 +45,23 @@ writable_is (Batch second) is = second_is second is
 -- six tests that all pass
 six : (a b c d e f : Bool) → (a && b && c && d && e && f) ≡ true → (a ≡ true) × (b ≡ true) × (c ≡ true) × (d ≡ true) × (e ≡ true) × (f ≡ true)
 six a b c d e f is =
-    let of_f : ((a && b && c && d && e) ≡ true) × (f ≡ true) = both (a && b && c && d && e) f is in
-    let of_e : ((a && b && c && d) ≡ true) × (e ≡ true) = both (a && b && c && d) e of_f.0 in
-    let of_d : ((a && b && c) ≡ true) × (d ≡ true) = both (a && b && c) d of_e.0 in
-    let of_c : ((a && b) ≡ true) × (c ≡ true) = both (a && b) c of_d.0 in
-    let of_b : (a ≡ true) × (b ≡ true) = both a b of_c.0 in
+    let of_f : ((a && b && c && d && e) ≡ true) × (f ≡ true) = and_parts (a && b && c && d && e) f is in
+    let of_e : ((a && b && c && d) ≡ true) × (e ≡ true) = and_parts (a && b && c && d) e of_f.0 in
+    let of_d : ((a && b && c) ≡ true) × (d ≡ true) = and_parts (a && b && c) d of_e.0 in
+    let of_c : ((a && b) ≡ true) × (c ≡ true) = and_parts (a && b) c of_d.0 in
+    let of_b : (a ≡ true) × (b ≡ true) = and_parts a b of_c.0 in
     (of_b.0, of_b.1, of_c.1, of_d.1, of_e.1, of_f.1)
 
 -- fields that pass the test are the same
 same_fields : (one other : Fields) → are_same_fields one other ≡ true → one ≡ other
 same_fields one other is =
     let tests = six (one.kind == other.kind) (one.number == other.number) (one.queue == other.queue) (one.ending == other.ending) (one.status == other.status) (one.second == other.second) is in
-    let kinds : one.kind ≡ other.kind = same_number one.kind other.kind tests.0 in
-    let numbers : one.number ≡ other.number = same_number one.number other.number tests.1 in
-    let queues : one.queue ≡ other.queue = same_number one.queue other.queue tests.2 in
-    let endings : one.ending ≡ other.ending = same_number one.ending other.ending tests.3 in
-    let statuses : one.status ≡ other.status = same_number one.status other.status tests.4 in
-    let seconds : one.second ≡ other.second = same_number one.second other.second tests.5 in
+    let kinds : one.kind ≡ other.kind = eqb-true one.kind other.kind tests.0 in
+    let numbers : one.number ≡ other.number = eqb-true one.number other.number tests.1 in
+    let queues : one.queue ≡ other.queue = eqb-true one.queue other.queue tests.2 in
+    let endings : one.ending ≡ other.ending = eqb-true one.ending other.ending tests.3 in
+    let statuses : one.status ≡ other.status = eqb-true one.status other.status tests.4 in
+    let seconds : one.second ≡ other.second = eqb-true one.second other.second tests.5 in
     λ i. record { kind = kinds i; number = numbers i; queue = queues i; ending = endings i; status = statuses i; second = seconds i }
 
 -- and the same fields pass it
@@ -144,19 +81,19 @@ spelled_form slot fields spelled =
 
 pub form_spells : (slot : List ℕ) → has_form slot ≡ true → SpellsFields slot (fields_in slot)
 form_spells slot form =
-    let newline = both (length slot == 32 && slice_index slot 0 == 43 && are_digits (slice_range slot 2 10) && are_digits (slice_range slot 12 14) && are_digits (slice_range slot 14 30) && slice_index slot 30 == 46) (slice_index slot 31 == 10) form in
+    let newline = and_parts (length slot == 32 && slice_index slot 0 == 43 && are_digits (slice_range slot 2 10) && are_digits (slice_range slot 12 14) && are_digits (slice_range slot 14 30) && slice_index slot 30 == 46) (slice_index slot 31 == 10) form in
     let rest = six (length slot == 32) (slice_index slot 0 == 43) (are_digits (slice_range slot 2 10)) (are_digits (slice_range slot 12 14)) (are_digits (slice_range slot 14 30)) (slice_index slot 30 == 46) newline.0 in
     record {
-      counted = same_number (length slot) 32 rest.0;
-      gate = same_number (slice_index slot 0) 43 rest.1;
+      counted = eqb-true (length slot) 32 rest.0;
+      gate = eqb-true (slice_index slot 0) 43 rest.1;
       kind = refl;
       number = digits_spell (slice_range slot 2 10) rest.2;
       queue = refl;
       ending = refl;
       status = digits_spell (slice_range slot 12 14) rest.3;
       second = digits_spell (slice_range slot 14 30) rest.4;
-      point = same_number (slice_index slot 30) 46 rest.5;
-      newline = same_number (slice_index slot 31) 10 newline.1;
+      point = eqb-true (slice_index slot 30) 46 rest.5;
+      newline = eqb-true (slice_index slot 31) 10 newline.1;
     }
 
 -- a slot that spells a mark gives it
@@ -165,7 +102,7 @@ unfolding mark_in
 given slot mark spelled =
     let form : has_form slot ≡ true = spelled_form slot (fields_of mark) spelled.fields in
     let same : fields_in slot ≡ fields_of mark = one_fields slot (fields_in slot) (fields_of mark) (form_spells slot form) spelled.fields in
-    let says : (can_write mark && are_same_fields (fields_of mark) (fields_of mark)) ≡ true = and_then (can_write mark) _ (writable_tested mark spelled.writable) (fields_pass (fields_of mark)) in
+    let says : (can_write mark && are_same_fields (fields_of mark) (fields_of mark)) ≡ true = and_from (can_write mark) _ (writable_tested mark spelled.writable) (fields_pass (fields_of mark)) in
     ap (λ b. if b then mark_saying (fields_in slot) (mark_with (fields_in slot)) else None) form
     ∙ ap (λ fields. mark_saying fields (mark_with fields)) same
     ∙ ap (mark_saying (fields_of mark)) (mark_again mark spelled.writable)
@@ -177,7 +114,7 @@ saying slot fields None mark spelled is = cc
 saying slot fields (Some found) mark spelled is = by_test (can_write found && are_same_fields (fields_of found) fields) refl where
   by_test : (says : Bool) → (can_write found && are_same_fields (fields_of found) fields) ≡ says → SpellsMark slot mark
   by_test true says =
-      let tests : (can_write found ≡ true) × (are_same_fields (fields_of found) fields ≡ true) = both _ _ says in
+      let tests : (can_write found ≡ true) × (are_same_fields (fields_of found) fields ≡ true) = and_parts _ _ says in
       let whole : Some found ≡ Some mark = sym (ap (λ b. if b then Some found else None) says) ∙ is in
       let same : found ≡ mark = cc in
       subst (SpellsMark slot) same (record {

@@ -11,7 +11,8 @@ use Rattle.whole_file.specs.Others.{ChangesFiles}
 use Rattle.whole_file.specs.Placing.{IsPlaced, IsPlacing}
 use Rattle.start_journal.specs.declared.mark.Mark.{Mark}
 use Rattle.start_journal.specs.Changing.{Gives, HoldsJournal, IsChanged, IsChanging, IsReplacing}
-use Rattle.start_journal.specs.Journals.{JournalRead, SpellsJournal, are_sound, journal_file, temporary_file}
+use Rattle.start_journal.specs.Journals.{JournalRead, SpellsJournal, are_sound, journal_file}
+use Rattle.whole_file.specs.Temporary.{temporary_file}
 use Rattle.start_journal.proofs.JournalLemmas.{journals_read_back}
 use Rattle.start_journal.proofs.ReadLemmas.{sound_legal}
 
@@ -50,12 +51,12 @@ placed_holds text journal old new gives placed =
     let reads : map.get (reading_of new) journal_file ≡ Some text = placed.placed (reading_of new) (reading_is_image new) in
     record {
       holds = record {
+        certain = placed.certain;
         same = λ image is. placed.placed image is ∙ sym reads;
         gives = subst (λ content. Gives content journal) (sym reads) gives;
         no_temp = placed.no_temp;
       };
       others = placed.others;
-      certain = λ none. placed.certain;
     }
 
 pub replaced : {T : Type 0} (temp target text : List ℕ) (journal : JournalRead) (old new : Folder) (result : Result T HostFault) → temp ≡ temporary_file → target ≡ journal_file → Gives (Some text) journal → OnOk result (IsPlaced temp target text old new) → OnOk result (IsChanged journal old new)

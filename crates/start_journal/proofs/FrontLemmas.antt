@@ -1,12 +1,14 @@
 -- How far the bytes of a slot are those of some mark's slot.
 use Rattle.std.proofs.Common.{◌≡◌, ◌⊎◌, ℕ, suc, ◌+◌, ◌-◌, ◌*◌, ◌/◌, ◌^◌, ◌<◌, ◌≤◌, Bool, true, false, List, [], ◌∷◌, length, sym, ap, ◌∙◌, refl, inl, inr, arith}
-use Rattle.std.specs.Prelude.{◌==◌, ◌&&◌, ◌||◌, nat_le, nat_lt, if◌then◌else◌}
+use Rattle.std.specs.Prelude.{unsigned_abs, ◌==◌, ◌&&◌, ◌||◌, nat_le, nat_lt, if◌then◌else◌}
 use Rattle.std.proofs.Math.Nat.{eq-or-lt_of_le}
 use Rattle.std.proofs.lemmas.Bool.Decides.{nat_tests}
 use Rattle.hex_digits.specs.Digits.{SpellsNumber}
 use Rattle.hex_digits.proofs.DigitLemmas.{power_of_two}
-use Rattle.start_journal.specs.SlotBytes.{are_digits, are_zeros, begins_number, begins_second, may_stand, right_front, standing_from, value_of}
-use Rattle.start_journal.proofs.ByteLemmas.{digits_spell, spelled_digits, value_spelled}
+use Rattle.start_journal.specs.SlotBytes.{begins_number, begins_second, may_stand, right_front, standing_from}
+use Rattle.hex_digits.specs.Values.{are_digits, are_zeros, value_of}
+use Rattle.hex_digits.proofs.ValueLemmas.{digits_spell, spelled_digits, value_spelled}
+use Rattle.clock_range.specs.declared.range.TheConstants.{LAST_SECOND}
 
 -- bytes that spell no number are not all digits
 not_digits : (bytes : List ℕ) → ((number : ℕ) → ¬ (SpellsNumber bytes number)) → are_digits bytes ≡ false
@@ -31,7 +33,7 @@ no_number_begun kind digits other none =
 
 -- the first digits of a second
 abbrev pub second_digits : List ℕ → Bool
-second_digits digits = are_digits digits && nat_le (value_of digits) (253370764799 / 16 ^ (16 - length digits))
+second_digits digits = are_digits digits && nat_le (value_of digits) (unsigned_abs LAST_SECOND / 16 ^ (16 - length digits))
 
 has_second : (kind : ℕ) → ((kind ≡ 83 → ⊥) × (kind ≡ 66)) ⊎ (kind ≡ 83) → (kind == 83 || kind == 66) ≡ true
 has_second kind either = grind (arith, nat_tests)
@@ -39,16 +41,16 @@ has_second kind either = grind (arith, nat_tests)
 second_kind : (kind : ℕ) (digits : List ℕ) → ((kind ≡ 83 → ⊥) × (kind ≡ 66)) ⊎ (kind ≡ 83) → begins_second kind digits ≡ second_digits digits
 second_kind kind digits either = ap (λ b. if b then second_digits digits else are_zeros digits) (has_second kind either)
 
-pub second_begun : (kind front : ℕ) (digits : List ℕ) → ((kind ≡ 83 → ⊥) × (kind ≡ 66)) ⊎ (kind ≡ 83) → SpellsNumber digits front → nat_le front (253370764799 / 2 ^ (4 * (16 - length digits))) ≡ begins_second kind digits
+pub second_begun : (kind front : ℕ) (digits : List ℕ) → ((kind ≡ 83 → ⊥) × (kind ≡ 66)) ⊎ (kind ≡ 83) → SpellsNumber digits front → nat_le front (unsigned_abs LAST_SECOND / 2 ^ (4 * (16 - length digits))) ≡ begins_second kind digits
 second_begun kind front digits either spelled =
     sym (second_kind kind digits either
-    ∙ ap (λ b. b && nat_le (value_of digits) (253370764799 / 16 ^ (16 - length digits))) (spelled_digits digits front spelled)
-    ∙ ap (λ n. nat_le n (253370764799 / 16 ^ (16 - length digits))) (value_spelled digits front spelled)
-    ∙ ap (λ power. nat_le front (253370764799 / power)) (power_of_two (16 - length digits)))
+    ∙ ap (λ b. b && nat_le (value_of digits) (unsigned_abs LAST_SECOND / 16 ^ (16 - length digits))) (spelled_digits digits front spelled)
+    ∙ ap (λ n. nat_le n (unsigned_abs LAST_SECOND / 16 ^ (16 - length digits))) (value_spelled digits front spelled)
+    ∙ ap (λ power. nat_le front (unsigned_abs LAST_SECOND / power)) (power_of_two (16 - length digits)))
 
 pub no_second_begun : (kind : ℕ) (digits : List ℕ) → ((kind ≡ 83 → ⊥) × (kind ≡ 66)) ⊎ (kind ≡ 83) → ((number : ℕ) → ¬ (SpellsNumber digits number)) → false ≡ begins_second kind digits
 no_second_begun kind digits either none =
-    sym (second_kind kind digits either ∙ ap (λ b. b && nat_le (value_of digits) (253370764799 / 16 ^ (16 - length digits))) (not_digits digits none))
+    sym (second_kind kind digits either ∙ ap (λ b. b && nat_le (value_of digits) (unsigned_abs LAST_SECOND / 16 ^ (16 - length digits))) (not_digits digits none))
 
 -- the first bytes may stand in their places, and the next one may not
 standing : (slot : List ℕ) (count place : ℕ) (later : List ℕ) → place ≤ count → count ≤ place + length later → ((at : ℕ) → at < count → may_stand slot at ≡ true) → (count < place + length later → may_stand slot count ≡ false) → standing_from slot place later ≡ count

@@ -5,17 +5,18 @@ use Rattle.std.specs.List.{list_all}
 use Rattle.std.specs.Simd.{first_chunks}
 use Rattle.host_calls.specs.declared.damage.Damage.{Damage}
 use Rattle.start_journal.specs.declared.mark.Mark.{Mark}
-use Rattle.start_journal.specs.Journals.{GivesMarks, JournalRead, all_slots, are_drawn, damage_at, go_on, is_drawn, is_legal_after, journal_in, nothing_read, one_slot, open_slot, whole_journal, with_slot}
+use Rattle.start_journal.specs.Journals.{journal_file, GivesMarks, JournalRead, all_slots, are_drawn, go_on, is_drawn, is_legal_after, journal_in, nothing_read, one_slot, open_slot, whole_journal, with_slot}
+use Rattle.host_calls.specs.Damages.{damage_at}
 use Rattle.start_journal.specs.SlotBytes.{mark_in, right_front}
-use Rattle.start_journal.proofs.ByteLemmas.{and_then, both}
+use Rattle.std.proofs.lemmas.Bool.{and_from, and_parts}
 
 -- each of a list and one more
 all_of_more : (test : Mark → Bool) (marks : List Mark) (mark : Mark) → list_all test (marks ++ mark ∷ []) ≡ true → (list_all test marks ≡ true) × (test mark ≡ true)
-all_of_more test [] mark all = (refl, (both _ _ all).0)
+all_of_more test [] mark all = (refl, (and_parts _ _ all).0)
 all_of_more test (first ∷ later) mark all =
-    let tests : (test first ≡ true) × (list_all test (later ++ mark ∷ []) ≡ true) = both _ _ all in
+    let tests : (test first ≡ true) × (list_all test (later ++ mark ∷ []) ≡ true) = and_parts _ _ all in
     let rest : (list_all test later ≡ true) × (test mark ≡ true) = all_of_more test later mark tests.1 in
-    (and_then (test first) _ tests.0 rest.0, rest.1)
+    (and_from (test first) _ tests.0 rest.0, rest.1)
 
 -- what a slot gave is given again
 record IsAgain (other : ℕ) (read next : JournalRead) (slot : List ℕ) : Type 0 where
@@ -34,7 +35,7 @@ one_again last other read next slot answer drawn = by_gate (slice_index slot 0 =
 
   by_tests : (mark : Mark) (pass : Bool) → (slice_index slot 0 == 43) ≡ true → (read.free == 0) ≡ true → mark_in slot ≡ Some mark → (is_legal_after read.marks mark && is_drawn last mark) ≡ pass → open_slot last read (Some mark) (right_front slot) ≡ Ok next → IsAgain other read next slot
   by_tests mark true gate free found tests is =
-      let parts : (is_legal_after read.marks mark ≡ true) × (is_drawn last mark ≡ true) = both _ _ tests in
+      let parts : (is_legal_after read.marks mark ≡ true) × (is_drawn last mark ≡ true) = and_parts _ _ tests in
       let took : Ok (with_slot read (Some mark)) ≡ Ok next = sym (ap (λ b. if b then Ok (with_slot read (Some mark)) else Err 0) tests) ∙ is in
       let same : with_slot read (Some mark) ≡ next = cc in
       let of_next : are_drawn other (read.marks ++ mark ∷ []) ≡ true = ap (λ r. are_drawn other r.marks) same ∙ drawn in
@@ -42,7 +43,7 @@ one_again last other read next slot answer drawn = by_gate (slice_index slot 0 =
       record {
         same = whole other true true gate free
             ∙ ap (λ m. open_slot other read m (right_front slot)) found
-            ∙ ap (λ b. if b then Ok (with_slot read (Some mark)) else Err 0) (and_then _ _ parts.0 rest.1)
+            ∙ ap (λ b. if b then Ok (with_slot read (Some mark)) else Err 0) (and_from _ _ parts.0 rest.1)
             ∙ took;
         drawn = rest.0;
       }
@@ -102,19 +103,19 @@ recalled_gives last None read answer = λ other drawn. answer
 recalled_gives last (Some bytes) read answer = λ other drawn. by_slots other drawn (all_slots last 0 nothing_read (first_chunks 32 (length bytes / 32) bytes)) refl where
   by_rest : (other : ℕ) (found : JournalRead) (rest : Bool) → (length bytes % 32 == 0) ≡ rest → are_drawn other read.marks ≡ true → all_slots last 0 nothing_read (first_chunks 32 (length bytes / 32) bytes) ≡ Ok found → whole_journal bytes (Ok found) ≡ Ok read → journal_in other (Some bytes) ≡ Ok read
   by_rest other found true none drawn is whole =
-      let took : Ok found ≡ Ok read = sym (ap (λ b. if b then Ok found else Err (damage_at bytes (length bytes / 32 * 32))) none) ∙ whole in
+      let took : Ok found ≡ Ok read = sym (ap (λ b. if b then Ok found else Err (damage_at journal_file bytes (length bytes / 32 * 32))) none) ∙ whole in
       let same : found ≡ read = cc in
       let again : AreAgain other 0 nothing_read read (first_chunks 32 (length bytes / 32) bytes) =
       all_again last other 0 nothing_read read (first_chunks 32 (length bytes / 32) bytes) (is ∙ ap Ok same) drawn in
-      ap (whole_journal bytes) again.same ∙ ap (λ b. if b then Ok read else Err (damage_at bytes (length bytes / 32 * 32))) none
+      ap (whole_journal bytes) again.same ∙ ap (λ b. if b then Ok read else Err (damage_at journal_file bytes (length bytes / 32 * 32))) none
   by_rest other found false some drawn is whole =
-      let bad : Result JournalRead Damage = Err (damage_at bytes (length bytes / 32 * 32)) in
-      let wrong : bad ≡ Ok read = sym (ap (λ b. if b then Ok found else Err (damage_at bytes (length bytes / 32 * 32))) some) ∙ whole in
+      let bad : Result JournalRead Damage = Err (damage_at journal_file bytes (length bytes / 32 * 32)) in
+      let wrong : bad ≡ Ok read = sym (ap (λ b. if b then Ok found else Err (damage_at journal_file bytes (length bytes / 32 * 32))) some) ∙ whole in
       cc
 
   by_slots : (other : ℕ) → are_drawn other read.marks ≡ true → (found : Result JournalRead ℕ) → all_slots last 0 nothing_read (first_chunks 32 (length bytes / 32) bytes) ≡ found → journal_in other (Some bytes) ≡ Ok read
   by_slots other drawn (Ok found) is = by_rest other found (length bytes % 32 == 0) refl drawn is (sym (ap (whole_journal bytes) is) ∙ answer)
   by_slots other drawn (Err offset) is =
-      let bad : Result JournalRead Damage = Err (damage_at bytes offset) in
+      let bad : Result JournalRead Damage = Err (damage_at journal_file bytes offset) in
       let wrong : bad ≡ Ok read = sym (ap (whole_journal bytes) is) ∙ answer in
       cc

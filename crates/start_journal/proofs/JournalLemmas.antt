@@ -8,12 +8,13 @@ use Rattle.std.proofs.lemmas.List.Folds.{concat-append}
 use Rattle.start_journal.specs.declared.mark.Mark.{Mark}
 use Rattle.start_journal.specs.declared.mark.Mark.TheVariants.{Removed, Started, Ended, Interrupted, Forgotten, Batch}
 use Rattle.start_journal.specs.JournalLaws.{JournalsReadBack}
-use Rattle.start_journal.specs.Journals.{JournalRead, SpellMarks, all_slots, are_drawn, damage_at, free_slot, go_on, is_drawn, is_legal_after, journal_in, nothing_read, one_slot, open_slot, whole_journal}
+use Rattle.start_journal.specs.Journals.{journal_file, JournalRead, SpellMarks, all_slots, are_drawn, free_slot, go_on, is_drawn, is_legal_after, journal_in, nothing_read, one_slot, open_slot, whole_journal}
+use Rattle.host_calls.specs.Damages.{damage_at}
 use Rattle.start_journal.specs.Marks.{AreLegalAfter, IsLegalAfter, is_decided, is_ended, is_forgotten, is_named, is_started}
 use Rattle.start_journal.specs.SlotBytes.{mark_in, right_front}
 use Rattle.start_journal.specs.Slots.{SpellsMark}
-use Rattle.start_journal.proofs.ByteLemmas.{and_then, both, given}
-use Rattle.start_journal.proofs.MarkLemmas.{not_true}
+use Rattle.start_journal.proofs.ByteLemmas.{given}
+use Rattle.std.proofs.lemmas.Bool.{and_from, and_parts, not-true}
 
 -- the test of legality, both ways
 not_so : (b : Bool) → b ≡ false → not b ≡ true
@@ -22,19 +23,19 @@ not_so b is = ap not is
 pub legal_tested : (before : List Mark) (mark : Mark) → IsLegalAfter before mark → is_legal_after before mark ≡ true
 legal_tested before (Removed number) is = not_so (is_named number before) is
 legal_tested before (Started number queue second) is = not_so (is_named number before) is
-legal_tested before (Ended number ending) is = and_then (is_started number before) _ is.0 (not_so (is_ended number before) is.1)
-legal_tested before (Interrupted number) is = and_then (is_started number before) _ is.0 (not_so (is_ended number before) is.1)
-legal_tested before (Forgotten number) is = and_then (is_decided number before) _ is.0 (not_so (is_forgotten number before) is.1)
+legal_tested before (Ended number ending) is = and_from (is_started number before) _ is.0 (not_so (is_ended number before) is.1)
+legal_tested before (Interrupted number) is = and_from (is_started number before) _ is.0 (not_so (is_ended number before) is.1)
+legal_tested before (Forgotten number) is = and_from (is_decided number before) _ is.0 (not_so (is_forgotten number before) is.1)
 legal_tested before (Batch second) is = refl
 
 started_not_ended : (one other : Bool) → (one && not other) ≡ true → (one ≡ true) × (other ≡ false)
 started_not_ended one other is =
-    let tests : (one ≡ true) × (not other ≡ true) = both one (not other) is in
-    (tests.0, not_true other tests.1)
+    let tests : (one ≡ true) × (not other ≡ true) = and_parts one (not other) is in
+    (tests.0, not-true other tests.1)
 
 pub legal_is : (before : List Mark) (mark : Mark) → is_legal_after before mark ≡ true → IsLegalAfter before mark
-legal_is before (Removed number) is = not_true (is_named number before) is
-legal_is before (Started number queue second) is = not_true (is_named number before) is
+legal_is before (Removed number) is = not-true (is_named number before) is
+legal_is before (Started number queue second) is = not-true (is_named number before) is
 legal_is before (Ended number ending) is = started_not_ended (is_started number before) (is_ended number before) is
 legal_is before (Interrupted number) is = started_not_ended (is_started number before) (is_ended number before) is
 legal_is before (Forgotten number) is = started_not_ended (is_decided number before) (is_forgotten number before) is
@@ -45,7 +46,7 @@ spelled_slot : (last : ℕ) (before : List Mark) (slot : List ℕ) (mark : Mark)
 spelled_slot last before slot mark spelled legal drawn =
     let read : JournalRead = record { marks = before; free = 0 } in
     let more : JournalRead = record { marks = before ++ mark ∷ []; free = 0 } in
-    let whole : (is_legal_after before mark && is_drawn last mark) ≡ true = and_then (is_legal_after before mark) (is_drawn last mark) (legal_tested before mark legal) drawn in
+    let whole : (is_legal_after before mark && is_drawn last mark) ≡ true = and_from (is_legal_after before mark) (is_drawn last mark) (legal_tested before mark legal) drawn in
     ap (λ b. if b then open_slot last read (mark_in slot) (right_front slot) else Ok (record { marks = before; free = 1 })) (eq-eqb (slice_index slot 0) 43 spelled.fields.gate)
     ∙ ap (λ found. open_slot last read found (right_front slot)) (given slot mark spelled)
     ∙ ap (λ b. if b then Ok more else Err 0) whole
@@ -57,7 +58,7 @@ marks_read last before [] [] tail answer spelled legal drawn later offset =
 marks_read last before [] (mark ∷ marks) tail answer spelled legal drawn later offset = absurd spelled
 marks_read last before (slot ∷ slots) [] tail answer spelled legal drawn later offset = absurd spelled
 marks_read last before (slot ∷ slots) (mark ∷ marks) tail answer spelled legal drawn later offset =
-    let tests : (is_drawn last mark ≡ true) × (are_drawn last marks ≡ true) = both (is_drawn last mark) (are_drawn last marks) drawn in
+    let tests : (is_drawn last mark ≡ true) × (are_drawn last marks ≡ true) = and_parts (is_drawn last mark) (are_drawn last marks) drawn in
     let here : one_slot last (record { marks = before; free = 0 }) slot ≡ Ok (record { marks = before ++ mark ∷ []; free = 0 }) = spelled_slot last before slot mark spelled.0 legal.0 tests.0 in
     ap (go_on offset (λ more. all_slots last (offset + 32) more (slots ++ tail))) here
     ∙ marks_read last (before ++ mark ∷ []) slots marks tail answer spelled.1 legal.1 tests.1
@@ -120,7 +121,7 @@ long_journal last slots read long is =
     let cut : first_chunks 32 (length bytes / 32) bytes ≡ slots = ap (λ n. first_chunks 32 n bytes) count ∙ long_cut slots long in
     ap (λ list. whole_journal bytes (all_slots last 0 nothing_read list)) cut
     ∙ ap (whole_journal bytes) is
-    ∙ ap (λ b. if b then Ok read else Err (damage_at bytes (length bytes / 32 * 32))) none
+    ∙ ap (λ b. if b then Ok read else Err (damage_at journal_file bytes (length bytes / 32 * 32))) none
 
 pub journals_read_back : JournalsReadBack
 journals_read_back last bytes marks free spelled legal drawn =

@@ -6,11 +6,12 @@ use Rattle.std.proofs.lemmas.Bool.Decides.{nat_tests}
 use Rattle.host_calls.specs.declared.damage.Damage.{Damage}
 use Rattle.start_journal.specs.declared.mark.Mark.{Mark}
 use Rattle.start_journal.specs.declared.mark.Mark.TheVariants.{Removed, Started, Ended, Interrupted, Forgotten, Batch}
-use Rattle.start_journal.specs.Journals.{JournalRead, all_slots, are_drawn, damage_at, go_on, is_drawn, is_legal_after, journal_in, nothing_read, one_slot, open_slot, whole_journal, with_free, with_mark}
+use Rattle.start_journal.specs.Journals.{journal_file, AreWritable, JournalRead, all_slots, are_drawn, go_on, is_drawn, is_legal_after, journal_in, nothing_read, one_slot, open_slot, whole_journal, with_free, with_mark}
+use Rattle.host_calls.specs.Damages.{damage_at}
 use Rattle.start_journal.specs.Marks.{AreLegal}
 use Rattle.start_journal.specs.SlotBytes.{mark_in, right_front}
-use Rattle.start_journal.proofs.ByteLemmas.{and_then, both}
-use Rattle.start_journal.proofs.ReadLemmas.{IsRead, all_read, legal_list, none_yet}
+use Rattle.std.proofs.lemmas.Bool.{and_from, and_parts}
+use Rattle.start_journal.proofs.ReadLemmas.{IsRead, all_read, all_writable, legal_list, none_yet}
 
 -- what is drawn stays so under a greater last number
 drawn_more : (last more : ℕ) (mark : Mark) → last ≤ more → is_drawn last mark ≡ true → is_drawn more mark ≡ true
@@ -38,12 +39,12 @@ passed false answer next is = cc
 added_by : (last : ℕ) (read next : JournalRead) (mark : Mark) (front : ℕ) → open_slot last read (Some mark) front ≡ Ok next → IsAdded last read next mark
 added_by last read next mark front is =
     let test : ((is_legal_after read.marks mark && is_drawn last mark) ≡ true) × (next ≡ with_mark read mark) = passed (is_legal_after read.marks mark && is_drawn last mark) (with_mark read mark) next is in
-    let tests : (is_legal_after read.marks mark ≡ true) × (is_drawn last mark ≡ true) = both (is_legal_after read.marks mark) (is_drawn last mark) test.0 in
+    let tests : (is_legal_after read.marks mark ≡ true) × (is_drawn last mark ≡ true) = and_parts (is_legal_after read.marks mark) (is_drawn last mark) test.0 in
     record { legal = tests.0; drawn = tests.1; is = test.1 }
 
 open_again : (last : ℕ) (read next : JournalRead) (mark : Mark) (front : ℕ) → IsAdded last read next mark → open_slot last read (Some mark) front ≡ Ok next
 open_again last read next mark front added =
-    ap (λ b. given_if b (with_mark read mark)) (and_then (is_legal_after read.marks mark) (is_drawn last mark) added.legal added.drawn) ∙ ap Ok (sym added.is)
+    ap (λ b. given_if b (with_mark read mark)) (and_from (is_legal_after read.marks mark) (is_drawn last mark) added.legal added.drawn) ∙ ap Ok (sym added.is)
 
 -- what a slot gives, by its gate, by whether a closed one stands before it, and by its mark
 abbrev slot_by : ℕ → JournalRead → Bool → Bool → Option Mark → ℕ → Result JournalRead ℕ
@@ -83,7 +84,7 @@ journal_more last more (Some bytes) read least is =
 
 -- a journal of whole slots
 abbrev rest_tested : List ℕ → Bool → JournalRead → Result JournalRead Damage
-rest_tested bytes none end = if none then Ok end else Err (damage_at bytes (length bytes / 32 * 32))
+rest_tested bytes none end = if none then Ok end else Err (damage_at journal_file bytes (length bytes / 32 * 32))
 
 whole_is : (bytes : List ℕ) (one : Result JournalRead ℕ) (read : JournalRead) → whole_journal bytes one ≡ Ok read → one ≡ Ok read
 whole_is bytes (Ok end) read is = ap Ok (by_rest (length bytes % 32 == 0) is) where
@@ -106,6 +107,10 @@ journal_legal last content read is = legal_list [] read.marks (read_in last cont
 -- and name only numbers that were drawn
 pub journal_drawn : (last : ℕ) (content : Option (List ℕ)) (read : JournalRead) → journal_in last content ≡ Ok read → are_drawn last read.marks ≡ true
 journal_drawn last content read is = (read_in last content read is).drawn
+
+-- and can be written
+pub journal_writable : (last : ℕ) (content : Option (List ℕ)) (read : JournalRead) → journal_in last content ≡ Ok read → AreWritable read.marks
+journal_writable last content read is = all_writable read.marks (read_in last content read is).sound.writable
 
 pub answer_drawn : {F : Type 0} (last : ℕ) (content : Option (List ℕ)) (answer : Result JournalRead F) → IfOk answer (λ read. journal_in last content ≡ Ok read) → IfOk answer (λ read. IsTrue (are_drawn last read.marks))
 answer_drawn last content (Ok read) is = journal_drawn last content read is

@@ -9,8 +9,9 @@ use Rattle.start_journal.specs.declared.mark.Mark.{Mark}
 use Rattle.start_journal.specs.declared.mark.Mark.TheVariants.{Removed, Started, Ended, Interrupted, Forgotten, Batch}
 use Rattle.start_journal.specs.Journals.{are_sound}
 use Rattle.start_journal.specs.Marks.{batch_mark, batch_second, first_of_two, forgets, is_forgotten, is_kept, kept_marks, last_batch}
-use Rattle.start_journal.specs.SlotBytes.{can_write, is_second}
-use Rattle.start_journal.proofs.ByteLemmas.{and_then, both}
+use Rattle.start_journal.specs.SlotBytes.{can_write}
+use Rattle.clock_range.specs.ClockRange.{is_clock_second}
+use Rattle.std.proofs.lemmas.Bool.{and_from, and_parts}
 use Rattle.start_journal.proofs.LifeLemmas.{any_more}
 use Rattle.start_journal.proofs.MarkLemmas.{kept_marks_are_legal}
 use Rattle.start_journal.proofs.ReadLemmas.{legal_tests, sound_is, sound_legal, sound_tested}
@@ -48,17 +49,17 @@ forgotten_pass number marks place other old new inside before is =
 all_filtered : (test keep : Mark → Bool) (marks : List Mark) → list_all test marks ≡ true → list_all test (filter keep marks) ≡ true
 all_filtered test keep [] all = refl
 all_filtered test keep (mark ∷ later) all =
-    let tests : (test mark ≡ true) × (list_all test later ≡ true) = both _ _ all in
+    let tests : (test mark ≡ true) × (list_all test later ≡ true) = and_parts _ _ all in
     by_keep (keep mark) (all_filtered test keep later tests.1) tests.0 where
       by_keep : (kept : Bool) → list_all test (filter keep later) ≡ true → test mark ≡ true → list_all test (cond kept (mark ∷ filter keep later) (filter keep later)) ≡ true
-      by_keep true rest here = and_then (test mark) _ here rest
+      by_keep true rest here = and_from (test mark) _ here rest
       by_keep false rest here = rest
 
 all_append : (test : Mark → Bool) (one other : List Mark) → list_all test one ≡ true → list_all test other ≡ true → list_all test (one ++ other) ≡ true
 all_append test [] other of_one of_other = of_other
 all_append test (mark ∷ later) other of_one of_other =
-    let tests : (test mark ≡ true) × (list_all test later ≡ true) = both _ _ of_one in
-    and_then (test mark) _ tests.0 (all_append test later other tests.1 of_other)
+    let tests : (test mark ≡ true) × (list_all test later ≡ true) = and_parts _ _ of_one in
+    and_from (test mark) _ tests.0 (all_append test later other tests.1 of_other)
 
 -- the second of a mark that can be written
 second_of : (mark : Mark) (found : Option ℤ) → can_write mark ≡ true → batch_second mark ≡ found → list_all can_write (batch_mark found) ≡ true
@@ -69,7 +70,7 @@ second_of (Started number queue start) (Some second) writable is = by_queue (is_
   by_queue true batch =
       let some : Some start ≡ Some second = sym (ap (λ b. if b then Some start else None) batch) ∙ is in
       let same : start ≡ second = cc in
-      and_then (is_second second) true (subst (λ at. is_second at ≡ true) same (both _ _ writable).1) refl
+      and_from (is_clock_second second) true (subst (λ at. is_clock_second at ≡ true) same (and_parts _ _ writable).1) refl
   by_queue false batch =
       let none : None ≡ Some second = sym (ap (λ b. if b then Some start else None) batch) ∙ is in
       cc
@@ -78,12 +79,12 @@ second_of (Interrupted number) (Some second) writable is = cc
 second_of (Forgotten number) (Some second) writable is = cc
 second_of (Batch start) (Some second) writable is =
     let same : start ≡ second = cc in
-    and_then (is_second second) true (subst (λ at. is_second at ≡ true) same writable) refl
+    and_from (is_clock_second second) true (subst (λ at. is_clock_second at ≡ true) same writable) refl
 
 batch_writable : (marks : List Mark) → list_all can_write marks ≡ true → list_all can_write (batch_mark (last_batch marks)) ≡ true
 batch_writable [] all = refl
 batch_writable (mark ∷ later) all =
-    let tests : (can_write mark ≡ true) × (list_all can_write later ≡ true) = both _ _ all in
+    let tests : (can_write mark ≡ true) × (list_all can_write later ≡ true) = and_parts _ _ all in
     by_last (last_batch later) (batch_writable later tests.1) (second_of mark (batch_second mark) tests.0 refl) where
       by_last : (last : Option ℤ) → list_all can_write (batch_mark last) ≡ true → list_all can_write (batch_mark (batch_second mark)) ≡ true → list_all can_write (batch_mark (first_of_two last (batch_second mark))) ≡ true
       by_last None rest here = here

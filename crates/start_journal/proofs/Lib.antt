@@ -1,7 +1,9 @@
 pub mod ByteLemmas
 pub mod ChangeLemmas
+pub mod FirstFaults
 pub mod FrontLemmas
 pub mod GivesLemmas
+pub mod JournalFronts
 pub mod JournalLemmas
 pub mod JournalReads
 pub mod KeepLemmas

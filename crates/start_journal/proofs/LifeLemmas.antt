@@ -10,7 +10,8 @@ use Rattle.start_journal.specs.declared.stage.Stage.TheVariants.{Fresh, Open, Cl
 use Rattle.start_journal.specs.Laws.{NumbersLiveOnce}
 use Rattle.start_journal.specs.Marks.{AreLegalAfter, IsLegalAfter, decides, ends, forgets, is_decided, is_ended, is_forgotten, is_named, is_started, marks_of, names, starts}
 use Rattle.start_journal.specs.Stages.{GoThrough, Reaches, allows, is_running, stage_behind, was_decided, was_forgotten, was_named}
-use Rattle.start_journal.proofs.MarkLemmas.{and_false, decides_names, ends_names, forgets_names, or_false, or_true, same_number, starts_names}
+use Rattle.start_journal.proofs.MarkLemmas.{decides_names, ends_names, forgets_names, starts_names, and_false, or_false, or_true}
+use Rattle.std.proofs.lemmas.Bool.{eqb-true}
 
 -- a test over one mark more
 pub any_more : (test : Mark → Bool) (before : List Mark) (mark : Mark) → list_any test (before ++ mark ∷ []) ≡ (list_any test before || test mark)
@@ -77,17 +78,17 @@ running_from started ended is not_so = rw is (rw not_so refl)
 -- a legal mark of the number comes at its stage
 at_its_stage : (number : ℕ) (before : List Mark) (stage : Stage) (mark : Mark) → names number mark ≡ true → Reaches number before stage → IsLegalAfter before mark → stage ≡ stage_for mark stage
 at_its_stage number before stage (Removed other) is reached legal =
-    fresh stage (sym reached.named ∙ ap (λ n. is_named n before) (sym (same_number other number is)) ∙ legal)
+    fresh stage (sym reached.named ∙ ap (λ n. is_named n before) (sym (eqb-true other number is)) ∙ legal)
 at_its_stage number before stage (Started other queue second) is reached legal =
-    fresh stage (sym reached.named ∙ ap (λ n. is_named n before) (sym (same_number other number is)) ∙ legal)
+    fresh stage (sym reached.named ∙ ap (λ n. is_named n before) (sym (eqb-true other number is)) ∙ legal)
 at_its_stage number before stage (Ended other ending) is reached legal =
-    let same : other ≡ number = same_number other number is in
+    let same : other ≡ number = eqb-true other number is in
     opened stage (sym reached.running ∙ running_from _ _ (ap (λ n. is_started n before) (sym same) ∙ legal.0) (ap (λ n. is_ended n before) (sym same) ∙ legal.1))
 at_its_stage number before stage (Interrupted other) is reached legal =
-    let same : other ≡ number = same_number other number is in
+    let same : other ≡ number = eqb-true other number is in
     opened stage (sym reached.running ∙ running_from _ _ (ap (λ n. is_started n before) (sym same) ∙ legal.0) (ap (λ n. is_ended n before) (sym same) ∙ legal.1))
 at_its_stage number before stage (Forgotten other) is reached legal =
-    let same : other ≡ number = same_number other number is in
+    let same : other ≡ number = eqb-true other number is in
     closed stage (sym reached.decided ∙ ap (λ n. is_decided n before) (sym same) ∙ legal.0) (sym reached.forgotten ∙ ap (λ n. is_forgotten n before) (sym same) ∙ legal.1)
 at_its_stage number before stage (Batch second) is reached legal = refl
 

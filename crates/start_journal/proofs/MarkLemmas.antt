@@ -1,8 +1,7 @@
 -- What a list of marks says, and what of it is kept.
-use Rattle.std.proofs.Common.{◌≡◌, ◌⊎◌, ℕ, ℤ, Bool, true, false, List, Option, Some, None, [], ◌∷◌, ◌++◌, cond, sym, ap, subst, ◌∙◌, refl, arith, inl, inr}
+use Rattle.std.proofs.Common.{◌≡◌, ℕ, ℤ, Bool, true, false, List, Option, Some, None, [], ◌∷◌, ◌++◌, cond, sym, ap, subst, ◌∙◌, refl, inl, inr}
 use Rattle.std.specs.Prelude.{◌==◌, ◌&&◌, ◌||◌, not}
 use Rattle.std.specs.List.{filter, list_any}
-use Rattle.std.proofs.lemmas.Bool.Decides.{nat_tests}
 use Rattle.std.proofs.lemmas.List.{append-nil, append_assoc}
 use Rattle.std.proofs.lemmas.List.Elements.{filter-append}
 use Rattle.std.proofs.lemmas.List.Folds.{list_any-append}
@@ -11,6 +10,7 @@ use Rattle.start_journal.specs.declared.mark.Mark.{Mark}
 use Rattle.start_journal.specs.declared.mark.Mark.TheVariants.{Removed, Started, Ended, Interrupted, Forgotten, Batch}
 use Rattle.start_journal.specs.Laws.{KeptMarksAreLegal, KeptMarksKeepWhatCounts}
 use Rattle.start_journal.specs.Marks.{AreLegal, AreLegalAfter, IsLegalAfter, batch_mark, batch_second, decides, ends, first_of_two, forgets, is_decided, is_forgotten, is_kept, is_open, is_remembered, kept_marks, last_batch, marks_of, names, starts}
+use Rattle.std.proofs.lemmas.Bool.{eqb-true, not-true, or_cases}
 
 pub or_true : (b : Bool) → (b || true) ≡ true
 or_true true = refl
@@ -23,19 +23,6 @@ or_false false = refl
 pub and_false : (b : Bool) → (b && false) ≡ false
 and_false true = refl
 and_false false = refl
-
--- one of the two holds
-pub either : (one other : Bool) → (one || other) ≡ true → (one ≡ true) ⊎ (other ≡ true)
-either true other is = inl refl
-either false other is = inr is
-
-pub not_true : (b : Bool) → not b ≡ true → b ≡ false
-not_true true is = cc
-not_true false is = refl
-
--- numbers that pass the test are the same
-pub same_number : (one other : ℕ) → (one == other) ≡ true → one ≡ other
-same_number one other is = grind (arith, nat_tests)
 
 -- what starts, ends, decides or forgets a number names it
 pub starts_names : (number : ℕ) (mark : Mark) → starts number mark ≡ true → names number mark ≡ true
@@ -59,7 +46,7 @@ forgets_names number _ is = cc
 
 -- whether a mark that names the number is kept
 kept_by_number : (marks : List Mark) (number other : ℕ) (forgotten : Bool) → is_forgotten number marks ≡ forgotten → (other == number) ≡ true → not (is_forgotten other marks) ≡ not forgotten
-kept_by_number marks number other forgotten is same = ap (λ n. not (is_forgotten n marks)) (same_number other number same) ∙ ap not is
+kept_by_number marks number other forgotten is same = ap (λ n. not (is_forgotten n marks)) (eqb-true other number same) ∙ ap not is
 
 named_kept : (marks : List Mark) (number : ℕ) (forgotten : Bool) → is_forgotten number marks ≡ forgotten → (mark : Mark) → names number mark ≡ true → is_kept marks mark ≡ not forgotten
 named_kept marks number forgotten is (Removed other) same = kept_by_number marks number other forgotten is same
@@ -79,14 +66,14 @@ test_forgotten marks list number test of_number is = any-filter_same test (is_ke
 
 -- a mark that is kept is legal behind what is kept of those before it
 legal_kept : (marks before : List Mark) (mark : Mark) → is_kept marks mark ≡ true → IsLegalAfter before mark → IsLegalAfter (filter (is_kept marks) before) mark
-legal_kept marks before (Removed number) kept legal = test_filtered marks before number (names number) (λ mark is. is) (not_true _ kept) ∙ legal
-legal_kept marks before (Started number queue second) kept legal = test_filtered marks before number (names number) (λ mark is. is) (not_true _ kept) ∙ legal
+legal_kept marks before (Removed number) kept legal = test_filtered marks before number (names number) (λ mark is. is) (not-true _ kept) ∙ legal
+legal_kept marks before (Started number queue second) kept legal = test_filtered marks before number (names number) (λ mark is. is) (not-true _ kept) ∙ legal
 legal_kept marks before (Ended number ending) kept legal =
-    (test_filtered marks before number (starts number) (starts_names number) (not_true _ kept) ∙ legal.0, test_filtered marks before number (ends number) (ends_names number) (not_true _ kept) ∙ legal.1)
+    (test_filtered marks before number (starts number) (starts_names number) (not-true _ kept) ∙ legal.0, test_filtered marks before number (ends number) (ends_names number) (not-true _ kept) ∙ legal.1)
 legal_kept marks before (Interrupted number) kept legal =
-    (test_filtered marks before number (starts number) (starts_names number) (not_true _ kept) ∙ legal.0, test_filtered marks before number (ends number) (ends_names number) (not_true _ kept) ∙ legal.1)
+    (test_filtered marks before number (starts number) (starts_names number) (not-true _ kept) ∙ legal.0, test_filtered marks before number (ends number) (ends_names number) (not-true _ kept) ∙ legal.1)
 legal_kept marks before (Forgotten number) kept legal =
-    (test_filtered marks before number (decides number) (decides_names number) (not_true _ kept) ∙ legal.0, test_filtered marks before number (forgets number) (forgets_names number) (not_true _ kept) ∙ legal.1)
+    (test_filtered marks before number (decides number) (decides_names number) (not-true _ kept) ∙ legal.0, test_filtered marks before number (forgets number) (forgets_names number) (not-true _ kept) ∙ legal.1)
 legal_kept marks before (Batch second) kept legal = tt
 
 -- so what is kept of legal marks is legal
@@ -133,12 +120,12 @@ test_gone marks number test of_number is =
 
 -- a mark that forgets a number stands behind one that decides it
 pub decided_before : (number : ℕ) (before : List Mark) (mark : Mark) → IsLegalAfter before mark → forgets number mark ≡ true → is_decided number before ≡ true
-decided_before number before (Forgotten other) legal is = subst (λ n. is_decided n before ≡ true) (same_number other number is) legal.0
+decided_before number before (Forgotten other) legal is = subst (λ n. is_decided n before ≡ true) (eqb-true other number is) legal.0
 decided_before number before _ legal is = cc
 
 pub forgotten_was_decided : (number : ℕ) (before later : List Mark) → AreLegalAfter before later → is_forgotten number later ≡ true → is_decided number (before ++ later) ≡ true
 forgotten_was_decided number before [] legal is = cc
-forgotten_was_decided number before (mark ∷ later) legal is = elim (either (forgets number mark) (is_forgotten number later) is) [
+forgotten_was_decided number before (mark ∷ later) legal is = elim (or_cases (forgets number mark) (is_forgotten number later) is) [
   | inl here ↦ list_any-append (decides number) before (mark ∷ later) ∙ ap (λ b. b || is_decided number (mark ∷ later)) (decided_before number before mark legal.0 here)
   | inr behind ↦ subst (λ list. is_decided number list ≡ true) (append_assoc before (mark ∷ []) later) (forgotten_was_decided number (before ++ mark ∷ []) later legal.1 behind)
 ]

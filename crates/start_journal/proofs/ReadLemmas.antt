@@ -6,11 +6,13 @@ use Rattle.std.specs.Simd.{first_chunks}
 use Rattle.std.proofs.lemmas.List.{append-nil, at_drop_all}
 use Rattle.host_calls.specs.declared.damage.Damage.{Damage}
 use Rattle.start_journal.specs.declared.mark.Mark.{Mark}
-use Rattle.start_journal.specs.Journals.{AreWritable, JournalRead, all_slots, are_drawn, are_legal_after, are_sound, damage_at, go_on, is_drawn, is_legal_after, journal_in, nothing_read, one_slot, open_slot, whole_journal, with_slot}
+use Rattle.start_journal.specs.Journals.{journal_file, AreWritable, JournalRead, all_slots, are_drawn, are_legal_after, are_sound, go_on, is_drawn, is_legal_after, journal_in, nothing_read, one_slot, open_slot, whole_journal, with_slot}
+use Rattle.host_calls.specs.Damages.{damage_at}
 use Rattle.start_journal.specs.Marks.{AreLegal, AreLegalAfter, IsLegalAfter}
 use Rattle.start_journal.specs.SlotBytes.{can_write, mark_in, right_front}
 use Rattle.start_journal.specs.Slots.{IsWritable, SpellsMark}
-use Rattle.start_journal.proofs.ByteLemmas.{and_then, both, given, spells, writable_is, writable_tested}
+use Rattle.start_journal.proofs.ByteLemmas.{given, spells, writable_is, writable_tested}
+use Rattle.std.proofs.lemmas.Bool.{and_from, and_parts}
 use Rattle.start_journal.proofs.JournalLemmas.{legal_is, legal_tested}
 
 -- a slot that spells no mark gives none
@@ -38,7 +40,7 @@ mark_read last read slot mark gate free spelled =
 pub taken : (last : ℕ) (read : JournalRead) (slot : List ℕ) (mark : Mark) → slice_index slot 0 ≡ 43 → read.free ≡ 0 → SpellsMark slot mark → true ≡ is_legal_after read.marks mark → true ≡ is_drawn last mark → one_slot last read slot ≡ Ok (with_slot read (Some mark))
 taken last read slot mark gate free spelled legal drawn =
     mark_read last read slot mark gate free spelled
-    ∙ ap (λ b. if b then Ok (with_slot read (Some mark)) else Err 0) (and_then (is_legal_after read.marks mark) (is_drawn last mark) (sym legal) (sym drawn))
+    ∙ ap (λ b. if b then Ok (with_slot read (Some mark)) else Err 0) (and_from (is_legal_after read.marks mark) (is_drawn last mark) (sym legal) (sym drawn))
 
 pub refused : (last : ℕ) (read : JournalRead) (slot : List ℕ) (mark : Mark) → slice_index slot 0 ≡ 43 → read.free ≡ 0 → SpellsMark slot mark → (is_legal_after read.marks mark && is_drawn last mark) ≡ false → one_slot last read slot ≡ Err 0
 refused last read slot mark gate free spelled wrong =
@@ -50,17 +52,17 @@ pub record IsSound (marks : List Mark) : Type 0 where
   pub writable : list_all can_write marks ≡ true
 
 legal_more : (before later : List Mark) (mark : Mark) → are_legal_after before later ≡ true → is_legal_after (before ++ later) mark ≡ true → are_legal_after before (later ++ mark ∷ []) ≡ true
-legal_more before [] mark legal more = and_then (is_legal_after before mark) true (ap (λ list. is_legal_after list mark) (sym (append-nil before)) ∙ more) refl
+legal_more before [] mark legal more = and_from (is_legal_after before mark) true (ap (λ list. is_legal_after list mark) (sym (append-nil before)) ∙ more) refl
 legal_more before (first ∷ later) mark legal more =
-    let tests : (is_legal_after before first ≡ true) × (are_legal_after (before ++ first ∷ []) later ≡ true) = both _ _ legal in
-    and_then (is_legal_after before first) _ tests.0
+    let tests : (is_legal_after before first ≡ true) × (are_legal_after (before ++ first ∷ []) later ≡ true) = and_parts _ _ legal in
+    and_from (is_legal_after before first) _ tests.0
     (legal_more (before ++ first ∷ []) later mark tests.1 (ap (λ list. is_legal_after list mark) (append_assoc before (first ∷ []) later) ∙ more))
 
 all_more : (test : Mark → Bool) (marks : List Mark) (mark : Mark) → list_all test marks ≡ true → test mark ≡ true → list_all test (marks ++ mark ∷ []) ≡ true
-all_more test [] mark all more = and_then (test mark) true more refl
+all_more test [] mark all more = and_from (test mark) true more refl
 all_more test (first ∷ later) mark all more =
-    let tests : (test first ≡ true) × (list_all test later ≡ true) = both _ _ all in
-    and_then (test first) _ tests.0 (all_more test later mark tests.1 more)
+    let tests : (test first ≡ true) × (list_all test later ≡ true) = and_parts _ _ all in
+    and_from (test first) _ tests.0 (all_more test later mark tests.1 more)
 
 pub sound_more : (marks : List Mark) (mark : Mark) → IsSound marks → is_legal_after marks mark ≡ true → can_write mark ≡ true → IsSound (marks ++ mark ∷ [])
 sound_more marks mark sound legal writable = record {
@@ -70,20 +72,20 @@ sound_more marks mark sound legal writable = record {
 
 -- a list is sound as its test says
 pub sound_is : (marks : List Mark) → are_sound marks ≡ true → IsSound marks
-sound_is marks is = let tests : (are_legal_after [] marks ≡ true) × (list_all can_write marks ≡ true) = both _ _ is in record { legal = tests.0; writable = tests.1 }
+sound_is marks is = let tests : (are_legal_after [] marks ≡ true) × (list_all can_write marks ≡ true) = and_parts _ _ is in record { legal = tests.0; writable = tests.1 }
 
 pub sound_tested : (marks : List Mark) → IsSound marks → are_sound marks ≡ true
-sound_tested marks sound = and_then (are_legal_after [] marks) _ sound.legal sound.writable
+sound_tested marks sound = and_from (are_legal_after [] marks) _ sound.legal sound.writable
 
 pub legal_list : (before later : List Mark) → are_legal_after before later ≡ true → AreLegalAfter before later
 legal_list before [] is = tt
 legal_list before (mark ∷ later) is =
-    let tests : (is_legal_after before mark ≡ true) × (are_legal_after (before ++ mark ∷ []) later ≡ true) = both _ _ is in
+    let tests : (is_legal_after before mark ≡ true) × (are_legal_after (before ++ mark ∷ []) later ≡ true) = and_parts _ _ is in
     (legal_is before mark tests.0, legal_list (before ++ mark ∷ []) later tests.1)
 
 pub legal_tests : (before later : List Mark) → AreLegalAfter before later → are_legal_after before later ≡ true
 legal_tests before [] legal = refl
-legal_tests before (mark ∷ later) legal = and_then (is_legal_after before mark) _ (legal_tested before mark legal.0) (legal_tests (before ++ mark ∷ []) later legal.1)
+legal_tests before (mark ∷ later) legal = and_from (is_legal_after before mark) _ (legal_tested before mark legal.0) (legal_tests (before ++ mark ∷ []) later legal.1)
 
 pub sound_legal : (marks : List Mark) → are_sound marks ≡ true → AreLegal marks
 sound_legal marks is = legal_list [] marks (sound_is marks is).legal
@@ -103,7 +105,7 @@ one_read last read more slot is answer = by_gate (slice_index slot 0 == 43) refl
 
   by_tests : (mark : Mark) (pass : Bool) → mark_in slot ≡ Some mark → (is_legal_after read.marks mark && is_drawn last mark) ≡ pass → open_slot last read (Some mark) (right_front slot) ≡ Ok more → IsRead last more.marks
   by_tests mark true found tests opened =
-      let parts : (is_legal_after read.marks mark ≡ true) × (is_drawn last mark ≡ true) = both _ _ tests in
+      let parts : (is_legal_after read.marks mark ≡ true) × (is_drawn last mark ≡ true) = and_parts _ _ tests in
       let whole : Ok (with_slot read (Some mark)) ≡ Ok more = sym (ap (λ b. if b then Ok (with_slot read (Some mark)) else Err 0) tests) ∙ opened in
       let same : with_slot read (Some mark) ≡ more = cc in
       subst (λ r. IsRead last r.marks) same (record {
@@ -174,7 +176,7 @@ marked read found mark marks free is more same = ap (with_slot read) is ∙ (λ 
 pub unmarked : (read : JournalRead) (found : Option Mark) (marks : List Mark) (free : ℕ) → found ≡ None → marks ≡ read.marks → free ≡ read.free + 1 → with_slot read found ≡ record { marks = marks; free = free }
 unmarked read found marks free is same more = ap (with_slot read) is ∙ (λ i. record { marks = sym same i; free = sym more i })
 
-pub slot_damaged : (last place offset : ℕ) (bytes : List ℕ) (slots : List (List ℕ)) (read : JournalRead) (marks : List Mark) (other : List ℕ) (damage : Damage) → slots ≡ first_chunks 32 (length bytes / 32) bytes → IsBehind last slots place read → place < length slots → marks ≡ read.marks → one_slot last (record { marks = marks; free = read.free }) (get_or slots place other) ≡ Err offset → damage ≡ damage_at bytes (place * 32 + offset) → journal_in last (Some bytes) ≡ Err damage
+pub slot_damaged : (last place offset : ℕ) (bytes : List ℕ) (slots : List (List ℕ)) (read : JournalRead) (marks : List Mark) (other : List ℕ) (damage : Damage) → slots ≡ first_chunks 32 (length bytes / 32) bytes → IsBehind last slots place read → place < length slots → marks ≡ read.marks → one_slot last (record { marks = marks; free = read.free }) (get_or slots place other) ≡ Err offset → damage ≡ damage_at journal_file bytes (place * 32 + offset) → journal_in last (Some bytes) ≡ Err damage
 unfolding journal_in
 slot_damaged last place offset bytes slots read marks other damage cut behind inside same wrong is =
     let at_marks : List Mark → Type 0 = λ list. one_slot last (record { marks = list; free = read.free }) (get_or slots place other) ≡ Err offset in
@@ -195,16 +197,16 @@ unfolding journal_in
 end_of last place bytes slots read cut behind past =
     ap (λ list. whole_journal bytes (all_slots last 0 nothing_read list)) (sym cut) ∙ ap (whole_journal bytes) (all_behind last place slots read behind past)
 
-pub rest_damaged : (last place rest : ℕ) (bytes : List ℕ) (slots : List (List ℕ)) (read : JournalRead) (damage : Damage) → slots ≡ first_chunks 32 (length bytes / 32) bytes → IsBehind last slots place read → length slots ≤ place → length slots ≡ length bytes / 32 → rest ≡ length bytes % 32 → false ≡ (rest == 0) → damage ≡ damage_at bytes (length slots * 32) → journal_in last (Some bytes) ≡ Err damage
+pub rest_damaged : (last place rest : ℕ) (bytes : List ℕ) (slots : List (List ℕ)) (read : JournalRead) (damage : Damage) → slots ≡ first_chunks 32 (length bytes / 32) bytes → IsBehind last slots place read → length slots ≤ place → length slots ≡ length bytes / 32 → rest ≡ length bytes % 32 → false ≡ (rest == 0) → damage ≡ damage_at journal_file bytes (length slots * 32) → journal_in last (Some bytes) ≡ Err damage
 rest_damaged last place rest bytes slots read damage cut behind past counted left some is =
     end_of last place bytes slots read cut behind past
-    ∙ ap (λ b. if b then Ok read else Err (damage_at bytes (length bytes / 32 * 32))) (sym (some ∙ ap (λ n. n == 0) left))
-    ∙ ap Err (ap (λ n. damage_at bytes (n * 32)) (sym counted) ∙ sym is)
+    ∙ ap (λ b. if b then Ok read else Err (damage_at journal_file bytes (length bytes / 32 * 32))) (sym (some ∙ ap (λ n. n == 0) left))
+    ∙ ap Err (ap (λ n. damage_at journal_file bytes (n * 32)) (sym counted) ∙ sym is)
 
 pub read_whole : (last place rest : ℕ) (bytes : List ℕ) (slots : List (List ℕ)) (read : JournalRead) → slots ≡ first_chunks 32 (length bytes / 32) bytes → IsBehind last slots place read → length slots ≤ place → rest ≡ length bytes % 32 → true ≡ (rest == 0) → journal_in last (Some bytes) ≡ Ok read
 read_whole last place rest bytes slots read cut behind past left none =
     end_of last place bytes slots read cut behind past
-    ∙ ap (λ b. if b then Ok read else Err (damage_at bytes (length bytes / 32 * 32))) (sym (none ∙ ap (λ n. n == 0) left))
+    ∙ ap (λ b. if b then Ok read else Err (damage_at journal_file bytes (length bytes / 32 * 32))) (sym (none ∙ ap (λ n. n == 0) left))
 
 -- without a file there is no mark and no free slot
 pub absent_read : (last : ℕ) (held : Option (List ℕ)) (marks : List Mark) → held ≡ None → marks ≡ [] → journal_in last held ≡ Ok (record { marks = marks; free = 0 })
@@ -219,5 +221,5 @@ added_sound marks more mark sound legal writable is =
 -- marks that pass the test can be written
 pub all_writable : (marks : List Mark) → list_all can_write marks ≡ true → AreWritable marks
 all_writable [] all place other inside = absurd (omega arith)
-all_writable (mark ∷ later) all zero other inside = writable_is mark (both _ _ all).0
-all_writable (mark ∷ later) all (suc place) other inside = all_writable later (both _ _ all).1 place other (omega arith)
+all_writable (mark ∷ later) all zero other inside = writable_is mark (and_parts _ _ all).0
+all_writable (mark ∷ later) all (suc place) other inside = all_writable later (and_parts _ _ all).1 place other (omega arith)

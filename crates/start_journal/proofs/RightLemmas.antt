@@ -1,6 +1,6 @@
 -- The right front of a slot is its longest front that some mark's slot has too.
 use Rattle.std.proofs.Common.{◌≡◌, ◌⊎◌, ℕ, zero, suc, ◌+◌, ◌-◌, ◌*◌, ◌/◌, ◌^◌, ◌<◌, ◌≤◌, Bool, true, false, List, [], ◌∷◌, ◌++◌, length, take, drop, lit≤, sym, ap, subst, ◌∙◌, refl, inl, inr, arith, eq-eqb, zero-add, below_more, length-append, length-drop}
-use Rattle.std.specs.Prelude.{◌==◌, ◌&&◌, ◌||◌, nat_le, nat_lt, slice_index, slice_range, if◌then◌else◌}
+use Rattle.std.specs.Prelude.{unsigned_abs, ◌==◌, ◌&&◌, ◌||◌, nat_le, nat_lt, slice_index, slice_range, if◌then◌else◌}
 use Rattle.std.proofs.Math.ListN.{get_or-append}
 use Rattle.std.proofs.Math.Nat.{eq-or-lt_of_le, le-div_iff_mul-le, pow-suc}
 use Rattle.std.proofs.Math.Seq.{get_or-append_seam}
@@ -8,11 +8,15 @@ use Rattle.std.proofs.lemmas.Bool.Decides.{nat_tests}
 use Rattle.std.proofs.lemmas.List.{drop-append-le, length-take, length-take-le, nil_from_length, take-append-le, take-take, take_all}
 use Rattle.std.proofs.lemmas.Nat.{le-div}
 use Rattle.start_journal.specs.JournalLaws.{RightFrontsAreLongest}
-use Rattle.start_journal.specs.SlotBytes.{HasRightFront, are_digits, are_zeros, begins_number, begins_second, is_digit, is_ending_of, is_kind, is_queue_of, is_status_of, may_stand, right_front, standing_from, value_of}
-use Rattle.start_journal.proofs.ByteLemmas.{and_then, both}
+use Rattle.start_journal.specs.SlotBytes.{HasRightFront, begins_number, begins_second, is_ending_of, is_kind, is_queue_of, is_status_of, may_stand, right_front, standing_from}
+use Rattle.hex_digits.specs.Values.{are_digits, are_zeros, is_digit, value_of}
+use Rattle.std.proofs.lemmas.Bool.{and_from, and_parts, eqb-true}
+use Rattle.hex_digits.proofs.TestLemmas.{one_passes}
 use Rattle.start_journal.proofs.MarkLemmas.{or_true}
-use Rattle.start_journal.proofs.StandLemmas.{is_place, behind_place, from_place, same_stand, if_true, one_passes, value_last, some_power, spelled_stands}
+use Rattle.start_journal.proofs.StandLemmas.{behind_place, from_place, if_true, same_stand, spelled_stands}
+use Rattle.hex_digits.proofs.ValueLemmas.{value_last, some_power}
 use Rattle.start_journal.proofs.WholeLemmas.{parts_of, all_spelled, SpellsSome, AllStand}
+use Rattle.clock_range.specs.declared.range.TheConstants.{LAST_SECOND}
 
 -- a byte that may stand behind the others
 next_byte : List ℕ → ℕ
@@ -58,7 +62,7 @@ number_next kind digits before = by_kind (kind == 66) refl where
   zeros_before batch = elim before [ inl none ↦ ap are_zeros none | inr begun ↦ sym (if_yes (kind == 66) (are_zeros digits) _ batch) ∙ begun ]
 
   digits_before : (kind == 66) ≡ false → are_digits digits ≡ true
-  digits_before other = elim before [ inl none ↦ ap are_digits none | inr begun ↦ (both (are_digits digits) _ (sym (if_no (kind == 66) (are_zeros digits) _ other) ∙ begun)).0 ]
+  digits_before other = elim before [ inl none ↦ ap are_digits none | inr begun ↦ (and_parts (are_digits digits) _ (sym (if_no (kind == 66) (are_zeros digits) _ other) ∙ begun)).0 ]
 
   by_kind : (batch : Bool) → (kind == 66) ≡ batch → begins_number kind (digits ++ (if kind == 66 then 48 else 49) ∷ []) ≡ true
   by_kind true batch =
@@ -69,20 +73,20 @@ number_next kind digits before = by_kind (kind == 66) refl where
       let some : nat_le 1 (value_of (digits ++ 49 ∷ [])) ≡ true = grind (arith, nat_tests) in
       ap (λ byte. begins_number kind (digits ++ byte ∷ [])) (if_no (kind == 66) 48 49 other)
       ∙ if_no (kind == 66) _ _ other
-      ∙ and_then (are_digits (digits ++ 49 ∷ [])) _ (one_passes is_digit digits 49 (digits_before other) refl)
+      ∙ and_from (are_digits (digits ++ 49 ∷ [])) _ (one_passes is_digit digits 49 (digits_before other) refl)
       (ap (λ b. nat_lt (length (digits ++ 49 ∷ [])) 8 || b) some ∙ or_true (nat_lt (length (digits ++ 49 ∷ [])) 8))
 
 -- one digit more of a second
 second_next : (kind : ℕ) (digits : List ℕ) → length digits < 16 → (digits ≡ []) ⊎ (begins_second kind digits ≡ true) → begins_second kind (digits ++ 48 ∷ []) ≡ true
 second_next kind digits few before = by_kind (kind == 83 || kind == 66) refl where
   test : List ℕ → Bool
-  test list = are_digits list && nat_le (value_of list) (253370764799 / 16 ^ (16 - length list))
+  test list = are_digits list && nat_le (value_of list) (unsigned_abs LAST_SECOND / 16 ^ (16 - length list))
 
-  parts : (kind == 83 || kind == 66) ≡ true → (are_digits digits ≡ true) × (value_of digits ≤ 253370764799 / 16 ^ (16 - length digits))
+  parts : (kind == 83 || kind == 66) ≡ true → (are_digits digits ≡ true) × (value_of digits ≤ unsigned_abs LAST_SECOND / 16 ^ (16 - length digits))
   parts timed = elim before [
-    | inl none ↦ (ap are_digits none, subst (λ list. value_of list ≤ 253370764799 / 16 ^ (16 - length list)) (sym none) (lit≤ tt))
+    | inl none ↦ (ap are_digits none, subst (λ list. value_of list ≤ unsigned_abs LAST_SECOND / 16 ^ (16 - length list)) (sym none) (lit≤ tt))
     | inr begun ↦
-        let tests = both (are_digits digits) _ (sym (if_yes (kind == 83 || kind == 66) (test digits) _ timed) ∙ begun) in
+        let tests = and_parts (are_digits digits) _ (sym (if_yes (kind == 83 || kind == 66) (test digits) _ timed) ∙ begun) in
         (tests.0, grind (arith, nat_tests))
   ]
 
@@ -93,16 +97,16 @@ second_next kind digits few before = by_kind (kind == 83 || kind == 66) refl whe
       let counted : length (digits ++ 48 ∷ []) ≡ length digits + 1 = length-append digits (48 ∷ []) in
       let left : 16 - length (digits ++ 48 ∷ []) ≡ more = omega arith in
       let power : 16 ^ suc more ≡ 16 ^ more * 16 = pow-suc 16 more in
-      let known : value_of digits ≤ 253370764799 / 16 ^ suc more = subst (λ n. value_of digits ≤ 253370764799 / 16 ^ n) here (parts timed).1 in
-      let whole : value_of digits * 16 ^ suc more ≤ 253370764799 = (le-div_iff_mul-le (some_power (suc more))).0 known in
-      let moved : value_of digits * (16 ^ more * 16) ≤ 253370764799 = subst (λ p. value_of digits * p ≤ 253370764799) power whole in
+      let known : value_of digits ≤ unsigned_abs LAST_SECOND / 16 ^ suc more = subst (λ n. value_of digits ≤ unsigned_abs LAST_SECOND / 16 ^ n) here (parts timed).1 in
+      let whole : value_of digits * 16 ^ suc more ≤ unsigned_abs LAST_SECOND = (le-div_iff_mul-le (some_power (suc more))).0 known in
+      let moved : value_of digits * (16 ^ more * 16) ≤ unsigned_abs LAST_SECOND = subst (λ p. value_of digits * p ≤ unsigned_abs LAST_SECOND) power whole in
       let value : value_of (digits ++ 48 ∷ []) ≡ value_of digits * 16 + 0 = value_last digits 48 in
-      let small : value_of (digits ++ 48 ∷ []) * 16 ^ more ≤ 253370764799 = subst (λ n. n * 16 ^ more ≤ 253370764799) (sym value) (omega arith) in
-      let least : value_of (digits ++ 48 ∷ []) ≤ 253370764799 / 16 ^ more = le-div (value_of (digits ++ 48 ∷ [])) 253370764799 (16 ^ more) (some_power more) small in
-      let tested : nat_le (value_of (digits ++ 48 ∷ [])) (253370764799 / 16 ^ more) ≡ true = grind (arith, nat_tests) in
+      let small : value_of (digits ++ 48 ∷ []) * 16 ^ more ≤ unsigned_abs LAST_SECOND = subst (λ n. n * 16 ^ more ≤ unsigned_abs LAST_SECOND) (sym value) (omega arith) in
+      let least : value_of (digits ++ 48 ∷ []) ≤ unsigned_abs LAST_SECOND / 16 ^ more = le-div (value_of (digits ++ 48 ∷ [])) (unsigned_abs LAST_SECOND) (16 ^ more) (some_power more) small in
+      let tested : nat_le (value_of (digits ++ 48 ∷ [])) (unsigned_abs LAST_SECOND / 16 ^ more) ≡ true = grind (arith, nat_tests) in
       if_yes (kind == 83 || kind == 66) (test (digits ++ 48 ∷ [])) _ timed
-      ∙ and_then (are_digits (digits ++ 48 ∷ [])) _ (one_passes is_digit digits 48 (parts timed).0 refl)
-      (ap (λ n. nat_le (value_of (digits ++ 48 ∷ [])) (253370764799 / 16 ^ n)) left ∙ tested)
+      ∙ and_from (are_digits (digits ++ 48 ∷ [])) _ (one_passes is_digit digits 48 (parts timed).0 refl)
+      (ap (λ n. nat_le (value_of (digits ++ 48 ∷ [])) (unsigned_abs LAST_SECOND / 16 ^ n)) left ∙ tested)
   by_kind false other =
       let zeros : are_zeros digits ≡ true = elim before [ inl none ↦ ap are_zeros none | inr begun ↦ sym (if_no (kind == 83 || kind == 66) (test digits) _ other) ∙ begun ] in
       if_no (kind == 83 || kind == 66) _ (are_zeros (digits ++ 48 ∷ [])) other ∙ one_passes (λ byte. byte == 48) digits 48 zeros refl
@@ -175,11 +179,11 @@ next_stands slot each inside =
     let place : ℕ = length slot in
     let more : List ℕ = longer slot in
     if_true (place == 0) _ _ (λ is.
-    let at : 0 ≡ place = sym (is_place place 0 is) in
+    let at : 0 ≡ place = sym (eqb-true place 0 is) in
     ap (λ b. b == 43) (byte_last slot 0 43 at (if_yes (place == 0) _ _ is))) (λ not_0.
     let from_1 : 1 ≤ place = behind_place place 0 (omega arith) not_0 in
     if_true (place == 1) _ _ (λ is.
-    let at : 1 ≡ place = sym (is_place place 1 is) in
+    let at : 1 ≡ place = sym (eqb-true place 1 is) in
     ap is_kind (byte_last slot 1 82 at (if_no (place == 0) _ _ not_0 ∙ if_yes (place == 1) _ _ is))) (λ not_1.
     let from_2 : 2 ≤ place = behind_place place 1 from_1 not_1 in
     let kind : slice_index more 1 ≡ slice_index slot 1 = byte_before slot 1 (omega arith) in
@@ -190,13 +194,13 @@ next_stands slot each inside =
     ∙ number_next (slice_index slot 1) (drop 2 slot) (number_before slot each from_2 few)) (λ not_9.
     let from_10 : 10 ≤ place = from_place place 10 not_9 in
     if_true (place == 10) _ _ (λ is.
-    let at : 10 ≡ place = sym (is_place place 10 is) in
+    let at : 10 ≡ place = sym (eqb-true place 10 is) in
     ap (λ k. is_queue_of k (slice_index more 10)) kind
     ∙ ap (is_queue_of (slice_index slot 1)) (byte_last slot 10 _ at (if_no (place == 0) _ _ not_0 ∙ if_no (place == 1) _ _ not_1 ∙ if_no (nat_lt place 10) _ _ not_9 ∙ if_yes (place == 10) _ _ is))
     ∙ queue_next (slice_index slot 1)) (λ not_10.
     let from_11 : 11 ≤ place = behind_place place 10 from_10 not_10 in
     if_true (place == 11) _ _ (λ is.
-    let at : 11 ≡ place = sym (is_place place 11 is) in
+    let at : 11 ≡ place = sym (eqb-true place 11 is) in
     ap (λ k. is_ending_of k (slice_index more 11)) kind
     ∙ ap (is_ending_of (slice_index slot 1)) (byte_last slot 11 _ at (if_no (place == 0) _ _ not_0 ∙ if_no (place == 1) _ _ not_1 ∙ if_no (nat_lt place 10) _ _ not_9 ∙ if_no (place == 10) _ _ not_10 ∙ if_yes (place == 11) _ _ is))
     ∙ ending_next (slice_index slot 1)) (λ not_11.
@@ -215,11 +219,11 @@ next_stands slot each inside =
     λ byte is. if_no (place == 0) _ _ not_0 ∙ if_no (place == 1) _ _ not_1 ∙ if_no (nat_lt place 10) _ _ not_9 ∙ if_no (place == 10) _ _ not_10 ∙ if_no (place == 11) _ _ not_11 ∙ if_no (nat_lt place 30) _ _ not_29 ∙ is in
     let from_30 : 30 ≤ place = from_place place 30 not_29 in
     if_true (place == 30) _ _ (λ is.
-    let at : 30 ≡ place = sym (is_place place 30 is) in
+    let at : 30 ≡ place = sym (eqb-true place 30 is) in
     ap (λ b. b == 46) (byte_last slot 30 46 at (last 46 (if_yes (place == 30) _ _ is)))) (λ not_30.
     let from_31 : 31 ≤ place = behind_place place 30 from_30 not_30 in
     let at : 31 ≡ place = omega arith in
-    and_then (place == 31) _ (eq-eqb place 31 (sym at)) (ap (λ b. b == 10) (byte_last slot 31 10 at (last 10 (if_no (place == 30) _ _ not_30))))))))))))
+    and_from (place == 31) _ (eq-eqb place 31 (sym at)) (ap (λ b. b == 10) (byte_last slot 31 10 at (last 10 (if_no (place == 30) _ _ not_30))))))))))))
 
 all_next : (slot : List ℕ) → AllStand slot → length slot < 32 → AllStand (longer slot)
 unfolding longer

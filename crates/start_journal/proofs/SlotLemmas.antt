@@ -12,7 +12,9 @@ use Rattle.start_journal.specs.declared.fields.Fields.{Fields}
 use Rattle.start_journal.specs.declared.mark.Mark.{Mark}
 use Rattle.start_journal.specs.declared.mark.Mark.TheVariants.{Removed, Started, Ended, Interrupted, Forgotten, Batch}
 use Rattle.start_journal.specs.Laws.{MarksHaveOneSlot, SlotsSpellOneMark}
-use Rattle.start_journal.specs.Slots.{IsSecond, IsWritable, SpellsFields, SpellsMark, fields_of, mark_with}
+use Rattle.start_journal.specs.Slots.{IsWritable, SpellsFields, SpellsMark, fields_of, mark_with}
+use Rattle.clock_range.specs.ClockRange.{IsClockSecond}
+use Rattle.clock_range.specs.declared.range.TheConstants.{LAST_SECOND}
 
 -- a slot has one list of fields
 pub one_fields : (slot : List ℕ) (first second : Fields) → SpellsFields slot first → SpellsFields slot second → first ≡ second
@@ -31,12 +33,12 @@ no_mark slot fields None spelled none = λ mark is. none mark is.writable (one_f
 no_mark slot fields (Some mark) spelled none = tt
 
 -- a second of the clock's range as a number
-second_counted : (second : ℤ) → IsSecond second → unsigned_abs second ≤ 253370764799
-second_counted (pos count) is = let to : pos count ≤ℤ pos 253370764799 = is.to in grind (arith, ints)
-second_counted (negsuc count) is = let from : pos 0 ≤ℤ negsuc count = is.from in grind (arith, ints)
+second_counted : (second : ℤ) → IsClockSecond second → unsigned_abs second ≤ unsigned_abs LAST_SECOND
+second_counted (pos count) is = let to : pos count ≤ℤ LAST_SECOND = is.high in grind (arith, ints)
+second_counted (negsuc count) is = let from : pos 0 ≤ℤ negsuc count = is.low in grind (arith, ints)
 
 -- the second in the fields of a mark
-pub second_small : (mark : Mark) → IsWritable mark → (fields_of mark).second ≤ 253370764799
+pub second_small : (mark : Mark) → IsWritable mark → (fields_of mark).second ≤ unsigned_abs LAST_SECOND
 second_small (Removed number) writable = lit≤ tt
 second_small (Started number queue second) writable = second_counted second writable.second_of
 second_small (Ended number ending) writable = lit≤ tt
@@ -45,13 +47,13 @@ second_small (Forgotten number) writable = lit≤ tt
 second_small (Batch second) writable = second_counted second writable
 
 -- the mark that fields can have is the one that they are of
-within : (second : ℕ) → second ≤ 253370764799 → nat_le second 253370764799 ≡ true
+within : (second : ℕ) → second ≤ unsigned_abs LAST_SECOND → nat_le second (unsigned_abs LAST_SECOND) ≡ true
 within second few = grind (arith, nat_tests)
 
 -- a second of the clock's range is a number
-second_again : (second : ℤ) → IsSecond second → pos (unsigned_abs second) ≡ second
+second_again : (second : ℤ) → IsClockSecond second → pos (unsigned_abs second) ≡ second
 second_again (pos count) is = refl
-second_again (negsuc count) is = let from : pos 0 ≤ℤ negsuc count = is.from in grind (arith, ints)
+second_again (negsuc count) is = let from : pos 0 ≤ℤ negsuc count = is.low in grind (arith, ints)
 
 pub mark_again : (mark : Mark) → IsWritable mark → mark_with (fields_of mark) ≡ Some mark
 mark_again (Removed number) writable = refl

@@ -1,23 +1,23 @@
 -- Each byte of a mark's slot may stand in its place.
-use Rattle.std.proofs.Common.{◌≡◌, ℕ, zero, suc, ◌+◌, ◌-◌, ◌*◌, ◌/◌, ◌^◌, ◌<◌, ◌≤◌, Bool, true, false, List, [], ◌∷◌, ◌++◌, length, take, drop, replicate, min, sym, ap, subst, ◌∙◌, refl, arith, eq-eqb, length-drop, get_or-take}
-use Rattle.std.specs.Prelude.{◌==◌, ◌&&◌, ◌||◌, fold, nat_le, nat_lt, slice_index, slice_range, unsigned_abs, if◌then◌else◌}
-use Rattle.std.specs.List.{list_all}
-use Rattle.std.proofs.Math.Nat.{pow-le-pow_right, pow-suc}
+use Rattle.std.proofs.Common.{◌≡◌, ℕ, ◌+◌, ◌-◌, ◌*◌, ◌/◌, ◌^◌, ◌<◌, ◌≤◌, Bool, true, false, List, length, take, drop, min, sym, ap, ◌∙◌, refl, arith, eq-eqb, length-drop, get_or-take}
+use Rattle.std.specs.Prelude.{◌==◌, ◌&&◌, ◌||◌, nat_le, nat_lt, slice_index, slice_range, unsigned_abs, if◌then◌else◌}
 use Rattle.std.proofs.lemmas.Bool.Decides.{nat_tests}
-use Rattle.std.proofs.lemmas.List.{get_or-drop, length-replicate, length-take, length-take-le, take-take, take_all, take_more}
+use Rattle.std.proofs.lemmas.List.{get_or-drop, length-take, length-take-le, take-take, take_all}
 use Rattle.std.proofs.lemmas.Nat.{le-div}
 use Rattle.hex_digits.specs.Digits.{SpellsNumber}
-use Rattle.hex_digits.proofs.DigitLemmas.{one_spelling}
 use Rattle.host_calls.specs.declared.child.Ending.TheVariants.{Exit, Signal, NotStarted}
 use Rattle.start_journal.specs.declared.fields.Fields.{Fields}
 use Rattle.start_journal.specs.declared.mark.Mark.{Mark}
 use Rattle.start_journal.specs.declared.mark.Mark.TheVariants.{Removed, Started, Ended, Interrupted, Forgotten, Batch}
-use Rattle.start_journal.specs.SlotBytes.{are_digits, are_zeros, begins_number, begins_second, digit_value, is_digit, is_ending_of, is_kind, is_queue_of, is_status_of, may_stand, value_of}
+use Rattle.start_journal.specs.SlotBytes.{begins_number, begins_second, is_ending_of, is_kind, is_queue_of, is_status_of, may_stand}
+use Rattle.hex_digits.specs.Values.{are_digits, is_digit, value_of}
 use Rattle.start_journal.specs.Slots.{IsWritable, SpellsMark, fields_of}
-use Rattle.start_journal.proofs.ByteLemmas.{all_by_place, and_then, both, digits_spell, place_of_all, spelled_digits, value_spelled}
-use Rattle.start_journal.proofs.MarkLemmas.{same_number}
+use Rattle.std.proofs.lemmas.Bool.{and_from}
+use Rattle.hex_digits.proofs.TestLemmas.{place_of_all, take_passes}
+use Rattle.hex_digits.proofs.ValueLemmas.{spelled_digits, value_spelled, zeros_of, some_power, value_front}
 use Rattle.start_journal.proofs.SlotLemmas.{second_small}
 use Rattle.start_journal.proofs.WriteLemmas.{front_index, front_range}
+use Rattle.clock_range.specs.declared.range.TheConstants.{LAST_SECOND}
 
 -- choices that are the same under one test
 pub if_same : (b : Bool) (x y other_x other_y : Bool) → (b ≡ true → x ≡ other_x) → (b ≡ false → y ≡ other_y) → (if b then x else y) ≡ (if b then other_x else other_y)
@@ -29,14 +29,16 @@ and_same true x other_x on = on refl
 and_same false x other_x on = refl
 
 -- what the tests of a place say
-pub is_place : (place at : ℕ) → (place == at) ≡ true → place ≡ at
-is_place place at is = grind (arith, nat_tests)
-
 pub behind_place : (place at : ℕ) → at ≤ place → (place == at) ≡ false → at + 1 ≤ place
 behind_place place at from is = grind (arith, nat_tests)
 
 pub from_place : (place at : ℕ) → nat_lt place at ≡ false → at ≤ place
 from_place place at is = grind (arith, nat_tests)
+
+-- a choice that holds either way
+pub if_true : (b x y : Bool) → (b ≡ true → x ≡ true) → (b ≡ false → y ≡ true) → (if b then x else y) ≡ true
+if_true true x y on off = on refl
+if_true false x y on off = off refl
 
 -- a byte may stand by what stands before it and itself
 pub same_stand : (one other : List ℕ) (place : ℕ) → take (place + 1) one ≡ take (place + 1) other → may_stand one place ≡ may_stand other place
@@ -58,65 +60,10 @@ same_stand one other place same =
     if_same (place == 30) _ _ _ _ (λ is. ap (λ b. b == 46) (byte 30 from_30)) (λ not_30.
     and_same (place == 31) _ _ (λ is. ap (λ b. b == 10) (byte 31 (behind_place place 30 from_30 not_30)))))))))))
 
--- a choice that holds either way
-pub if_true : (b x y : Bool) → (b ≡ true → x ≡ true) → (b ≡ false → y ≡ true) → (if b then x else y) ≡ true
-if_true true x y on off = on refl
-if_true false x y on off = off refl
-
--- what holds of all bytes holds of the first ones
-pub take_passes : (test : ℕ → Bool) (bytes : List ℕ) (count : ℕ) → list_all test bytes ≡ true → list_all test (take count bytes) ≡ true
-take_passes test bytes count all =
-    let counted : length (take count bytes) ≡ min count (length bytes) = length-take count bytes in
-    all_by_place test (take count bytes) (λ place inside. ap test (get_or-take count bytes place 0 (omega arith)) ∙ place_of_all test bytes place all (omega arith))
-
--- and of one more
-pub one_passes : (test : ℕ → Bool) (bytes : List ℕ) (byte : ℕ) → list_all test bytes ≡ true → test byte ≡ true → list_all test (bytes ++ byte ∷ []) ≡ true
-one_passes test [] byte all here = and_then (test byte) true here refl
-one_passes test (first ∷ later) byte all here =
-    let tests : (test first ≡ true) × (list_all test later ≡ true) = both _ _ all in
-    and_then (test first) _ tests.0 (one_passes test later byte tests.1 here)
-
--- the value of digits and one more
-pub fold_last : (number : ℕ) (bytes : List ℕ) (byte : ℕ) → fold (λ value b. value * 16 + digit_value b) number (bytes ++ byte ∷ []) ≡ fold (λ value b. value * 16 + digit_value b) number bytes * 16 + digit_value byte
-fold_last number [] byte = refl
-fold_last number (first ∷ later) byte = fold_last (number * 16 + digit_value first) later byte
-
-pub value_last : (bytes : List ℕ) (byte : ℕ) → value_of (bytes ++ byte ∷ []) ≡ value_of bytes * 16 + digit_value byte
-value_last bytes byte = fold_last 0 bytes byte
-
--- zeros spell 0
-pub value_zeros : (count : ℕ) → value_of (replicate count 48) ≡ 0
-value_zeros zero = refl
-value_zeros (suc count) = value_zeros count
-
-pub zeros_digits : (count : ℕ) → are_digits (replicate count 48) ≡ true
-zeros_digits zero = refl
-zeros_digits (suc count) = zeros_digits count
-
-pub zeros_zeros : (count : ℕ) → are_zeros (replicate count 48) ≡ true
-zeros_zeros zero = refl
-zeros_zeros (suc count) = zeros_zeros count
-
-pub zero_spelled : (count : ℕ) → SpellsNumber (replicate count 48) 0
-zero_spelled count = subst (SpellsNumber (replicate count 48)) (value_zeros count) (digits_spell (replicate count 48) (zeros_digits count))
-
-pub zeros_of : (digits : List ℕ) → SpellsNumber digits 0 → are_zeros digits ≡ true
-zeros_of digits spelled =
-    ap are_zeros (one_spelling digits (replicate (length digits) 48) 0 (sym (length-replicate (length digits) 48)) spelled (zero_spelled (length digits))) ∙ zeros_zeros (length digits)
-
-pub copies : (bytes : List ℕ) → are_zeros bytes ≡ true → bytes ≡ replicate (length bytes) 48
-copies [] all = refl
-copies (byte ∷ later) all =
-    let tests : ((byte == 48) ≡ true) × (are_zeros later ≡ true) = both _ _ all in
-    ap (λ first. first ∷ later) (same_number byte 48 tests.0) ∙ ap (λ rest. 48 ∷ rest) (copies later tests.1)
-
-pub spelled_zero : (bytes : List ℕ) → are_zeros bytes ≡ true → SpellsNumber bytes 0
-spelled_zero bytes all = subst (λ list. SpellsNumber list 0) (sym (copies bytes all)) (zero_spelled (length bytes))
-
 -- the first digits of a job's number
 pub number_front : (digits : List ℕ) (number count : ℕ) → SpellsNumber digits number → 1 ≤ number → length digits ≡ 8 → (are_digits (take count digits) && (nat_lt (length (take count digits)) 8 || nat_le 1 (value_of (take count digits)))) ≡ true
 number_front digits number count spelled some counted =
-    and_then (are_digits (take count digits)) _ (take_passes is_digit digits count (spelled_digits digits number spelled)) (by_few (nat_lt (length (take count digits)) 8) refl) where
+    and_from (are_digits (take count digits)) _ (take_passes is_digit digits count (spelled_digits digits number spelled)) (by_few (nat_lt (length (take count digits)) 8) refl) where
       by_few : (few : Bool) → nat_lt (length (take count digits)) 8 ≡ few → (nat_lt (length (take count digits)) 8 || nat_le 1 (value_of (take count digits))) ≡ true
       by_few true few = ap (λ b. b || nat_le 1 (value_of (take count digits))) few
       by_few false all =
@@ -171,38 +118,17 @@ status_right (Interrupted number) bytes place spelled inside = place_of_all (λ 
 status_right (Forgotten number) bytes place spelled inside = place_of_all (λ byte. byte == 48) bytes place (zeros_of bytes spelled) inside
 status_right (Batch second) bytes place spelled inside = place_of_all (λ byte. byte == 48) bytes place (zeros_of bytes spelled) inside
 
--- the first digits of a second
-pub some_power : (count : ℕ) → 0 < 16 ^ count
-some_power count =
-    let from : 0 ≤ count = omega arith in
-    let least : 16 ^ 0 ≤ 16 ^ count = pow-le-pow_right (omega arith) from in
-    omega arith
-
-pub value_front : (digits : List ℕ) (count more : ℕ) → count + more ≤ length digits → value_of (take count digits) * 16 ^ more ≤ value_of (take (count + more) digits)
-value_front digits count zero inside =
-    let same : count + 0 ≡ count = omega arith in
-    subst (λ n. value_of (take count digits) * 16 ^ 0 ≤ value_of (take n digits)) (sym same) (omega arith)
-value_front digits count (suc more) inside =
-    let before : value_of (take count digits) * 16 ^ more ≤ value_of (take (count + more) digits) = value_front digits count more (omega arith) in
-    let step : value_of (take (count + more + 1) digits) ≡ value_of (take (count + more) digits) * 16 + digit_value (slice_index digits (count + more)) =
-    ap value_of (take_more digits (count + more) 0 (omega arith)) ∙ value_last (take (count + more) digits) (slice_index digits (count + more)) in
-    let next : count + more + 1 ≡ count + suc more = omega arith in
-    let at_next : value_of (take (count + suc more) digits) ≡ value_of (take (count + more) digits) * 16 + digit_value (slice_index digits (count + more)) = sym (ap (λ n. value_of (take n digits)) next) ∙ step in
-    let power : 16 ^ suc more ≡ 16 ^ more * 16 = pow-suc 16 more in
-    let moved : value_of (take count digits) * (16 ^ more * 16) ≤ value_of (take (count + suc more) digits) = omega arith in
-    subst (λ p. value_of (take count digits) * p ≤ value_of (take (count + suc more) digits)) (sym power) moved
-
-pub second_front : (digits : List ℕ) (second count : ℕ) → SpellsNumber digits second → second ≤ 253370764799 → length digits ≡ 16 → count ≤ 16 → (are_digits (take count digits) && nat_le (value_of (take count digits)) (253370764799 / 16 ^ (16 - length (take count digits)))) ≡ true
+pub second_front : (digits : List ℕ) (second count : ℕ) → SpellsNumber digits second → second ≤ unsigned_abs LAST_SECOND → length digits ≡ 16 → count ≤ 16 → (are_digits (take count digits) && nat_le (value_of (take count digits)) (unsigned_abs LAST_SECOND / 16 ^ (16 - length (take count digits)))) ≡ true
 second_front digits second count spelled small counted few =
     let taken : length (take count digits) ≡ count = length-take-le count digits (omega arith) in
     let more : ℕ = 16 - count in
     let whole : take (count + more) digits ≡ digits = take_all (count + more) digits (omega arith) in
     let value : value_of (take (count + more) digits) ≡ second = ap value_of whole ∙ value_spelled digits second spelled in
     let front : value_of (take count digits) * 16 ^ more ≤ value_of (take (count + more) digits) = value_front digits count more (omega arith) in
-    let least : value_of (take count digits) ≤ 253370764799 / 16 ^ more = le-div (value_of (take count digits)) 253370764799 (16 ^ more) (some_power more) (omega arith) in
-    let tested : nat_le (value_of (take count digits)) (253370764799 / 16 ^ more) ≡ true = grind (arith, nat_tests) in
-    and_then (are_digits (take count digits)) _ (take_passes is_digit digits count (spelled_digits digits second spelled))
-    (ap (λ n. nat_le (value_of (take count digits)) (253370764799 / 16 ^ (16 - n))) taken ∙ tested)
+    let least : value_of (take count digits) ≤ unsigned_abs LAST_SECOND / 16 ^ more = le-div (value_of (take count digits)) (unsigned_abs LAST_SECOND) (16 ^ more) (some_power more) (omega arith) in
+    let tested : nat_le (value_of (take count digits)) (unsigned_abs LAST_SECOND / 16 ^ more) ≡ true = grind (arith, nat_tests) in
+    and_from (are_digits (take count digits)) _ (take_passes is_digit digits count (spelled_digits digits second spelled))
+    (ap (λ n. nat_le (value_of (take count digits)) (unsigned_abs LAST_SECOND / 16 ^ (16 - n))) taken ∙ tested)
 
 pub second_right : (mark : Mark) (digits : List ℕ) (count : ℕ) → IsWritable mark → SpellsNumber digits (fields_of mark).second → length digits ≡ 16 → count ≤ 16 → begins_second (fields_of mark).kind (take count digits) ≡ true
 second_right (Removed number) digits count writable spelled counted few = take_passes (λ byte. byte == 48) digits count (zeros_of digits spelled)
@@ -254,4 +180,4 @@ spelled_stands slot mark place spelled inside =
     if_true (place == 30) _ _ (λ is. eq-eqb (slice_index slot 30) 46 spelled.fields.point) (λ not_30.
     let from_30 : 30 ≤ place = from_place place 30 not_29 in
     let from_31 : 31 ≤ place = behind_place place 30 from_30 not_30 in
-    and_then (place == 31) _ (eq-eqb place 31 (omega arith)) (eq-eqb (slice_index slot 31) 10 spelled.fields.newline)))))))))
+    and_from (place == 31) _ (eq-eqb place 31 (omega arith)) (eq-eqb (slice_index slot 31) 10 spelled.fields.newline)))))))))

@@ -7,6 +7,7 @@ use Rattle.std.proofs.lemmas.Slice.{between_is, between-put_mid, take-put_mid_be
 use Rattle.hex_digits.specs.Digits.{SpellsNumber}
 use Rattle.start_journal.specs.declared.fields.Fields.{Fields}
 use Rattle.start_journal.specs.Slots.{SpellsFields}
+use Rattle.hex_digits.proofs.ValueLemmas.{number_spelled}
 
 -- a part that is written over leaves the length
 put_long : (from count : ℕ) (list part : List ℕ) → from + count ≤ length list → length part ≡ count → length (put_mid from count list part) ≡ length list

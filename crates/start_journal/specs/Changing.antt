@@ -4,7 +4,8 @@ use Rattle.std.specs.FinMap as map
 use Rattle.host_calls.specs.Folder.{Files, Folder, IsImage, IsInNoImage, reading_of}
 use Rattle.whole_file.specs.Others.{IsEither, LeavesOthers}
 use Rattle.start_journal.specs.declared.mark.Mark.{Mark}
-use Rattle.start_journal.specs.Journals.{GivesMarks, JournalRead, journal_file, temporary_file}
+use Rattle.start_journal.specs.Journals.{GivesMarks, JournalRead, journal_file}
+use Rattle.whole_file.specs.Temporary.{temporary_file}
 use Rattle.start_journal.specs.Marks.{kept_marks}
 
 -- the content of a journal file gives this journal
@@ -19,9 +20,10 @@ added journal mark = record { marks = journal.marks ++ mark ∷ []; free = journ
 abbrev pub compacted : JournalRead → JournalRead
 compacted journal = record { marks = kept_marks journal.marks; free = 256 }
 
--- The folder holds this journal: its file has the same bytes in every image, and no image has a file
--- that is being made.
+-- The folder holds this journal: no change of names is pending, its file has the same bytes in every image, and no
+-- image has a file that is being made.
 pub record HoldsJournal (journal : JournalRead) (folder : Folder) : Type 0 where
+  pub certain : folder.pending ≡ []
   pub same : (image : Files) → IsImage folder image → map.get image journal_file ≡ map.get (reading_of folder) journal_file
   pub gives : Gives (map.get (reading_of folder) journal_file) journal
   pub no_temp : IsInNoImage folder temporary_file
@@ -36,8 +38,8 @@ pub record IsChanging (before after : JournalRead) (start : Folder) (image : Fil
   pub alone : LeavesOthers (IsEither temporary_file journal_file) start image
   pub gives : Gives (map.get image journal_file) before ⊎ Gives (map.get image journal_file) after
 
--- the folder holds the journal now, all else reads as before, and no change of names is pending where none was
+-- the folder holds the journal now, and all else reads as before
 pub record IsChanged (journal : JournalRead) (old new : Folder) : Type 0 where
   pub holds : HoldsJournal journal new
-  pub others : (name : List ℕ) → ¬ (IsEither temporary_file journal_file name) → map.get (reading_of new) name ≡ map.get (reading_of old) name
-  pub certain : old.pending ≡ [] → new.pending ≡ []
+  pub others : (name : List ℕ) → ¬ (IsEither temporary_file journal_file name) → map.get (reading_of new) name
+      ≡ map.get (reading_of old) name

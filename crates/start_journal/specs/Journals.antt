@@ -1,8 +1,9 @@
 -- The journal (own): the marks that the bytes of `.JRN` give, slot by slot of 32 bytes.
-use Rattle.std.specs.Prelude.{◌≡◌, ◌==◌, ◌&&◌, ◌+◌, ◌*◌, ◌/◌, ◌%◌, ◌++◌, ℕ, Bool, true, not, List, [], ◌∷◌, Option, Some, None, Result, Ok, Err, All, codes, length, replicate, slice_get, slice_index, nat_le, if◌then◌else◌}
+use Rattle.std.specs.Prelude.{◌≡◌, ◌==◌, ◌&&◌, ◌+◌, ◌*◌, ◌/◌, ◌%◌, ◌++◌, ℕ, Bool, true, not, List, [], ◌∷◌, Option, Some, None, Result, Ok, Err, All, codes, length, replicate, slice_index, nat_le, if◌then◌else◌}
 use Rattle.std.specs.List.{concat, list_all}
 use Rattle.std.specs.Simd.{first_chunks}
 use Rattle.host_calls.specs.declared.damage.Damage.{Damage}
+use Rattle.host_calls.specs.Damages.{damage_at}
 use Rattle.start_journal.specs.declared.mark.Mark.{Mark}
 use Rattle.start_journal.specs.declared.mark.Mark.TheVariants.{Removed, Started, Ended, Interrupted, Forgotten, Batch}
 use Rattle.start_journal.specs.Marks.{is_decided, is_ended, is_forgotten, is_named, is_started}
@@ -13,9 +14,13 @@ use Rattle.start_journal.specs.Slots.{IsWritable, SpellsMark}
 abbrev pub journal_file : List ℕ
 journal_file = codes ".JRN"
 
--- the name of a file that is being made
-abbrev pub temporary_file : List ℕ
-temporary_file = codes ".TMP"
+-- the damage of the journal at the gate of its slot of this place
+abbrev pub gate_damage : ℕ → Damage
+gate_damage place = record { name = journal_file; offset = 32 * place; byte = Some 43 }
+
+-- and at the queue in that slot
+abbrev pub queue_damage : ℕ → ℕ → Damage
+queue_damage place queue = record { name = journal_file; offset = 32 * place + 10; byte = Some queue }
 
 -- a free slot: `-`, thirty points and a newline
 unfoldable pub free_slot : List ℕ
@@ -103,14 +108,10 @@ abbrev pub all_slots : ℕ → ℕ → JournalRead → List (List ℕ) → Resul
 all_slots last offset read [] = Ok read
 all_slots last offset read (slot ∷ later) = go_on offset (λ more. all_slots last (offset + 32) more later) (one_slot last read slot)
 
--- the journal is damaged at the offset
-abbrev pub damage_at : List ℕ → ℕ → Damage
-damage_at bytes offset = record { name = journal_file; offset = offset; byte = slice_get bytes offset }
-
 -- behind all slots, a rest of fewer than 32 bytes is a fault
 abbrev pub whole_journal : List ℕ → Result JournalRead ℕ → Result JournalRead Damage
-whole_journal bytes (Ok read) = if length bytes % 32 == 0 then Ok read else Err (damage_at bytes (length bytes / 32 * 32))
-whole_journal bytes (Err offset) = Err (damage_at bytes offset)
+whole_journal bytes (Ok read) = if length bytes % 32 == 0 then Ok read else Err (damage_at journal_file bytes (length bytes / 32 * 32))
+whole_journal bytes (Err offset) = Err (damage_at journal_file bytes offset)
 
 -- What the journal gives where this number was drawn last, or its first fault. Without a file it gives
 -- no mark and no free slot.

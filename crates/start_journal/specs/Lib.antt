@@ -1,10 +1,12 @@
 pub mod Changing
+pub mod DamageLaws
+pub mod FirstFault
 pub mod JournalFaults
 pub mod JournalLaws
 pub mod Journals
-pub mod Keeping
 pub mod Laws
 pub mod Marks
 pub mod SlotBytes
 pub mod Slots
 pub mod Stages
+pub mod inside

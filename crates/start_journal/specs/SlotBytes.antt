@@ -1,31 +1,13 @@
 -- The bytes of a slot (own): the mark that they give, and how far they are those of some mark.
-use Rattle.std.specs.Prelude.{◌≡◌, ◌≤◌, ◌==◌, ◌&&◌, ◌||◌, ◌+◌, ◌-◌, ◌*◌, ◌/◌, ◌^◌, ℕ, suc, ℤ, pos, negsuc, Bool, false, List, [], ◌∷◌, Option, Some, None, length, take, fold, slice_index, slice_range, nat_le, nat_lt, if◌then◌else◌}
+use Rattle.std.specs.Prelude.{unsigned_abs, ◌≡◌, ◌≤◌, ◌==◌, ◌&&◌, ◌||◌, ◌+◌, ◌-◌, ◌/◌, ◌^◌, ℕ, suc, Bool, List, [], ◌∷◌, Option, Some, None, length, take, slice_index, slice_range, nat_le, nat_lt, if◌then◌else◌}
 use Rattle.std.specs.Char.{is_ascii_alphabetic}
-use Rattle.std.specs.Int.{is_in_range}
-use Rattle.std.specs.List.{list_all}
 use Rattle.start_journal.specs.declared.fields.Fields.{Fields}
 use Rattle.start_journal.specs.declared.mark.Mark.{Mark}
 use Rattle.start_journal.specs.declared.mark.Mark.TheVariants.{Removed, Started, Ended, Interrupted, Forgotten, Batch}
 use Rattle.start_journal.specs.Slots.{SpellsMark, fields_of, mark_with}
-
--- `0` to `9` and `a` to `f`
-abbrev pub is_digit : ℕ → Bool
-is_digit byte = is_in_range 48 57 byte || is_in_range 97 102 byte
-
--- the number that a digit stands for
-abbrev pub digit_value : ℕ → ℕ
-digit_value byte = if nat_lt byte 58 then byte - 48 else byte - 87
-
--- the number that the digits spell
-abbrev pub value_of : List ℕ → ℕ
-value_of digits = fold (λ value byte. value * 16 + digit_value byte) 0 digits
-
--- each of the bytes is a digit, or a zero
-abbrev pub are_digits : List ℕ → Bool
-are_digits bytes = list_all is_digit bytes
-
-abbrev pub are_zeros : List ℕ → Bool
-are_zeros bytes = list_all (λ byte. byte == 48) bytes
+use Rattle.clock_range.specs.declared.range.TheConstants.{LAST_SECOND}
+use Rattle.hex_digits.specs.Values.{is_digit, value_of, are_digits, are_zeros}
+use Rattle.clock_range.specs.ClockRange.{is_clock_second}
 
 -- 32 bytes have the form of a slot whose gate is open
 abbrev pub has_form : List ℕ → Bool
@@ -52,19 +34,14 @@ are_same_fields one other =
     one.kind == other.kind && one.number == other.number && one.queue == other.queue
     && one.ending == other.ending && one.status == other.status && one.second == other.second
 
--- the second lies in the clock's range
-abbrev pub is_second : ℤ → Bool
-is_second (pos second) = nat_le second 253370764799
-is_second (negsuc second) = false
-
 -- the mark can be written
 abbrev pub can_write : Mark → Bool
 can_write (Removed number) = nat_le 1 number
-can_write (Started number queue second) = nat_le 1 number && is_ascii_alphabetic queue && is_second second
+can_write (Started number queue second) = nat_le 1 number && is_ascii_alphabetic queue && is_clock_second second
 can_write (Ended number ending) = nat_le 1 number
 can_write (Interrupted number) = nat_le 1 number
 can_write (Forgotten number) = nat_le 1 number
-can_write (Batch second) = is_second second
+can_write (Batch second) = is_clock_second second
 
 -- the mark, where it can be written and says all that the fields do
 abbrev pub mark_saying : Fields → Option Mark → Option Mark
@@ -89,7 +66,7 @@ begins_number kind digits =
 abbrev pub begins_second : ℕ → List ℕ → Bool
 begins_second kind digits =
     if kind == 83 || kind == 66
-    then (are_digits digits && nat_le (value_of digits) (253370764799 / 16 ^ (16 - length digits)))
+    then (are_digits digits && nat_le (value_of digits) (unsigned_abs LAST_SECOND / 16 ^ (16 - length digits)))
     else are_zeros digits
 
 -- the queue of such a slot: a letter for `S`, else `-`

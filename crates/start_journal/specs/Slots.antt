@@ -1,5 +1,5 @@
 -- A slot of the journal (own): 32 bytes, each field by its places.
-use Rattle.std.specs.Prelude.{◌≡◌, ◌≤◌, ◌≤ℤ◌, ◌==◌, ℕ, ℤ, pos, List, Option, Some, None, IsTrue, length, slice_index, slice_range, unsigned_abs, nat_le, if◌then◌else◌}
+use Rattle.std.specs.Prelude.{◌≡◌, ◌≤◌, ◌==◌, ℕ, ℤ, pos, List, Option, Some, None, IsTrue, length, slice_index, slice_range, unsigned_abs, nat_le, if◌then◌else◌}
 use Rattle.std.specs.Char.{is_ascii_alphabetic}
 use Rattle.host_calls.specs.declared.child.Ending.{Ending}
 use Rattle.host_calls.specs.declared.child.Ending.TheVariants.{Exit, Signal, NotStarted}
@@ -7,17 +7,14 @@ use Rattle.hex_digits.specs.Digits.{SpellsNumber}
 use Rattle.start_journal.specs.declared.fields.Fields.{Fields}
 use Rattle.start_journal.specs.declared.mark.Mark.{Mark}
 use Rattle.start_journal.specs.declared.mark.Mark.TheVariants.{Removed, Started, Ended, Interrupted, Forgotten, Batch}
-
--- the second lies in the clock's range: up to the end of the year 9998
-pub record IsSecond (second : ℤ) : Type 0 where
-  pub from : pos 0 ≤ℤ second
-  pub to : second ≤ℤ pos 253370764799
+use Rattle.clock_range.specs.declared.range.TheConstants.{LAST_SECOND}
+use Rattle.clock_range.specs.ClockRange.{IsClockSecond}
 
 -- what a Started mark needs: the number of a job, the letter of a queue, and a second
 pub record IsStart (number queue : ℕ) (second : ℤ) : Type 0 where
   pub drawn : 1 ≤ number
   pub letter : IsTrue (is_ascii_alphabetic queue)
-  pub second_of : IsSecond second
+  pub second_of : IsClockSecond second
 
 -- The mark can be written.
 abbrev pub IsWritable : Mark → Type 0
@@ -26,7 +23,7 @@ IsWritable (Started number queue second) = IsStart number queue second
 IsWritable (Ended number ending) = 1 ≤ number
 IsWritable (Interrupted number) = 1 ≤ number
 IsWritable (Forgotten number) = 1 ≤ number
-IsWritable (Batch second) = IsSecond second
+IsWritable (Batch second) = IsClockSecond second
 
 -- the fields of a slot that says no more than its kind and a number
 abbrev pub plain_fields : ℕ → ℕ → Fields
@@ -47,8 +44,10 @@ ending_status NotStarted = 0
 -- the fields of a mark: `R`, `S`, `E`, `I`, `F` or `B`, and what it says
 abbrev pub fields_of : Mark → Fields
 fields_of (Removed number) = plain_fields 82 number
-fields_of (Started number queue second) = record { kind = 83; number = number; queue = queue; ending = 45; status = 0; second = unsigned_abs second }
-fields_of (Ended number ending) = record { kind = 69; number = number; queue = 45; ending = ending_byte ending; status = ending_status ending; second = 0 }
+fields_of (Started number queue second) =
+    record { kind = 83; number = number; queue = queue; ending = 45; status = 0; second = unsigned_abs second }
+fields_of (Ended number ending) =
+    record { kind = 69; number = number; queue = 45; ending = ending_byte ending; status = ending_status ending; second = 0 }
 fields_of (Interrupted number) = plain_fields 73 number
 fields_of (Forgotten number) = plain_fields 70 number
 fields_of (Batch second) = record { kind = 66; number = 0; queue = 45; ending = 45; status = 0; second = unsigned_abs second }
@@ -95,4 +94,4 @@ mark_of_kind fields =
 
 -- the only mark that can have the fields
 abbrev pub mark_with : Fields → Option Mark
-mark_with fields = if nat_le fields.second 253370764799 then mark_of_kind fields else None
+mark_with fields = if nat_le fields.second (unsigned_abs LAST_SECOND) then mark_of_kind fields else None

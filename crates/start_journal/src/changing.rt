@@ -1,23 +1,22 @@
 //! Adding a mark, and compacting the journal.
 ghost use Rattle.std.specs.Prelude.{◌≡◌, ◌≤◌, [], IfOk, IsTrue, OnOk};
-ghost use Rattle.host_calls.specs.Causes.{HasCause};
 ghost use Rattle.host_calls.specs.Folder.{IsInNoImage};
-ghost use Rattle.host_calls.specs.Session.{IsInside, StaysInside};
+ghost use Rattle.host_calls.specs.Session.{CallsInside, IsInside};
 ghost use Rattle.whole_file.specs.Others.{ChangesFiles};
 ghost use Rattle.start_journal.specs.Changing.{HoldsJournal, IsChanged, IsChanging, IsReplacing, added, compacted};
-ghost use Rattle.start_journal.specs.Journals.{temporary_file};
+ghost use Rattle.whole_file.specs.Temporary.{temporary_file};
 ghost use Rattle.start_journal.specs.Marks.{IsLegalAfter};
 ghost use Rattle.start_journal.specs.Slots.{IsWritable};
 
 use crate::keeping::kept_marks;
-use crate::names::{journal_name, temp_name};
+use crate::names::journal_name;
 use crate::text::journal_text;
 use crate::{Journal, Mark};
 use host_calls::{Host, HostFault};
 use std::alloc::{AllocError, Global};
-use whole_file::place;
+use whole_file::{place, temporary_name};
 
-/// How many slots are free after a compaction.
+// How many slots are free after a compaction.
 const FREE_SLOTS: u64 = 256;
 
 impl Journal {
@@ -28,9 +27,7 @@ impl Journal {
         requires writable { IsWritable mark }
         requires legal { IsLegalAfter self.marks mark }
         requires holds { IsTrue H.tells → HoldsJournal self (H.world host.old).now.folder }
-        ensures inside { StaysInside (H.session host.old) (H.session host.new) }
-        ensures cause { HasCause HostFault.Failed
-            (H.session host.old).file_faults (H.session host.new).file_faults result }
+        ensures inside { CallsInside HostFault.Failed (H.session host.old) (H.session host.new) result }
         ensures journal { IfOk result (λ journal. journal ≡ added self mark) }
         ensures files { IsTrue H.tells
             → ChangesFiles (IsChanging self (added self mark) (H.world host.old).now.folder)
@@ -47,23 +44,20 @@ impl Journal {
     pub fn compact<H: Host>(self, alloc: Global, host: &mut H) -> Result<Journal, HostFault>
         requires inside { IsInside (H.session host.old) }
         requires holds { IsTrue H.tells → HoldsJournal self (H.world host.old).now.folder }
-        ensures inside { StaysInside (H.session host.old) (H.session host.new) }
-        ensures cause { HasCause HostFault.Failed
-            (H.session host.old).file_faults (H.session host.new).file_faults result }
+        ensures inside { CallsInside HostFault.Failed (H.session host.old) (H.session host.new) result }
         ensures journal { IfOk result (λ journal. journal ≡ compacted self) }
         ensures files { IsTrue H.tells
             → ChangesFiles (IsChanging self (compacted self) (H.world host.old).now.folder)
             (H.world host.old) (H.world host.new) }
         ensures compacted { IsTrue H.tells → OnOk result (IsChanged (compacted self)
             (H.world host.old).now.folder (H.world host.new).now.folder) }
-        ensures certain { IsTrue H.tells → OnOk result ((H.world host.new).now.folder.pending ≡ []) }
     {
         let journal = self.kept(alloc)?;
         journal.replace(alloc, host)?;
         Ok(journal)
     }
 
-    /// This journal and the mark, in a slot that was free.
+    // This journal and the mark, in a slot that was free.
     fn with_mark(self, mark: Mark) -> Result<Journal, AllocError>
         requires free { 1 ≤ self.free }
         requires writable { IsWritable mark }
@@ -78,7 +72,7 @@ impl Journal {
         })
     }
 
-    /// What a compaction keeps of this journal, and free slots.
+    // What a compaction keeps of this journal, and free slots.
     fn kept(&self, alloc: Global) -> Result<Journal, AllocError>
         ensures { IfOk result (λ journal. journal ≡ compacted self.now) }
     {
@@ -88,21 +82,24 @@ impl Journal {
         })
     }
 
-    /// Puts this journal in place of the one that the folder has.
+    // Puts this journal in place of the one that the folder has.
     fn replace<H: Host>(&self, alloc: Global, host: &mut H) -> Result<(), HostFault>
         requires inside { IsInside (H.session host.old) }
         requires no_temp { IsTrue H.tells → IsInNoImage (H.world host.old).now.folder temporary_file }
-        ensures inside { StaysInside (H.session host.old) (H.session host.new) }
-        ensures cause { HasCause HostFault.Failed
-            (H.session host.old).file_faults (H.session host.new).file_faults result }
+        ensures inside { CallsInside HostFault.Failed (H.session host.old) (H.session host.new) result }
         ensures files { IsTrue H.tells
             → ChangesFiles (IsReplacing self.now (H.world host.old).now.folder)
             (H.world host.old) (H.world host.new) }
         ensures replaced { IsTrue H.tells → OnOk result (IsChanged self.now
             (H.world host.old).now.folder (H.world host.new).now.folder) }
-        ensures certain { IsTrue H.tells → OnOk result ((H.world host.new).now.folder.pending ≡ []) }
     {
         let text = journal_text(alloc, self.marks.as_slice(), self.free)?;
-        place(alloc, host, &temp_name(), &journal_name(), text.as_slice())
+        place(
+            alloc,
+            host,
+            &temporary_name(),
+            &journal_name(),
+            text.as_slice(),
+        )
     }
 }

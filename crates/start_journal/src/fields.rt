@@ -1,9 +1,10 @@
 //! The fields of a slot.
-ghost use Rattle.std.specs.Prelude.{◌≡◌, ◌≤◌, ◌↔◌, IsTrue};
-ghost use Rattle.start_journal.specs.Slots.{IsWritable, IsSecond, ending_byte, ending_status, ending_with, plain_fields};
+ghost use Rattle.std.specs.Prelude.{◌≡◌, ◌≤◌, ◌↔◌, IsTrue, unsigned_abs};
+ghost use Rattle.start_journal.specs.Slots.{IsWritable, ending_byte, ending_status, ending_with, plain_fields};
 
 use crate::Mark;
-use crate::slot::{LAST_SECOND, SLOT};
+use crate::slot::SLOT;
+use clock_range::{LAST_SECOND, is_clock_second};
 use host_calls::Ending;
 
 /// What stands in the fields of a slot, whether or not some mark has these.
@@ -21,7 +22,7 @@ impl Fields {
     ghost use Rattle.std.specs.Prelude.{◌≢◌, IfSome, IfNone};
     ghost use Rattle.start_journal.specs.Slots.{SpellsFields, fields_of, mark_with};
 
-    /// The fields of a mark.
+    // The fields of a mark.
     pub(crate) fn of(mark: &Mark) -> Fields
         ensures { result ≡ fields_of mark.now }
     {
@@ -50,7 +51,7 @@ impl Fields {
         }
     }
 
-    /// The mark that has these fields, if there is one.
+    // The mark that has these fields, if there is one.
     pub(crate) fn mark(&self) -> Option<Mark>
         ensures mark { IfSome result (λ mark. IsWritable mark) }
         ensures fields { IfSome result (λ mark. fields_of mark ≡ self.now) }
@@ -65,7 +66,7 @@ impl Fields {
         }
     }
 
-    /// The only mark that can have these fields.
+    // The only mark that can have these fields.
     fn candidate(&self) -> Option<Mark>
         ensures { result ≡ mark_with self.now }
     {
@@ -92,9 +93,9 @@ impl Fields {
         }
     }
 
-    /// Makes the slot one with these fields, its gate open.
+    // Makes the slot one with these fields, its gate open.
     pub(crate) fn write(&self, slot: &mut [u8; SLOT])
-        requires { self.now.second ≤ 253370764799 }
+        requires { self.now.second ≤ unsigned_abs LAST_SECOND }
         ensures { SpellsFields slot.new self.now }
     {
         slot[0] = b'+';
@@ -108,7 +109,7 @@ impl Fields {
         slot[31] = b'\n';
     }
 
-    /// The fields of a slot, if it has the form of one whose gate is open.
+    // The fields of a slot, if it has the form of one whose gate is open.
     pub(crate) fn read(slot: &[u8; SLOT]) -> Option<Fields>
         ensures fields { IfSome result (SpellsFields slot.now) }
         ensures none { IfNone result ((fields : Fields) → ¬ (SpellsFields slot.now fields)) }
@@ -130,7 +131,7 @@ impl Fields {
     }
 }
 
-/// The fields of a mark that says no more than its kind and a number.
+// The fields of a mark that says no more than its kind and a number.
 fn plain(kind: u8, number: u32) -> Fields
     ensures { result ≡ plain_fields kind number }
 {
@@ -184,16 +185,10 @@ fn is_writable(mark: &Mark) -> bool
             number,
             queue,
             second,
-        } => number != 0 && queue.is_ascii_alphabetic() && is_second(second),
+        } => number != 0 && queue.is_ascii_alphabetic() && is_clock_second(second),
         Mark::Ended { number, .. } => number != 0,
         Mark::Interrupted(number) => number != 0,
         Mark::Forgotten(number) => number != 0,
-        Mark::Batch(second) => is_second(second),
+        Mark::Batch(second) => is_clock_second(second),
     }
-}
-
-fn is_second(second: i64) -> bool
-    ensures { IsTrue result ↔ IsSecond second }
-{
-    second >= 0 && second <= LAST_SECOND
 }

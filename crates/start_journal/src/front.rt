@@ -1,10 +1,13 @@
 //! How far a slot that spells no mark is like the slot of one.
 ghost use Rattle.std.specs.Prelude.{◌≡◌, ◌≤◌, ◌<◌, length};
-ghost use Rattle.start_journal.specs.SlotBytes.{are_zeros, begins_number, begins_second, is_digit, is_ending_of, is_kind, is_queue_of, is_status_of, may_stand, right_front};
+ghost use Rattle.start_journal.specs.SlotBytes.{begins_number, begins_second, is_ending_of, is_kind, is_queue_of, is_status_of, may_stand, right_front};
+ghost use Rattle.hex_digits.specs.Values.{are_zeros, is_digit};
 
-use crate::slot::{LAST_SECOND, SLOT};
+use crate::slot::SLOT;
+use clock_range::LAST_SECOND;
+use hex_digits::is_digit;
 
-/// How many of the first bytes of the slot some mark's slot has too.
+// How many of the first bytes of the slot some mark's slot has too.
 pub(crate) fn right_front(slot: &[u8; SLOT]) -> usize
     ensures front { result ≡ right_front slot.now }
     ensures few { result ≤ 32 }
@@ -17,7 +20,7 @@ pub(crate) fn right_front(slot: &[u8; SLOT]) -> usize
     SLOT
 }
 
-/// Whether the byte at this place is one of some mark's slot, behind those before it.
+// Whether the byte at this place is one of some mark's slot, behind those before it.
 #[tactic(auto, unfolding(crate::specs::SlotBytes::may_stand))]
 fn may_stand(slot: &[u8; SLOT], place: usize) -> bool
     requires { place < 32 }
@@ -81,7 +84,7 @@ fn is_status_of(ending: u8, byte: u8) -> bool
     ensures { result ≡ is_status_of ending byte }
 {
     if ending == b'x' || ending == b's' {
-        matches!(byte, b'0'..=b'9' | b'a'..=b'f')
+        is_digit(byte)
     } else {
         byte == b'0'
     }

@@ -1,15 +1,15 @@
 //! What a compaction keeps of the marks.
 ghost use Rattle.std.specs.Prelude.{◌≡◌, ◌||◌, ℕ, IfOk, OnOk};
 ghost use Rattle.std.specs.List.{filter};
-ghost use Rattle.spool_model.specs.JobTable.{is_batch_queue};
-ghost use Rattle.start_journal.specs.Keeping.{AreForgotten, has_number, is_kept_beside};
+ghost use Rattle.start_journal.specs.inside.Keeping.{AreForgotten, has_number, is_kept_beside};
 ghost use Rattle.start_journal.specs.Marks.{batch_second, forgets, is_kept, kept_marks, last_batch};
 
 use crate::Mark;
+use spool_model::is_batch;
 use std::alloc::{AllocError, Global};
 use std::collections::BTreeSet;
 
-/// The marks of numbers that are not forgotten, and the last start of a batch job.
+// The marks of numbers that are not forgotten, and the last start of a batch job.
 pub(crate) fn kept_marks(alloc: Global, marks: &[Mark]) -> Result<Vec<Mark>, AllocError>
     ensures { IfOk result (λ kept. kept.items ≡ kept_marks marks.now) }
 {
@@ -31,7 +31,7 @@ fn marks_of_kept(alloc: Global, marks: &[Mark]) -> Result<Vec<Mark>, AllocError>
         .collect(alloc)
 }
 
-/// The numbers that the marks forget.
+// The numbers that the marks forget.
 fn forgotten(alloc: Global, marks: &[Mark]) -> Result<BTreeSet<u32>, AllocError>
     ensures { IfOk result (AreForgotten marks.now) }
 {
@@ -80,10 +80,4 @@ fn batch_second(mark: &Mark) -> Option<i64>
         Mark::Batch(second) => Some(second),
         _ => None,
     }
-}
-
-fn is_batch(queue: u8) -> bool
-    ensures { result ≡ is_batch_queue queue }
-{
-    queue == b'b' || queue.is_ascii_uppercase()
 }

@@ -1,4 +1,5 @@
 //! What holds of every legal list of marks and of every slot, each law as the contract of a function.
+ghost use Rattle.start_journal.specs.DamageLaws.{JournalsAreDamaged, JournalsAreGiven, WholeJournalsAreGiven};
 ghost use Rattle.start_journal.specs.JournalLaws.{JournalsReadBack, RightFrontsAreLongest, SlotsGiveTheirMarks};
 ghost use Rattle.start_journal.specs.Laws.{KeptMarksAreLegal, KeptMarksKeepWhatCounts, MarksHaveOneSlot, NumbersLiveOnce, SlotsSpellOneMark};
 
@@ -36,4 +37,11 @@ pub fn journals_read_back()
 /// The right front of a slot is its longest front that some mark's slot has too.
 pub fn right_fronts_are_longest()
     ensures { RightFrontsAreLongest }
+{}
+
+/// A journal is damaged at its first fault, and gives its marks exactly where it has none.
+pub fn journals_are_damaged_at_their_first_fault()
+    ensures damaged { JournalsAreDamaged }
+    ensures given { JournalsAreGiven }
+    ensures whole { WholeJournalsAreGiven }
 {}

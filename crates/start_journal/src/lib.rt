@@ -3,6 +3,7 @@
 #![tactic(auto)]
 
 mod changing;
+mod damage;
 mod fault;
 mod fields;
 mod front;
@@ -17,17 +18,19 @@ mod stage;
 mod stages;
 mod text;
 
+pub use damage::{gate_damage, queue_damage};
 pub use fault::JournalFault;
 pub use fields::Fields;
 pub use journal::Journal;
 pub use keeping::last_batch;
 pub use laws::{
-    journals_read_back, kept_marks_are_legal, kept_marks_keep_what_counts, marks_have_one_spelling,
-    numbers_live_once, right_fronts_are_longest, slots_give_their_marks,
+    journals_are_damaged_at_their_first_fault, journals_read_back, kept_marks_are_legal,
+    kept_marks_keep_what_counts, marks_have_one_spelling, numbers_live_once,
+    right_fronts_are_longest, slots_give_their_marks,
 };
 pub use mark::Mark;
 pub use names::journal_name;
-pub use slot::{LAST_SECOND, SLOT, mark_text, read_mark};
+pub use slot::{SLOT, mark_text, read_mark};
 pub use stage::Stage;
 
 #[cfg(test)]

@@ -23,7 +23,7 @@ pub enum Mark {
 
 impl Mark {
     /// The number that it names, if it names one.
-    pub(crate) fn number(self) -> Option<u32>
+    pub fn number(self) -> Option<u32>
         ensures { result ≡ number_of self }
     {
         match self {

@@ -1,11 +1,10 @@
 //! Reading the journal.
 ghost use Rattle.std.specs.Prelude.{◌≡◌, ◌≢◌, ◌≤◌, ◌++◌, [], ◌∷◌, Ok, Err, Some, IfOk, IfErr, IfSome, List, OnOk, MatchResult, IsTrue, length};
 ghost use Rattle.std.specs.FinMap as map;
-ghost use Rattle.host_calls.specs.Causes.{HasCause};
-ghost use Rattle.host_calls.specs.Session.{IsInside, StaysInside};
+ghost use Rattle.host_calls.specs.Session.{CallsInside, IsInside};
 ghost use Rattle.host_calls.specs.World.{reading};
-ghost use Rattle.start_journal.specs.JournalFaults.{IfDamaged};
-ghost use Rattle.start_journal.specs.Journals.{are_drawn, damage_at, is_drawn, journal_file, journal_in, one_slot, with_slot};
+ghost use Rattle.start_journal.specs.Journals.{are_drawn, is_drawn, journal_file, journal_in, one_slot, with_slot};
+ghost use Rattle.host_calls.specs.Damages.{IfDamaged, damage_at};
 ghost use Rattle.start_journal.specs.Marks.{IsLegalAfter};
 ghost use Rattle.start_journal.specs.Stages.{TellStages};
 ghost use Rattle.start_journal.specs.declared.mark.Mark.{Mark};
@@ -23,14 +22,12 @@ impl Journal {
     /// The journal of the folder, where this number was drawn last.
     pub fn recall<H: Host>(alloc: Global, host: &mut H, last: u32) -> Result<Journal, JournalFault>
         requires { IsInside (H.session host.old) }
-        ensures inside { StaysInside (H.session host.old) (H.session host.new) }
-        ensures cause { HasCause JournalFault.Failed
-            (H.session host.old).file_faults (H.session host.new).file_faults result }
+        ensures inside { CallsInside JournalFault.Failed (H.session host.old) (H.session host.new) result }
         ensures looks { IsTrue H.tells → H.world host.new ≡ H.world host.old }
         ensures drawn { IfOk result (λ journal. IsTrue (are_drawn last journal.marks)) }
         ensures journal { IsTrue H.tells → IfOk result (λ journal.
             journal_in last (map.get (reading (H.world host.old)) journal_file) ≡ Ok journal) }
-        ensures damaged { IsTrue H.tells → IfDamaged (λ damage.
+        ensures damaged { IsTrue H.tells → IfDamaged JournalFault.Damaged (λ damage.
             journal_in last (map.get (reading (H.world host.old)) journal_file) ≡ Err damage) result }
     {
         match content(alloc, host, &journal_name())? {
@@ -43,10 +40,10 @@ impl Journal {
     }
 }
 
-/// The journal that these bytes give, or the place where they break its form.
+// The journal that these bytes give, or the place where they break its form.
 pub(crate) fn read(alloc: Global, bytes: &[u8], last: u32) -> Result<Journal, JournalFault>
     ensures journal { IfOk result (λ journal. journal_in last (Some bytes.now) ≡ Ok journal) }
-    ensures damaged { IfDamaged (λ damage. journal_in last (Some bytes.now) ≡ Err damage) result }
+    ensures damaged { IfDamaged JournalFault.Damaged (λ damage. journal_in last (Some bytes.now) ≡ Err damage) result }
     ensures no_fault { result ≢ Err JournalFault.Failed }
 {
     let (slots, rest) = bytes.as_chunks::<SLOT>();
@@ -81,8 +78,8 @@ fn put(marks: &mut Vec<Mark>, stages: &mut Stages, mark: Mark) -> Result<(), All
     Ok(())
 }
 
-/// The mark of a slot behind marks with these stages and behind free slots, `None` where its gate is
-/// closed, or the place in the slot where it breaks the form of a journal.
+// The mark of a slot behind marks with these stages and behind free slots, `None` where its gate is
+// closed, or the place in the slot where it breaks the form of a journal.
 fn next(stages: &Stages, free: u64, slot: &[u8; SLOT], last: u32) -> Result<Option<Mark>, usize>
     ensures few { IfErr result (λ place. place ≤ 32) }
     ensures legal { (marks : List Mark) → TellStages marks stages.now
@@ -111,13 +108,9 @@ fn next(stages: &Stages, free: u64, slot: &[u8; SLOT], last: u32) -> Result<Opti
 }
 
 fn damage(bytes: &[u8], offset: usize) -> Damage
-    ensures { result ≡ damage_at bytes.now offset }
+    ensures { result ≡ damage_at journal_file bytes.now offset }
 {
-    Damage {
-        name: journal_name(),
-        offset: offset as u64,
-        byte: bytes.get(offset).copied(),
-    }
+    Damage::at(journal_name(), bytes, offset)
 }
 
 fn is_drawn(last: u32, mark: Mark) -> bool

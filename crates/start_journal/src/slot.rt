@@ -8,9 +8,6 @@ use crate::{Fields, Mark};
 /// How many bytes a slot has.
 pub const SLOT: usize = 32;
 
-/// The last second of the clock's range: the end of the year 9998.
-pub const LAST_SECOND: i64 = 253_370_764_799;
-
 /// The slot of the mark, its gate open.
 pub fn mark_text(mark: &Mark) -> [u8; SLOT]
     requires { IsWritable mark.now }

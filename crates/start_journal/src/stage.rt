@@ -18,7 +18,7 @@ pub enum Stage {
 }
 
 impl Stage {
-    /// Whether the mark may come at this stage of its number.
+    // Whether the mark may come at this stage of its number.
     pub(crate) fn allows(self, mark: Mark) -> bool
         ensures { result ≡ allows self mark }
     {
@@ -30,7 +30,7 @@ impl Stage {
         }
     }
 
-    /// The stage to which the mark brings its number.
+    // The stage to which the mark brings its number.
     pub(crate) fn behind(self, mark: Mark) -> Stage
         ensures { result ≡ stage_behind self mark }
     {

@@ -9,14 +9,14 @@ use crate::{Mark, Stage};
 use std::alloc::{AllocError, Global};
 use std::collections::BTreeMap;
 
-/// The stages of numbers. A number without one is fresh.
+// The stages of numbers. A number without one is fresh.
 #[derive(Drop)]
 pub(crate) struct Stages {
     pub(crate) by_number: BTreeMap<u32, Stage>,
 }
 
 impl Stages {
-    /// The stages where there is no mark.
+    // The stages where there is no mark.
     pub(crate) fn new(alloc: Global) -> Stages
         ensures { TellStages [] result }
     {
@@ -25,7 +25,7 @@ impl Stages {
         }
     }
 
-    /// Whether the mark may stand behind those that brought their numbers to these stages.
+    // Whether the mark may stand behind those that brought their numbers to these stages.
     pub(crate) fn allow(&self, mark: Mark) -> bool
         ensures { (marks : List Mark) → TellStages marks self.now → result ≡ is_legal_after marks mark }
     {
@@ -35,7 +35,7 @@ impl Stages {
         }
     }
 
-    /// Brings the number of the mark to its next stage.
+    // Brings the number of the mark to its next stage.
     pub(crate) fn add(&mut self, mark: Mark) -> Result<(), AllocError>
         ensures { OnOk result ((marks : List Mark) → TellStages marks self.old
             → IsLegalAfter marks mark → TellStages (marks ++ mark ∷ []) self.new) }

@@ -15,15 +15,16 @@ use Rattle.timespec_grammar.specs.declared.read.Read.TheVariants as read
 use Rattle.timespec_grammar.specs.Grammar as grammar
 use Rattle.timespec_grammar.specs.Grammar.{IsClock24, IsClock12, IsHalf, IsTime, IsDate, IsIncrement, Spells, timespec_of}
 use Rattle.timespec_grammar.specs.Numbers.{is_hour, is_hour_minute, is_twelve, is_minute, is_month, is_weekday, is_day, is_year, is_count}
-use Rattle.timespec_grammar.specs.Steps.{ends, run}
+use Rattle.timespec_grammar.specs.inside.Steps.{timespec_read}
+use Rattle.timespec_grammar.proofs.ReadLemmas.{run}
 
 -- the timespec that more tokens give
 abbrev pub accepts : Read → List Token → Option Timespec
-accepts so_far tokens = option_and_then ends (run so_far tokens)
+accepts so_far tokens = option_and_then timespec_read (run so_far tokens)
 
 -- the same, where something may have been read
 abbrev accepts_from : Option Read → List Token → Option Timespec
-accepts_from so_far tokens = option_and_then ends (option_and_then (λ more. run more tokens) so_far)
+accepts_from so_far tokens = option_and_then timespec_read (option_and_then (λ more. run more tokens) so_far)
 
 -- a test that holds
 when : (test : Bool) (onward : Read) (other : Option Read) (tokens : List Token) → test ≡ true

@@ -8,9 +8,9 @@ use Rattle.timespec_lexer.specs.declared.placed.Placed.{Placed}
 use Rattle.timespec_grammar.specs.declared.timespec.Timespec.{Timespec}
 use Rattle.timespec_grammar.specs.declared.read.Read.{Read}
 use Rattle.timespec_grammar.specs.declared.read.Read.TheVariants as read
-use Rattle.timespec_grammar.specs.Grammar.{IsFaultAt, IsViable, Spells, tokens_of}
-use Rattle.timespec_grammar.specs.Steps.{ends, run, step}
-use Rattle.timespec_grammar.proofs.ReadLemmas.{Reads, nothing_read, run_goes}
+use Rattle.timespec_grammar.specs.Grammar.{StopsAt, IsViable, Spells, tokens_of}
+use Rattle.timespec_grammar.specs.inside.Steps.{step, timespec_read}
+use Rattle.timespec_grammar.proofs.ReadLemmas.{Reads, nothing_read, run, run_goes}
 use Rattle.timespec_grammar.proofs.ViableLemmas.{ends_spell, reads_viable}
 use Rattle.timespec_grammar.proofs.AcceptLemmas.{accepts, spells_accepted}
 
@@ -42,7 +42,7 @@ unread : (tokens : List Token) → run read.Nothing tokens ≡ None → IsViable
 unread tokens ran viable =
     let none_read : run read.Nothing (tokens ++ viable.rest) ≡ None = run-append read.Nothing tokens viable.rest
     ∙ ap (λ (read : Option Read). option_and_then (λ onward. run onward viable.rest) read) ran in
-    let refused : accepts read.Nothing (tokens ++ viable.rest) ≡ None = ap (λ (read : Option Read). option_and_then ends read) none_read in
+    let refused : accepts read.Nothing (tokens ++ viable.rest) ≡ None = ap (λ (read : Option Read). option_and_then timespec_read read) none_read in
     cc (refused, spells_accepted (tokens ++ viable.rest) viable.whole viable.spelled)
 
 -- what spells a timespec begins one with each of its fronts
@@ -100,7 +100,7 @@ not_viable placed index or so_far inside ran stops viable =
 pub fault_within : (placed : List Placed) (index : ℕ) (or : Placed) (so_far : Read) → index < length placed
     → run read.Nothing (tokens_of (take index placed)) ≡ Some so_far
     → step so_far (get_or placed index or).token ≡ None
-    → IsFaultAt (tokens_of placed) index
+    → StopsAt (tokens_of placed) index
 fault_within placed index or so_far inside ran stops = record {
   fronts = λ count below. front_viable (tokens_of placed) index count below
       (subst IsViable (sym (take-map (λ one. one.token) index placed))
@@ -123,14 +123,14 @@ all_read placed index so_far past ran =
 
 -- all the tokens are read, and may not end
 pub refused_at_end : (placed : List Placed) (so_far : Read) → run read.Nothing (tokens_of placed) ≡ Some so_far
-    → ends so_far ≡ None → (spec : Timespec) → ¬ Spells (tokens_of placed) spec
+    → timespec_read so_far ≡ None → (spec : Timespec) → ¬ Spells (tokens_of placed) spec
 refused_at_end placed so_far ran stops spec spelled =
     let refused : accepts read.Nothing (tokens_of placed) ≡ None
-    = ap (λ (read : Option Read). option_and_then ends read) ran ∙ stops in
+    = ap (λ (read : Option Read). option_and_then timespec_read read) ran ∙ stops in
     cc (refused, spells_accepted (tokens_of placed) spec spelled)
 
 pub fault_at_end : (placed : List Placed) (so_far : Read) → run read.Nothing (tokens_of placed) ≡ Some so_far
-    → ends so_far ≡ None → IsFaultAt (tokens_of placed) (length placed)
+    → timespec_read so_far ≡ None → StopsAt (tokens_of placed) (length placed)
 fault_at_end placed so_far ran stops =
     let same : length (tokens_of placed) ≡ length placed = length-map placed _ in
     record {
@@ -142,13 +142,13 @@ fault_at_end placed so_far ran stops =
 
 -- all the tokens are read, and may end
 pub spelled_at_end : (tokens : List Token) (so_far : Read) (spec : Timespec) → run read.Nothing tokens ≡ Some so_far
-    → ends so_far ≡ Some spec → Spells tokens spec
+    → timespec_read so_far ≡ Some spec → Spells tokens spec
 spelled_at_end tokens so_far spec ran stops =
     subst (λ (it : Option Timespec). IfSome it (Spells tokens)) stops (ends_spell tokens so_far (reads_of tokens so_far ran))
 
 pub only_one : (tokens : List Token) (so_far : Read) (spec other : Timespec) → run read.Nothing tokens ≡ Some so_far
-    → ends so_far ≡ Some spec → Spells tokens other → other ≡ spec
+    → timespec_read so_far ≡ Some spec → Spells tokens other → other ≡ spec
 only_one tokens so_far spec other ran stops spelled =
     let accepted : accepts read.Nothing tokens ≡ Some spec
-    = ap (λ (read : Option Read). option_and_then ends read) ran ∙ stops in
+    = ap (λ (read : Option Read). option_and_then timespec_read read) ran ∙ stops in
     cc (accepted, spells_accepted tokens other spelled)

@@ -6,8 +6,9 @@ use Rattle.timespec_grammar.specs.declared.clock.Clock.{Clock}
 use Rattle.timespec_grammar.specs.declared.date.DatePart.{DatePart}
 use Rattle.timespec_grammar.specs.declared.increment.Increment.{Increment}
 use Rattle.timespec_grammar.specs.declared.timespec.Timespec.{Timespec}
+use Rattle.timespec_grammar.specs.declared.numbers.TheConstants.{MAX_COUNT}
 use Rattle.timespec_grammar.specs.Grammar as grammar
-use Rattle.timespec_grammar.specs.Grammar.{IsClock24, IsClock12, IsHalf, IsTime, IsDate, IsIncrement, Spells, IsClockInRange, IsDateInRange, IsInRange}
+use Rattle.timespec_grammar.specs.Grammar.{IsClock24, IsClock12, IsHalf, IsTime, IsDate, IsIncrement, Spells, IsClockInRange, IsDateInRange, IsTimespecInRange}
 use Rattle.timespec_grammar.specs.Numbers.{is_hour, is_hour_minute, is_minute, is_month, is_weekday, is_day, is_year, is_count}
 
 hour_small : (digits value : ℕ) → is_hour digits value ≡ true → value ≤ 23
@@ -37,7 +38,7 @@ day_small digits value fits = grind (arith, nat_tests)
 year_small : (digits value : ℕ) → is_year digits value ≡ true → value ≤ 9999
 year_small digits value fits = grind (arith, nat_tests)
 
-count_small : (digits value : ℕ) → is_count digits value ≡ true → value ≤ 999_999
+count_small : (digits value : ℕ) → is_count digits value ≡ true → value ≤ MAX_COUNT
 count_small digits value fits = grind (arith, nat_tests)
 
 -- an hour and a minute of a day
@@ -70,12 +71,12 @@ date_range _ _ (grammar.weekday day fits) = weekday_small day fits
 date_range _ _ grammar.today = tt
 date_range _ _ grammar.tomorrow = tt
 
-increment_range : (tokens : List Token) (by : Increment) → IsIncrement tokens by → by.count ≤ 999_999
+increment_range : (tokens : List Token) (by : Increment) → IsIncrement tokens by → by.count ≤ MAX_COUNT
 increment_range _ _ (grammar.plus digits count period fits) = count_small digits count fits
 increment_range _ _ (grammar.next period) = omega arith
 
 -- whatever is spelled
-pub spells_in_range : (tokens : List Token) (spec : Timespec) → Spells tokens spec → IsInRange spec
+pub spells_in_range : (tokens : List Token) (spec : Timespec) → Spells tokens spec → IsTimespecInRange spec
 spells_in_range _ _ (grammar.time times at is) =
     record { clock_fits = time_range times at is; date_fits = tt; count_fits = tt }
 spells_in_range _ _ (grammar.time_date times dates at day is that) =

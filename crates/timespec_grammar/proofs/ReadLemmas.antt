@@ -14,7 +14,7 @@ use Rattle.timespec_grammar.specs.declared.read.Read.TheVariants as read
 use Rattle.timespec_grammar.specs.Grammar as grammar
 use Rattle.timespec_grammar.specs.Grammar.{IsClock24, IsClock12, IsHalf, IsTime, IsDate, IsIncrement, Spells, IsViable, timespec_of}
 use Rattle.timespec_grammar.specs.Numbers.{is_hour, is_hour_minute, is_twelve, is_minute, is_month, is_weekday, is_day, is_year, is_count}
-use Rattle.timespec_grammar.specs.Steps.{begin, minute_of, after_date, after_time, after_half, after_minute, after_hour, day_of, after_day, year_of, count_of, unit_of, step, run}
+use Rattle.timespec_grammar.specs.inside.Steps.{begin, after_colon, after_date, after_time, after_half, after_minute, after_hour, after_month, after_day, after_comma, after_plus, after_count, step}
 
 -- what may stand before an increment
 pub data Opens : List Token → Clock → DatePart → Type 0 where
@@ -118,7 +118,7 @@ hour_goes digits value token.Colon is = colon_read digits value is
 hour_goes digits value coming is = minute_goes (token.Number digits value ∷ []) value 0 coming (grammar.hour_alone digits value is)
 
 colon_goes : (digits value : ℕ) (coming : Token) → IsTrue (is_hour digits value)
-    → Goes (token.Number digits value ∷ token.Colon ∷ []) coming (minute_of value coming)
+    → Goes (token.Number digits value ∷ token.Colon ∷ []) coming (after_colon value coming)
 colon_goes digits value (token.Number count number) is =
     chosen (Reads (token.Number digits value ∷ token.Colon ∷ token.Number count number ∷ [])) (is_minute count number)
     (read.HourMinute value number) None
@@ -138,7 +138,7 @@ first_goes token.Midnight = time_read (token.Midnight ∷ []) (clock.At 0 0 fals
 first_goes _ = tt
 
 month_goes : (tokens : List Token) (at : Clock) (number : ℕ) (coming : Token) → IsTime tokens at → IsTrue (is_month number)
-    → Goes (tokens ++ token.Month number ∷ []) coming (day_of at number coming)
+    → Goes (tokens ++ token.Month number ∷ []) coming (after_month at number coming)
 month_goes tokens at number (token.Number digits value) is fits =
     chosen (Reads ((tokens ++ token.Month number ∷ []) ++ token.Number digits value ∷ [])) (is_day digits value)
     (read.DayNamed at number value) None
@@ -157,7 +157,7 @@ day_goes tokens at number digits value coming is fits known =
 
 comma_goes : (tokens : List Token) (at : Clock) (number digits value : ℕ) (coming : Token) → IsTime tokens at
     → IsTrue (is_month number) → IsTrue (is_day digits value)
-    → Goes (tokens ++ token.Month number ∷ token.Number digits value ∷ token.Comma ∷ []) coming (year_of at number value coming)
+    → Goes (tokens ++ token.Month number ∷ token.Number digits value ∷ token.Comma ∷ []) coming (after_comma at number value coming)
 comma_goes tokens at number digits value (token.Number count year) is fits known =
     let all : List Token = token.Month number ∷ token.Number digits value ∷ token.Comma ∷ token.Number count year ∷ [] in
     chosen (Reads ((tokens ++ token.Month number ∷ token.Number digits value ∷ token.Comma ∷ []) ++ token.Number count year ∷ []))
@@ -168,7 +168,7 @@ comma_goes tokens at number digits value (token.Number count year) is fits known
 comma_goes tokens at number digits value _ is fits known = tt
 
 count_goes : (tokens : List Token) (at : Clock) (day : DatePart) (coming : Token) → Opens tokens at day
-    → Goes (tokens ++ token.Plus ∷ []) coming (count_of at day coming)
+    → Goes (tokens ++ token.Plus ∷ []) coming (after_plus at day coming)
 count_goes tokens at day (token.Number digits count) opens =
     chosen (Reads ((tokens ++ token.Plus ∷ []) ++ token.Number digits count ∷ [])) (is_count digits count)
     (read.Counted at day count) None
@@ -177,14 +177,14 @@ count_goes tokens at day _ opens = tt
 
 unit_goes : (tokens : List Token) (at : Clock) (day : DatePart) (digits count : ℕ) (coming : Token) → Opens tokens at day
     → IsTrue (is_count digits count)
-    → Goes (tokens ++ token.Plus ∷ token.Number digits count ∷ []) coming (unit_of at day count coming)
+    → Goes (tokens ++ token.Plus ∷ token.Number digits count ∷ []) coming (after_count at day count coming)
 unit_goes tokens at day digits count (token.Unit unit) opens fits =
     whole_read _ _ (rw append_assoc (opens_later tokens (token.Plus ∷ token.Number digits count ∷ token.Unit unit ∷ []) at day _ opens
     (grammar.plus digits count unit fits)))
 unit_goes tokens at day digits count _ opens fits = tt
 
 next_goes : (tokens : List Token) (at : Clock) (day : DatePart) (coming : Token) → Opens tokens at day
-    → Goes (tokens ++ token.Next ∷ []) coming (unit_of at day 1 coming)
+    → Goes (tokens ++ token.Next ∷ []) coming (after_count at day 1 coming)
 next_goes tokens at day (token.Unit unit) opens =
     whole_read _ _ (rw append_assoc (opens_later tokens (token.Next ∷ token.Unit unit ∷ []) at day _ opens (grammar.next unit)))
 next_goes tokens at day _ opens = tt
@@ -213,6 +213,11 @@ goes_on : (P Q : Read → Type 0) (first : Option Read) (onward : Read → Optio
     → ((so_far : Read) → P so_far → IfSome (onward so_far) Q) → IfSome (option_and_then onward first) Q
 goes_on P Q None onward holds more = tt
 goes_on P Q (Some so_far) onward holds more = more so_far holds
+
+-- what is read with more tokens, if they may follow
+abbrev pub run : Read → List Token → Option Read
+run so_far [] = Some so_far
+run so_far (coming ∷ others) = option_and_then (λ more. run more others) (step so_far coming)
 
 -- more tokens, whatever was read
 pub run_goes : (tokens more : List Token) (so_far : Read) → Reads tokens so_far

@@ -9,11 +9,11 @@ use Rattle.timespec_grammar.specs.declared.timespec.Timespec.{Timespec}
 use Rattle.timespec_grammar.specs.declared.read.Read.{Read}
 use Rattle.timespec_grammar.specs.Grammar as grammar
 use Rattle.timespec_grammar.specs.Grammar.{IsClock24, IsClock12, IsHalf, IsTime, IsDate, IsIncrement, Spells, IsViable, timespec_of}
-use Rattle.timespec_grammar.specs.Steps.{ends}
+use Rattle.timespec_grammar.specs.inside.Steps.{timespec_read}
 use Rattle.timespec_grammar.proofs.ReadLemmas.{Reads, nothing_read, hour_read, colon_read, minute_read, half_read, time_read, month_read, day_read, comma_read, opening_read, added_read, counted_read, following_read, whole_read, opens_alone, opens_later}
 
 -- what may end spells what was read
-pub ends_spell : (tokens : List Token) (so_far : Read) → Reads tokens so_far → IfSome (ends so_far) (Spells tokens)
+pub ends_spell : (tokens : List Token) (so_far : Read) → Reads tokens so_far → IfSome (timespec_read so_far) (Spells tokens)
 ends_spell _ _ nothing_read = tt
 ends_spell _ _ (hour_read digits value is) = grammar.time _ _ (grammar.clock24 _ value 0 (grammar.hour_alone digits value is))
 ends_spell _ _ (colon_read digits value is) = tt

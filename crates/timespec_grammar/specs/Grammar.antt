@@ -11,6 +11,7 @@ use Rattle.timespec_grammar.specs.declared.date.DatePart.{DatePart}
 use Rattle.timespec_grammar.specs.declared.date.DatePart.TheVariants as date
 use Rattle.timespec_grammar.specs.declared.increment.Increment.{Increment}
 use Rattle.timespec_grammar.specs.declared.timespec.Timespec.{Timespec}
+use Rattle.timespec_grammar.specs.declared.numbers.TheConstants.{MAX_COUNT}
 use Rattle.timespec_grammar.specs.Numbers.{is_hour, is_hour_minute, is_twelve, is_minute, is_month, is_weekday, is_day, is_year, is_count}
 
 -- an hour and a minute of the 24-hour clock
@@ -100,7 +101,7 @@ tokens_of placed = map (λ one. one.token) placed
 
 -- The first token that no timespec has there, or the number of tokens that end too early: up to it
 -- each front can go on, and with it none can, or it is the end and the tokens spell nothing.
-pub record IsFaultAt (tokens : List Token) (fault : ℕ) : Type 0 where
+pub record StopsAt (tokens : List Token) (fault : ℕ) : Type 0 where
   pub fronts : (count : ℕ) → count ≤ fault → IsViable (take count tokens)
   pub stops : ((fault < length tokens) × ¬ IsViable (take (fault + 1) tokens))
       ⊎ ((fault ≡ length tokens) × ((whole : Timespec) → ¬ Spells tokens whole))
@@ -118,7 +119,7 @@ IsDateInRange (date.Weekday day) = day ≤ 6
 IsDateInRange _ = ⊤
 
 -- the numbers of a timespec are within their ranges
-pub record IsInRange (spec : Timespec) : Type 0 where
+pub record IsTimespecInRange (spec : Timespec) : Type 0 where
   pub clock_fits : IsClockInRange spec.clock
   pub date_fits : IsDateInRange spec.date
-  pub count_fits : IfSome spec.increment (λ by. by.count ≤ 999_999)
+  pub count_fits : IfSome spec.increment (λ by. by.count ≤ MAX_COUNT)

@@ -1,3 +1,3 @@
 pub mod Grammar
 pub mod Numbers
-pub mod Steps
+pub mod inside

@@ -1,6 +1,7 @@
 -- Which numbers may stand where in a time (POSIX.1-2017, XCU, at: timespec), by their digits and their
--- value. That a count has at most six digits, and may be 0, is this project's own.
+-- value. How many digits a count has, and that it may be 0, is this project's own.
 use Rattle.std.specs.Prelude.{ℕ, ◌/◌, ◌%◌, ◌==◌, ◌&&◌, ◌||◌, Bool, nat_le}
+use Rattle.timespec_grammar.specs.declared.numbers.TheConstants.{MAX_COUNT, MAX_COUNT_DIGITS}
 
 -- an hour of the 24-hour clock, in one digit or two
 abbrev pub is_hour : ℕ → ℕ → Bool
@@ -34,6 +35,6 @@ is_day digits value = nat_le 1 digits && nat_le digits 2 && nat_le value 99
 abbrev pub is_year : ℕ → ℕ → Bool
 is_year digits value = digits == 4 && nat_le value 9999
 
--- a count of periods, in one to six digits
+-- a count of periods, in few digits
 abbrev pub is_count : ℕ → ℕ → Bool
-is_count digits value = nat_le 1 digits && nat_le digits 6 && nat_le value 999_999
+is_count digits value = nat_le 1 digits && nat_le digits MAX_COUNT_DIGITS && nat_le value MAX_COUNT

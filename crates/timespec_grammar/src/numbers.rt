@@ -2,6 +2,12 @@
 ghost use Rattle.std.specs.Prelude.{◌≡◌, ◌≤◌, ◌/◌, ◌%◌, IsTrue};
 ghost use Rattle.timespec_grammar.specs.Numbers.{is_hour, is_hour_minute, is_twelve, is_minute, is_month, is_weekday, is_day, is_year, is_count};
 
+/// The greatest count of an increment.
+pub const MAX_COUNT: u32 = 999_999;
+
+/// The most digits that such a count is written in.
+pub const MAX_COUNT_DIGITS: u8 = 6;
+
 /// An hour of the 24-hour clock in one or two digits.
 pub fn is_hour(digits: u8, value: u32) -> bool
     ensures test { result ≡ is_hour digits value }
@@ -64,9 +70,9 @@ pub fn is_year(digits: u8, value: u32) -> bool
     digits == 4 && value <= 9999
 }
 
-/// A count of periods in one to six digits.
+/// A count of periods, which may be 0.
 pub fn is_count(digits: u8, value: u32) -> bool
     ensures { result ≡ is_count digits value }
 {
-    1 <= digits && digits <= 6 && value <= 999_999
+    1 <= digits && digits <= MAX_COUNT_DIGITS && value <= MAX_COUNT
 }

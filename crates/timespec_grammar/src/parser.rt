@@ -1,10 +1,10 @@
 //! From tokens to a timespec.
 ghost use Rattle.std.specs.Prelude.{◌≡◌, length, IfOk, IfErr, OnErr};
-ghost use Rattle.timespec_grammar.specs.Grammar.{Spells, IsFaultAt, IsInRange, tokens_of};
+ghost use Rattle.timespec_grammar.specs.Grammar.{Spells, StopsAt, IsTimespecInRange, tokens_of};
 ghost use Rattle.timespec_grammar.specs.declared.timespec.Timespec.{Timespec as Spec};
 
 use crate::read::Read;
-use crate::steps::{ends, step};
+use crate::steps::{step, timespec_read};
 use crate::{GrammarFault, Timespec};
 use timespec_lexer::Placed;
 
@@ -12,8 +12,8 @@ use timespec_lexer::Placed;
 pub fn parse(tokens: &[Placed]) -> Result<Timespec, GrammarFault>
     ensures spelled { IfOk result (λ spec. Spells (tokens_of tokens.now) spec) }
     ensures only { IfOk result (λ spec. (other : Spec) → Spells (tokens_of tokens.now) other → other ≡ spec) }
-    ensures in_range { IfOk result IsInRange }
-    ensures fault { IfErr result (λ fault. IsFaultAt (tokens_of tokens.now) fault.token) }
+    ensures in_range { IfOk result IsTimespecInRange }
+    ensures fault { IfErr result (λ fault. StopsAt (tokens_of tokens.now) fault.token) }
     ensures refused { OnErr result ((spec : Spec) → ¬ Spells (tokens_of tokens.now) spec) }
 {
     let mut read = Read::Nothing;
@@ -23,7 +23,7 @@ pub fn parse(tokens: &[Placed]) -> Result<Timespec, GrammarFault>
         };
         read = more;
     }
-    let Some(spec) = ends(read) else {
+    let Some(spec) = timespec_read(read) else {
         return Err(GrammarFault {
             token: tokens.len(),
         });

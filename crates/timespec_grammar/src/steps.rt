@@ -1,7 +1,7 @@
 //! One token more: what may follow what was read so far.
 ghost use Rattle.std.specs.Prelude.{◌≡◌};
 ghost use Rattle.timespec_grammar.specs.Grammar.{timespec_of};
-ghost use Rattle.timespec_grammar.specs.Steps.{step, ends, begin, minute_of, after_date, after_time, after_half, after_minute, after_hour, day_of, after_day, year_of, count_of, unit_of};
+ghost use Rattle.timespec_grammar.specs.inside.Steps.{step, timespec_read, begin, after_colon, after_date, after_time, after_half, after_minute, after_hour, after_month, after_day, after_comma, after_plus, after_count};
 
 use crate::numbers::{
     is_count, is_day, is_hour, is_hour_minute, is_minute, is_month, is_twelve, is_weekday, is_year,
@@ -17,24 +17,24 @@ pub fn step(read: Read, token: Token) -> Option<Read>
     match read {
         Read::Nothing => begin(token),
         Read::Hour(hour) => after_hour(hour, token),
-        Read::HourColon(hour) => minute_of(hour, token),
+        Read::HourColon(hour) => after_colon(hour, token),
         Read::HourMinute(hour, minute) => after_minute(hour, minute, token),
         Read::Half(hour, minute) => after_half(hour, minute, token),
         Read::Timed(clock) => after_time(clock, token),
-        Read::MonthNamed(clock, month) => day_of(clock, month, token),
+        Read::MonthNamed(clock, month) => after_month(clock, month, token),
         Read::DayNamed(clock, month, day) => after_day(clock, month, day, token),
-        Read::DayComma(clock, month, day) => year_of(clock, month, day, token),
+        Read::DayComma(clock, month, day) => after_comma(clock, month, day, token),
         Read::Dated(clock, date) => after_date(clock, date, token),
-        Read::Added(clock, date) => count_of(clock, date, token),
-        Read::Counted(clock, date, count) => unit_of(clock, date, count, token),
-        Read::Following(clock, date) => unit_of(clock, date, 1, token),
+        Read::Added(clock, date) => after_plus(clock, date, token),
+        Read::Counted(clock, date, count) => after_count(clock, date, count, token),
+        Read::Following(clock, date) => after_count(clock, date, 1, token),
         Read::Whole(_) => None,
     }
 }
 
 /// The timespec that was read, if the tokens may end there.
-pub fn ends(read: Read) -> Option<Timespec>
-    ensures { result ≡ ends read }
+pub fn timespec_read(read: Read) -> Option<Timespec>
+    ensures { result ≡ timespec_read read }
 {
     match read {
         Read::Hour(hour) => Some(plain(at(hour, 0, false), DatePart::Absent)),
@@ -48,21 +48,21 @@ pub fn ends(read: Read) -> Option<Timespec>
     }
 }
 
-/// An hour and a minute of the 24-hour clock.
+// An hour and a minute of the 24-hour clock.
 fn at(hour: u8, minute: u8, utc: bool) -> Clock
     ensures { result ≡ Clock.At hour minute utc }
 {
     Clock::At { hour, minute, utc }
 }
 
-/// A day of a month.
+// A day of a month.
 fn month_day(month: u8, day: u8, year: Option<u16>) -> DatePart
     ensures { result ≡ DatePart.MonthDay month day year }
 {
     DatePart::MonthDay { month, day, year }
 }
 
-/// A timespec without an increment.
+// A timespec without an increment.
 fn plain(clock: Clock, date: DatePart) -> Timespec
     ensures { result ≡ timespec_of clock date None }
 {
@@ -73,7 +73,7 @@ fn plain(clock: Clock, date: DatePart) -> Timespec
     }
 }
 
-/// The first token: an hour, an hour and a minute, or a named time.
+// The first token: an hour, an hour and a minute, or a named time.
 fn begin(token: Token) -> Option<Read>
     ensures { result ≡ begin token }
 {
@@ -89,9 +89,9 @@ fn begin(token: Token) -> Option<Read>
     }
 }
 
-/// The minute behind an hour and a colon.
-fn minute_of(hour: u8, token: Token) -> Option<Read>
-    ensures { result ≡ minute_of hour token }
+// The minute behind an hour and a colon.
+fn after_colon(hour: u8, token: Token) -> Option<Read>
+    ensures { result ≡ after_colon hour token }
 {
     match token {
         Token::Number { digits, value } if is_minute(digits, value) => {
@@ -101,7 +101,7 @@ fn minute_of(hour: u8, token: Token) -> Option<Read>
     }
 }
 
-/// A colon, or what follows an hour and a minute.
+// A colon, or what follows an hour and a minute.
 fn after_hour(hour: u8, token: Token) -> Option<Read>
     ensures { result ≡ after_hour hour token }
 {
@@ -111,7 +111,7 @@ fn after_hour(hour: u8, token: Token) -> Option<Read>
     }
 }
 
-/// A half of the day, or what follows a time without its zone.
+// A half of the day, or what follows a time without its zone.
 fn after_minute(hour: u8, minute: u8, token: Token) -> Option<Read>
     ensures { result ≡ after_minute hour minute token }
 {
@@ -122,7 +122,7 @@ fn after_minute(hour: u8, minute: u8, token: Token) -> Option<Read>
     }
 }
 
-/// The zone, or what follows a whole time.
+// The zone, or what follows a whole time.
 fn after_half(hour: u8, minute: u8, token: Token) -> Option<Read>
     ensures { result ≡ after_half hour minute token }
 {
@@ -132,7 +132,7 @@ fn after_half(hour: u8, minute: u8, token: Token) -> Option<Read>
     }
 }
 
-/// A date, or what follows one.
+// A date, or what follows one.
 fn after_time(clock: Clock, token: Token) -> Option<Read>
     ensures { result ≡ after_time clock token }
 {
@@ -145,9 +145,9 @@ fn after_time(clock: Clock, token: Token) -> Option<Read>
     }
 }
 
-/// The day behind a month.
-fn day_of(clock: Clock, month: u8, token: Token) -> Option<Read>
-    ensures { result ≡ day_of clock month token }
+// The day behind a month.
+fn after_month(clock: Clock, month: u8, token: Token) -> Option<Read>
+    ensures { result ≡ after_month clock month token }
 {
     match token {
         Token::Number { digits, value } if is_day(digits, value) => {
@@ -157,7 +157,7 @@ fn day_of(clock: Clock, month: u8, token: Token) -> Option<Read>
     }
 }
 
-/// A comma, or what follows a date.
+// A comma, or what follows a date.
 fn after_day(clock: Clock, month: u8, day: u8, token: Token) -> Option<Read>
     ensures { result ≡ after_day clock month day token }
 {
@@ -167,9 +167,9 @@ fn after_day(clock: Clock, month: u8, day: u8, token: Token) -> Option<Read>
     }
 }
 
-/// The year behind a month, a day and a comma.
-fn year_of(clock: Clock, month: u8, day: u8, token: Token) -> Option<Read>
-    ensures { result ≡ year_of clock month day token }
+// The year behind a month, a day and a comma.
+fn after_comma(clock: Clock, month: u8, day: u8, token: Token) -> Option<Read>
+    ensures { result ≡ after_comma clock month day token }
 {
     match token {
         Token::Number { digits, value } if is_year(digits, value) => {
@@ -180,7 +180,7 @@ fn year_of(clock: Clock, month: u8, day: u8, token: Token) -> Option<Read>
     }
 }
 
-/// The first token of an increment.
+// The first token of an increment.
 fn after_date(clock: Clock, date: DatePart, token: Token) -> Option<Read>
     ensures { result ≡ after_date clock date token }
 {
@@ -191,9 +191,9 @@ fn after_date(clock: Clock, date: DatePart, token: Token) -> Option<Read>
     }
 }
 
-/// The count behind a plus.
-fn count_of(clock: Clock, date: DatePart, token: Token) -> Option<Read>
-    ensures { result ≡ count_of clock date token }
+// The count behind a plus.
+fn after_plus(clock: Clock, date: DatePart, token: Token) -> Option<Read>
+    ensures { result ≡ after_plus clock date token }
 {
     match token {
         Token::Number { digits, value } if is_count(digits, value) => {
@@ -203,9 +203,9 @@ fn count_of(clock: Clock, date: DatePart, token: Token) -> Option<Read>
     }
 }
 
-/// The unit that ends an increment.
-fn unit_of(clock: Clock, date: DatePart, count: u32, token: Token) -> Option<Read>
-    ensures { result ≡ unit_of clock date count token }
+// The unit that ends an increment.
+fn after_count(clock: Clock, date: DatePart, count: u32, token: Token) -> Option<Read>
+    ensures { result ≡ after_count clock date count token }
 {
     match token {
         Token::Unit(period) => {

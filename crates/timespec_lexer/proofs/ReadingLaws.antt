@@ -3,14 +3,15 @@ use Rattle.std.proofs.Common.{◌≡◌, ℕ, ◌+◌, ◌≤◌, false, List, [
 use Rattle.std.specs.Prelude.{slice_index}
 use Rattle.std.proofs.lemmas.Bool.{cases_lt}
 use Rattle.std.proofs.lemmas.List.{length-append}
-use Rattle.timespec_lexer.specs.Tokens.{is_blank, most_tokens, AreBlanks, IsOnlyReading, IsOnlyRefusal, RefusedAt, Stands, Tokenizes, Walks}
+use Rattle.timespec_lexer.specs.Tokens.{is_separator, AreSeparators, IsOnlyReading, IsOnlyRefusal, RefusedAt, Stands, Tokenizes, Walks}
+use Rattle.timespec_lexer.specs.declared.lexer.TheConstants.{MAX_TOKENS}
 use Rattle.timespec_lexer.specs.declared.token.Token.{Token}
 use Rattle.timespec_lexer.specs.declared.placed.Placed.{Placed}
 use Rattle.timespec_lexer.proofs.StandLaws.{stands_solid, stands_inside, stands_once, none_stands}
 
--- two places behind the same blanks where no blank stands are one
-one_place : (text : List ℕ) (from a b : ℕ) → AreBlanks text from a → AreBlanks text from b
-    → is_blank (slice_index text a) ≡ false → is_blank (slice_index text b) ≡ false → a ≡ b
+-- two places behind the same separators where no separator stands are one
+one_place : (text : List ℕ) (from a b : ℕ) → AreSeparators text from a → AreSeparators text from b
+    → is_separator (slice_index text a) ≡ false → is_separator (slice_index text b) ≡ false → a ≡ b
 one_place text from a b short long here there =
     elim (cases_lt a b) [
       | inl less ↦ absurd (cc (long.each a short.forward less, here))
@@ -28,12 +29,12 @@ placed_at token place = record { token = token; place = place }
 same_placed : (x y : Placed) → x.token ≡ y.token → x.place ≡ y.place → x ≡ y
 same_placed x y token place = ap (λ (it : Token). placed_at it x.place) token ∙ ap (placed_at y.token) place
 
--- one token more than those before, behind blanks
+-- one token more than those before, behind separators
 record GoesOn (text : List ℕ) (before after : List Placed) (end : ℕ) : Type 0 where
   next : Placed
   others : List Placed
   all : after ≡ before ++ next ∷ others
-  blanks : AreBlanks text end next.place
+  separators : AreSeparators text end next.place
   to : ℕ
   stands : Stands text next.place to next.token
 
@@ -47,7 +48,7 @@ compare_walks text from [] (next ∷ others) end end' first second =
       next = next;
       others = others;
       all = refl;
-      blanks = subst (λ (place : ℕ). AreBlanks text place next.place) first second.0;
+      separators = subst (λ (place : ℕ). AreSeparators text place next.place) first second.0;
       to = second.1;
       stands = second.2;
     }))
@@ -56,7 +57,7 @@ compare_walks text from (next ∷ others) [] end end' first second =
       next = next;
       others = others;
       all = refl;
-      blanks = subst (λ (place : ℕ). AreBlanks text place next.place) second first.0;
+      separators = subst (λ (place : ℕ). AreSeparators text place next.place) second first.0;
       to = first.1;
       stands = first.2;
     }))
@@ -73,7 +74,7 @@ compare_walks text from (x ∷ xs) (y ∷ ys) end end' first second =
         next = more.next;
         others = more.others;
         all = cc (head, more.all);
-        blanks = more.blanks;
+        separators = more.separators;
         to = more.to;
         stands = more.stands;
       }))
@@ -81,25 +82,25 @@ compare_walks text from (x ∷ xs) (y ∷ ys) end end' first second =
         next = more.next;
         others = more.others;
         all = cc (head, more.all);
-        blanks = more.blanks;
+        separators = more.separators;
         to = more.to;
         stands = more.stands;
       }))
     ]
 
 -- behind the last token of a whole text none goes on
-ends_there : (text : List ℕ) (a b : List Placed) (end : ℕ) → AreBlanks text end (length text) → GoesOn text a b end → ⊥
-ends_there text a b end blanks more =
+ends_there : (text : List ℕ) (a b : List Placed) (end : ℕ) → AreSeparators text end (length text) → GoesOn text a b end → ⊥
+ends_there text a b end separators more =
     cc (
-      blanks.each more.next.place more.blanks.forward (stands_inside text more.next.place more.to more.next.token more.stands),
+      separators.each more.next.place more.separators.forward (stands_inside text more.next.place more.to more.next.token more.stands),
       stands_solid text more.next.place more.to more.next.token more.stands,
     )
 
 -- behind the tokens before a refusal none goes on
-stops_there : (text : List ℕ) (place : ℕ) (refused : RefusedAt text place) (b : List Placed) → length b ≤ most_tokens
+stops_there : (text : List ℕ) (place : ℕ) (refused : RefusedAt text place) (b : List Placed) → length b ≤ MAX_TOKENS
     → GoesOn text refused.before b refused.end → ⊥
 stops_there text place refused b few more =
-    let there : more.next.place ≡ place = one_place text refused.end more.next.place place more.blanks refused.blanks
+    let there : more.next.place ≡ place = one_place text refused.end more.next.place place more.separators refused.separators
     (stands_solid text more.next.place more.to more.next.token more.stands) refused.here in
     elim refused.cause [
       | inl none ↦ none_stands text place more.to more.next.token none
@@ -114,8 +115,8 @@ pub one_reading : (text : List ℕ) (a b : List Placed) → Tokenizes text a →
 one_reading text a b first second =
     elim (compare_walks text 0 a b first.end second.end first.walks second.walks) [
       | inl both ↦ sym both.0
-      | inr (inl more) ↦ absurd (ends_there text a b first.end first.blanks more)
-      | inr (inr more) ↦ absurd (ends_there text b a second.end second.blanks more)
+      | inr (inl more) ↦ absurd (ends_there text a b first.end first.separators more)
+      | inr (inr more) ↦ absurd (ends_there text b a second.end second.separators more)
     ]
 
 -- a text that is tokens is not refused
@@ -123,9 +124,9 @@ pub not_both : (text : List ℕ) (a : List Placed) (place : ℕ) → Tokenizes t
 not_both text a place first refused =
     elim (compare_walks text 0 a refused.before first.end refused.end first.walks refused.walks) [
       | inl both ↦
-          let blanks : AreBlanks text refused.end (length text) = subst (λ (end : ℕ). AreBlanks text end (length text)) both.1 first.blanks in
-          cc (blanks.each place refused.blanks.forward refused.inside, refused.here)
-      | inr (inl more) ↦ ends_there text a refused.before first.end first.blanks more
+          let separators : AreSeparators text refused.end (length text) = subst (λ (end : ℕ). AreSeparators text end (length text)) both.1 first.separators in
+          cc (separators.each place refused.separators.forward refused.inside, refused.here)
+      | inr (inl more) ↦ ends_there text a refused.before first.end first.separators more
       | inr (inr more) ↦ stops_there text place refused a first.few more
     ]
 
@@ -134,7 +135,7 @@ pub one_refusal : (text : List ℕ) (a b : ℕ) → RefusedAt text a → Refused
 one_refusal text a b first second =
     elim (compare_walks text 0 first.before second.before first.end second.end first.walks second.walks) [
       | inl both ↦
-          one_place text first.end b a (subst (λ (end : ℕ). AreBlanks text end b) (sym both.1) second.blanks) first.blanks second.here first.here
+          one_place text first.end b a (subst (λ (end : ℕ). AreSeparators text end b) (sym both.1) second.separators) first.separators second.here first.here
       | inr (inl more) ↦ absurd (stops_there text a first second.before second.few more)
       | inr (inr more) ↦ absurd (stops_there text b second first.before first.few more)
     ]

@@ -1,5 +1,5 @@
 -- At one place of a text at most one token stands, up to one end.
-use Rattle.std.proofs.Common.{◌≡◌, ℕ, zero, suc, ◌+◌, ◌-◌, ◌<◌, ◌≤◌, ◌==◌, ◌&&◌, Bool, true, false, List, [], length, get_or, arith, refl, sym, ◌∙◌, ap, subst, Some, ◌⊎◌, inl, inr, lit<, eqb-true}
+use Rattle.std.proofs.Common.{◌≡◌, ℕ, zero, suc, ◌+◌, ◌-◌, ◌<◌, ◌≤◌, ◌==◌, ◌&&◌, Bool, true, false, List, [], length, get_or, arith, refl, sym, ◌∙◌, ap, subst, Some, ◌⊎◌, inl, inr, eqb-true}
 use Rattle.std.specs.Prelude.{slice_index, Contains, unwrap_or, bytes_eq}
 use Rattle.std.specs.List.{position_from}
 use Rattle.std.specs.Char.{is_ascii_digit, is_ascii_alphabetic}
@@ -9,16 +9,17 @@ use Rattle.std.proofs.lemmas.Grind.{same_number_lists}
 use Rattle.std.proofs.lemmas.List.{get_or_default, get_or_past}
 use Rattle.std.proofs.lemmas.List.Elements.{All-contains}
 use Rattle.timespec_lexer.specs.Keywords.{keywords}
-use Rattle.timespec_lexer.specs.Tokens.{is_blank, mark_of, BeginsNoToken, strange, no_word, long_run, HasWord, IsDigitAt, IsRun, number_at, Stands, StandsNumber}
+use Rattle.timespec_lexer.specs.Tokens.{is_separator, mark_of, BeginsNoToken, strange, no_word, long_run, HasWord, IsDigitAt, IsRun, number_at, Stands, StandsNumber}
 use Rattle.timespec_lexer.proofs.WordLemmas.{IsNoLonger}
+use Rattle.timespec_lexer.specs.declared.number.TheConstants.{MAX_DIGITS}
 use Rattle.timespec_lexer.specs.declared.token.Token.{Token}
 use Rattle.timespec_lexer.specs.declared.token.Token.TheVariants.{Number, Now}
 
--- a digit is no blank, a letter neither, and no digit
-digit_solid : (byte : ℕ) → is_ascii_digit byte ≡ true → is_blank byte ≡ false
+-- a digit is no separator, a letter neither, and no digit
+digit_solid : (byte : ℕ) → is_ascii_digit byte ≡ true → is_separator byte ≡ false
 digit_solid byte digit = grind (arith, nat_tests)
 
-letter_solid : (byte : ℕ) → is_ascii_alphabetic byte ≡ true → is_blank byte ≡ false
+letter_solid : (byte : ℕ) → is_ascii_alphabetic byte ≡ true → is_separator byte ≡ false
 letter_solid byte letter = grind (arith, nat_tests)
 
 letter_no_digit : (byte : ℕ) → is_ascii_alphabetic byte ≡ true → is_ascii_digit byte ≡ false
@@ -28,7 +29,7 @@ letter_no_digit byte letter = grind (arith, nat_tests)
 mark_bytes : (byte : ℕ) (token : Token) → mark_of byte ≡ Some token → (byte ≡ 58) ⊎ ((byte ≡ 44) ⊎ (byte ≡ 43))
 mark_bytes byte token mark = grind (arith, nat_tests)
 
-mark_solid : (byte : ℕ) (token : Token) → mark_of byte ≡ Some token → is_blank byte ≡ false
+mark_solid : (byte : ℕ) (token : Token) → mark_of byte ≡ Some token → is_separator byte ≡ false
 mark_solid byte token mark = elim (mark_bytes byte token mark) [ inl e ↦ rw e refl | inr (inl e) ↦ rw e refl | inr (inr e) ↦ rw e refl ]
 
 mark_no_digit : (byte : ℕ) (token : Token) → mark_of byte ≡ Some token → is_ascii_digit byte ≡ false
@@ -41,9 +42,9 @@ mark_no_letter byte token mark = elim (mark_bytes byte token mark) [ inl e ↦ r
 first_digit : (text : List ℕ) (from to : ℕ) (token : Token) → StandsNumber text from to token → is_ascii_digit (slice_index text from) ≡ true
 first_digit text from to token number = number.run.each from (omega arith) number.run.some
 
--- where a token stands there is no blank
+-- where a token stands there is no separator
 pub stands_solid : (text : List ℕ) (from to : ℕ) (token : Token) → Stands text from to token
-    → is_blank (slice_index text from) ≡ false
+    → is_separator (slice_index text from) ≡ false
 stands_solid text from to token (inl number) = digit_solid (slice_index text from) (first_digit text from to token number)
 stands_solid text from to token (inr (inl mark)) = mark_solid (slice_index text from) token mark.mark
 stands_solid text from to token (inr (inr keyword)) = letter_solid (slice_index text from) keyword.letter
@@ -148,9 +149,9 @@ stands_once text from to to' token token' (inr (inr a)) (inr (inr b)) =
           (subst (λ (it : List ℕ). Contains keywords (it, token)) word a.longest.listed) b.longest.listed,
     )
 
--- the first of ten digits
-first_of : (text : List ℕ) (from : ℕ) → ((k : ℕ) → k < 10 → IsDigitAt text (from + k)) → IsDigitAt text from
-first_of text from digits = subst (λ (place : ℕ). IsDigitAt text place) (omega arith) (digits 0 (lit< tt))
+-- the first of so many digits
+first_of : (text : List ℕ) (from : ℕ) → ((k : ℕ) → k ≤ MAX_DIGITS → IsDigitAt text (from + k)) → IsDigitAt text from
+first_of text from digits = subst (λ (place : ℕ). IsDigitAt text place) (omega arith) (digits 0 (omega arith))
 
 -- where no token begins none stands
 pub none_stands : (text : List ℕ) (from to : ℕ) (token : Token) → BeginsNoToken text from → Stands text from to token → ⊥
@@ -162,7 +163,7 @@ none_stands text from to token (no_word letter none) (inr (inl a)) = cc (mark_no
 none_stands text from to token (no_word letter none) (inr (inr keyword)) =
     All-contains (λ row. ¬ HasWord text from row.0) keywords (keyword.word, token) none keyword.longest.listed keyword.longest.here
 none_stands text from to token (long_run digits) (inl number) =
-    let within : to - from < 10 = omega (arith, number.few) in
+    let within : to - from ≤ MAX_DIGITS = omega (arith, number.few) in
     let there : from + (to - from) ≡ to = omega (arith, number.run.some) in
     let digit : IsDigitAt text to = subst (λ (place : ℕ). IsDigitAt text place) there (digits (to - from) within) in
     cc (digit, number.run.whole)

@@ -6,7 +6,7 @@ use Rattle.std.proofs.lemmas.List.Sums.{AllPass-from_list_all}
 use Rattle.std.proofs.lemmas.Bool.{cases_lt}
 use Rattle.std.proofs.lemmas.List.Elements.{All-push, All-weaker, All-contains, Contains-append_left, Contains-append_right}
 use Rattle.timespec_lexer.specs.Keywords.{keywords}
-use Rattle.timespec_lexer.specs.Search.{IsBest}
+use Rattle.timespec_lexer.specs.inside.Search.{IsBest}
 use Rattle.timespec_lexer.specs.Tokens.{HasWord, WordTable}
 use Rattle.timespec_lexer.specs.declared.token.Token.{Token}
 use Rattle.timespec_lexer.specs.declared.found.Found.{Found}

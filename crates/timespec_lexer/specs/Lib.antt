@@ -1,3 +1,3 @@
 pub mod Keywords
-pub mod Search
 pub mod Tokens
+pub mod inside

@@ -1,20 +1,22 @@
--- The tokens of a text (POSIX.1-2017, XCU, at: timespec). That blanks may be absent, that a number
--- has at most nine digits and a text at most sixteen tokens is this project's own.
+-- The tokens of a text (POSIX.1-2017, XCU, at: timespec). That separators may be absent, and how many
+-- digits a number and how many tokens a text may have, is this project's own.
 use Rattle.std.specs.Prelude.{◌≡◌, ℕ, zero, suc, ◌+◌, ◌-◌, ◌*◌, ◌<◌, ◌≤◌, ◌⊎◌, ◌==◌, ◌||◌, Bool, false, List, [], ◌∷◌, length, slice_index, IsTrue, All, Contains, Option, Some, None, if◌then◌else◌}
 use Rattle.std.specs.Char.{is_ascii_digit, is_ascii_alphabetic, to_ascii_lowercase}
 use Rattle.timespec_lexer.specs.Keywords.{keywords}
+use Rattle.timespec_lexer.specs.declared.lexer.TheConstants.{MAX_TOKENS}
+use Rattle.timespec_lexer.specs.declared.number.TheConstants.{MAX_DIGITS}
 use Rattle.timespec_lexer.specs.declared.token.Token.{Token}
 use Rattle.timespec_lexer.specs.declared.token.Token.TheVariants.{Number, Colon, Comma, Plus}
 use Rattle.timespec_lexer.specs.declared.placed.Placed.{Placed}
 
 -- a space, a tab or a newline
-abbrev pub is_blank : ℕ → Bool
-is_blank byte = byte == 32 || byte == 9 || byte == 10
+abbrev pub is_separator : ℕ → Bool
+is_separator byte = byte == 32 || byte == 9 || byte == 10
 
--- only blanks lie from one place up to another
-pub record AreBlanks (text : List ℕ) (from to : ℕ) : Type 0 where
+-- only separators lie from one place up to another
+pub record AreSeparators (text : List ℕ) (from to : ℕ) : Type 0 where
   pub forward : from ≤ to
-  pub each : (k : ℕ) → from ≤ k → k < to → IsTrue (is_blank (slice_index text k))
+  pub each : (k : ℕ) → from ≤ k → k < to → IsTrue (is_separator (slice_index text k))
 
 -- the byte at a place is a digit
 abbrev pub IsDigitAt : List ℕ → ℕ → Type 0
@@ -63,7 +65,7 @@ HasNoWord text place table = All (λ row. ¬ HasWord text place row.0) table
 -- a number stands from one place up to another
 pub record StandsNumber (text : List ℕ) (from to : ℕ) (token : Token) : Type 0 where
   pub run : IsRun text from to
-  pub few : to ≤ from + 9
+  pub few : to ≤ from + MAX_DIGITS
   pub value : token ≡ Number (to - from) (number_at text from (to - from))
 
 -- a mark stands from one place up to another
@@ -85,43 +87,39 @@ Stands text from to token =
     ⊎ (StandsMark text from to token
     ⊎ StandsKeyword text from to token)
 
--- the tokens stand in turn from one place up to another, with only blanks between them
+-- the tokens stand in turn from one place up to another, with only separators between them
 abbrev pub Walks : List ℕ → ℕ → List Placed → ℕ → Type 0
 Walks text from [] to = from ≡ to
 Walks text from (first ∷ others) to =
-    AreBlanks text from first.place
+    AreSeparators text from first.place
     × (end : ℕ) × Stands text first.place end first.token × Walks text end others to
 
--- a text may have so many tokens
-abbrev pub most_tokens : ℕ
-most_tokens = 16
-
--- the text is these tokens, and blanks
+-- the whole text is these tokens, and separators
 pub record Tokenizes (text : List ℕ) (placed : List Placed) : Type 0 where
-  pub few : length placed ≤ most_tokens
+  pub few : length placed ≤ MAX_TOKENS
   pub end : ℕ
   pub walks : Walks text 0 placed end
-  pub blanks : AreBlanks text end (length text)
+  pub separators : AreSeparators text end (length text)
 
--- no token begins at a place: a byte that begins none, a letter without a keyword, or ten digits
+-- no token begins at a place: a byte that begins none, a letter without a keyword, or more digits than a number has
 pub data BeginsNoToken (text : List ℕ) (place : ℕ) : Type 0 where
   strange : is_ascii_digit (slice_index text place) ≡ false
       → is_ascii_alphabetic (slice_index text place) ≡ false
       → mark_of (slice_index text place) ≡ None → BeginsNoToken text place
   no_word : IsTrue (is_ascii_alphabetic (slice_index text place))
       → HasNoWord text place keywords → BeginsNoToken text place
-  long_run : ((k : ℕ) → k < 10 → IsDigitAt text (place + k)) → BeginsNoToken text place
+  long_run : ((k : ℕ) → k ≤ MAX_DIGITS → IsDigitAt text (place + k)) → BeginsNoToken text place
 
 -- the text is refused at a place: behind the tokens before it none begins, or one too many
 pub record RefusedAt (text : List ℕ) (place : ℕ) : Type 0 where
   pub before : List Placed
-  pub few : length before ≤ most_tokens
+  pub few : length before ≤ MAX_TOKENS
   pub end : ℕ
   pub walks : Walks text 0 before end
-  pub blanks : AreBlanks text end place
+  pub separators : AreSeparators text end place
   pub inside : place < length text
-  pub here : is_blank (slice_index text place) ≡ false
-  pub cause : BeginsNoToken text place ⊎ (length before ≡ most_tokens)
+  pub here : is_separator (slice_index text place) ≡ false
+  pub cause : BeginsNoToken text place ⊎ (length before ≡ MAX_TOKENS)
 
 -- the text is no other tokens than these, and is refused nowhere
 pub record IsOnlyReading (text : List ℕ) (placed : List Placed) : Type 0 where

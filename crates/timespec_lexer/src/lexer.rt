@@ -1,6 +1,6 @@
-//! Reading a text from the front.
+//! The tokens of a text, one after another.
 ghost use Rattle.std.specs.Prelude.{◌≡◌, ◌<◌, ◌≤◌, length, slice_index, false, IfOk, IfErr, IfSome, IfNone};
-ghost use Rattle.timespec_lexer.specs.Tokens.{is_blank, mark_of, AreBlanks, BeginsNoToken, IsOnlyReading, IsOnlyRefusal, RefusedAt, Stands, StandsMark, Tokenizes};
+ghost use Rattle.timespec_lexer.specs.Tokens.{is_separator, mark_of, AreSeparators, BeginsNoToken, IsOnlyReading, IsOnlyRefusal, RefusedAt, Stands, StandsMark, Tokenizes};
 
 use crate::found::Found;
 use crate::number::number_at;
@@ -9,10 +9,10 @@ use crate::{LexFault, Placed, Token};
 use arrayvec::ArrayVec;
 
 /// The most tokens of a text.
-pub const MOST_TOKENS: usize = 16;
+pub const MAX_TOKENS: usize = 16;
 
 /// The tokens of a text, or the first place at which it has none.
-pub fn tokens(text: &[u8]) -> Result<ArrayVec<Placed, MOST_TOKENS>, LexFault>
+pub fn tokens(text: &[u8]) -> Result<ArrayVec<Placed, MAX_TOKENS>, LexFault>
     ensures tokens { IfOk result (λ placed. Tokenizes text.now placed.items) }
     ensures only_these { IfOk result (λ placed. IsOnlyReading text.now placed.items) }
     ensures refused { IfErr result (λ fault. RefusedAt text.now fault.place) }
@@ -21,7 +21,7 @@ pub fn tokens(text: &[u8]) -> Result<ArrayVec<Placed, MOST_TOKENS>, LexFault>
     let mut placed = ArrayVec::new();
     let mut end = 0;
     loop {
-        let begin = skip_blanks(text, end);
+        let begin = skip_separators(text, end);
         if begin == text.len() {
             return Ok(placed);
         }
@@ -38,21 +38,21 @@ pub fn tokens(text: &[u8]) -> Result<ArrayVec<Placed, MOST_TOKENS>, LexFault>
     }
 }
 
-/// The first place from this one on where no blank stands, or the end.
-fn skip_blanks(text: &[u8], from: usize) -> usize
+// The first place from this one on where no separator stands, or the end.
+fn skip_separators(text: &[u8], from: usize) -> usize
     requires { from ≤ length text.now }
     ensures within { result ≤ length text.now }
-    ensures blanks { AreBlanks text.now from result }
-    ensures here { result < length text.now → is_blank (slice_index text.now result) ≡ false }
+    ensures separators { AreSeparators text.now from result }
+    ensures here { result < length text.now → is_separator (slice_index text.now result) ≡ false }
 {
     let mut place = from;
-    while place < text.len() && is_blank(text[place]) {
+    while place < text.len() && is_separator(text[place]) {
         place += 1;
     }
     place
 }
 
-/// The token that begins at a place.
+// The token that begins at a place.
 fn token_at(text: &[u8], place: usize) -> Option<Found>
     requires { place < length text.now }
     ensures token { IfSome result (λ found. Stands text.now place found.end found.token) }
@@ -70,7 +70,7 @@ fn token_at(text: &[u8], place: usize) -> Option<Found>
     }
 }
 
-/// The mark at a place.
+// The mark at a place.
 fn mark_at(text: &[u8], place: usize) -> Option<Found>
     requires { place < length text.now }
     ensures mark { IfSome result (λ found. StandsMark text.now place found.end found.token) }
@@ -83,7 +83,7 @@ fn mark_at(text: &[u8], place: usize) -> Option<Found>
     })
 }
 
-/// The token of a mark.
+// The token of a mark.
 fn mark_of(byte: u8) -> Option<Token>
     ensures { result ≡ mark_of byte }
 {
@@ -95,8 +95,8 @@ fn mark_of(byte: u8) -> Option<Token>
     }
 }
 
-fn is_blank(byte: u8) -> bool
-    ensures { result ≡ is_blank byte }
+fn is_separator(byte: u8) -> bool
+    ensures { result ≡ is_separator byte }
 {
     byte == b' ' || byte == b'\t' || byte == b'\n'
 }

@@ -13,7 +13,7 @@ mod token;
 mod word;
 
 pub use fault::LexFault;
-pub use lexer::{MOST_TOKENS, tokens};
+pub use lexer::{MAX_TOKENS, tokens};
 pub use period::Period;
 pub use placed::Placed;
 pub use token::Token;

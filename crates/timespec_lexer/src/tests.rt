@@ -30,7 +30,7 @@ fn number(digits: u8, value: u32) -> Token {
 }
 
 #[test]
-fn texts_with_and_without_blanks(rt: HostRuntime) {
+fn texts_with_and_without_separators(rt: HostRuntime) {
     let eight = [
         (number(1, 8), 0),
         (Colon, 2),
@@ -86,6 +86,34 @@ fn keywords_of_each_kind(rt: HostRuntime) {
         (Comma, 32),
     ];
     assert!(rt; reads("januaryjanmaysaturdayminutesyear,", &longest));
+}
+
+#[test]
+fn months_and_weekdays_by_number(rt: HostRuntime) {
+    for (short, long, token) in [
+        ("jan", "january", Month(1)),
+        ("feb", "february", Month(2)),
+        ("mar", "march", Month(3)),
+        ("apr", "april", Month(4)),
+        ("may", "may", Month(5)),
+        ("jun", "june", Month(6)),
+        ("jul", "july", Month(7)),
+        ("aug", "august", Month(8)),
+        ("sep", "september", Month(9)),
+        ("oct", "october", Month(10)),
+        ("nov", "november", Month(11)),
+        ("dec", "december", Month(12)),
+        ("sun", "sunday", Weekday(0)),
+        ("mon", "monday", Weekday(1)),
+        ("tue", "tuesday", Weekday(2)),
+        ("wed", "wednesday", Weekday(3)),
+        ("thu", "thursday", Weekday(4)),
+        ("fri", "friday", Weekday(5)),
+        ("sat", "saturday", Weekday(6)),
+    ] {
+        assert!(rt; reads(short, &[(token, 0)]), "{short}");
+        assert!(rt; reads(long, &[(token, 0)]), "{long}");
+    }
 }
 
 #[test]

@@ -1,7 +1,7 @@
 //! Keywords in a text.
 ghost use Rattle.std.specs.Prelude.{◌≡◌, ◌≤◌, ◌<◌, ◌↔◌, length, IsTrue, IfSome, IfNone};
 ghost use Rattle.timespec_lexer.specs.Keywords.{keywords};
-ghost use Rattle.timespec_lexer.specs.Search.{AddsRow, IsBest, words_of};
+ghost use Rattle.timespec_lexer.specs.inside.Search.{AddsRow, IsBest, words_of};
 ghost use Rattle.timespec_lexer.specs.Tokens.{HasWord};
 
 use crate::Token;
@@ -18,7 +18,7 @@ pub fn keyword_at(text: &[u8], place: usize) -> Option<Found>
     longest_word(text, place, &KEYWORDS)
 }
 
-/// The longest word of a table at a place.
+// The longest word of a table at a place.
 fn longest_word(text: &[u8], place: usize, table: &[(&str, Token)]) -> Option<Found>
     requires { place ≤ length text.now }
     ensures { IsBest text.now place (words_of table.now) result }
@@ -30,7 +30,7 @@ fn longest_word(text: &[u8], place: usize, table: &[(&str, Token)]) -> Option<Fo
     longest
 }
 
-/// The longest word at a place of the rows before and of this one.
+// The longest word at a place of the rows before and of this one.
 fn with_row(text: &[u8], place: usize, longest: Option<Found>, row: &(&str, Token)) -> Option<Found>
     requires { place ≤ length text.now }
     ensures { AddsRow text.now place longest (row.now.0.now, row.now.1) result }
@@ -43,7 +43,7 @@ fn with_row(text: &[u8], place: usize, longest: Option<Found>, row: &(&str, Toke
     Some(longer_of(longest, Found { token, end }))
 }
 
-/// The one that reaches farther.
+// The one that reaches farther.
 fn longer_of(longest: Option<Found>, found: Found) -> Found
     ensures first { IfNone longest (result ≡ found) }
     ensures longer { IfSome longest (λ old. old.end < found.end → result ≡ found) }
@@ -55,7 +55,7 @@ fn longer_of(longest: Option<Found>, found: Found) -> Found
     }
 }
 
-/// Whether the word, in lower case, stands at the place.
+// Whether the word, in lower case, stands at the place.
 fn has_word(text: &[u8], place: usize, word: &[u8]) -> bool
     requires { place ≤ length text.now }
     ensures { IsTrue result ↔ HasWord text.now place word.now }

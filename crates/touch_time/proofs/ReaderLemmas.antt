@@ -5,7 +5,7 @@ use Rattle.std.proofs.lemmas.Bool.Decides.{nat_tests}
 use Rattle.std.proofs.lemmas.List.{nil_from_length}
 use Rattle.std.proofs.lemmas.Option.{none-some}
 use Rattle.std.specs.Int.{IsInRange, is_in_range}
-use Rattle.touch_time.specs.Reader.{Read, read_number, read_short_year, read_full_year, read_year, is_last, is_seconds}
+use Rattle.touch_time.specs.inside.Reader.{Read, read_number, read_short_year, read_full_year, read_year, is_last, is_seconds}
 use Rattle.touch_time.specs.Touch.{two_digits, SpellsYear, no_year, short_year, full_year, SpellsSeconds, no_seconds, some_seconds}
 use Rattle.touch_time.proofs.OptionLemmas.{cond_some, and_then_some, same_parts}
 

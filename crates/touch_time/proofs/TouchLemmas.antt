@@ -1,6 +1,6 @@
 -- The reader reads the spelling, and nothing else.
 use Rattle.std.proofs.Common.{◌≡◌, ◌∙◌, ◌⊎◌, inl, inr, ℕ, List, ◌++◌, length, Some, subst, arith, lit≤, append_assoc}
-use Rattle.touch_time.specs.Reader.{read_touch, read_year, read_number, is_seconds}
+use Rattle.touch_time.specs.inside.Reader.{read_touch, read_year, read_number, is_seconds}
 use Rattle.touch_time.specs.Touch.{SpellsTouch, two_digits}
 use Rattle.touch_time.specs.declared.touch.TouchTime.{TouchTime}
 use Rattle.touch_time.proofs.OptionLemmas.{cond_some, and_then_some}

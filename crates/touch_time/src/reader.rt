@@ -1,12 +1,12 @@
 //! The parts of a time, one after another. Each function reads the front of a slice, and gives the
 //! value and the rest.
 ghost use Rattle.std.specs.Prelude.{◌≡◌, ◌≤◌, IfSome};
-ghost use Rattle.touch_time.specs.Reader as Reader;
+ghost use Rattle.touch_time.specs.inside.Reader as Reader;
 
 use crate::TouchTime;
 
 /// A time and nothing behind it.
-#[tactic(auto, unfolding(crate::specs::Reader::read_touch))]
+#[tactic(auto, unfolding(crate::specs::inside::Reader::read_touch))]
 pub(crate) fn read_touch(text: &[u8]) -> Option<TouchTime>
     ensures { result ≡ Reader.read_touch text.now }
 {
@@ -28,7 +28,7 @@ pub(crate) fn read_touch(text: &[u8]) -> Option<TouchTime>
 }
 
 // The length of the text tells how its year is spelled, since no two forms have the same.
-#[tactic(auto, unfolding(crate::specs::Reader::read_year))]
+#[tactic(auto, unfolding(crate::specs::inside::Reader::read_year))]
 fn read_year(text: &[u8]) -> Option<(Option<u16>, &[u8])>
     ensures { Reader.read_view result ≡ Reader.read_year text.now }
 {
@@ -40,7 +40,7 @@ fn read_year(text: &[u8]) -> Option<(Option<u16>, &[u8])>
     }
 }
 
-#[tactic(auto, unfolding(crate::specs::Reader::read_short_year))]
+#[tactic(auto, unfolding(crate::specs::inside::Reader::read_short_year))]
 fn read_short_year(text: &[u8]) -> Option<(Option<u16>, &[u8])>
     ensures { Reader.read_view result ≡ Reader.read_short_year text.now }
 {
@@ -49,7 +49,7 @@ fn read_short_year(text: &[u8]) -> Option<(Option<u16>, &[u8])>
     Some((Some(century + u16::from(year)), text))
 }
 
-#[tactic(auto, unfolding(crate::specs::Reader::read_full_year))]
+#[tactic(auto, unfolding(crate::specs::inside::Reader::read_full_year))]
 fn read_full_year(text: &[u8]) -> Option<(Option<u16>, &[u8])>
     ensures { Reader.read_view result ≡ Reader.read_full_year text.now }
 {
@@ -58,7 +58,7 @@ fn read_full_year(text: &[u8]) -> Option<(Option<u16>, &[u8])>
     Some((Some(u16::from(century) * 100 + u16::from(year)), text))
 }
 
-#[tactic(auto, unfolding(crate::specs::Reader::read_number))]
+#[tactic(auto, unfolding(crate::specs::inside::Reader::read_number))]
 fn read_number(text: &[u8], low: u8, high: u8) -> Option<(u8, &[u8])>
     ensures value { Reader.read_view result ≡ Reader.read_number low high text.now }
     ensures bound { IfSome result (λ read. read.0 ≤ 99) }
@@ -76,7 +76,7 @@ fn read_number(text: &[u8], low: u8, high: u8) -> Option<(u8, &[u8])>
 }
 
 // No seconds, or a point and seconds.
-#[tactic(auto, unfolding(crate::specs::Reader::is_seconds))]
+#[tactic(auto, unfolding(crate::specs::inside::Reader::is_seconds))]
 fn is_seconds(text: &[u8]) -> bool
     ensures { result ≡ Reader.is_seconds text.now }
 {

@@ -1,1 +1,3 @@
 mod ChildLemmas
+mod FillLemmas
+mod PathLemmas

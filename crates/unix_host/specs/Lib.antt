@@ -1,5 +1,6 @@
-pub mod Changes
+pub mod inside
 pub mod Children
-pub mod LockByte
-pub mod Torn
+pub mod Endings
+pub mod UnixHost
+pub mod Unsynced
 pub mod Untold

@@ -1,14 +1,15 @@
 //! What a session and those before it may have left unsynced.
-ghost use Rattle.std.specs.Prelude.{◌≡◌, IsTrue};
-ghost use Rattle.unix_host.specs.Changes.{left_by, Remembers};
-ghost use Rattle.unix_host.specs.Torn.{may_tear, KeepsOthers};
+ghost use Rattle.std.specs.Prelude.{◌≡◌, ◌≢◌, [], true, false};
+ghost use Rattle.unix_host.specs.Unsynced.{unsynced_by};
+ghost use Rattle.unix_host.specs.inside.Changes.{left_by};
+ghost use Rattle.unix_host.specs.inside.Torn.{HasTorn, HasWhole, HasMoved};
 
 use crate::torn::Torn;
 use crate::unsynced::Unsynced;
 use host_calls::Name;
 
-/// What of the folder may be unsynced at this moment of a session.
-#[derive(Drop)]
+/// What of the folder may be unsynced at one moment of a session. Each method answers what may be behind a call.
+#[derive(Clone, Copy)]
 pub struct Changes {
     names: bool,
     torn: Torn,
@@ -16,22 +17,24 @@ pub struct Changes {
 }
 
 impl Changes {
-    /// What a session begins with, by what those before it left.
-    pub fn after(left: Unsynced) -> Changes
-        ensures { left_by result ≡ left }
+    /// What a session begins with, by what the byte of the lock tells.
+    pub fn after(told: Unsynced) -> Changes
+        ensures told { unsynced_by result ≡ told }
+        ensures names { told ≢ Unsynced.Nothing → result.names ≡ true }
+        ensures failed { result.has_failed ≡ false }
     {
-        let torn = match left {
+        let torn = match told {
             Unsynced::Anything => Torn::Each,
             Unsynced::Nothing | Unsynced::Names => Torn::Nobody,
         };
         Changes {
-            names: left == Unsynced::Names,
+            names: told != Unsynced::Nothing,
             torn,
             has_failed: false,
         }
     }
 
-    /// What may be unsynced.
+    /// What the next session is to be told.
     pub fn left(&self) -> Unsynced
         ensures { result ≡ left_by self.now }
     {
@@ -44,72 +47,95 @@ impl Changes {
         }
     }
 
-    /// A file is about to be made.
-    pub fn create(&mut self, name: &Name)
-        ensures names { IsTrue self.new.names }
-        ensures torn { IsTrue (may_tear self.new.torn name.now) }
-        ensures remembers { Remembers self.old self.new }
+    /// A file is made.
+    pub fn made(&self, name: &Name) -> Changes
+        ensures names { result.names ≡ true }
+        ensures torn { HasTorn name.now self.now.torn result.torn }
+        ensures failed { result.has_failed ≡ self.now.has_failed }
     {
-        self.names = true;
-        self.torn = self.torn.with(name);
+        Changes {
+            names: true,
+            torn: self.torn.with(name),
+            ..*self
+        }
     }
 
-    /// A range of a file is about to be written.
-    pub fn write(&mut self, name: &Name)
-        ensures torn { IsTrue (may_tear self.new.torn name.now) }
-        ensures remembers { Remembers self.old self.new }
+    /// A range of a file is written.
+    pub fn written(&self, name: &Name) -> Changes
+        ensures names { result.names ≡ self.now.names }
+        ensures torn { HasTorn name.now self.now.torn result.torn }
+        ensures failed { result.has_failed ≡ self.now.has_failed }
     {
-        self.torn = self.torn.with(name);
+        Changes {
+            torn: self.torn.with(name),
+            ..*self
+        }
     }
 
-    /// A file is about to get another name.
-    pub fn rename(&mut self, from: &Name)
-        ensures names { IsTrue self.new.names }
-        ensures torn { IsTrue (may_tear self.old.torn from.now) → self.new.torn ≡ Torn.Each }
-        ensures remembers { Remembers self.old self.new }
+    /// A file gets another name.
+    pub fn moved(&self, from: &Name) -> Changes
+        ensures names { result.names ≡ true }
+        ensures torn { HasMoved from.now self.now.torn result.torn }
+        ensures failed { result.has_failed ≡ self.now.has_failed }
     {
-        self.names = true;
-        self.torn = self.torn.moved(from);
+        Changes {
+            names: true,
+            torn: self.torn.moved(from),
+            ..*self
+        }
     }
 
-    /// A file is about to be removed.
-    pub fn remove(&mut self)
-        ensures names { IsTrue self.new.names }
-        ensures remembers { Remembers self.old self.new }
+    /// A file is removed.
+    pub fn removed(&self) -> Changes
+        ensures { result ≡ record self.now { names = true } }
     {
-        self.names = true;
+        Changes {
+            names: true,
+            ..*self
+        }
     }
 
     /// The bytes of a file were synced.
-    pub fn sync(&mut self, name: &Name)
-        ensures names { self.new.names ≡ self.old.names }
-        ensures others { KeepsOthers name.now self.old.torn self.new.torn }
-        ensures failed { self.new.has_failed ≡ self.old.has_failed }
+    pub fn synced(&self, name: &Name) -> Changes
+        ensures names { result.names ≡ self.now.names }
+        ensures torn { HasWhole name.now self.now.torn result.torn }
+        ensures failed { result.has_failed ≡ self.now.has_failed }
     {
-        self.torn = self.torn.without(name);
+        Changes {
+            torn: self.torn.without(name),
+            ..*self
+        }
+    }
+
+    /// The bytes of all files were synced: none is left that were not.
+    pub fn files_synced(&self, left: &[Name]) -> Changes
+        requires { left.now ≡ [] }
+        ensures { result ≡ record self.now { torn = Torn.Nobody } }
+    {
+        let _ = left;
+        Changes {
+            torn: Torn::Nobody,
+            ..*self
+        }
     }
 
     /// The names were synced.
-    pub fn sync_names(&mut self)
-        ensures torn { self.new.torn ≡ self.old.torn }
-        ensures failed { self.new.has_failed ≡ self.old.has_failed }
+    pub fn names_synced(&self) -> Changes
+        ensures { result ≡ record self.now { names = false } }
     {
-        self.names = false;
-    }
-
-    /// All of the folder was synced. Where a call failed before, the next session is told the worst all the same.
-    pub fn settle(&mut self)
-        ensures failed { self.new.has_failed ≡ self.old.has_failed }
-    {
-        self.names = false;
-        self.torn = Torn::Nobody;
+        Changes {
+            names: false,
+            ..*self
+        }
     }
 
     /// A call failed.
-    pub fn fail(&mut self)
-        ensures failed { IsTrue self.new.has_failed }
-        ensures remembers { Remembers self.old self.new }
+    pub fn failed(&self) -> Changes
+        ensures { result ≡ record self.now { has_failed = true } }
     {
-        self.has_failed = true;
+        Changes {
+            has_failed: true,
+            ..*self
+        }
     }
 }

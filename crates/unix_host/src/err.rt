@@ -14,6 +14,7 @@ pub struct UnixErr<R: Eprint + Drop> {
 }
 
 impl<R: Eprint + Drop> UnixErr<R> {
+    /// The standard error of this runtime.
     pub fn make(rt: R) -> UnixErr<R>
         ensures { result.sink_faults ≡ 0 }
     {

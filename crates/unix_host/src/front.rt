@@ -1,5 +1,6 @@
 //! Reads that go on where a signal interrupts them or where only a part has come.
-ghost use Rattle.std.specs.Prelude.{◌≤◌, IfOk, length};
+ghost use Rattle.std.specs.Prelude.{◌≡◌, ◌<◌, ◌≤◌, IfOk, IfSome, length, take};
+ghost use Rattle.std.specs.Io.KnownBytes.{Consumes, IsAtEnd};
 
 use host_calls::{Bytes, InputFault};
 use std::alloc::Global;
@@ -8,50 +9,50 @@ use std::io;
 use std::io::{ErrorKind, Read};
 use std::os::unix::fs::FileExt;
 
-/// How many bytes are read at a time.
+// How many bytes are read at a time.
 const CHUNK: usize = 4096;
 
-/// Fills the buffer from a file's offset on, and tells how much of it is filled: less only at the file's end.
-pub fn fill_at(file: &File, buffer: &mut [u8], offset: u64) -> io::Result<usize>
-    ensures { IfOk result (λ filled. filled ≤ length buffer.new) }
-{
-    let mut filled = 0;
-    for _ in 0..u64::MAX {
-        if filled >= buffer.len() {
-            break;
-        }
-        match file.read_at(&mut buffer[filled..], offset.saturating_add(filled as u64)) {
-            Ok(0) => break,
-            Ok(count) => filled += count,
-            Err(error) if error.kind() == ErrorKind::Interrupted => {}
-            Err(error) => return Err(error),
-        }
+/// A file, read from an offset on.
+#[derive(Drop)]
+pub struct FileFrom<'a> {
+    pub file: &'a File,
+    pub offset: u64,
+}
+
+impl Read for FileFrom<'_> {
+    fn read(&mut self, buffer: &mut [u8]) -> io::Result<usize> {
+        let count = self.file.read_at(buffer, self.offset)?;
+        self.offset = self.offset.saturating_add(count as u64);
+        Ok(count)
     }
-    Ok(filled)
 }
 
 /// Fills the buffer, and tells how much of it is filled: less only where the reader ends.
 pub fn fill<R: Read>(reader: &mut R, buffer: &mut [u8]) -> io::Result<usize>
-    ensures { IfOk result (λ filled. filled ≤ length buffer.new) }
+    ensures few { IfOk result (λ filled. filled ≤ length buffer.new) }
+    ensures bytes { IfOk result (λ filled.
+        Consumes (R.remaining reader.old) (R.remaining reader.new) (take filled buffer.new)) }
+    ensures end { IfOk result (λ filled. filled < length buffer.new → IsAtEnd (R.remaining reader.new)) }
 {
     let mut filled = 0;
     for _ in 0..u64::MAX {
         if filled >= buffer.len() {
-            break;
+            return Ok(filled);
         }
         match reader.read(&mut buffer[filled..]) {
-            Ok(0) => break,
+            Ok(0) => return Ok(filled),
             Ok(count) => filled += count,
             Err(error) if error.kind() == ErrorKind::Interrupted => {}
             Err(error) => return Err(error),
         }
     }
-    Ok(filled)
+    Err(io::Error::from(ErrorKind::Interrupted))
 }
 
 /// The first bytes that a reader gives: all of them, or `most`.
 pub fn front<R: Read>(alloc: Global, reader: &mut R, most: usize) -> Result<Bytes, InputFault>
     ensures few { IfOk result (λ bytes. length bytes ≤ most) }
+    ensures front { IfOk result (λ bytes. IfSome (R.remaining reader.old) (λ all. bytes ≡ take most all)) }
 {
     let mut bytes = Vec::new(alloc);
     let mut chunk = [0; CHUNK];
@@ -62,8 +63,8 @@ pub fn front<R: Read>(alloc: Global, reader: &mut R, most: usize) -> Result<Byte
         };
         bytes.extend_from_slice(&chunk[..count])?;
         if count < CHUNK {
-            break;
+            return Ok(Bytes::from(bytes));
         }
     }
-    Ok(Bytes::from(bytes))
+    Err(InputFault::Failed)
 }

@@ -1,22 +1,18 @@
 //! A spool folder on a disk.
-ghost use Rattle.std.specs.Prelude.{◌≡◌, ◌≢◌, ◌≤◌, false, is_some, vec_len, IfOk, IfSome, IsSome, OnOk};
-ghost use Rattle.host_calls.specs.Causes.{HasCause};
-ghost use Rattle.unix_host.specs.Changes.{left_by};
-ghost use Rattle.unix_host.specs.LockByte.{amount_of};
+ghost use Rattle.std.specs.Prelude.{◌≡◌, ◌≢◌, [], true, false, Contains, IsErrOf, IsSome, IfOk, OnErr, OnOk, Ok, Some, slice_get};
+ghost use Rattle.host_calls.specs.Causes.{HasCause, Rose};
+ghost use Rattle.host_calls.specs.Session.{IsInside, IsOutside, CallsInside, Enters, Starts, StaysInside};
+ghost use Rattle.unix_host.specs.declared.unsynced.Unsynced.{Unsynced};
+ghost use Rattle.unix_host.specs.UnixHost.{ending_in, starts_of, session_of, told_of, torn_file, unsynced_of};
 ghost use Rattle.unix_host.specs.Untold.{untold_world};
-ghost use Rattle.unix_host.specs.Children.{first_children};
 
-use crate::changes::Changes;
 use crate::counts::Counts;
-use crate::job::ending_of;
-use crate::lock::Lock;
-use crate::paths::Paths;
-use crate::unsynced::Unsynced;
-use crate::{folder, job};
+use crate::job::{JobStart, Kid, ending_of};
+use crate::locked::LockedFolder;
+use crate::{files, job};
 use host_calls::{Child, Ending, EnterFault, Host, HostFault, Name, StartFault, Text};
 use std::alloc::{AllocError, Global};
 use std::fs::File;
-use std::process;
 use std::process::Processes;
 use std::rt::Runtime;
 
@@ -25,27 +21,23 @@ use std::rt::Runtime;
 pub struct UnixHost<R: Runtime<File = File> + Processes> {
     rt: R,
     spool: Text,
-    paths: Paths,
-    lock: Option<Lock>,
-    changes: Changes,
-    kids: Vec<process::Child<R::Started>>,
+    folder: Option<LockedFolder>,
+    kids: Vec<Kid<R>>,
     pub(crate) counts: Counts,
 }
 
 impl<R: Runtime<File = File> + Processes> UnixHost<R> {
     /// The host of this folder. It touches no file.
     pub fn make(rt: R, alloc: Global, spool: Text) -> Result<UnixHost<R>, AllocError>
-        ensures outside { IfOk result (λ made. is_some made.lock ≡ false) }
-        ensures children { IfOk result (λ made. vec_len made.kids ≡ 0) }
-        ensures made_as { IfOk result (λ made. made.spool ≡ spool) }
+        ensures outside { IfOk result (λ made. IsOutside (session_of made)) }
+        ensures children { IfOk result (λ made. (session_of made).children ≡ []) }
+        ensures spool { IfOk result (λ made. made.spool ≡ spool) }
         ensures counts { IfOk result (λ made. made.counts ≡ record { files = 0; starts = 0; taken = 0 }) }
     {
         Ok(UnixHost {
             rt,
-            paths: Paths::of(alloc, spool.as_str())?,
             spool,
-            lock: None,
-            changes: Changes::after(Unsynced::Anything),
+            folder: None,
             kids: Vec::new(alloc),
             counts: Counts {
                 files: 0,
@@ -56,28 +48,9 @@ impl<R: Runtime<File = File> + Processes> UnixHost<R> {
     }
 }
 
-fn begin<R: Runtime<File = File>>(rt: &R, paths: &Paths) -> Result<Lock, EnterFault> {
-    if folder::make_folders(rt, paths).is_err() {
-        return Err(EnterFault::Failed);
-    }
-    Lock::take(rt, paths.lock())
-}
-
-// Before a call that changes the folder: the lock file is to say at least what will be unsynced then.
-fn tell(lock: &mut Option<Lock>, changes: &Changes) -> Result<(), HostFault>
-    requires inside { IsSome lock.old }
-    ensures inside { IsSome lock.new }
-    ensures told { OnOk result (IfSome lock.new (λ lock. amount_of (left_by changes.now) ≤ amount_of lock.told)) }
-{
-    match lock {
-        Some(lock) => lock.raise(changes.left()).map_err(|_| HostFault::Failed),
-        None => unreachable!(),
-    }
-}
-
 // After a call on the files.
 fn finish<T>(
-    changes: &mut Changes,
+    folder: &mut LockedFolder,
     counts: &mut Counts,
     answer: Result<T, HostFault>,
 ) -> Result<T, HostFault>
@@ -85,9 +58,11 @@ fn finish<T>(
     ensures cause { HasCause HostFault.Failed counts.old.files counts.new.files result }
     ensures starts { counts.new.starts ≡ counts.old.starts }
     ensures taken { counts.new.taken ≡ counts.old.taken }
+    ensures ok { OnOk answer (folder.new.changes ≡ folder.old.changes) }
+    ensures failed { OnErr answer (folder.new.changes ≡ record folder.old.changes { has_failed = true }) }
 {
     if answer.is_err() {
-        changes.fail();
+        folder.fail();
     }
     counts.file_call(answer)
 }
@@ -97,23 +72,22 @@ impl<R: Runtime<File = File> + Processes> Host for UnixHost<R> {
 
     ghost alone = { false };
 
-    ghost session = { λ host. record {
-      inside = is_some host.lock;
-      children = first_children (vec_len host.kids);
-      made_as = host.spool;
-      file_faults = host.counts.files;
-      start_faults = host.counts.starts;
-      taken = host.counts.taken;
-    } };
+    ghost session = { session_of };
 
     ghost world = { λ _. untold_world };
 
-    fn enter(&mut self, alloc: Global) -> Result<(), EnterFault> {
-        let _ = alloc;
-        match begin(&self.rt, &self.paths) {
-            Ok(lock) => {
-                self.changes = Changes::after(lock.told());
-                self.lock = Some(lock);
+    fn enter(&mut self, alloc: Global) -> Result<(), EnterFault>
+        requires { IsOutside (session_of self.old) }
+        ensures enters { Enters (session_of self.old) (session_of self.new) result }
+        ensures taken { IsErrOf result EnterFault.Taken
+            → Rose (session_of self.old).taken (session_of self.new).taken }
+        ensures failed { IsErrOf result EnterFault.Failed
+            → Rose (session_of self.old).file_faults (session_of self.new).file_faults }
+        ensures told { OnOk result (unsynced_of self.new ≡ told_of self.new) }
+    {
+        match LockedFolder::enter(&self.rt, alloc, self.spool.as_str()) {
+            Ok(folder) => {
+                self.folder = Some(folder);
                 Ok(())
             }
             Err(fault) => {
@@ -124,20 +98,26 @@ impl<R: Runtime<File = File> + Processes> Host for UnixHost<R> {
     }
 
     fn leave(&mut self) {
-        if let Some(lock) = self.lock.take() {
-            lock.release(self.changes.left());
+        if let Some(folder) = self.folder.take() {
+            folder.leave();
         }
     }
 
     fn names(&mut self, alloc: Global) -> Result<Vec<Name>, HostFault> {
-        let answer = folder::names(&self.rt, alloc, self.paths.folder());
-        finish(&mut self.changes, &mut self.counts, answer)
+        let Some(folder) = &mut self.folder else {
+            unreachable!()
+        };
+        let answer = files::names(&self.rt, alloc, folder.paths().folder());
+        finish(folder, &mut self.counts, answer)
     }
 
     fn length(&mut self, alloc: Global, name: &Name) -> Result<u64, HostFault> {
-        let path = self.paths.file(alloc, name)?;
-        let answer = folder::length(&self.rt, path.as_str());
-        finish(&mut self.changes, &mut self.counts, answer)
+        let Some(folder) = &mut self.folder else {
+            unreachable!()
+        };
+        let path = folder.paths().file(alloc, name)?;
+        let answer = files::length(&self.rt, path.as_str());
+        finish(folder, &mut self.counts, answer)
     }
 
     fn read(
@@ -147,19 +127,26 @@ impl<R: Runtime<File = File> + Processes> Host for UnixHost<R> {
         offset: u64,
         most: usize,
     ) -> Result<Vec<u8>, HostFault> {
-        let path = self.paths.file(alloc, name)?;
-        let answer = folder::read(&self.rt, alloc, path.as_str(), offset, most);
-        finish(&mut self.changes, &mut self.counts, answer)
+        let Some(folder) = &mut self.folder else {
+            unreachable!()
+        };
+        let path = folder.paths().file(alloc, name)?;
+        let answer = files::read(&self.rt, alloc, path.as_str(), offset, most);
+        finish(folder, &mut self.counts, answer)
     }
 
-    fn create(&mut self, alloc: Global, name: &Name, bytes: &[u8]) -> Result<(), HostFault> {
-        let path = self.paths.file(alloc, name)?;
-        self.changes.create(name);
-        let answer = match tell(&mut self.lock, &self.changes) {
-            Ok(()) => folder::create(&self.rt, path.as_str(), bytes),
-            Err(fault) => Err(fault),
+    fn create(&mut self, alloc: Global, name: &Name, bytes: &[u8]) -> Result<(), HostFault>
+        requires { IsInside (session_of self.old) }
+        ensures inside { CallsInside HostFault.Failed (session_of self.old) (session_of self.new) result }
+        ensures unsynced { OnOk result (unsynced_of self.new ≡ Some Unsynced.Anything) }
+        ensures torn { OnOk result (unsynced_of self.old ≢ Some Unsynced.Anything
+            → torn_file self.new ≡ Some name.now) }
+    {
+        let Some(folder) = &mut self.folder else {
+            unreachable!()
         };
-        finish(&mut self.changes, &mut self.counts, answer)
+        let answer = folder.create(&self.rt, alloc, name, bytes);
+        finish(folder, &mut self.counts, answer)
     }
 
     fn write(
@@ -168,61 +155,80 @@ impl<R: Runtime<File = File> + Processes> Host for UnixHost<R> {
         name: &Name,
         offset: u64,
         bytes: &[u8],
-    ) -> Result<(), HostFault> {
-        let path = self.paths.file(alloc, name)?;
-        self.changes.write(name);
-        let answer = match tell(&mut self.lock, &self.changes) {
-            Ok(()) => folder::write(&self.rt, path.as_str(), offset, bytes),
-            Err(fault) => Err(fault),
+    ) -> Result<(), HostFault>
+        requires { IsInside (session_of self.old) }
+        ensures inside { CallsInside HostFault.Failed (session_of self.old) (session_of self.new) result }
+        ensures unsynced { OnOk result (unsynced_of self.new ≡ Some Unsynced.Anything) }
+        ensures torn { OnOk result (unsynced_of self.old ≢ Some Unsynced.Anything
+            → torn_file self.new ≡ Some name.now) }
+    {
+        let Some(folder) = &mut self.folder else {
+            unreachable!()
         };
-        finish(&mut self.changes, &mut self.counts, answer)
+        let answer = folder.write(&self.rt, alloc, name, offset, bytes);
+        finish(folder, &mut self.counts, answer)
     }
 
-    fn sync(&mut self, alloc: Global, name: &Name) -> Result<(), HostFault> {
-        let path = self.paths.file(alloc, name)?;
-        let answer = folder::sync(&self.rt, path.as_str());
-        if answer.is_ok() {
-            self.changes.sync(name);
-        }
-        finish(&mut self.changes, &mut self.counts, answer)
+    fn sync(&mut self, alloc: Global, name: &Name) -> Result<(), HostFault>
+        requires { IsInside (session_of self.old) }
+        ensures inside { CallsInside HostFault.Failed (session_of self.old) (session_of self.new) result }
+        ensures synced { OnOk result (torn_file self.old ≡ Some name.now
+            → unsynced_of self.new ≢ Some Unsynced.Anything) }
+    {
+        let Some(folder) = &mut self.folder else {
+            unreachable!()
+        };
+        let answer = folder.sync(&self.rt, alloc, name);
+        finish(folder, &mut self.counts, answer)
     }
 
-    fn sync_names(&mut self, alloc: Global) -> Result<(), HostFault> {
+    fn sync_names(&mut self, alloc: Global) -> Result<(), HostFault>
+        requires { IsInside (session_of self.old) }
+        ensures inside { CallsInside HostFault.Failed (session_of self.old) (session_of self.new) result }
+        ensures synced { OnOk result (unsynced_of self.new ≢ Some Unsynced.Names) }
+    {
         let _ = alloc;
-        let answer = folder::sync_names(&self.rt, &self.paths);
-        if answer.is_ok() {
-            self.changes.sync_names();
-        }
-        finish(&mut self.changes, &mut self.counts, answer)
-    }
-
-    fn settle(&mut self, alloc: Global) -> Result<(), HostFault> {
-        let answer = folder::settle(&self.rt, alloc, &self.paths, self.changes.left());
-        if answer.is_ok() {
-            self.changes.settle();
-        }
-        finish(&mut self.changes, &mut self.counts, answer)
-    }
-
-    fn rename(&mut self, alloc: Global, from: &Name, to: &Name) -> Result<(), HostFault> {
-        let source = self.paths.file(alloc, from)?;
-        let target = self.paths.file(alloc, to)?;
-        self.changes.rename(from);
-        let answer = match tell(&mut self.lock, &self.changes) {
-            Ok(()) => folder::rename(&self.rt, source.as_str(), target.as_str()),
-            Err(fault) => Err(fault),
+        let Some(folder) = &mut self.folder else {
+            unreachable!()
         };
-        finish(&mut self.changes, &mut self.counts, answer)
+        let answer = folder.sync_names(&self.rt);
+        finish(folder, &mut self.counts, answer)
     }
 
-    fn remove(&mut self, alloc: Global, name: &Name) -> Result<(), HostFault> {
-        let path = self.paths.file(alloc, name)?;
-        self.changes.remove();
-        let answer = match tell(&mut self.lock, &self.changes) {
-            Ok(()) => folder::remove(&self.rt, path.as_str()),
-            Err(fault) => Err(fault),
+    fn settle(&mut self, alloc: Global) -> Result<(), HostFault>
+        requires { IsInside (session_of self.old) }
+        ensures inside { CallsInside HostFault.Failed (session_of self.old) (session_of self.new) result }
+        ensures settled { OnOk result (unsynced_of self.new ≡ Some Unsynced.Nothing) }
+    {
+        let Some(folder) = &mut self.folder else {
+            unreachable!()
         };
-        finish(&mut self.changes, &mut self.counts, answer)
+        let answer = folder.settle(&self.rt, alloc);
+        finish(folder, &mut self.counts, answer)
+    }
+
+    fn rename(&mut self, alloc: Global, from: &Name, to: &Name) -> Result<(), HostFault>
+        requires { IsInside (session_of self.old) }
+        ensures inside { CallsInside HostFault.Failed (session_of self.old) (session_of self.new) result }
+        ensures unsynced { OnOk result (unsynced_of self.new ≢ Some Unsynced.Nothing) }
+    {
+        let Some(folder) = &mut self.folder else {
+            unreachable!()
+        };
+        let answer = folder.rename(&self.rt, alloc, from, to);
+        finish(folder, &mut self.counts, answer)
+    }
+
+    fn remove(&mut self, alloc: Global, name: &Name) -> Result<(), HostFault>
+        requires { IsInside (session_of self.old) }
+        ensures inside { CallsInside HostFault.Failed (session_of self.old) (session_of self.new) result }
+        ensures unsynced { OnOk result (unsynced_of self.new ≢ Some Unsynced.Nothing) }
+    {
+        let Some(folder) = &mut self.folder else {
+            unreachable!()
+        };
+        let answer = folder.remove(&self.rt, alloc, name);
+        finish(folder, &mut self.counts, answer)
     }
 
     fn start(
@@ -231,24 +237,46 @@ impl<R: Runtime<File = File> + Processes> Host for UnixHost<R> {
         number: u32,
         name: &Name,
         nice: u8,
-    ) -> Result<Child, StartFault> {
+    ) -> Result<Child, StartFault>
+        requires { IsInside (session_of self.old) }
+        ensures starts { Starts (session_of self.old) (session_of self.new) result }
+        ensures cause { HasCause StartFault.Failed
+            (session_of self.old).start_faults (session_of self.new).start_faults result }
+        ensures started_as { IfOk result (λ child.
+            slice_get (starts_of self.new) child.id ≡ Some (record { name = name.now; nice = nice })) }
+    {
         // The name alone tells which job it is.
         let _ = number;
-        let path = self.paths.file(alloc, name)?;
-        let out = self.paths.output(alloc, name)?;
+        let Some(folder) = &self.folder else {
+            unreachable!()
+        };
         // Room first, so that no child is lost that was started.
         self.kids.reserve(1)?;
-        let started = job::start(&self.rt, alloc, nice, path.as_str(), out.as_str());
+        let started = job::start(
+            &self.rt,
+            alloc,
+            folder.paths(),
+            JobStart { name: *name, nice },
+        );
         let kid = self.counts.start_call(started)?;
-        let id = self.kids.len() as u64;
+        let id = self.kids.as_slice().len() as u64;
         self.kids.push_reserved(kid);
         Ok(Child { id })
     }
 
-    fn ended(&mut self, alloc: Global, child: &Child) -> Result<Option<Ending>, AllocError> {
+    fn ended(&mut self, alloc: Global, child: &Child) -> Result<Option<Ending>, AllocError>
+        requires inside { IsInside (session_of self.old) }
+        requires started { Contains (session_of self.old).children child.now }
+        ensures inside { StaysInside (session_of self.old) (session_of self.new) }
+        ensures was_started { result ≢ Ok (Some Ending.NotStarted) }
+        ensures told { IfOk result (λ told. IsSome told → told ≡ ending_in self.new child.now.id) }
+    {
         let _ = alloc;
-        // A child that can't be asked counts as one that still runs.
-        let status = self.kids[child.id as usize].try_wait().unwrap_or(None);
-        Ok(status.map(ending_of))
+        let kid = &mut self.kids[child.id as usize];
+        match kid.process.try_wait() {
+            Ok(Some(status)) => Ok(Some(ending_of(status))),
+            // A child that can't be asked counts as one that still runs.
+            Ok(None) | Err(_) => Ok(None),
+        }
     }
 }

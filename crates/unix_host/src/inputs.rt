@@ -16,6 +16,7 @@ pub struct UnixInputs<R: Files<File = File> + Input + Drop> {
 }
 
 impl<R: Files<File = File> + Input + Drop> UnixInputs<R> {
+    /// The standard input and the files of this runtime.
     pub fn make(rt: R) -> UnixInputs<R>
         ensures { result.input_faults ≡ 0 }
     {

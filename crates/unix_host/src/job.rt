@@ -1,52 +1,114 @@
 //! How a job is started, and how it ended.
-ghost use Rattle.std.specs.Prelude.{◌≢◌};
+ghost use Rattle.std.specs.Prelude.{◌≡◌, ◌++◌, ◌<◌, ℕ, IfOk, OnOk, map, pos, string_bytes};
+ghost use Rattle.std.specs.Path.{IsAbsolute};
+ghost use Rattle.std.specs.Process.{SameDir, SameEnv, command_args, command_program};
+ghost use Rattle.unix_host.specs.Endings.{ending_for};
+ghost use Rattle.unix_host.specs.inside.JobCommand.{IsJobCommand};
+ghost use Rattle.unix_host.specs.inside.Paths.{file_in};
 
-use host_calls::{Ending, StartFault};
+use crate::paths::Paths;
+use host_calls::{Ending, Name, StartFault};
 use std::alloc::{AllocError, Global};
 use std::io::ErrorKind;
 use std::os::unix::process::ExitStatusExt;
 use std::process;
 use std::process::{Command, ExitStatus, Processes};
 
-/// Runs the script `$2` at the niceness `$1` with no environment, and puts what it writes into `$3`.
+// Runs the script `$2` at the niceness `$1` with no environment, and puts what it writes into `$3`.
 const LINE: &str = "exec nice -n \"$1\" env -i /bin/sh \"$2\" >\"$3\" 2>&1 </dev/null";
 
-/// Starts the job file `job`, whose output goes to the file `out`.
+/// What a start asks for: the job by the name of its file, and how nice it is to be.
+#[derive(Clone, Copy)]
+pub struct JobStart {
+    pub name: Name,
+    pub nice: u8,
+}
+
+/// A child, and what it was started as.
+#[derive(Drop)]
+pub struct Kid<R: Processes> {
+    pub process: process::Child<R::Started>,
+    pub started_as: JobStart,
+}
+
+/// Starts a job of the folder with these paths.
 pub fn start<R: Processes>(
     rt: &R,
     alloc: Global,
-    nice: u8,
-    job: &str,
-    out: &str,
-) -> Result<process::Child<R::Started>, StartFault> {
-    let mut command = command_of(alloc, nice, job, out)?;
+    paths: &Paths,
+    start: JobStart,
+) -> Result<Kid<R>, StartFault>
+    ensures started_as { IfOk result (λ kid. kid.started_as ≡ start) }
+{
+    let script = paths.file(alloc, &start.name)?;
+    let output = paths.output(alloc, &start.name)?;
+    let command = command_of(alloc, start.nice, script.as_str(), output.as_str())?;
+    spawned(rt, command, paths, start)
+}
+
+// The child of this command.
+fn spawned<R: Processes>(
+    rt: &R,
+    mut command: Command,
+    paths: &Paths,
+    start: JobStart,
+) -> Result<Kid<R>, StartFault>
+    requires { IsJobCommand start.nice (file_in (string_bytes paths.now.folder) start.name)
+        (file_in (string_bytes paths.now.outputs) start.name) command }
+    ensures started_as { IfOk result (λ kid. kid.started_as ≡ start) }
+{
+    let _ = paths;
     match command.spawn(rt) {
-        Ok(kid) => Ok(kid),
+        Ok(process) => Ok(Kid {
+            process,
+            started_as: start,
+        }),
         // Nothing was started then.
         Err(error) if error.kind() == ErrorKind::OutOfMemory => Err(StartFault::Memory),
         Err(_) => Err(StartFault::Failed),
     }
 }
 
-fn command_of(alloc: Global, nice: u8, job: &str, out: &str) -> Result<Command, AllocError> {
+// A shell would read a word that begins with a dash as options.
+fn command_of(alloc: Global, nice: u8, script: &str, output: &str) -> Result<Command, AllocError>
+    requires script { IsAbsolute script.now }
+    requires output { IsAbsolute output.now }
+    ensures { IfOk result (IsJobCommand nice script.now output.now) }
+{
     let niceness = nice.to_string(alloc)?;
+    let words = ["-c", LINE, "atjob", niceness.as_str(), script, output];
     let mut command = Command::new(alloc, "/bin/sh")?;
-    command.arg("-c")?.arg(LINE)?.arg("atjob")?;
-    command.arg(niceness.as_str())?.arg(job)?.arg(out)?;
+    add_words(&mut command, words.as_slice())?;
     Ok(command)
+}
+
+fn add_words(command: &mut Command, words: &[&str]) -> Result<(), AllocError>
+    ensures words { OnOk result (command_args command.new
+        ≡ command_args command.old ++ map (λ word. word.now) words.now) }
+    ensures program { OnOk result (command_program command.new ≡ command_program command.old) }
+    ensures env { OnOk result (SameEnv command.old command.new) }
+    ensures folder { OnOk result (SameDir command.old command.new) }
+{
+    command.args(words)?;
+    Ok(())
 }
 
 /// How a child with this status ended.
 pub fn ending_of(status: ExitStatus) -> Ending
-    ensures { result ≢ Ending.NotStarted }
+    ensures { result ≡ ending_for status }
 {
     match status.code() {
         Some(code) => Ending::Exit(byte_of(code)),
-        None => Ending::Signal(status.signal().map_or(0, byte_of)),
+        None => match status.signal() {
+            Some(signal) => Ending::Signal(byte_of(signal)),
+            None => Ending::Signal(0),
+        },
     }
 }
 
 // The numbers of exits and signals are bytes.
-fn byte_of(number: i32) -> u8 {
+fn byte_of(number: i32) -> u8
+    ensures { (byte : ℕ) → byte < 256 → number ≡ pos byte → result ≡ byte }
+{
     u8::try_from(number).unwrap_or(0)
 }

@@ -5,12 +5,13 @@
 mod changes;
 mod counts;
 mod err;
-mod folder;
+mod files;
 mod front;
 mod host;
 mod inputs;
 mod job;
 mod lock;
+mod locked;
 mod out;
 mod paths;
 mod readings;
@@ -31,3 +32,5 @@ mod tests_of_jobs;
 mod tests_of_streams;
 #[cfg(test)]
 mod tests_of_the_lock;
+#[cfg(test)]
+mod tests_outside;

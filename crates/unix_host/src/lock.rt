@@ -13,7 +13,7 @@
 //! 3. Where any call of a session failed, `leave` writes the worst.
 //!
 //! So at each moment the byte, as programs see it, says at least what is unsynced, and `settle` need sync no
-//! more than it says. Why each crash is safe:
+//! more than it says. No byte that says less can be written: `write_byte` asks for it. Why each crash is safe:
 //!
 //! - A program that is killed leaves the byte as it was last written, which is at least what it left unsynced.
 //!   The cache of the system still holds both the byte and the changes, so the next program sees both.
@@ -23,17 +23,19 @@
 //!
 //! What it doesn't cover: a program that changes the folder without this lock, and a copy of the folder that
 //! is put in its place with its lock file. Remove the lock file then.
-ghost use Rattle.std.specs.Prelude.{◌≡◌, ◌≤◌, OnOk};
-ghost use Rattle.unix_host.specs.LockByte.{amount_of};
+ghost use Rattle.std.specs.Prelude.{◌≡◌, ◌≤◌, OnOk, OnErr};
+ghost use Rattle.unix_host.specs.inside.Changes.{left_by};
+ghost use Rattle.unix_host.specs.inside.LockByte.{amount_of, meaning_of};
 
+use crate::changes::Changes;
 use crate::unsynced::Unsynced;
-use host_calls::EnterFault;
+use host_calls::{EnterFault, HostFault};
 use std::fs::{File, Files, OpenOptions, TryLockError};
 use std::os::unix::fs::{FileExt, OpenOptionsExt};
+use std::thread;
 use std::time::{Clock, Duration};
-use std::{io, thread};
 
-/// How often a lock is asked for before it counts as taken.
+// How often a lock is asked for before it counts as taken.
 const TRIES: u32 = 10;
 
 /// A lock that is held, until it is let go or the process ends.
@@ -52,7 +54,7 @@ impl Lock {
             return Err(EnterFault::Failed);
         };
         wait_for(rt, &file)?;
-        let told = read_byte(&file);
+        let told = Unsynced::told_by(byte_in(&file));
         Ok(Lock { file, told })
     }
 
@@ -63,27 +65,47 @@ impl Lock {
         self.told
     }
 
-    /// Makes the byte say at least this much.
-    pub fn raise(&mut self, left: Unsynced) -> io::Result<()>
-        ensures covers { OnOk result (amount_of left ≤ amount_of self.new.told) }
+    /// Makes the byte say at least what may be unsynced.
+    pub fn raise(&mut self, changes: &Changes) -> Result<(), HostFault>
+        ensures covers { OnOk result (amount_of (left_by changes.now) ≤ amount_of self.new.told) }
         ensures never_less { amount_of self.old.told ≤ amount_of self.new.told }
     {
+        let left = changes.left();
         if !self.told.covers(left) {
-            self.file.write_all_at(&[left.byte()], 0)?;
-            self.told = left;
+            self.tell(left, changes)?;
         }
         Ok(())
     }
 
-    /// Makes the byte say what is left unsynced, and lets the lock go.
-    pub fn release(self, left: Unsynced) {
+    /// Makes the byte say what may be unsynced, and lets the lock go.
+    pub fn release(mut self, changes: &Changes) {
+        let left = changes.left();
         if self.told != left {
-            // A byte that can't be written still says at least what is left.
-            let _ = self.file.write_all_at(&[left.byte()], 0);
+            // A byte that can't be written still says what it said, and that is enough for each change that was
+            // made. It is too little where another call of this session failed, whose mark is lost then.
+            let _ = self.tell(left, changes);
         }
         // The file is closed here in any case, and that alone frees the lock.
         let _ = self.file.unlock();
     }
+
+    fn tell(&mut self, told: Unsynced, changes: &Changes) -> Result<(), HostFault>
+        requires { amount_of (left_by changes.now) ≤ amount_of told }
+        ensures ok { OnOk result (self.new.told ≡ told) }
+        ensures err { OnErr result (self.new.told ≡ self.old.told) }
+    {
+        write_byte(&self.file, told.byte(), changes)?;
+        self.told = told;
+        Ok(())
+    }
+}
+
+// A byte that says less than what may be unsynced would have the next session sync too little.
+fn write_byte(file: &File, byte: u8, changes: &Changes) -> Result<(), HostFault>
+    requires { amount_of (left_by changes.now) ≤ amount_of (meaning_of byte) }
+{
+    let _ = changes;
+    file.write_all_at(&[byte], 0).map_err(|_| HostFault::Failed)
 }
 
 fn wait_for(rt: &impl Clock, file: &File) -> Result<(), EnterFault> {
@@ -100,11 +122,9 @@ fn wait_for(rt: &impl Clock, file: &File) -> Result<(), EnterFault> {
     Err(EnterFault::Taken)
 }
 
-// A byte that can't be read says the worst.
-fn read_byte(file: &File) -> Unsynced {
+// The byte of the file, if it can be read.
+fn byte_in(file: &File) -> Option<u8> {
     let mut byte = [0];
-    match file.read_exact_at(&mut byte, 0) {
-        Ok(()) => Unsynced::of_byte(byte[0]),
-        Err(_) => Unsynced::Anything,
-    }
+    file.read_exact_at(&mut byte, 0).ok()?;
+    Some(byte[0])
 }

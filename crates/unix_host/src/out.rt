@@ -13,6 +13,7 @@ pub struct UnixOut<R: Print + Drop> {
 }
 
 impl<R: Print + Drop> UnixOut<R> {
+    /// The standard output of this runtime.
     pub fn make(rt: R) -> UnixOut<R>
         ensures { result.sink_faults ≡ 0 }
     {

@@ -1,13 +1,15 @@
 //! The clock and the load of the machine.
 ghost use Rattle.std.specs.Prelude.{◌≡◌, [], false};
+ghost use Rattle.std.specs.Result.{result_ok};
+ghost use Rattle.unix_host.specs.inside.Seconds.{second_in};
 ghost use Rattle.unix_host.specs.Untold.{untold_answers};
 
 use crate::front::fill;
 use host_calls::Readings;
 use load_reading::hundredths;
 use std::fs::{File, Files};
-use std::thread;
 use std::time::{Clock, Duration};
+use std::{io, thread};
 
 /// The system's clock and load. The load comes from `/proc/loadavg`.
 #[derive(Drop)]
@@ -17,6 +19,7 @@ pub struct UnixReadings<R: Files<File = File> + Clock + Drop> {
 }
 
 impl<R: Files<File = File> + Clock + Drop> UnixReadings<R> {
+    /// The clock and the load of this runtime.
     pub fn make(rt: R) -> UnixReadings<R>
         ensures { result.load_faults ≡ 0 }
     {
@@ -32,10 +35,7 @@ impl<R: Files<File = File> + Clock + Drop> Readings for UnixReadings<R> {
     ghost readers = { λ own. record { made_as = []; load_faults = own.load_faults } };
 
     fn now(&mut self) -> i64 {
-        match self.rt.since_1970() {
-            Ok(time) => i64::try_from(time.as_secs()).unwrap_or(-1),
-            Err(_) => -1,
-        }
+        second_of(self.rt.since_1970())
     }
 
     fn load(&mut self) -> Option<u32> {
@@ -48,6 +48,16 @@ impl<R: Files<File = File> + Clock + Drop> Readings for UnixReadings<R> {
 
     fn rest(&mut self, seconds: u32) {
         thread::sleep(&self.rt, Duration::from_secs(u64::from(seconds)));
+    }
+}
+
+// The second of this time, and -1 where it can't be read or lies behind each second that can be told.
+fn second_of(time: io::Result<Duration>) -> i64
+    ensures { result ≡ second_in (result_ok time) }
+{
+    match time {
+        Ok(time) => i64::try_from(time.as_secs()).unwrap_or(-1),
+        Err(_) => -1,
     }
 }
 

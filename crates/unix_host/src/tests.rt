@@ -1,6 +1,7 @@
 //! The calls on a folder, each seen through another call. Each test has a folder of its own.
-ghost use Rattle.std.specs.Prelude.{◌≡◌, false, is_some, is_ok, IfOk};
+ghost use Rattle.std.specs.Prelude.{◌≡◌, false, is_ok, IfOk};
 ghost use Rattle.host_calls.specs.Session.{IsInside, IsOutside};
+ghost use Rattle.unix_host.specs.UnixHost.{session_of};
 
 use crate::UnixHost;
 use host_calls::{Host, HostFault, Name, Text};
@@ -26,12 +27,12 @@ pub fn fresh_spool(rt: &HostRuntime, test: &str) -> Result<String, Fail> {
 
 /// Removes a folder and what lies beside it.
 pub fn clear(rt: &HostRuntime, path: &str) -> Result<(), Fail> {
-    line(rt, "rm -rf \"$1\" \"$1.out\" \"$1.lock\"", path)?;
+    line(rt, "rm -rf \"$1\" \"$1.out\" \"$1.lock\" \"$1.link\"", path)?;
     Ok(())
 }
 
 pub fn host_of(rt: &HostRuntime, path: &str) -> Result<UnixHost<HostRuntime>, Fail>
-    ensures outside { IfOk result (λ host. is_some host.lock ≡ false) }
+    ensures outside { IfOk result (λ host. IsOutside (session_of host)) }
 {
     let spool = Text::of(rt.alloc(), path)?;
     Ok(UnixHost::make(rt.clone()?, rt.alloc(), spool)?)

@@ -27,7 +27,7 @@ fn awaited<H: Host>(
     Ok(None)
 }
 
-// Whether a job could be started, and how it ended, asked twice.
+// Whether a job of the niceness 2 could be started, and how it ended, asked twice.
 fn ran<H: Host>(
     rt: &HostRuntime,
     host: &mut H,
@@ -84,12 +84,18 @@ fn what_a_job_writes_lands_in_its_file(rt: HostRuntime) -> Result<(), Fail> {
     let path = fresh_spool(&rt, "hi")?;
     let mut host = host_of(&rt, path.as_str())?;
     let job = named(&rt, "job");
-    let ended = job_of(&rt, &mut host, &job, b"echo hi\ncat\necho \"<$HOME>\"\n");
+    let ended = job_of(
+        &rt,
+        &mut host,
+        &job,
+        b"echo hi\ncat\necho \"<$HOME>\"\nnice\n",
+    );
     let written = line(&rt, "cat \"$1.out/job\"", path.as_str())?;
+    let wanted = line(&rt, "echo hi; echo '<>'; nice -n 2 nice", path.as_str())?;
     clear(&rt, path.as_str())?;
     let (_, ending, again) = ended?;
     assert!(rt; ending == Some(Ending::Exit(0)) && again == ending);
-    assert_eq!(rt; written.as_slice(), b"hi\n<>\n".as_slice());
+    assert_eq!(rt; written.as_slice(), wanted.as_slice());
     Ok(())
 }
 

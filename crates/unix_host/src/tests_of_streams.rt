@@ -1,5 +1,6 @@
 //! Readings, inputs and sinks.
 use crate::tests::{clear, fresh_spool, line};
+use crate::tests_outside::Outside;
 use crate::{UnixErr, UnixInputs, UnixOut, UnixReadings};
 use host_calls::{InputFault, Inputs, Readings, Sink, SinkFault};
 use std::fmt::Display;
@@ -47,6 +48,34 @@ fn the_first_bytes_of_a_file_are_read(rt: HostRuntime) -> Result<(), Fail> {
         Some(InputFault::Failed)
     );
     assert_eq!(rt; inputs.input_faults, 2);
+    Ok(())
+}
+
+#[test]
+fn a_rest_is_asked_and_a_clock_behind_all_seconds_is_none(rt: HostRuntime) -> Result<(), Fail> {
+    let (input, writer) = io::pipe(&rt)?;
+    drop(writer);
+    let outside = Outside::at(&rt, u64::MAX, &input);
+    let mut readings = UnixReadings::make(&outside);
+    readings.rest(7);
+    assert_eq!(rt; outside.rested.get(), 7);
+    assert_eq!(rt; readings.now(), -1);
+    Ok(())
+}
+
+#[test]
+fn standard_input_is_read_part_by_part(rt: HostRuntime) -> Result<(), Fail> {
+    let alloc = rt.alloc();
+    let (input, mut writer) = io::pipe(&rt)?;
+    Write::write_all(&mut writer, b"echo hi\n")?;
+    drop(writer);
+    let outside = Outside::at(&rt, 0, &input);
+    let mut inputs = UnixInputs::make(&outside);
+    for (most, wanted) in [(4, "echo"), (100, " hi\n"), (100, "")] {
+        let bytes = inputs.standard(alloc, most)?;
+        assert_eq!(rt; bytes.as_slice(), wanted.as_bytes());
+    }
+    assert_eq!(rt; inputs.input_faults, 0);
     Ok(())
 }
 

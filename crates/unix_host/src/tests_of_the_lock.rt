@@ -2,41 +2,34 @@
 ghost use Rattle.std.specs.Prelude.{◌≡◌, false};
 ghost use Rattle.host_calls.specs.Session.{IsInside, IsOutside};
 
+use crate::locked::LockedFolder;
 use crate::tests::{begin, clear, fresh_spool, host_of, line, named};
+use crate::tests_outside::Outside;
 use host_calls::{EnterFault, Host, HostFault, Name};
 use std::alloc::Global;
+use std::io;
 use std::test::Fail;
 
-// What the second answers while the first is inside, and whether it gets in after that.
-fn two_enter<H: Host>(
-    alloc: Global,
-    first: &mut H,
-    second: &mut H,
-) -> Result<(Option<EnterFault>, bool), HostFault>
-    requires first { IsOutside (H.session first.old) }
-    requires second { IsOutside (H.session second.old) }
-{
-    begin(alloc, first)?;
-    let meanwhile = second.enter(alloc);
-    if meanwhile.is_ok() {
-        return Ok((None, true));
-    }
-    first.leave();
-    let after = second.enter(alloc).is_ok();
-    Ok((meanwhile.err(), after))
-}
-
+// A spool and a link to it are one folder. The clock of this test stands still, so that nobody waits.
 #[test]
-fn a_held_lock_is_taken_until_it_is_let_go(rt: HostRuntime) -> Result<(), Fail> {
+fn a_link_has_the_lock_of_its_folder(rt: HostRuntime) -> Result<(), Fail> {
+    let alloc = rt.alloc();
     let path = fresh_spool(&rt, "lock")?;
-    let mut first = host_of(&rt, path.as_str())?;
-    let mut second = host_of(&rt, path.as_str())?;
-    let seen = two_enter(rt.alloc(), &mut first, &mut second);
+    let link = format!(in alloc; "{path}.link")?;
+    line(&rt, "ln -s \"$1\" \"$1.link\"", path.as_str())?;
+    let (input, writer) = io::pipe(&rt)?;
+    drop(writer);
+    let outside = Outside::at(&rt, 0, &input);
+    let first = LockedFolder::enter(&outside, alloc, path.as_str())?;
+    let second = LockedFolder::enter(&outside, alloc, link.as_str());
+    let rested = outside.rested.get();
+    first.leave();
+    let third = LockedFolder::enter(&outside, alloc, link.as_str());
+    let beside = line(&rt, "ls -d \"$1\"* | wc -l", path.as_str())?;
     clear(&rt, path.as_str())?;
-    let (meanwhile, after) = seen?;
-    assert!(rt; meanwhile == Some(EnterFault::Taken) && after);
-    assert_eq!(rt; second.counts.taken, 1);
-    assert_eq!(rt; second.counts.files, 0);
+    assert!(rt; matches!(&second, Err(EnterFault::Taken)) && third.is_ok());
+    assert_eq!(rt; rested, 9);
+    assert_eq!(rt; beside.as_slice(), b"4\n".as_slice());
     Ok(())
 }
 
@@ -135,6 +128,46 @@ fn the_byte_says_what_is_unsynced(rt: HostRuntime) -> Result<(), Fail> {
     let bytes = bytes_after(&rt, path.as_str(), &mut host, &all, (&job, &other))?;
     clear(&rt, path.as_str())?;
     assert_eq!(rt; bytes.as_slice(), b"cnncaca".as_slice());
+    Ok(())
+}
+
+// A writer that is killed within its session.
+fn writes<H: Host>(alloc: Global, host: &mut H, job: &Name) -> Result<(), HostFault>
+    requires untold { H.tells ≡ false }
+    requires outside { IsOutside (H.session host.old) }
+{
+    begin(alloc, host)?;
+    host.create(alloc, job, b"x")
+}
+
+// A session that settles nothing.
+fn looks<H: Host>(alloc: Global, host: &mut H) -> Result<(), HostFault>
+    requires outside { IsOutside (H.session host.old) }
+    ensures outside { IsOutside (H.session host.new) }
+{
+    begin(alloc, host)?;
+    let names = host.names(alloc);
+    host.leave();
+    names?;
+    Ok(())
+}
+
+#[test]
+fn what_a_killed_writer_left_is_told_until_it_is_settled(rt: HostRuntime) -> Result<(), Fail> {
+    let path = fresh_spool(&rt, "killed")?;
+    let job = named(&rt, "job");
+    let mut writer = host_of(&rt, path.as_str())?;
+    session(rt.alloc(), &mut writer, Work::Nothing, &job, &job)?;
+    writes(rt.alloc(), &mut writer, &job)?;
+    drop(writer);
+    let mut host = host_of(&rt, path.as_str())?;
+    looks(rt.alloc(), &mut host)?;
+    let kept = line(&rt, "cat \"$1.lock\"", path.as_str())?;
+    session(rt.alloc(), &mut host, Work::Nothing, &job, &job)?;
+    let settled = line(&rt, "cat \"$1.lock\"", path.as_str())?;
+    clear(&rt, path.as_str())?;
+    assert_eq!(rt; kept.as_slice(), b"a".as_slice());
+    assert_eq!(rt; settled.as_slice(), b"c".as_slice());
     Ok(())
 }
 

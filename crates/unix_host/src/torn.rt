@@ -1,12 +1,13 @@
 //! The files whose bytes may be unsynced.
-ghost use Rattle.std.specs.Prelude.{◌≡◌, IsTrue};
-ghost use Rattle.unix_host.specs.Torn.{may_tear, is_torn, KeepsTorn, KeepsOthers};
+ghost use Rattle.std.specs.Prelude.{◌≡◌};
+ghost use Rattle.unix_host.specs.Unsynced.{is_torn};
+ghost use Rattle.unix_host.specs.inside.Torn.{HasTorn, HasWhole, HasMoved};
 
 use host_calls::Name;
 
 /// The files whose bytes a power cut may tear. One file is told apart, so that a session that syncs each
 /// file before it turns to the next leaves nothing.
-#[derive(Drop)]
+#[derive(Clone, Copy)]
 pub enum Torn {
     Nobody,
     One(Name),
@@ -14,6 +15,7 @@ pub enum Torn {
 }
 
 impl Torn {
+    /// Whether the bytes of some file may be unsynced.
     pub fn is_some(&self) -> bool
         ensures { result ≡ is_torn self.now }
     {
@@ -25,19 +27,19 @@ impl Torn {
 
     /// These files and one more.
     pub fn with(&self, name: &Name) -> Torn
-        ensures more { IsTrue (may_tear result name.now) }
-        ensures kept { KeepsTorn self.now result }
+        ensures { HasTorn name.now self.now result }
     {
         match self {
             Torn::Nobody => Torn::One(*name),
             Torn::One(other) if *other == *name => Torn::One(*other),
-            Torn::One(_) | Torn::Each => Torn::Each,
+            Torn::One(_) => Torn::Each,
+            Torn::Each => Torn::Each,
         }
     }
 
     /// These files but the one that was synced.
     pub fn without(&self, name: &Name) -> Torn
-        ensures kept { KeepsOthers name.now self.now result }
+        ensures { HasWhole name.now self.now result }
     {
         match self {
             Torn::One(other) if *other != *name => Torn::One(*other),
@@ -48,8 +50,7 @@ impl Torn {
 
     /// These files once one of them has another name.
     pub fn moved(&self, from: &Name) -> Torn
-        ensures from { IsTrue (may_tear self.now from.now) → result ≡ Torn.Each }
-        ensures kept { KeepsTorn self.now result }
+        ensures { HasMoved from.now self.now result }
     {
         match self {
             Torn::Nobody => Torn::Nobody,

@@ -1,6 +1,6 @@
 //! How much of the folder may be unsynced.
 ghost use Rattle.std.specs.Prelude.{◌≡◌, ◌↔◌, ◌≤◌, IsTrue};
-ghost use Rattle.unix_host.specs.LockByte.{meaning_of, amount_of};
+ghost use Rattle.unix_host.specs.inside.LockByte.{told_by, meaning_of, amount_of};
 
 /// What of the folder may be unsynced, the least first.
 #[derive(Clone, Copy, Debug, PartialEq, Eq)]
@@ -13,14 +13,14 @@ pub enum Unsynced {
 }
 
 impl Unsynced {
-    /// What the byte of a lock file says. All bytes but two say the worst.
-    pub fn of_byte(byte: u8) -> Unsynced
-        ensures { result ≡ meaning_of byte }
+    /// What the byte of a lock file says. All bytes but two say the worst, and so does none.
+    pub fn told_by(byte: Option<u8>) -> Unsynced
+        ensures { result ≡ told_by byte }
     {
         match byte {
-            b'c' => Unsynced::Nothing,
-            b'n' => Unsynced::Names,
-            _ => Unsynced::Anything,
+            Some(b'c') => Unsynced::Nothing,
+            Some(b'n') => Unsynced::Names,
+            Some(_) | None => Unsynced::Anything,
         }
     }
 

@@ -1,3 +1,4 @@
 pub mod Clearing
 pub mod Others
 pub mod Placing
+pub mod Temporary

@@ -4,7 +4,9 @@
 mod reading;
 mod removing;
 mod replacing;
+mod temporary;
 
 pub use reading::content;
 pub use removing::clear;
 pub use replacing::place;
+pub use temporary::temporary_name;

@@ -1,8 +1,7 @@
 //! Reading a file whole.
 ghost use Rattle.std.specs.Prelude.{◌≡◌, IfOk, IsTrue};
 ghost use Rattle.std.specs.FinMap as map;
-ghost use Rattle.host_calls.specs.Causes.{HasCause};
-ghost use Rattle.host_calls.specs.Session.{IsInside, StaysInside};
+ghost use Rattle.host_calls.specs.Session.{CallsInside, IsInside};
 ghost use Rattle.host_calls.specs.World.{reading};
 
 use host_calls::{Bytes, Host, HostFault, Name};
@@ -15,9 +14,7 @@ pub fn content<H: Host>(
     name: &Name,
 ) -> Result<Option<Bytes>, HostFault>
     requires { IsInside (H.session host.old) }
-    ensures inside { StaysInside (H.session host.old) (H.session host.new) }
-    ensures cause { HasCause HostFault.Failed
-        (H.session host.old).file_faults (H.session host.new).file_faults result }
+    ensures inside { CallsInside HostFault.Failed (H.session host.old) (H.session host.new) result }
     ensures looks { IsTrue H.tells → H.world host.new ≡ H.world host.old }
     ensures content { IsTrue H.tells
         → IfOk result (λ content. content ≡ map.get (reading (H.world host.old)) name.now) }

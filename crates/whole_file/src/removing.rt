@@ -1,7 +1,6 @@
 //! Removing files.
 ghost use Rattle.std.specs.Prelude.{◌≡◌, ◌≢◌, [], Contains, IsTrue, OnOk};
-ghost use Rattle.host_calls.specs.Causes.{HasCause};
-ghost use Rattle.host_calls.specs.Session.{IsInside, StaysInside};
+ghost use Rattle.host_calls.specs.Session.{CallsInside, IsInside};
 ghost use Rattle.host_calls.specs.World.{reading};
 ghost use Rattle.whole_file.specs.Others.{ChangesFiles, LeavesOthers};
 ghost use Rattle.whole_file.specs.Clearing.{AreFiles, AreCleared};
@@ -13,9 +12,7 @@ use std::alloc::Global;
 pub fn clear<H: Host>(alloc: Global, host: &mut H, names: &[Name]) -> Result<(), HostFault>
     requires inside { IsInside (H.session host.old) }
     requires held { IsTrue H.tells → AreFiles names.now (reading (H.world host.old)) }
-    ensures inside { StaysInside (H.session host.old) (H.session host.new) }
-    ensures cause { HasCause HostFault.Failed
-        (H.session host.old).file_faults (H.session host.new).file_faults result }
+    ensures inside { CallsInside HostFault.Failed (H.session host.old) (H.session host.new) result }
     ensures nothing { names.now ≡ [] → host.new ≡ host.old }
     ensures files { IsTrue H.tells
         → ChangesFiles (LeavesOthers (Contains names.now) (H.world host.old).now.folder)

@@ -1,8 +1,7 @@
 //! Replacing a file whole.
 ghost use Rattle.std.specs.Prelude.{◌≢◌, IsTrue, OnOk};
-ghost use Rattle.host_calls.specs.Causes.{HasCause};
 ghost use Rattle.host_calls.specs.Folder.{IsInNoImage};
-ghost use Rattle.host_calls.specs.Session.{IsInside, StaysInside};
+ghost use Rattle.host_calls.specs.Session.{CallsInside, IsInside};
 ghost use Rattle.whole_file.specs.Others.{ChangesFiles};
 ghost use Rattle.whole_file.specs.Placing.{IsPlacing, IsPlaced};
 
@@ -21,9 +20,7 @@ pub fn place<H: Host>(
     requires inside { IsInside (H.session host.old) }
     requires differ { temp.now ≢ target.now }
     requires no_temp { IsTrue H.tells → IsInNoImage (H.world host.old).now.folder temp.now }
-    ensures inside { StaysInside (H.session host.old) (H.session host.new) }
-    ensures cause { HasCause HostFault.Failed
-        (H.session host.old).file_faults (H.session host.new).file_faults result }
+    ensures inside { CallsInside HostFault.Failed (H.session host.old) (H.session host.new) result }
     ensures files { IsTrue H.tells
         → ChangesFiles (IsPlacing temp.now target.now bytes.now (H.world host.old).now.folder)
         (H.world host.old) (H.world host.new) }

@@ -2,8 +2,8 @@
 ghost use Rattle.std.specs.Prelude.{◌<◌, length};
 
 use crate::fault::StoreFault;
-use crate::lives::Lives;
-use crate::seen::Seen;
+use crate::found_job::FoundJob;
+use crate::lifecycles::Lifecycles;
 use crate::tables::listed;
 use host_calls::{Bytes, Ending, Name};
 use job_name::JobName;
@@ -32,8 +32,8 @@ const ENDED: Mark = Mark::Ended {
     ending: Ending::Exit(3),
 };
 
-fn seen(rt: &impl Abort, alloc: Global, name: &str, text: &str) -> Result<Seen, AllocError> {
-    Ok(Seen {
+fn seen(rt: &impl Abort, alloc: Global, name: &str, text: &str) -> Result<FoundJob, AllocError> {
+    Ok(FoundJob {
         name: Name::of(name.as_bytes()).expect(rt, name),
         job: JobName::read(name.as_bytes()).expect(rt, name),
         front: Bytes::of(alloc, text.as_bytes())?,
@@ -54,7 +54,7 @@ fn lists(
         list.push(seen(rt, alloc, name, text)?)
             .map_err(|_| AllocError)?;
     }
-    let lives = Lives::of(alloc, marks)?;
+    let lives = Lifecycles::of(alloc, marks)?;
     listed(alloc, last, marks, &lives, &list)
 }
 

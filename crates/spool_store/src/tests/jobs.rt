@@ -5,7 +5,7 @@ ghost use Rattle.spool_model.specs.Steps.{IsFree};
 
 use crate::Jobs;
 use host_calls::Ending;
-use spool_model::{Decided, Fate, GREATEST_NUMBER, Row, State, UserName};
+use spool_model::{Decided, Fate, LAST_NUMBER, Row, State, UserName};
 use std::alloc::{AllocError, Global};
 use std::test::Fail;
 
@@ -59,10 +59,10 @@ fn is_free(jobs: &Jobs, number: u32) -> bool
     }
 }
 
-/// Takes the step where it is legal, and says whether it is.
+// Takes the step where it is legal, and says whether it is.
 fn try_step(jobs: &mut Jobs, trial: &Trial, user: UserName) -> Result<bool, AllocError> {
     match trial {
-        Trial::Draw if jobs.last() < GREATEST_NUMBER => jobs.draw(),
+        Trial::Draw if jobs.last() < LAST_NUMBER => jobs.draw(),
         Trial::Accept(queue) if is_free(jobs, jobs.last()) => jobs.accept(Row {
             number: jobs.last(),
             queue: *queue,
@@ -80,7 +80,7 @@ fn try_step(jobs: &mut Jobs, trial: &Trial, user: UserName) -> Result<bool, Allo
     Ok(true)
 }
 
-/// Whether these are the numbers of the rows and of the decided ones.
+// Whether these are the numbers of the rows and of the decided ones.
 fn has_numbers(jobs: &Jobs, rows: &[u32], decided: &[u32]) -> bool {
     jobs.rows().len() == rows.len()
         && jobs.decided().len() == decided.len()

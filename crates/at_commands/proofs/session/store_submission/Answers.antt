@@ -1,7 +1,7 @@
 use Rattle.std.proofs.Common.{◌≡◌, ◌∙◌, refl}
 use Rattle.std.specs.Prelude.{Ok, Err}
 use Rattle.at_commands.specs.JobText.{job_text_of}
-use Rattle.at_commands.specs.Storing.{cause_of}
+use Rattle.at_commands.specs.inside.Storing.{cause_of}
 use Rattle.at_commands.proofs.StoringLemmas.{goes_on_then, session_stored, stores_busy, stores_no_entry, stores_no_memory}
 use Rattle.at_commands.proofs.TextLemmas.{text_begins, text_made}
 use Rattle.at_commands.proofs.session.store_submission.Goals as goal

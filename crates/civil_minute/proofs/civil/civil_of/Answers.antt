@@ -1,7 +1,7 @@
 use Rattle.std.proofs.Common.{◌*◌, pos, arith}
 use Rattle.std.proofs.lemmas.Int.{ints}
 use Rattle.jiff_core.proofs.SignedLemmas.{signed_arith}
-use Rattle.civil_minute.specs.Civil.{IsLocalTime}
+use Rattle.civil_minute.specs.inside.Reckoning.{IsLocalTime}
 use Rattle.civil_minute.proofs.CivilLemmas.{local_time-same, shown_civil_time, shown_printable}
 use Rattle.civil_minute.proofs.civil.civil_of.Goals as goal
 use Rattle.civil_minute.proofs.civil.civil_of.Goals.{After-fields_of}

@@ -7,10 +7,10 @@ returns-then-minute-minute_at c =
     let fits : FitsSigned w64 c.args.now × FitsSigned w64 c.args.start × FitsSigned w64 c.args.seconds = (c.ranges.now, c.ranges.start, c.ranges.seconds) in
     let sum : FitsSigned w64 (c.args.start +ℤ c.args.seconds) = omega (arith, ints, c.requires.start, c.requires.seconds) in
     let (fits_now, fits_start, fits_seconds) = fits in
-    let minute = simp to_z-of_z at c.minute_at-minute.ensures in
-    let now = simp to_z-of_z at c.minute_at.ensures in (
-      (simp to_z-of_z at c.if-not-is_clock_second.ensures).0 refl,
-      (simp to_z-of_z at c.if-not-is_clock_second-2.ensures).0 refl,
+    let minute = simp to_z-of_z at c.minute_at-minute.ensures.value in
+    let now = simp to_z-of_z at c.minute_at.ensures.value in (
+      (simp to_z-of_z at c.if-not-is_clock_second.ensures.fact).0 refl,
+      (simp to_z-of_z at c.if-not-is_clock_second-2.ensures.fact).0 refl,
       rw (← minute, ← now) c.if-minute-minute_at.true,
     )
 
@@ -19,10 +19,10 @@ returns c =
     let fits : FitsSigned w64 c.args.now × FitsSigned w64 c.args.start × FitsSigned w64 c.args.seconds = (c.ranges.now, c.ranges.start, c.ranges.seconds) in
     let sum : FitsSigned w64 (c.args.start +ℤ c.args.seconds) = omega (arith, ints, c.requires.start, c.requires.seconds) in
     let (fits_now, fits_start, fits_seconds) = fits in
-    let minute = simp to_z-of_z at c.minute_at-minute.ensures in
-    let now = simp to_z-of_z at c.minute_at.ensures in (
-      (simp to_z-of_z at c.if-not-is_clock_second.ensures).0 refl,
-      (simp to_z-of_z at c.if-not-is_clock_second-2.ensures).0 refl,
+    let minute = simp to_z-of_z at c.minute_at-minute.ensures.value in
+    let now = simp to_z-of_z at c.minute_at.ensures.value in (
+      (simp to_z-of_z at c.if-not-is_clock_second.ensures.fact).0 refl,
+      (simp to_z-of_z at c.if-not-is_clock_second-2.ensures.fact).0 refl,
       minute,
       rw (← now) c.if-minute-minute_at.false,
     )

@@ -1,10 +1,10 @@
 use Rattle.std.proofs.Common.{sym, subst, arith, FitsSigned, w16, w64, to_z-of_z}
 use Rattle.std.proofs.lemmas.Int.{ints}
 use Rattle.std.proofs.lemmas.Result.{err_from_is_err_and}
-use Rattle.civil_minute.specs.Civil.{IsLocalTime}
+use Rattle.civil_minute.specs.inside.Reckoning.{IsLocalTime}
 use Rattle.civil_minute.proofs.CivilLemmas.{local_time-same}
 use Rattle.civil_minute.proofs.OnlyLemmas.{one_touch_meaning}
-use Rattle.civil_minute.proofs.MeantLemmas.{touch_means_named, touch_means_no_day}
+use Rattle.civil_minute.proofs.MeantLemmas.{touch_means_in_range, touch_means_named, touch_means_no_day}
 use Rattle.civil_minute.proofs.minute.minute_of_touch.Goals as goal
 
 pub returns-in_err-date-clause-meant : goal.returns-in_err-date-clause-meant
@@ -32,3 +32,6 @@ returns-in_err-date-clause-only c = λ other means. one_touch_meaning c.args.tim
 
 pub returns-clause-only : goal.returns-clause-only
 returns-clause-only c = λ other means. one_touch_meaning c.args.time.now c.args.now c.args.zone.now other c.minute_on.result means (returns-clause-meant c)
+
+pub returns-clause-in_range : goal.returns-clause-in_range
+returns-clause-in_range c = touch_means_in_range c.args.time.now c.args.now c.args.zone.now c.minute_on.result (returns-clause-meant c)

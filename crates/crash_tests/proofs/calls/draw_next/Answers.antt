@@ -13,4 +13,4 @@ pub draw-requires-clause-no_temp : goal.draw-requires-clause-no_temp
 draw-requires-clause-no_temp g c = λ tells.
     absent _ (g.H.Host.world c.settle.new.self) _ (codes ".TMP") (c.in_ok-settle.ensures.files tells)
     (c.in_ok-number-in-None.ensures.looks tells ∙ c.in_ok-content.ensures.looks tells)
-    (rw c.temp_name.ensures at (sym c.in-None.is ∙ c.in_ok-content.ensures.content tells))
+    (rw c.temporary_name.ensures at (sym c.in-None.is ∙ c.in_ok-content.ensures.content tells))

@@ -5,6 +5,6 @@ use Rattle.crash_tests.proofs.calls.replace.Goals as goal
 
 pub place-requires-clause-no_temp : goal.place-requires-clause-no_temp
 place-requires-clause-no_temp g c = λ tells.
-    rw c.temp_name-in-None.ensures
+    rw c.temporary_name-in-None.ensures
     (absent _ (g.H.Host.world c.settle.new.self) _ (codes ".TMP") (c.in_ok-settle.ensures.files tells) (c.in_ok-content.ensures.looks tells)
-    (rw c.temp_name.ensures at (sym c.in-None.is ∙ c.in_ok-content.ensures.content tells)))
+    (rw c.temporary_name.ensures at (sym c.in-None.is ∙ c.in_ok-content.ensures.content tells)))

@@ -1,4 +1,4 @@
-use Rattle.job_runs.proofs.RunLemmas.{runs_go_on, runs_go_through}
+use Rattle.job_runs.proofs.RunLemmas.{fronts_run_as_the_steps, runs_go_on, runs_go_through}
 use Rattle.job_runs.proofs.laws.runs_go_on.Goals as goal
 
 pub returns-clause-on : goal.returns-clause-on
@@ -6,3 +6,6 @@ returns-clause-on c = runs_go_on
 
 pub returns-clause-through : goal.returns-clause-through
 returns-clause-through c = runs_go_through
+
+pub returns-clause-fronts : goal.returns-clause-fronts
+returns-clause-fronts c = fronts_run_as_the_steps

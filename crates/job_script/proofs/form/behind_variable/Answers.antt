@@ -1,6 +1,6 @@
 use Rattle.std.proofs.Common.{◌≡◌, Option, Some, None, Bor, List, ℕ, sym}
 use Rattle.std.specs.Option.{MatchOption}
-use Rattle.job_script.specs.Fronts.{IsLineFront}
+use Rattle.job_script.specs.inside.Fronts.{IsLineFront}
 use Rattle.job_script.proofs.FormLemmas.{line_read, no_again, no_export, no_name, no_sign, no_word}
 use Rattle.job_script.proofs.form.behind_variable.Goals as goal
 
@@ -10,11 +10,11 @@ none_left : (bytes : List ℕ) (answer : Option (Bor (List ℕ))) → answer ≡
 none_left bytes (Some more) same none = absurd (cc same)
 none_left bytes None same none = none
 
-pub returns-then-not-may_stand_in_a_job : goal.returns-then-not-may_stand_in_a_job
-returns-then-not-may_stand_in_a_job c =
+pub returns-then-not-may_be_set_in_a_job : goal.returns-then-not-may_be_set_in_a_job
+returns-then-not-may_be_set_in_a_job c =
     no_name c.args.bytes.now c.split_at.result.0.now c.split_at.result.1.now c.name_length.result
     (record { runs = c.name_length.ensures; front = c.split_at.ensures.front; back = c.split_at.ensures.back })
-    c.if-not-may_stand_in_a_job.ensures
+    c.if-not-may_be_set_in_a_job.ensures
 
 pub returns-in_err-word : goal.returns-in_err-word
 returns-in_err-word c =
@@ -51,5 +51,5 @@ returns c =
     line_read c.args.bytes.now c.split_at.result.0.now c.split_at.result.1.now c.in_ok-word.word.now
     c.in_ok-export.export.now c.in_ok-again.again.now c.in_ok-end.end.now c.name_length.result c.behind-4.result
     (record { runs = c.name_length.ensures; front = c.split_at.ensures.front; back = c.split_at.ensures.back })
-    (sym c.if-not-may_stand_in_a_job.ensures)
+    (sym c.if-not-may_be_set_in_a_job.ensures)
     c.in_ok-word.ensures c.in_ok-export.ensures c.in_ok-again.ensures c.in_ok-end.ensures c.behind-4.ensures

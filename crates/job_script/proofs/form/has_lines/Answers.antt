@@ -1,4 +1,4 @@
-use Rattle.job_script.proofs.FormLemmas.{lines_before, lines_behind, no_lines, only_place}
+use Rattle.job_script.proofs.FormLemmas.{lines_before, lines_behind, no_lines, only_directory}
 use Rattle.job_script.proofs.form.has_lines.Goals as goal
 
 pub loop-more-preserved : goal.loop-more-preserved
@@ -9,6 +9,6 @@ loop-more-preserved c = (
 
 pub returns : goal.returns
 returns c = (
-  λ place. c.loop-more.invariant.0 (no_lines c.loop-more.rest.now (c.has_place.ensures.0 place)),
-  λ lines. c.has_place.ensures.1 (only_place c.loop-more.rest.now c.in_default.ensures (c.loop-more.invariant.1 lines)),
+  λ place. c.loop-more.invariant.0 (no_lines c.loop-more.rest.now (c.has_directory.ensures.0 place)),
+  λ lines. c.has_directory.ensures.1 (only_directory c.loop-more.rest.now c.in_default.ensures (c.loop-more.invariant.1 lines)),
 )

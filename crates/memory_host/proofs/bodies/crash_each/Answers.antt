@@ -1,5 +1,5 @@
 use Rattle.std.proofs.Common.{◌∙◌, refl}
-use Rattle.memory_host.specs.Bodies.{kept_crashed}
+use Rattle.memory_host.specs.inside.Bodies.{kept_crashed}
 use Rattle.memory_host.proofs.BodyLemmas.{with_each_step}
 use Rattle.memory_host.proofs.bodies.crash_each.Goals as goal
 

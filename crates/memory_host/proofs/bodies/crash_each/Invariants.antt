@@ -1,5 +1,5 @@
 use Rattle.std.proofs.Common.{◌≡◌, drop}
-use Rattle.memory_host.specs.Bodies.{kept_crashed, with_each}
+use Rattle.memory_host.specs.inside.Bodies.{kept_crashed, with_each}
 use Rattle.memory_host.proofs.bodies.crash_each.Given as goal
 
 abbrev pub invariant-loop-number : goal.invariant-loop-number

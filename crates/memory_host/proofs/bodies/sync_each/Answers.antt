@@ -1,5 +1,5 @@
 use Rattle.std.proofs.Common.{◌∙◌, refl}
-use Rattle.memory_host.specs.Bodies.{kept_synced}
+use Rattle.memory_host.specs.inside.Bodies.{kept_synced}
 use Rattle.memory_host.proofs.BodyLemmas.{with_each_step}
 use Rattle.memory_host.proofs.bodies.sync_each.Goals as goal
 

@@ -1,5 +1,5 @@
 use Rattle.std.proofs.Common.{◌≡◌, drop}
-use Rattle.memory_host.specs.Bodies.{kept_synced, with_each}
+use Rattle.memory_host.specs.inside.Bodies.{kept_synced, with_each}
 use Rattle.memory_host.proofs.bodies.sync_each.Given as goal
 
 abbrev pub invariant-loop-number : goal.invariant-loop-number

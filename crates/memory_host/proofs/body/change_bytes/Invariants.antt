@@ -1,5 +1,5 @@
 use Rattle.std.proofs.Common.{◌≡◌, ◌||◌, ◌++◌, not, take, drop}
-use Rattle.memory_host.specs.Bodies.{lies_in}
+use Rattle.memory_host.specs.inside.Bodies.{lies_in}
 use Rattle.memory_host.specs.Crash.{picked_bytes}
 use Rattle.memory_host.proofs.body.change_bytes.Given as goal
 

@@ -12,7 +12,7 @@ returns-then-is_some c = λ marks files tells are.
 
 pub returns-in-None : goal.returns-in-None
 returns-in-None c = λ marks files tells are.
-    ap Some c.journal_damage.ensures
+    ap Some c.gate_damage.ensures
     ∙ start_lost marks c.args.place c.in-Started.queue (file_of c.in-Started.number files) (c.in-None.ensures.value ∙ are c.in-Started.number)
     ∙ start_open marks files c.args.place c.in-Started.number c.in-Started.queue c.in-Started.second
     (life_decides marks c.args.lives.now c.in-Started.number c.get.result _ tells c.get.ensures (sym c.is_some.ensures ∙ c.if-is_some.false))
@@ -20,7 +20,7 @@ returns-in-None c = λ marks files tells are.
 
 pub returns-in-Some-2 : goal.returns-in-Some-2
 returns-in-Some-2 c = λ marks files tells are.
-    ap Some c.journal_damage-in-Some-2.ensures
+    ap Some c.queue_damage.ensures
     ∙ start_elsewhere marks c.args.place c.in-Started.queue (file_of c.in-Started.number files) c.in-Some.row.now (c.in-Some.ensures.value ∙ are c.in-Started.number) c.if-row-queue.false
     ∙ start_open marks files c.args.place c.in-Started.number c.in-Started.queue c.in-Started.second
     (life_decides marks c.args.lives.now c.in-Started.number c.get.result _ tells c.get.ensures (sym c.is_some.ensures ∙ c.if-is_some.false))

@@ -31,5 +31,5 @@ returns-clause-files g c = λ tells kept table next.
     placing_done kept table c.args.job.now.queue c.args.job.now.number c.args.job.now.minute script (g.H.Host.world c.args.host.now) next
     name middle new c.place.result c.name-name.ensures c.requires.header
     (c.in_ok-draw.ensures.files tells) (c.in_ok-draw.ensures.drawn tells)
-    (subst (λ temp. ChangesFiles (IsPlacing temp name script middle.now.folder) middle new) c.temp_name.ensures (c.place.ensures.files tells))
-    (subst (λ temp. OnOk c.place.result (IsPlaced temp name script middle.now.folder new.now.folder)) c.temp_name.ensures (c.place.ensures.placed tells))
+    (subst (λ temp. ChangesFiles (IsPlacing temp name script middle.now.folder) middle new) c.temporary_name.ensures (c.place.ensures.files tells))
+    (subst (λ temp. OnOk c.place.result (IsPlaced temp name script middle.now.folder new.now.folder)) c.temporary_name.ensures (c.place.ensures.placed tells))

@@ -1,12 +1,12 @@
 use Rattle.std.proofs.Common.{sym, ◌∙◌}
-use Rattle.spool_store.specs.Seen.{files_seen}
+use Rattle.spool_store.specs.inside.FoundJobs.{files_found}
 use Rattle.spool_store.proofs.ListLemmas.{lists_drawn, lists_table, seen_number}
 use Rattle.spool_store.proofs.TableLemmas.{no_damage}
 use Rattle.spool_store.proofs.tables.listed.Goals as goal
 
 pub returns-clause-table : goal.returns-clause-table
 returns-clause-table c =
-    let files = files_seen c.args.seen.now in
+    let files = files_found c.args.seen.now in
     let looked = c.in_ok-by_number.ensures c.args.marks.now c.requires.told in
     lists_table c.args.last c.args.marks.now files c.in_ok-by_number.by_number c.args.lives.now _ _ c.requires.told looked.1
     c.in_ok-rows.ensures.ordered c.in_ok-decided.ensures.ordered c.in_ok-rows.ensures.items c.in_ok-decided.ensures.items
@@ -14,7 +14,7 @@ returns-clause-table c =
 
 pub returns-clause-drawn : goal.returns-clause-drawn
 returns-clause-drawn c = λ undecided writable drawn.
-    let files = files_seen c.args.seen.now in
+    let files = files_found c.args.seen.now in
     let looked = c.in_ok-by_number.ensures c.args.marks.now c.requires.told in
     lists_drawn c.args.last c.args.marks.now files c.in_ok-by_number.by_number c.args.lives.now _ _ c.requires.told looked.1
     c.in_ok-rows.ensures.ordered c.in_ok-decided.ensures.ordered c.in_ok-rows.ensures.items c.in_ok-decided.ensures.items

@@ -1,5 +1,5 @@
 use Rattle.std.proofs.Common.{take}
-use Rattle.start_journal.specs.Keeping.{AreForgotten}
+use Rattle.start_journal.specs.inside.Keeping.{AreForgotten}
 use Rattle.start_journal.proofs.keeping.forgotten.Given as goal
 
 abbrev pub invariant-loop-mark : goal.invariant-loop-mark

@@ -1,22 +1,29 @@
-use Rattle.std.proofs.Common.{◌≡◌, ◌+◌, ◌++◌, [], ◌∷◌, Option, Some, refl, subst, ap, ◌∙◌, arith}
-use Rattle.std.specs.Prelude.{IfSome}
+use Rattle.std.proofs.Common.{◌≡◌, ℕ, ◌+◌, ◌++◌, List, [], ◌∷◌, Option, Some, refl, subst, ap, ◌∙◌, arith}
+use Rattle.std.specs.Prelude.{Err, IfSome}
+use Rattle.host_calls.specs.declared.damage.Damage.{Damage}
 use Rattle.start_journal.specs.declared.mark.Mark.{Mark}
 use Rattle.start_journal.specs.Marks.{IsLegalAfter}
 use Rattle.start_journal.proofs.StageLemmas.{told_again}
-use Rattle.start_journal.specs.Journals.{JournalRead}
+use Rattle.start_journal.specs.Journals.{JournalRead, journal_in}
 use Rattle.start_journal.proofs.ReadLemmas.{IsBehind, end_sound, marked, one_behind, unmarked, read_whole, rest_damaged, slot_damaged}
 use Rattle.start_journal.proofs.reading.read.Goals as goal
 use Rattle.start_journal.proofs.reading.read.Goals.{in-None, in-Some+in_ok-put-in-Some}
 
+-- the bytes are damaged so
+abbrev Damages : ℕ → List ℕ → Damage → Type 0
+Damages last bytes damage = journal_in last (Some bytes) ≡ Err damage
+
 pub returns-in-Err-clause-damaged : goal.returns-in-Err-clause-damaged
-returns-in-Err-clause-damaged c =
+returns-in-Err-clause-damaged c = λ damage is.
     let read : JournalRead = record { marks = c.loop-place.marks.items; free = c.loop-place.free } in
-    slot_damaged c.args.last c.loop-place.place c.in-Err.offset c.args.bytes.now c.as_chunks.result.0.now read read.marks _ c.damage.result c.as_chunks.ensures.front c.loop-place.invariant.behind c.loop-place-test.true refl (c.in-Err.ensures.slot c.loop-place.marks.items c.loop-place.invariant.tell) c.damage.ensures
+    let same : c.damage.result ≡ damage = cc in
+    subst (Damages c.args.last c.args.bytes.now) same (slot_damaged c.args.last c.loop-place.place c.in-Err.offset c.args.bytes.now c.as_chunks.result.0.now read read.marks _ c.damage.result c.as_chunks.ensures.front c.loop-place.invariant.behind c.loop-place-test.true refl (c.in-Err.ensures.slot c.loop-place.marks.items c.loop-place.invariant.tell) c.damage.ensures)
 
 pub returns-then-not-is_empty-clause-damaged : goal.returns-then-not-is_empty-clause-damaged
-returns-then-not-is_empty-clause-damaged c =
+returns-then-not-is_empty-clause-damaged c = λ damage is.
     let read : JournalRead = record { marks = c.loop-place.marks.items; free = c.loop-place.free } in
-    rest_damaged c.args.last c.loop-place.place _ c.args.bytes.now c.as_chunks.result.0.now read c.damage-then-not-is_empty.result c.as_chunks.ensures.front c.loop-place.invariant.behind c.loop-place-test.false c.as_chunks.ensures.front_len c.as_chunks.ensures.back_len c.if-not-is_empty.ensures c.damage-then-not-is_empty.ensures
+    let same : c.damage-then-not-is_empty.result ≡ damage = cc in
+    subst (Damages c.args.last c.args.bytes.now) same (rest_damaged c.args.last c.loop-place.place _ c.args.bytes.now c.as_chunks.result.0.now read c.damage-then-not-is_empty.result c.as_chunks.ensures.front c.loop-place.invariant.behind c.loop-place-test.false c.as_chunks.ensures.front_len c.as_chunks.ensures.back_len c.if-not-is_empty.ensures c.damage-then-not-is_empty.ensures)
 
 pub invariant_of-result : goal.invariant_of-result
 invariant_of-result c =

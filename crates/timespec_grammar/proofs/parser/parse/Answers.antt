@@ -19,29 +19,29 @@ returns-in_default-clause-refused c =
     refused_within c.args.tokens.now c.loop-index.index _ c.loop-index.read c.loop-index-test.true
     c.loop-index.invariant (sym c.step.ensures ∙ c.in_default.is)
 
-pub returns-in_default-ends-clause-fault : goal.returns-in_default-ends-clause-fault
-returns-in_default-ends-clause-fault c =
+pub returns-in_default-timespec_read-clause-fault : goal.returns-in_default-timespec_read-clause-fault
+returns-in_default-timespec_read-clause-fault c =
     let ran = all_read c.args.tokens.now c.loop-index.index c.loop-index.read c.loop-index-test.false c.loop-index.invariant in
-    fault_at_end c.args.tokens.now c.loop-index.read ran (sym c.ends.ensures ∙ c.in_default-ends.is)
+    fault_at_end c.args.tokens.now c.loop-index.read ran (sym c.timespec_read.ensures ∙ c.in_default-timespec_read.is)
 
-pub returns-in_default-ends-clause-refused : goal.returns-in_default-ends-clause-refused
-returns-in_default-ends-clause-refused c =
+pub returns-in_default-timespec_read-clause-refused : goal.returns-in_default-timespec_read-clause-refused
+returns-in_default-timespec_read-clause-refused c =
     let ran = all_read c.args.tokens.now c.loop-index.index c.loop-index.read c.loop-index-test.false c.loop-index.invariant in
-    refused_at_end c.args.tokens.now c.loop-index.read ran (sym c.ends.ensures ∙ c.in_default-ends.is)
+    refused_at_end c.args.tokens.now c.loop-index.read ran (sym c.timespec_read.ensures ∙ c.in_default-timespec_read.is)
 
 pub returns-clause-spelled : goal.returns-clause-spelled
 returns-clause-spelled c =
     let ran = all_read c.args.tokens.now c.loop-index.index c.loop-index.read c.loop-index-test.false c.loop-index.invariant in
-    spelled_at_end (tokens_of c.args.tokens.now) c.loop-index.read c.in-Some-ends.spec ran (sym c.ends.ensures ∙ c.in-Some-ends.is)
+    spelled_at_end (tokens_of c.args.tokens.now) c.loop-index.read c.in-Some-timespec_read.spec ran (sym c.timespec_read.ensures ∙ c.in-Some-timespec_read.is)
 
 pub returns-clause-only : goal.returns-clause-only
 returns-clause-only c = λ other spelled.
     let ran = all_read c.args.tokens.now c.loop-index.index c.loop-index.read c.loop-index-test.false c.loop-index.invariant in
-    only_one (tokens_of c.args.tokens.now) c.loop-index.read c.in-Some-ends.spec other ran
-    (sym c.ends.ensures ∙ c.in-Some-ends.is) spelled
+    only_one (tokens_of c.args.tokens.now) c.loop-index.read c.in-Some-timespec_read.spec other ran
+    (sym c.timespec_read.ensures ∙ c.in-Some-timespec_read.is) spelled
 
 pub returns-clause-in_range : goal.returns-clause-in_range
 returns-clause-in_range c =
     let ran = all_read c.args.tokens.now c.loop-index.index c.loop-index.read c.loop-index-test.false c.loop-index.invariant in
-    spells_in_range (tokens_of c.args.tokens.now) c.in-Some-ends.spec
-    (spelled_at_end (tokens_of c.args.tokens.now) c.loop-index.read c.in-Some-ends.spec ran (sym c.ends.ensures ∙ c.in-Some-ends.is))
+    spells_in_range (tokens_of c.args.tokens.now) c.in-Some-timespec_read.spec
+    (spelled_at_end (tokens_of c.args.tokens.now) c.loop-index.read c.in-Some-timespec_read.spec ran (sym c.timespec_read.ensures ∙ c.in-Some-timespec_read.is))

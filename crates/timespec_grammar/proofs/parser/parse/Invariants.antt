@@ -1,6 +1,6 @@
 use Rattle.std.proofs.Common.{◌≡◌, take, Some}
 use Rattle.timespec_grammar.specs.Grammar.{tokens_of}
-use Rattle.timespec_grammar.specs.Steps.{run}
+use Rattle.timespec_grammar.proofs.ReadLemmas.{run}
 use Rattle.timespec_grammar.specs.declared.read.Read.TheVariants as read
 use Rattle.timespec_grammar.proofs.parser.parse.Given as goal
 

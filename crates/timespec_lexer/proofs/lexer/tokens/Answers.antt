@@ -13,7 +13,7 @@ loop-placed-preserved c = record {
   walks =
       subst (λ (placed : List Placed). Walks c.args.text.now 0 placed c.in-Some.found.end) (sym c.push.ensures.items)
       (walks_on c.args.text.now 0 c.loop-placed.placed.items c.loop-placed.end _ c.in-Some.found.end
-      c.loop-placed.invariant.walks c.skip_blanks-begin.ensures.blanks c.in-Some.ensures.token);
+      c.loop-placed.invariant.walks c.skip_separators-begin.ensures.separators c.in-Some.ensures.token);
 }
 
 pub returns-then-begin-text-clause-only_these : goal.returns-then-begin-text-clause-only_these
@@ -22,8 +22,8 @@ returns-then-begin-text-clause-only_these c =
 
 pub returns-in_default-clause-only_there : goal.returns-in_default-clause-only_there
 returns-in_default-clause-only_there c =
-    only_refusal c.args.text.now c.skip_blanks-begin.result (search rules)
+    only_refusal c.args.text.now c.skip_separators-begin.result (search rules)
 
 pub returns-then-is_full-clause-only_there : goal.returns-then-is_full-clause-only_there
 returns-then-is_full-clause-only_there c =
-    only_refusal c.args.text.now c.skip_blanks-begin.result (search rules)
+    only_refusal c.args.text.now c.skip_separators-begin.result (search rules)

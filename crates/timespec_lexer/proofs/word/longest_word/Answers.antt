@@ -1,6 +1,6 @@
 use Rattle.std.proofs.Common.{ap, ◌∙◌, subst, sym}
 use Rattle.std.proofs.lemmas.List.{take_more, map-append}
-use Rattle.timespec_lexer.specs.Search.{IsBest, words_of}
+use Rattle.timespec_lexer.specs.inside.Search.{IsBest, words_of}
 use Rattle.timespec_lexer.specs.Tokens.{WordTable}
 use Rattle.timespec_lexer.proofs.word.longest_word.Goals as goal
 

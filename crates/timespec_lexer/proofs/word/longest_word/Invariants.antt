@@ -1,5 +1,5 @@
 use Rattle.std.proofs.Common.{take}
-use Rattle.timespec_lexer.specs.Search.{IsBest, words_of}
+use Rattle.timespec_lexer.specs.inside.Search.{IsBest, words_of}
 use Rattle.timespec_lexer.proofs.word.longest_word.Given as goal
 
 abbrev pub invariant-loop-row : goal.invariant-loop-row

@@ -1,5 +1,5 @@
 use Rattle.std.proofs.Common.{◌≡◌, ◌∙◌, Option, None, Some, IfSome, List, ℕ, sym}
-use Rattle.touch_time.specs.Reader.{read_touch}
+use Rattle.touch_time.specs.inside.Reader.{read_touch}
 use Rattle.touch_time.specs.Touch.{SpellsTouch}
 use Rattle.touch_time.specs.declared.touch.TouchTime.{TouchTime}
 use Rattle.touch_time.proofs.TouchLemmas.{read_touch_complete, read_touch_sound}

@@ -1,15 +1,30 @@
-use Rattle.std.proofs.Common.{length, ap, sym, ◌∙◌}
-use Rattle.std.specs.Prelude.{is_some}
-use Rattle.memory_host.proofs.CountLemmas.{counted_fail, counted_pass, counted_taken}
+use Rattle.std.proofs.Common.{ap, is_some, sym, subst, ◌∙◌}
+use Rattle.memory_host.specs.Host.{progress_of}
+use Rattle.memory_host.specs.inside.Faults.{AreFaultsPlanned}
+use Rattle.memory_host.proofs.FaultLemmas.{faults_failed, faults_passed, faults_taken, next_progress}
 use Rattle.memory_host.proofs.host.MemoryHostHost.enter.Goals as goal
 
-pub invariant_of-self-clause-counts : goal.invariant_of-self-clause-counts
-invariant_of-self-clause-counts c = counted_taken c.args.self.now.plan c.args.self.now.fuses.items c.args.self.now.fuse c.args.self.now.turn.call (length c.args.self.now.waits.items) c.args.self.now.file_faults c.args.self.now.start_faults c.args.self.now.taken c.args.self.now.counts _ _ c.next-self.ensures.call c.saturating_add-self.ensures (sym c.names.ensures ∙ c.if-names.true)
+pub invariant_of-self-clause-faults : goal.invariant_of-self-clause-faults
+invariant_of-self-clause-faults c =
+    let host = c.args.self.now in
+    let at = progress_of host in
+    subst (λ next. AreFaultsPlanned next host.fuses.items host.file_faults host.start_faults c.saturating_add-self.result)
+    (sym (next_progress at _ _ c.next-self.ensures.call c.next-self.ensures.since_reboot))
+    (faults_taken at host.fuses.items host.file_faults host.start_faults host.taken host.faults _ c.saturating_add-self.ensures (sym c.finds_taken-is_taken.ensures ∙ c.if-is_taken.true))
 
-pub invariant_of-self-then-is_some-clause-counts : goal.invariant_of-self-then-is_some-clause-counts
-invariant_of-self-then-is_some-clause-counts c =
-    counted_fail c.args.self.now.plan c.args.self.now.fuses.items c.args.self.now.fuse c.args.self.now.turn.call (length c.args.self.now.waits.items) c.args.self.now.file_faults c.args.self.now.start_faults c.args.self.now.taken c.args.self.now.counts c.args.self.now.turn.since_reboot _ _ c.next-self-then-is_some.ensures.call c.saturating_add-self-then-is_some.ensures
-    (ap is_some (sym c.fault-fault.ensures) ∙ sym c.is_some.ensures ∙ c.if-is_some.true)
+pub invariant_of-self-then-fails-clause-faults : goal.invariant_of-self-then-fails-clause-faults
+invariant_of-self-then-fails-clause-faults c =
+    let host = c.args.self.now in
+    let at = progress_of host in
+    subst (λ next. AreFaultsPlanned next host.fuses.items c.saturating_add-self-then-fails.result host.start_faults host.taken)
+    (sym (next_progress at _ _ c.next-self.ensures.call c.next-self.ensures.since_reboot))
+    (faults_failed at host.fuses.items host.file_faults host.start_faults host.taken host.faults _ c.saturating_add-self-then-fails.ensures
+    (ap is_some (sym c.next_part.ensures) ∙ sym c.is_some-fails.ensures ∙ c.if-fails.true))
 
-pub invariant_of-self-2-clause-counts : goal.invariant_of-self-2-clause-counts
-invariant_of-self-2-clause-counts c = counted_pass c.args.self.now.plan c.args.self.now.fuses.items c.args.self.now.fuse c.args.self.now.turn.call (length c.args.self.now.waits.items) c.args.self.now.file_faults c.args.self.now.start_faults c.args.self.now.taken c.args.self.now.counts _ c.next-self-2.ensures.call
+pub invariant_of-self-2-clause-faults : goal.invariant_of-self-2-clause-faults
+invariant_of-self-2-clause-faults c =
+    let host = c.args.self.now in
+    let at = progress_of host in
+    subst (λ next. AreFaultsPlanned next host.fuses.items host.file_faults host.start_faults host.taken)
+    (sym (next_progress at _ _ c.next-self.ensures.call c.next-self.ensures.since_reboot))
+    (faults_passed at host.fuses.items host.file_faults host.start_faults host.taken host.faults)

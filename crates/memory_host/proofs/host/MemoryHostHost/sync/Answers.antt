@@ -1,15 +1,18 @@
-use Rattle.std.proofs.Common.{refl, ap, ◌∙◌}
-use Rattle.std.specs.Prelude.{is_some}
-use Rattle.memory_host.specs.Host.{world_of}
-use Rattle.memory_host.specs.Past.{state_of}
-use Rattle.memory_host.proofs.HostLemmas.{call_done, done_synced, part_synced}
+use Rattle.std.proofs.Common.{◌≡◌, Some, refl, rules}
+use Rattle.memory_host.specs.inside.Story.{state_of}
+use Rattle.memory_host.specs.declared.failing_list.Part.TheVariants.{Nothing}
+use Rattle.memory_host.proofs.HostLemmas.{change_done, done_synced, part_synced}
 use Rattle.memory_host.proofs.host.MemoryHostHost.sync.Goals as goal
 
-pub returns-clause-files : goal.returns-clause-files
-returns-clause-files c = λ tells.
+pub returns : goal.returns
+returns c =
     let folder = (state_of c.args.self.now.past).folder in
-    call_done _ c.args.self.now.past c.args.self.now.asked.items _ _ _ (is_some c.fault-fault.result) _
-    (c.finish.ensures.world ∙ ap (λ story. world_of story c.args.self.now.asked.items) c.in_ok-sync.ensures.2) refl
+    let works : ¬ (c.next_part-part.result ≡ Some Nothing) = search rules in
+    change_done _ _ _ c.args.self.now c.finish.new.self _ c.next_part-part.result c.finish.result c.in_ok-sync.ensures.2 c.finish.ensures.world refl
     (done_synced folder c.in_ok-sync.ensures.0 c.args.name.now c.in_ok-sync.ensures.1)
     (part_synced folder c.in_ok-sync.ensures.0)
+    c.finish.ensures.inside
+    c.finish.ensures.counted
     c.finish.ensures.answer
+    c.next_part-part.ensures
+    works

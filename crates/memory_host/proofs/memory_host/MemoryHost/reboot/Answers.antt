@@ -1,8 +1,9 @@
 use Rattle.std.proofs.Common.{refl, sym, ap, subst, ◌∙◌, ◌++◌}
 use Rattle.std.specs.Prelude.{option_to_list}
 use Rattle.host_calls.specs.Folder.{IsImage, reading_of}
-use Rattle.memory_host.specs.Host.{spelled, world_of}
-use Rattle.memory_host.specs.Past.{state_of}
+use Rattle.memory_host.specs.Host.{world_of}
+use Rattle.memory_host.specs.Spelling.{spelled}
+use Rattle.memory_host.specs.inside.Story.{state_of}
 use Rattle.memory_host.proofs.CrashLemmas.{crash_is_image, crash_settles}
 use Rattle.memory_host.proofs.HostLemmas.{reboot_world}
 use Rattle.memory_host.proofs.memory_host.MemoryHost.reboot.Goals as goal
@@ -21,5 +22,5 @@ returns-clause-rebooted c =
       file_faults = refl;
       start_faults = refl;
       taken = refl;
-      calls = refl;
+      progress = refl;
     }

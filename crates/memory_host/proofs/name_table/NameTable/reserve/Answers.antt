@@ -1,7 +1,7 @@
 use Rattle.std.proofs.Common.{ap, sym, ◌∙◌}
 use Rattle.std.specs.BTreeMap.{get}
 use Rattle.host_calls.specs.Folder.{name_cmp}
-use Rattle.memory_host.specs.Table.{now_part, certain_part}
+use Rattle.memory_host.specs.inside.Table.{now_part, certain_part}
 use Rattle.memory_host.proofs.TableLemmas.{not_some, put-same_now, put-same_certain}
 use Rattle.memory_host.proofs.name_table.NameTable.reserve.Goals as goal
 

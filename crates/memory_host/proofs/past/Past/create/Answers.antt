@@ -1,6 +1,7 @@
 use Rattle.std.proofs.Common.{sym, subst}
-use Rattle.memory_host.specs.Past.{Story, state_of, with_new_file}
-use Rattle.memory_host.specs.Told.{IsTold}
+use Rattle.memory_host.specs.Past.{Story, with_new_file}
+use Rattle.memory_host.specs.inside.Story.{state_of}
+use Rattle.memory_host.specs.inside.Told.{IsTold}
 use Rattle.memory_host.proofs.PastLemmas.{told_kept, told_next}
 use Rattle.memory_host.proofs.past.Past.create.Goals as goal
 

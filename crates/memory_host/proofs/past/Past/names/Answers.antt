@@ -2,7 +2,7 @@ use Rattle.std.proofs.Common.{ap, ◌∙◌}
 use Rattle.std.specs.FinMap as finite
 use Rattle.std.proofs.lemmas.Result.{IfOk-weaker}
 use Rattle.host_calls.specs.Folder.{reading_of}
-use Rattle.memory_host.specs.Past.{state_of}
+use Rattle.memory_host.specs.inside.Story.{state_of}
 use Rattle.memory_host.proofs.NamesLemmas.{names_told}
 use Rattle.memory_host.proofs.past.Past.names.Goals as goal
 

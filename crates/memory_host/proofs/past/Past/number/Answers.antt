@@ -1,5 +1,5 @@
 use Rattle.std.proofs.Common.{sym, subst, ◌∙◌}
-use Rattle.memory_host.specs.Past.{state_of}
+use Rattle.memory_host.specs.inside.Story.{state_of}
 use Rattle.std.specs.Prelude.{IsSome}
 use Rattle.std.specs.FinMap as finite
 use Rattle.host_calls.specs.Folder.{IsHeldAt, names_of, reading_of}

@@ -4,8 +4,9 @@ use Rattle.std.specs.FinMap.{from_entries}
 use Rattle.std.specs.Map.Iter.{deref_pair}
 use Rattle.std.proofs.lemmas.Map.Iter.{iter_end}
 use Rattle.std.proofs.lemmas.List.{map-append}
-use Rattle.memory_host.specs.Past.{Opens, nothing, with_files, with_folder, with_new_file}
-use Rattle.memory_host.specs.Told.{IsTold}
+use Rattle.memory_host.specs.Past.{nothing, with_files, with_folder, with_new_file}
+use Rattle.memory_host.specs.inside.Story.{Opens}
+use Rattle.memory_host.specs.inside.Told.{IsTold}
 use Rattle.host_calls.specs.Folder.{settled}
 use Rattle.memory_host.proofs.OpenLemmas.{opens, told_nothing, told_opened, with_files-push}
 use Rattle.memory_host.proofs.PastLemmas.{told_settled}

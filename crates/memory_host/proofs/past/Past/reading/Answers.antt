@@ -1,5 +1,5 @@
 use Rattle.std.proofs.Common.{sym, ap, ◌∙◌}
-use Rattle.memory_host.specs.Past.{state_of}
+use Rattle.memory_host.specs.inside.Story.{state_of}
 use Rattle.std.specs.Prelude.{Some}
 use Rattle.std.specs.FinMap as finite
 use Rattle.host_calls.specs.Folder.{reading_of}

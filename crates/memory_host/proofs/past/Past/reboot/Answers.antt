@@ -1,4 +1,5 @@
-use Rattle.memory_host.specs.Past.{Story, state_of}
+use Rattle.memory_host.specs.Past.{Story}
+use Rattle.memory_host.specs.inside.Story.{state_of}
 use Rattle.memory_host.proofs.PastLemmas.{told_next, told_crashed}
 use Rattle.memory_host.proofs.past.Past.reboot.Goals as goal
 

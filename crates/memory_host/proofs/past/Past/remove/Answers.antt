@@ -1,12 +1,13 @@
 use Rattle.std.proofs.Common.{subst, ◌≡◌, true}
-use Rattle.memory_host.specs.Past.{Story, state_of}
-use Rattle.memory_host.specs.Table.{is_kept}
+use Rattle.memory_host.specs.Past.{Story}
+use Rattle.memory_host.specs.inside.Story.{state_of}
+use Rattle.memory_host.specs.inside.Table.{has_place}
 use Rattle.memory_host.proofs.TableLemmas.{same_name}
 use Rattle.memory_host.proofs.PastLemmas.{told_next, told_removed, told_same}
 use Rattle.memory_host.proofs.past.Past.remove.Goals as goal
 
 pub change-requires-clause-places : goal.change-requires-clause-places
-change-requires-clause-places c = λ name touched. subst (λ n. is_kept c.reserve-2.new.self.held n ≡ true) (same_name c.args.name.now name touched) c.in_ok-reserve-2.ensures.place
+change-requires-clause-places c = λ name touched. subst (λ n. has_place c.reserve-2.new.self.held n ≡ true) (same_name c.args.name.now name touched) c.in_ok-reserve-2.ensures.place
 
 pub invariant_of-self-2 : goal.invariant_of-self-2
 invariant_of-self-2 c =
@@ -16,4 +17,4 @@ invariant_of-self-2 c =
     (told_removed (state_of story) c.reserve-2.new.self c.change.new.self s.bodies s.bodies s.handed.items
     (told_same (state_of story) s.names c.reserve-2.new.self s.bodies s.bodies s.handed.items c.self.invariant c.reserve-2.ensures.now c.reserve-2.ensures.certain c.reserve-2.ensures.pending c.reserve-2.ensures.places)
     c.args.name.now c.change.ensures.now c.change.ensures.certain c.change.ensures.places
-    (λ name touched. subst (λ n. is_kept c.reserve-2.new.self.held n ≡ true) (same_name c.args.name.now name touched) c.in_ok-reserve-2.ensures.place) c.change.ensures.pending)
+    (λ name touched. subst (λ n. has_place c.reserve-2.new.self.held n ≡ true) (same_name c.args.name.now name touched) c.in_ok-reserve-2.ensures.place) c.change.ensures.pending)

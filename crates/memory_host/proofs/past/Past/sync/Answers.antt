@@ -1,5 +1,6 @@
 use Rattle.std.proofs.Common.{sym, subst}
-use Rattle.memory_host.specs.Past.{Story, state_of}
+use Rattle.memory_host.specs.Past.{Story}
+use Rattle.memory_host.specs.inside.Story.{state_of}
 use Rattle.host_calls.specs.Folder.{IsHeldAt, names_of}
 use Rattle.memory_host.proofs.PastLemmas.{number_known, told_next, told_synced}
 use Rattle.memory_host.proofs.past.Past.sync.Goals as goal

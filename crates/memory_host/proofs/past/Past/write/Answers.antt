@@ -1,6 +1,7 @@
 use Rattle.std.proofs.Common.{sym, length, subst}
-use Rattle.memory_host.specs.Past.{Story, after_call, state_of}
-use Rattle.memory_host.specs.Told.{IsTold}
+use Rattle.memory_host.specs.Past.{Story, after_call}
+use Rattle.memory_host.specs.inside.Story.{state_of}
+use Rattle.memory_host.specs.inside.Told.{IsTold}
 use Rattle.memory_host.specs.declared.past_call.PastCall.TheVariants.{Written}
 use Rattle.host_calls.specs.Folder.{IsHeldAt, names_of, reading_of}
 use Rattle.host_calls.specs.World.{IsWithinFile}

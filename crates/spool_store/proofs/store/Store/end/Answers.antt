@@ -1,4 +1,4 @@
-use Rattle.std.proofs.Common.{◌≡◌, ℕ, List, Option, Some, IfSome, refl}
+use Rattle.std.proofs.Common.{rules, ◌≡◌, ℕ, List, Option, Some, IfSome, refl}
 use Rattle.host_calls.specs.declared.child.Ending.{Ending}
 use Rattle.spool_model.specs.declared.step.Step.TheVariants.{End}
 use Rattle.spool_model.specs.JobTable.{JobTable}
@@ -20,28 +20,42 @@ ends inside seen number ending found name view legal is file = record {
 }
 
 pub decide-requires-clause-legal : goal.decide-requires-clause-legal
-decide-requires-clause-legal g c = running_legal _ _ c.args.number c.self.view_is c.requires.legal c.self.invariant
+decide-requires-clause-legal g c = running_legal _ _ c.args.number c.self.view_is c.requires.may.legal c.self.invariant
 
 pub decide-requires-clause-current : goal.decide-requires-clause-current
 decide-requires-clause-current g c = λ tells.
-    let table : JobTable = (c.requires.current tells).0 in
-    let of = ends _ _ c.args.number c.args.ending c.file.result _ c.self.view_is c.requires.legal c.unwrap-file.ensures c.file.ensures.found in
-    (table, End c.args.number c.args.ending, decision_of_step _ _ _ table _ _ _ of (c.requires.current tells).1)
+    let table : JobTable = (c.requires.may.current tells).0 in
+    let of = ends _ _ c.args.number c.args.ending c.file.result _ c.self.view_is c.requires.may.legal c.unwrap-file.ensures c.file.ensures.found in
+    (table, End c.args.number c.args.ending, decision_of_step _ _ _ table _ _ _ of (c.requires.may.current tells).1)
 
-pub returns-in_err-journal-clause-files : goal.returns-in_err-journal-clause-files
-returns-in_err-journal-clause-files g c = λ tells table current.
-    let of = ends _ _ c.args.number c.args.ending c.file.result _ c.self.view_is c.requires.legal c.unwrap-file.ensures c.file.ensures.found in
-    failed_call table _ _ _ c.from_residual-in_err-journal.result c.from_residual-in_err-journal.ensures.0
-    (c.decide.ensures.files tells table _ (decision_of_step _ _ _ table _ _ _ of current))
+pub returns-in_err-journal : goal.returns-in_err-journal
+returns-in_err-journal g c = record {
+  makes = record {
+    inside = search rules;
+    faults = search rules;
+    table_is = search rules;
+    files = λ tells table current.
+        let of = ends _ _ c.args.number c.args.ending c.file.result _ c.self.view_is c.requires.may.legal c.unwrap-file.ensures c.file.ensures.found in
+        failed_call table _ _ _ c.from_residual-in_err-journal.result c.from_residual-in_err-journal.ensures.0
+        (c.decide.ensures.files tells table _ (decision_of_step _ _ _ table _ _ _ of current));
+  };
+}
 
 pub invariant_of-result : goal.invariant_of-result
 invariant_of-result g c =
-    let of = ends _ _ c.args.number c.args.ending c.file.result _ c.self.view_is c.requires.legal c.unwrap-file.ensures c.file.ensures.found in
+    let of = ends _ _ c.args.number c.args.ending c.file.result _ c.self.view_is c.requires.may.legal c.unwrap-file.ensures c.file.ensures.found in
     stored_step _ _ _ _ _ _ of.step_of c.self.invariant c.decide.ensures.legal tt c.in_ok-journal.ensures.marks c.in_ok-end.ensures.taken
 
-pub returns-clause-files : goal.returns-clause-files
-returns-clause-files g c = λ tells table current.
-    let of = ends _ _ c.args.number c.args.ending c.file.result _ c.self.view_is c.requires.legal c.unwrap-file.ensures c.file.ensures.found in
-    let is = decision_of_step _ _ _ table _ _ _ of current in
-    current_call _ _ _ _ table _ _ _ _ (record { step_of = of.step_of; kept = c.in_ok-end.ensures.taken; current = current; files = c.decide.ensures.files tells table _ is })
-    (c.in_ok-journal.ensures.current tells table _ is) (c.in_ok-journal.ensures.others tells table _ is)
+pub returns : goal.returns
+returns g c = record {
+  makes = record {
+    inside = search rules;
+    faults = search rules;
+    table_is = search rules;
+    files = λ tells table current.
+        let of = ends _ _ c.args.number c.args.ending c.file.result _ c.self.view_is c.requires.may.legal c.unwrap-file.ensures c.file.ensures.found in
+        let is = decision_of_step _ _ _ table _ _ _ of current in
+        current_call _ _ _ _ table _ _ _ _ (record { step_of = of.step_of; kept = c.in_ok-end.ensures.taken; current = current; files = c.decide.ensures.files tells table _ is })
+        (c.in_ok-journal.ensures.current tells table _ is) (c.in_ok-journal.ensures.others tells table _ is);
+  };
+}

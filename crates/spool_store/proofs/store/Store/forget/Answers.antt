@@ -1,4 +1,4 @@
-use Rattle.std.proofs.Common.{◌≡◌, ℕ, refl}
+use Rattle.std.proofs.Common.{rules, ◌≡◌, ℕ, refl}
 use Rattle.spool_model.specs.declared.step.Step.TheVariants.{Forget}
 use Rattle.spool_model.specs.JobTable.{JobTable}
 use Rattle.spool_model.specs.Steps.{IsLegal}
@@ -13,21 +13,35 @@ forgets inside seen number view legal = record { view = view; legal = legal; add
 
 pub add_mark-requires-clause-current : goal.add_mark-requires-clause-current
 add_mark-requires-clause-current g c = λ tells.
-    let table : JobTable = (c.requires.current tells).0 in
-    (table, Forget c.args.number, mark_of_step _ _ _ table _ _ (forgets _ _ c.args.number c.self.view_is c.requires.legal) (c.requires.current tells).1)
+    let table : JobTable = (c.requires.may.current tells).0 in
+    (table, Forget c.args.number, mark_of_step _ _ _ table _ _ (forgets _ _ c.args.number c.self.view_is c.requires.may.legal) (c.requires.may.current tells).1)
 
-pub returns-in_err-journal-clause-files : goal.returns-in_err-journal-clause-files
-returns-in_err-journal-clause-files g c = λ tells table current.
-    let is = mark_of_step _ _ _ table _ _ (forgets _ _ c.args.number c.self.view_is c.requires.legal) current in
-    failed_call table _ _ _ c.from_residual.result c.from_residual.ensures.0 (c.add_mark.ensures.files tells table _ is)
+pub returns-in_err-journal : goal.returns-in_err-journal
+returns-in_err-journal g c = record {
+  makes = record {
+    inside = search rules;
+    faults = search rules;
+    table_is = search rules;
+    files = λ tells table current.
+        let is = mark_of_step _ _ _ table _ _ (forgets _ _ c.args.number c.self.view_is c.requires.may.legal) current in
+        failed_call table _ _ _ c.from_residual.result c.from_residual.ensures.0 (c.add_mark.ensures.files tells table _ is);
+  };
+}
 
 pub invariant_of-result : goal.invariant_of-result
 invariant_of-result g c =
-    stored_step _ _ _ _ _ _ (forgets _ _ c.args.number c.self.view_is c.requires.legal) c.self.invariant c.add_mark.ensures.legal tt c.in_ok-journal.ensures.marks c.forget.ensures
+    stored_step _ _ _ _ _ _ (forgets _ _ c.args.number c.self.view_is c.requires.may.legal) c.self.invariant c.add_mark.ensures.legal tt c.in_ok-journal.ensures.marks c.forget.ensures
 
-pub returns-clause-files : goal.returns-clause-files
-returns-clause-files g c = λ tells table current.
-    let of = forgets _ _ c.args.number c.self.view_is c.requires.legal in
-    let is = mark_of_step _ _ _ table _ _ of current in
-    marked_call _ _ _ _ table _ _ _ _ (record { step_of = of; kept = c.forget.ensures; current = current; files = c.add_mark.ensures.files tells table _ is })
-    c.add_mark.ensures.legal c.in_ok-journal.ensures.marks (λ number. refl) (c.in_ok-journal.ensures.marked tells table _ is) (c.in_ok-journal.ensures.others tells)
+pub returns : goal.returns
+returns g c = record {
+  makes = record {
+    inside = search rules;
+    faults = search rules;
+    table_is = search rules;
+    files = λ tells table current.
+        let of = forgets _ _ c.args.number c.self.view_is c.requires.may.legal in
+        let is = mark_of_step _ _ _ table _ _ of current in
+        marked_call _ _ _ _ table _ _ _ _ (record { step_of = of; kept = c.forget.ensures; current = current; files = c.add_mark.ensures.files tells table _ is })
+        c.add_mark.ensures.legal c.in_ok-journal.ensures.marks (λ number. refl) (c.in_ok-journal.ensures.marked tells table _ is) (c.in_ok-journal.ensures.others tells);
+  };
+}

@@ -1,3 +1,4 @@
+use Rattle.std.proofs.Common.{ap}
 use Rattle.spool_store.proofs.RecoveryLemmas.{can_clear, clearing, has_settled, only_settled, recovered, settled_damage, settled_untouched, settling}
 use Rattle.spool_store.proofs.store.Store.recover.Goals as goal
 
@@ -5,7 +6,7 @@ pub returns-in_err-settle-clause-files : goal.returns-in_err-settle-clause-files
 returns-in_err-settle-clause-files g c = λ tells. settling _ _ _ (c.settle.ensures.files tells)
 
 pub returns-in_err-jobs-clause-files : goal.returns-in_err-jobs-clause-files
-returns-in_err-jobs-clause-files g c = λ tells. only_settled _ _ _ _ (c.settle.ensures.files tells) (c.take_look.ensures.looks tells)
+returns-in_err-jobs-clause-files g c = λ tells. only_settled _ _ _ _ (c.settle.ensures.files tells) (c.take_survey.ensures.looks tells)
 
 pub returns-in_err-jobs-clause-recovered : goal.returns-in_err-jobs-clause-recovered
 returns-in_err-jobs-clause-recovered g c = λ tells.
@@ -32,8 +33,8 @@ returns-clause-files g c = λ tells.
 pub returns-clause-recovered : goal.returns-clause-recovered
 returns-clause-recovered g c = λ tells.
     recovered _ _ c.in_ok-jobs.field-0 (has_settled _ _ _ _ _ (c.in_ok-settle.ensures.files tells) (c.in_ok-jobs.ensures.looks tells) (c.in_ok-jobs.ensures.shown tells)) _ c.as_slice.ensures.value
-    _ (c.clear.ensures.files tells) (c.in_ok-clear.ensures.cleared tells)
+    _ (c.clear.ensures.files tells) (λ none. ap g.H.Host.world (c.clear.ensures.nothing none)) (c.in_ok-clear.ensures.cleared tells)
 
 pub returns-in_err-jobs-clause-untouched : goal.returns-in_err-jobs-clause-untouched
 returns-in_err-jobs-clause-untouched g c = λ tells.
-    settled_untouched _ _ _ _ c.from_residual-in_err-jobs.result (c.in_ok-settle.ensures.files tells) (c.take_look.ensures.looks tells)
+    settled_untouched _ _ _ _ c.from_residual-in_err-jobs.result (c.in_ok-settle.ensures.files tells) (c.take_survey.ensures.looks tells)

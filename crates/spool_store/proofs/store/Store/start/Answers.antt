@@ -1,4 +1,4 @@
-use Rattle.std.proofs.Common.{◌≡◌, ◌∙◌, ℕ, ℤ, Option, Some, ap, subst, sym, refl, w64}
+use Rattle.std.proofs.Common.{rules, ◌≡◌, ◌∙◌, ℕ, ℤ, Option, Some, ap, subst, sym, refl, w64}
 use Rattle.std.proofs.lemmas.Int.{to_z-of_z}
 use Rattle.spool_model.specs.declared.entry.Entry.TheVariants.{Live}
 use Rattle.spool_model.specs.declared.job.Job.{Job}
@@ -34,25 +34,39 @@ starts inside seen number second written row view legal held same =
 
 pub add_mark-requires-clause-current : goal.add_mark-requires-clause-current
 add_mark-requires-clause-current g c = λ tells.
-    let table : JobTable = (c.requires.current tells).0 in
-    let of = starts _ _ c.args.number c.args.second _ c.unwrap.result.now c.self.view_is c.requires.legal (of_some _ c.row.result _ c.unwrap.ensures c.row.ensures.found) (to_z-of_z w64 c.args.second c.ranges.second) in
-    (table, Start c.args.number c.args.second, mark_of_step _ _ _ table _ _ of (c.requires.current tells).1)
+    let table : JobTable = (c.requires.may.current tells).0 in
+    let of = starts _ _ c.args.number c.args.second _ c.unwrap.result.now c.self.view_is c.requires.may.legal (of_some _ c.row.result _ c.unwrap.ensures c.row.ensures.found) (to_z-of_z w64 c.args.second c.ranges.second) in
+    (table, Start c.args.number c.args.second, mark_of_step _ _ _ table _ _ of (c.requires.may.current tells).1)
 
-pub returns-in_err-journal-clause-files : goal.returns-in_err-journal-clause-files
-returns-in_err-journal-clause-files g c = λ tells table current.
-    let of = starts _ _ c.args.number c.args.second _ c.unwrap.result.now c.self.view_is c.requires.legal (of_some _ c.row.result _ c.unwrap.ensures c.row.ensures.found) (to_z-of_z w64 c.args.second c.ranges.second) in
-    failed_call table _ _ _ c.from_residual.result c.from_residual.ensures.0 (c.add_mark.ensures.files tells table _ (mark_of_step _ _ _ table _ _ of current))
+pub returns-in_err-journal : goal.returns-in_err-journal
+returns-in_err-journal g c = record {
+  makes = record {
+    inside = search rules;
+    faults = search rules;
+    table_is = search rules;
+    files = λ tells table current.
+        let of = starts _ _ c.args.number c.args.second _ c.unwrap.result.now c.self.view_is c.requires.may.legal (of_some _ c.row.result _ c.unwrap.ensures c.row.ensures.found) (to_z-of_z w64 c.args.second c.ranges.second) in
+        failed_call table _ _ _ c.from_residual.result c.from_residual.ensures.0 (c.add_mark.ensures.files tells table _ (mark_of_step _ _ _ table _ _ of current));
+  };
+}
 
 pub invariant_of-result : goal.invariant_of-result
 invariant_of-result g c =
-    let of = starts _ _ c.args.number c.args.second _ c.unwrap.result.now c.self.view_is c.requires.legal (of_some _ c.row.result _ c.unwrap.ensures c.row.ensures.found) (to_z-of_z w64 c.args.second c.ranges.second) in
+    let of = starts _ _ c.args.number c.args.second _ c.unwrap.result.now c.self.view_is c.requires.may.legal (of_some _ c.row.result _ c.unwrap.ensures c.row.ensures.found) (to_z-of_z w64 c.args.second c.ranges.second) in
     stored_step _ _ _ _ _ _ of c.self.invariant c.add_mark.ensures.legal c.requires.second c.in_ok-journal.ensures.marks
     (c.start.ensures ∙ ap (λ second. after_step c.self.inside.jobs (Start c.args.number second)) (to_z-of_z w64 c.args.second c.ranges.second))
 
-pub returns-clause-files : goal.returns-clause-files
-returns-clause-files g c = λ tells table current.
-    let of = starts _ _ c.args.number c.args.second _ c.unwrap.result.now c.self.view_is c.requires.legal (of_some _ c.row.result _ c.unwrap.ensures c.row.ensures.found) (to_z-of_z w64 c.args.second c.ranges.second) in
-    let is = mark_of_step _ _ _ table _ _ of current in
-    let kept = c.start.ensures ∙ ap (λ second. after_step c.self.inside.jobs (Start c.args.number second)) (to_z-of_z w64 c.args.second c.ranges.second) in
-    marked_call _ _ _ _ table _ _ _ _ (record { step_of = of; kept = kept; current = current; files = c.add_mark.ensures.files tells table _ is })
-    c.add_mark.ensures.legal c.in_ok-journal.ensures.marks (λ number. refl) (c.in_ok-journal.ensures.marked tells table _ is) (c.in_ok-journal.ensures.others tells)
+pub returns : goal.returns
+returns g c = record {
+  makes = record {
+    inside = search rules;
+    faults = search rules;
+    table_is = search rules;
+    files = λ tells table current.
+        let of = starts _ _ c.args.number c.args.second _ c.unwrap.result.now c.self.view_is c.requires.may.legal (of_some _ c.row.result _ c.unwrap.ensures c.row.ensures.found) (to_z-of_z w64 c.args.second c.ranges.second) in
+        let is = mark_of_step _ _ _ table _ _ of current in
+        let kept = c.start.ensures ∙ ap (λ second. after_step c.self.inside.jobs (Start c.args.number second)) (to_z-of_z w64 c.args.second c.ranges.second) in
+        marked_call _ _ _ _ table _ _ _ _ (record { step_of = of; kept = kept; current = current; files = c.add_mark.ensures.files tells table _ is })
+        c.add_mark.ensures.legal c.in_ok-journal.ensures.marks (λ number. refl) (c.in_ok-journal.ensures.marked tells table _ is) (c.in_ok-journal.ensures.others tells);
+  };
+}

@@ -1,11 +1,27 @@
-use Rattle.std.proofs.Common.{arith, refl, ◌<◌, vec_len}
-use Rattle.unix_host.proofs.ChildLemmas.{below_count, one_more}
+use Rattle.std.proofs.Common.{◌≡◌, ◌∙◌, ◌<◌, Ok, Some, ap, arith, length, refl, subst, sym, vec_len}
+use Rattle.std.specs.Prelude.{IfOk}
+use Rattle.unix_host.proofs.ChildLemmas.{below_count, one_more, last_mapped}
 use Rattle.unix_host.proofs.host.UnixHostHost.start.Goals as goal
 
 pub returns-clause-starts : goal.returns-clause-starts
-returns-clause-starts g c = record {
-  inside = c.requires.inside;
-  children = one_more (vec_len c.args.self.now.kids) (vec_len c.push_reserved.new.self) c.len-id.result (omega arith) (omega arith);
-  is_new = λ known. let below : c.len-id.result < vec_len c.args.self.now.kids = below_count (vec_len c.args.self.now.kids) _ known in absurd (omega arith);
-  counts = record { made_as = refl; file_faults = omega arith; start_faults = omega arith; taken = omega arith };
-}
+returns-clause-starts g c =
+    let count = vec_len c.args.self.now.kids in
+    let id = length c.as_slice.result.now in
+    record {
+      inside = c.requires;
+      children = one_more count (vec_len c.push_reserved.new.self) id (omega arith) (omega arith);
+      is_new = λ known. let below : id < count = below_count count _ known in absurd (omega arith);
+      counts = record { made_as = refl; file_faults = omega arith; start_faults = omega arith; taken = omega arith };
+    }
+
+pub returns-clause-cause : goal.returns-clause-cause
+returns-clause-cause g c = record { later = c.start_call.ensures.cause.later; rose = λ failed. cc }
+
+pub returns-clause-started_as : goal.returns-clause-started_as
+returns-clause-started_as g c =
+    let kid = c.in_ok-kid.kid in
+    let is : c.start-started.result ≡ Ok kid = sym c.start_call.ensures.same ∙ c.in_ok-kid.was in
+    last_mapped (λ kid. kid.started_as) c.reserve.new.self.items c.push_reserved.new.self.items kid (length c.as_slice.result.now)
+    c.push_reserved.ensures.items (ap length c.as_slice.ensures.value)
+    ∙ ap Some (subst (λ answer. IfOk answer (λ kid. kid.started_as ≡ record { name = c.args.name.now; nice = c.args.nice })) is
+    c.start-started.ensures.started_as)

@@ -1,0 +1,4 @@
+pub mod AskLemmas
+pub mod MakeLemmas
+pub mod HandLemmas
+pub mod ForgetLemmas

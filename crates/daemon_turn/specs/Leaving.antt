@@ -1,0 +1,89 @@
+-- What a turn leaves, by its end (own).
+use Rattle.std.specs.Prelude.{◌≡◌, ◌⊎◌, ◌≤◌, ◌++◌, [], Bool, true, List, Option, Err, length, map}
+use Rattle.host_calls.specs.declared.child.Ending.{Ending}
+use Rattle.host_calls.specs.declared.child.Handed.{Handed}
+use Rattle.host_calls.specs.Causes.{Rose}
+use Rattle.host_calls.specs.Folder.{Files, IsImage}
+use Rattle.host_calls.specs.Session.{IsOutside, KeepsCounts, Session}
+use Rattle.host_calls.specs.World.{World, reading}
+use Rattle.spool_model.specs.JobTable.{JobTable}
+use Rattle.spool_model.specs.Steps.{after_steps}
+use Rattle.spool_shows.specs.Shown.{Shows, shown_by}
+use Rattle.job_runs.specs.Attempts.{IsAchieved, IsBegun, IsUnbegun}
+use Rattle.job_runs.specs.Hands.{Hands}
+use Rattle.job_runs.specs.Made.{HandsFronts, flags_of}
+use Rattle.daemon_turn.specs.declared.kid.Kid.{Kid}
+use Rattle.daemon_turn.specs.declared.report.TurnEnd.{TurnEnd}
+use Rattle.daemon_turn.specs.declared.report.TurnEnd.TheVariants.{Done, Busy, FileFault, Damaged, Memory}
+use Rattle.daemon_turn.specs.declared.step.TurnStep.{TurnStep}
+use Rattle.daemon_turn.specs.Decisions.{asked_kids, questions}
+use Rattle.daemon_turn.specs.Kids.{AreByNumber, AreChildren, AreKidsAfter, started_numbers}
+use Rattle.daemon_turn.specs.Starting.{Turn}
+use Rattle.daemon_turn.specs.StepsOf.{steps_of}
+use Rattle.daemon_turn.specs.Turning.{AreFirstSteps, AreTurnSteps}
+
+-- a host at one moment, and the kids of the daemon that works on it
+pub record Standing : Type 0 where
+  pub session : Session
+  pub world : World
+  pub kids : List Kid
+
+-- What the turn handed over and asked, whose steps on the table were these. The kids are those that stay, and the
+-- children of the starts, each under its number.
+pub record Gave (turn : Turn) (table : JobTable) (steps : List TurnStep) (given : List Handed) (answers : List (Option Ending))
+    (old new : Standing) : Type 0 where
+  pub handed : new.world.now.handed ≡ old.world.now.handed ++ given
+  pub hands : Hands table (steps_of steps) given
+  pub fronts : HandsFronts old.world new.world
+  pub asked : new.world.asked ≡ old.world.asked ++ questions (asked_kids table turn.kids) answers
+  pub added : List Kid
+  pub numbered : map (λ kid. kid.number) added ≡ started_numbers given
+  pub children : new.session.children ≡ old.session.children ++ map (λ kid. kid.child) added
+  pub kids : AreKidsAfter table steps old.kids added new.kids
+
+-- The turn was made to its end: its steps are all those of a turn on the table that the reading showed, and they stand.
+pub record IsWhole (turn : Turn) (steps : List TurnStep) (old new : Standing) : Type 0 where
+  pub table : JobTable
+  pub given : List Handed
+  pub answers : List (Option Ending)
+  pub are : AreTurnSteps turn table answers (flags_of given) steps
+  pub achieved : IsAchieved table (steps_of steps) old.world new.world
+  pub gave : Gave turn table steps given answers old new
+
+-- The turn was stopped behind a recovery: these are the first of its steps, and the next one may stand too.
+pub record IsStopped (turn : Turn) (steps : List TurnStep) (old new : Standing) : Type 0 where
+  pub table : JobTable
+  pub given : List Handed
+  pub answers : List (Option Ending)
+  pub next : List TurnStep
+  pub few : length next ≤ 1
+  pub first : AreFirstSteps turn table answers (flags_of given) (steps ++ next)
+  pub begun : IsBegun table (steps_of (steps ++ next)) old.world new.world
+  pub ends : (image : Files) → IsImage new.world.now.folder image →
+      Shows image (after_steps table (steps_of steps)) ⊎ Shows image (after_steps table (steps_of (steps ++ next)))
+  pub gave : Gave turn table steps given answers old new
+
+-- The turn was stopped before a recovery succeeded: no step was begun, and the kids are as before.
+pub record IsIdle (steps : List TurnStep) (old new : Standing) : Type 0 where
+  pub none : steps ≡ []
+  pub kids : new.kids ≡ old.kids
+  pub unbegun : IsUnbegun old.world new.world
+  pub asked : new.world.asked ≡ old.world.asked
+
+-- what a turn leaves, by its end
+abbrev pub TurnLeaves : Turn → List TurnStep → Standing → Standing → TurnEnd → Type 0
+TurnLeaves turn steps old new Done = IsWhole turn steps old new
+TurnLeaves turn steps old new Busy = IsIdle steps old new × (new.world ≡ old.world)
+TurnLeaves turn steps old new FileFault = IsIdle steps old new ⊎ IsStopped turn steps old new
+TurnLeaves turn steps old new (Damaged damage) = IsIdle steps old new × (shown_by (reading old.world) ≡ Err damage)
+TurnLeaves turn steps old new Memory = IsIdle steps old new ⊎ IsStopped turn steps old new
+
+-- A turn: why it ended so, whose children the kids are, and, on a host that tells its files and is alone, what it leaves.
+pub record TurnsTo (tells alone : Bool) (turn : Turn) (old new : Standing) (end : TurnEnd) (steps : List TurnStep) : Type 0 where
+  pub outside : IsOutside new.session
+  pub counts : KeepsCounts old.session new.session
+  pub busy : end ≡ Busy → Rose old.session.taken new.session.taken
+  pub fault : end ≡ FileFault → Rose old.session.file_faults new.session.file_faults
+  pub children : AreChildren new.session.children new.kids
+  pub ordered : AreByNumber new.kids
+  pub leaves : tells ≡ true → alone ≡ true → TurnLeaves turn steps old new end

@@ -1,0 +1,7 @@
+pub mod Decisions
+pub mod Kids
+pub mod Leaving
+pub mod Starting
+pub mod StepsOf
+pub mod Turning
+pub mod inside

@@ -1,0 +1,17 @@
+-- The steps of the job table that a turn reports (own).
+use Rattle.std.specs.Prelude.{List, map}
+use Rattle.spool_model.specs.declared.step.Step.{Step}
+use Rattle.spool_model.specs.declared.step.Step.TheVariants.{Start, End, Interrupt, Forget}
+use Rattle.daemon_turn.specs.declared.step.TurnStep.{TurnStep}
+use Rattle.daemon_turn.specs.declared.step.TurnStep.TheVariants.{HandedOver, Ended, Interrupted, Forgotten}
+
+-- the step of the job table that a turn reports so
+abbrev pub step_of : TurnStep → Step
+step_of (HandedOver number second) = Start number second
+step_of (Ended number ending) = End number ending
+step_of (Interrupted number) = Interrupt number
+step_of (Forgotten number) = Forget number
+
+-- the steps of the job table, in order
+abbrev pub steps_of : List TurnStep → List Step
+steps_of steps = map step_of steps

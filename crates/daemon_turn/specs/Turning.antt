@@ -1,0 +1,41 @@
+-- The steps of a turn (own).
+use Rattle.std.specs.Prelude.{◌≡◌, ◌⊎◌, ◌≤◌, ◌++◌, [], ℕ, Bool, List, Option, length}
+use Rattle.host_calls.specs.declared.child.Ending.{Ending}
+use Rattle.spool_model.specs.JobTable.{JobTable}
+use Rattle.spool_model.specs.Steps.{after_steps}
+use Rattle.daemon_turn.specs.declared.step.TurnStep.{TurnStep}
+use Rattle.daemon_turn.specs.Decisions.{asked_kids, decisions}
+use Rattle.daemon_turn.specs.Starting.{IsOrder, Turn, forgets, starts}
+use Rattle.daemon_turn.specs.StepsOf.{steps_of}
+
+-- the steps, and behind them those that forget what is too much then
+abbrev pub with_forgets : JobTable → List TurnStep → List TurnStep
+with_forgets table steps = steps ++ forgets (after_steps table (steps_of steps))
+
+-- The steps of a turn on the table, by the answers of the kids that are asked and by whether a child came of each start:
+-- what is decided of running jobs, the starts, and what is forgotten then.
+pub record AreTurnSteps (turn : Turn) (table : JobTable) (answers : List (Option Ending)) (flags : List Bool)
+    (steps : List TurnStep) : Type 0 where
+  pub order : List ℕ
+  pub ordered : IsOrder turn table order
+  pub asked : length answers ≡ length (asked_kids table turn.kids)
+  pub started : length flags ≡ length order
+  pub all : steps ≡ with_forgets table (decisions table turn.kids answers ++ starts order turn.now flags)
+
+-- the first steps are a front of the others
+abbrev pub IsFrontOf : List TurnStep → List TurnStep → Type 0
+IsFrontOf front steps = (behind : List TurnStep) × (steps ≡ front ++ behind)
+
+-- The first steps of a turn, where it was stopped, by the answers that it had by then. No start stands before all kids
+-- have answered, and nothing is forgotten before all starts have.
+pub record AreFirstSteps (turn : Turn) (table : JobTable) (answers : List (Option Ending)) (flags : List Bool)
+    (steps : List TurnStep) : Type 0 where
+  pub order : List ℕ
+  pub ordered : IsOrder turn table order
+  pub few : length answers ≤ length (asked_kids table turn.kids)
+  pub fewer : length flags ≤ length order
+  pub front :
+      ((flags ≡ []) × IsFrontOf steps (decisions table turn.kids answers))
+      ⊎ (((length answers ≡ length (asked_kids table turn.kids))
+      × IsFrontOf steps (decisions table turn.kids answers ++ starts order turn.now flags))
+      ⊎ ((all : List TurnStep) × AreTurnSteps turn table answers flags all × IsFrontOf steps all))

@@ -1,0 +1,43 @@
+//! Kids are asked whether they have ended.
+ghost use Rattle.std.specs.Prelude.{◌≡◌, ◌+◌, ◌≤◌, ◌<◌, ◌++◌, length, vec_capacity, vec_len};
+ghost use Rattle.host_calls.specs.Session.{IsInside, StaysInside};
+ghost use Rattle.daemon_turn.specs.inside.Asking.{AsksAll};
+ghost use Rattle.daemon_turn.specs.Kids.{AreChildren};
+ghost use Rattle.daemon_turn.specs.Decisions.{end_of};
+
+use crate::{Kid, TurnStep};
+use host_calls::{Ending, Host};
+use std::alloc::{AllocError, Global};
+
+// Asks each of the kids, in order, and writes the ends down that they tell.
+pub(crate) fn ask_all<H: Host>(
+    alloc: Global,
+    host: &mut H,
+    kids: &[Kid],
+    told: &mut Vec<TurnStep>,
+) -> Result<(), AllocError>
+    requires inside { IsInside (H.session host.old) }
+    requires children { AreChildren (H.session host.old).children kids.now }
+    requires room { vec_len told.old + length kids.now ≤ vec_capacity told.old }
+    ensures inside { StaysInside (H.session host.old) (H.session host.new) }
+    ensures asks { AsksAll H.tells kids.now told.old.items told.new.items (H.world host.old) (H.world host.new) result }
+    ensures capacity { vec_capacity told.new ≡ vec_capacity told.old }
+{
+    for kid in kids {
+        let answer = host.ended(alloc, &kid.child)?;
+        write_end(told, kid.number, answer);
+    }
+    Ok(())
+}
+
+// Writes down the end that the answer tells of the job, if it is one.
+fn write_end(told: &mut Vec<TurnStep>, number: u32, answer: Option<Ending>)
+    requires { vec_len told.old < vec_capacity told.old }
+    ensures items { told.new.items ≡ told.old.items ++ end_of number answer }
+    ensures len { vec_len told.new ≤ vec_len told.old + 1 }
+    ensures capacity { vec_capacity told.new ≡ vec_capacity told.old }
+{
+    if let Some(ending) = answer {
+        told.push_reserved(TurnStep::Ended(number, ending));
+    }
+}

@@ -1,0 +1,56 @@
+//! The steps of a turn.
+ghost use Rattle.std.specs.Prelude.{◌≡◌, [], ◌++◌, ◌∷◌};
+
+use host_calls::Ending;
+use std::alloc::Global;
+use std::marker::Model;
+
+/// A step that a turn made.
+#[derive(Clone, Copy, Debug, PartialEq, Eq)]
+pub enum TurnStep {
+    /// The job was started at this second, and its script handed over.
+    HandedOver(u32, i64),
+    /// The job ended so.
+    Ended(u32, Ending),
+    /// The running job was given up.
+    Interrupted(u32),
+    /// What became of the job is no longer kept.
+    Forgotten(u32),
+}
+
+/// Steps that a turn made, in order.
+#[derive(Drop)]
+pub struct TurnSteps {
+    steps: Vec<TurnStep>,
+}
+
+impl Model for TurnSteps {
+    ghost use Rattle.std.specs.Prelude.{List};
+    ghost use Rattle.std.specs.Coded.{coded_list};
+    ghost use Rattle.daemon_turn.specs.contracts.step.TurnStep as turn_step;
+    ghost use Rattle.daemon_turn.specs.declared.step.TurnStep.{TurnStep};
+
+    ghost Value = { List TurnStep };
+
+    ghost coded = { coded_list turn_step.the_row.coded };
+
+    ghost view = { λ steps. steps.steps.items };
+}
+
+impl TurnSteps {
+    /// No steps. It takes no memory.
+    pub fn new(alloc: Global) -> TurnSteps
+        ensures { result ≡ [] }
+    {
+        TurnSteps {
+            steps: Vec::new(alloc),
+        }
+    }
+
+    /// The steps.
+    pub fn as_slice(&self) -> &[TurnStep]
+        ensures { result.now ≡ self.now }
+    {
+        self.steps.as_slice()
+    }
+}

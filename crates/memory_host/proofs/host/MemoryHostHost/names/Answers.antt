@@ -1,6 +1,0 @@
-use Rattle.std.proofs.Common.{length}
-use Rattle.memory_host.proofs.CountLemmas.{counted_pass}
-use Rattle.memory_host.proofs.host.MemoryHostHost.names.Goals as goal
-
-pub invariant_of-self-clause-counts : goal.invariant_of-self-clause-counts
-invariant_of-self-clause-counts c = counted_pass c.args.self.now.plan c.args.self.now.fuses.items c.args.self.now.fuse c.args.self.now.turn.call (length c.args.self.now.waits.items) c.args.self.now.file_faults c.args.self.now.start_faults c.args.self.now.taken c.args.self.now.counts _ c.next-self.ensures.call

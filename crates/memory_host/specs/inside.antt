@@ -1,0 +1,6 @@
+pub mod Bodies
+pub mod Faults
+pub mod Kin
+pub mod Story
+pub mod Table
+pub mod Told

@@ -1,0 +1,27 @@
+-- A call of the store that makes one step (own): when it may be made, and what comes of it.
+use Rattle.std.specs.Prelude.{◌≡◌, [], ◌∷◌, Bool, true, Result, IfOk, IfErr}
+use Rattle.host_calls.specs.Session.{CallsInside, IsInside, Session}
+use Rattle.host_calls.specs.World.{World}
+use Rattle.spool_model.specs.declared.step.Step.{Step}
+use Rattle.spool_model.specs.JobTable.{JobTable}
+use Rattle.spool_model.specs.Steps.{IsLegal, after_step}
+use Rattle.job_runs.specs.Calls.{StoreCall}
+use Rattle.job_runs.specs.Current.{IsCurrent, Kept}
+use Rattle.spool_store.specs.declared.fault.StoreFault.{StoreFault}
+use Rattle.spool_store.specs.declared.fault.StoreFault.TheVariants.{FileFault}
+use Rattle.spool_store.specs.Faults.{IsOfStep}
+
+-- The step may be made: a session is on, the step is legal, and on a host that tells its files what is kept is current.
+pub record MayStep (tells : Bool) (session : Session) (world : World) (kept : Kept) (step : Step) : Type 0 where
+  pub inside : IsInside session
+  pub legal : IsLegal kept.table step
+  pub current : tells ≡ true → (table : JobTable) × IsCurrent kept world.now.folder table
+
+-- The step was made, or a file fault or want of memory is answered: what is kept then is the table after it, and a
+-- crash at any moment leaves the table before it or after it.
+pub record MakesStep (tells : Bool) (before after : Session) (old new : World)
+    (kept : Kept) (step : Step) (result : Result Kept StoreFault) : Type 0 where
+  pub inside : CallsInside FileFault before after result
+  pub faults : IfErr result IsOfStep
+  pub table_is : IfOk result (λ store. store.table ≡ after_step kept.table step)
+  pub files : tells ≡ true → (table : JobTable) → IsCurrent kept old.now.folder table → StoreCall table (step ∷ []) old new result

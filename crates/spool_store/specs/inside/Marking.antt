@@ -1,0 +1,57 @@
+-- One mark more in the journal (own): when the store may add it, and what stands then.
+use Rattle.std.specs.Prelude.{◌≡◌, ◌⊎◌, ◌++◌, [], ◌∷◌, ℕ, List, true}
+use Rattle.std.specs.FinMap as finite
+use Rattle.host_calls.specs.Folder.{Files, Folder, IsImage, reading_of}
+use Rattle.sequence_file.specs.Sequence.{sequence_file}
+use Rattle.whole_file.specs.Temporary.{temporary_file}
+use Rattle.spool_model.specs.declared.step.Step.{Step}
+use Rattle.spool_model.specs.JobTable.{JobTable}
+use Rattle.spool_model.specs.Steps.{IsLegal}
+use Rattle.spool_shows.specs.Laws.{AddsMark}
+use Rattle.start_journal.specs.declared.mark.Mark.{Mark}
+use Rattle.start_journal.specs.Changing.{HoldsJournal}
+use Rattle.start_journal.specs.Journals.{JournalRead, journal_file}
+use Rattle.start_journal.specs.Marks.{decides, kept_marks}
+use Rattle.whole_file.specs.Others.{IsEither}
+use Rattle.job_runs.specs.Bare.{bare}
+use Rattle.job_runs.specs.Current.{EachShows, HasNoDecidedFile, IsCurrent, Kept}
+use Rattle.spool_store.specs.Scripts.{IsFileOf}
+
+-- what is kept of a table: the table without scripts, and the journal
+abbrev pub kept_with : JournalRead → JobTable → Kept
+kept_with journal table = record { table = bare table; journal = journal }
+
+-- the mark is that of a legal step on the table that the folder shows
+pub record IsMarkOf (journal : JournalRead) (folder : Folder) (table : JobTable) (step : Step) (mark : Mark) : Type 0 where
+  pub current : IsCurrent (kept_with journal table) folder table
+  pub legal : IsLegal table step
+  pub adds : AddsMark table step mark
+
+-- The mark decides a job, whose file has this name.
+pub record IsDecisionOf (journal : JournalRead) (folder : Folder) (table : JobTable) (step : Step)
+    (mark : Mark) (name : List ℕ) : Type 0 where
+  pub is_mark : IsMarkOf journal folder table step mark
+  pub number : ℕ
+  pub decided : decides number mark ≡ true
+  pub file : IsFileOf table number name
+
+-- the same marks, or what a compaction keeps of them
+abbrev pub AreSameOrKept : List Mark → List Mark → Type 0
+AreSameOrKept before after = (after ≡ before) ⊎ (after ≡ kept_marks before)
+
+-- the marks with one more, or what a compaction keeps of them with one more
+abbrev pub HaveOneMore : List Mark → Mark → List Mark → Type 0
+HaveOneMore before mark after = (after ≡ before ++ mark ∷ []) ⊎ (after ≡ kept_marks before ++ mark ∷ [])
+
+-- all files but the journal read as before
+abbrev pub KeepsFiles : Folder → Folder → Type 0
+KeepsFiles old new =
+    (name : List ℕ) → ¬ (IsEither temporary_file journal_file name) → finite.get (reading_of new) name ≡ finite.get (reading_of old) name
+
+-- The mark stands: each image shows the table, and what is kept is current with it, but for files of numbers
+-- that the last mark decides.
+pub record IsMarked (before : List Mark) (journal : JournalRead) (folder : Folder) (table : JobTable) : Type 0 where
+  pub shows : EachShows folder table
+  pub holds : HoldsJournal journal folder
+  pub sequence : (image : Files) → IsImage folder image → finite.get image sequence_file ≡ finite.get (reading_of folder) sequence_file
+  pub decided : HasNoDecidedFile before (reading_of folder)

@@ -1,0 +1,57 @@
+-- What a look at a folder finds (own): the names, the files that count by their first bytes, and the files
+-- that count no more.
+use Rattle.std.specs.Prelude.{◌≡◌, ◌||◌, ℕ, Bool, true, false, List, Some, None, Option, Ok, nat_eq, take, map}
+use Rattle.std.specs.Cmp.Lexicographic.{pointwise}
+use Rattle.std.specs.FinMap as finite
+use Rattle.std.specs.List.{filter}
+use Rattle.host_calls.specs.Folder.{Files}
+use Rattle.spool_model.specs.JobTable.{JobTable}
+use Rattle.whole_file.specs.Temporary.{temporary_file}
+use Rattle.start_journal.specs.declared.mark.Mark.{Mark}
+use Rattle.start_journal.specs.Journals.{journal_file, journal_in}
+use Rattle.start_journal.specs.Marks.{is_decided}
+use Rattle.job_script.specs.declared.headers.TheConstants.{MAX_HEADER}
+use Rattle.job_runs.specs.Bare.{bare}
+use Rattle.spool_shows.specs.JobFiles.{counts, job_files}
+use Rattle.job_name.specs.JobName.{NamedJob, job_named}
+use Rattle.spool_shows.specs.Shown.{Shows}
+use Rattle.spool_store.specs.declared.findings.Findings.{Findings}
+use Rattle.spool_store.specs.declared.findings.Kind.{Kind}
+use Rattle.spool_store.specs.declared.findings.Kind.TheVariants.{Counts, LeftOver, Other}
+use Rattle.spool_store.specs.declared.survey.Survey.{Survey}
+use Rattle.spool_store.specs.inside.FoundJobs.{files_found, job_of_name}
+
+-- a mark decides the number of the job, if there is one
+abbrev pub is_decided_job : List Mark → Option NamedJob → Bool
+is_decided_job marks (Some job) = is_decided job.number marks
+is_decided_job marks None = false
+
+-- A file of this name counts no more: it is a file that was being made, or that of a job whose number is
+-- decided.
+abbrev pub is_left_over : List Mark → List ℕ → Bool
+is_left_over marks name = pointwise nat_eq name temporary_file || is_decided_job marks (job_named name)
+
+-- what a name is, where these are the marks
+abbrev pub IsKind : List Mark → List ℕ → Kind → Type 0
+IsKind marks name (Counts job) =
+    (counts marks name ≡ true) × (is_left_over marks name ≡ false) × (job_named name ≡ Some (job_of_name job))
+IsKind marks name LeftOver = (counts marks name ≡ false) × (is_left_over marks name ≡ true)
+IsKind marks name Other = (counts marks name ≡ false) × (is_left_over marks name ≡ false)
+
+-- a name and the first bytes of its file, as many as a header can have
+abbrev pub front_of : List ℕ × List ℕ → List ℕ × List ℕ
+front_of file = (file.0, take MAX_HEADER file.1)
+
+-- These were found among the files: the findings of those that count, and the names of those that count no more.
+pub record AreFindings (marks : List Mark) (files : List (List ℕ × List ℕ)) (findings : Findings) : Type 0 where
+  pub seen : files_found findings.seen.items ≡ job_files marks (map front_of files)
+  pub leftover : findings.leftover.items ≡ filter (is_left_over marks) (map (λ file. file.0) files)
+
+-- The folder shows a table. These are its jobs without scripts, its journal, and the names of the files that
+-- count no more, each once.
+pub record IsSurvey (files : Files) (look : Survey) : Type 0 where
+  pub table : JobTable
+  pub shows : Shows files table
+  pub jobs : look.jobs ≡ bare table
+  pub journal : journal_in table.last (finite.get files journal_file) ≡ Ok look.journal
+  pub leftover : look.leftover.items ≡ filter (is_left_over look.journal.marks) (finite.keys files)

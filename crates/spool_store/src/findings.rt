@@ -1,0 +1,135 @@
+//! The findings of the files that count, and the names of those that count no more.
+ghost use Rattle.std.specs.Prelude.{ℕ, List, Some, IfOk, OnOk, IsTrue, IsSome, if◌then◌else◌, take, nat_eq, ◌≡◌, ◌++◌, [], ◌∷◌};
+ghost use Rattle.std.specs.FinMap as finite;
+ghost use Rattle.host_calls.specs.Session.{CallsInside, IsInside};
+ghost use Rattle.host_calls.specs.World.{reading};
+ghost use Rattle.spool_shows.specs.JobFiles.{job_files};
+ghost use Rattle.whole_file.specs.Temporary.{temporary_file};
+ghost use Rattle.std.specs.Cmp.Lexicographic.{pointwise};
+ghost use Rattle.start_journal.specs.declared.mark.Mark.{Mark};
+ghost use Rattle.job_script.specs.declared.headers.TheConstants.{MAX_HEADER};
+ghost use Rattle.spool_store.specs.inside.Lifecycles.{TellLifecycles};
+ghost use Rattle.spool_store.specs.inside.Survey.{AreFindings, IsKind, is_left_over};
+ghost use Rattle.spool_store.specs.inside.FoundJobs.{files_found};
+ghost use Rattle.spool_store.specs.inside.Tables.{AreUndecided};
+
+use crate::found_job::FoundJob;
+use crate::lifecycles::Lifecycles;
+use host_calls::{Bytes, Host, HostFault, Name};
+use job_name::JobName;
+use job_script::MAX_HEADER;
+use std::alloc::{AllocError, Global};
+use whole_file::temporary_name;
+
+// What is found among the files of a folder.
+#[derive(Drop)]
+pub(crate) struct Findings {
+    // The files of jobs that count.
+    pub(crate) seen: Vec<FoundJob>,
+    // The names of the files that count no more.
+    pub(crate) leftover: Vec<Name>,
+}
+
+impl Findings {
+    // Puts one file more to those that count.
+    fn add(&mut self, one: FoundJob) -> Result<(), AllocError>
+        ensures seen { OnOk result (self.new.seen.items ≡ self.old.seen.items ++ one ∷ []) }
+        ensures leftover { self.new.leftover.items ≡ self.old.leftover.items }
+    {
+        self.seen.push(one)?;
+        Ok(())
+    }
+
+    // Puts the name of one file more to those that count no more.
+    fn leave_over(&mut self, name: Name) -> Result<(), AllocError>
+        ensures seen { self.new.seen.items ≡ self.old.seen.items }
+        ensures leftover { OnOk result (self.new.leftover.items ≡ self.old.leftover.items ++ name ∷ []) }
+    {
+        self.leftover.push(name)?;
+        Ok(())
+    }
+}
+
+// What a file is by its name.
+#[derive(Clone, Copy)]
+pub(crate) enum Kind {
+    Counts(JobName),
+    LeftOver,
+    Other,
+}
+
+// The findings of the files of a folder.
+pub(crate) fn find_files<H: Host>(
+    alloc: Global,
+    host: &mut H,
+    lives: &Lifecycles,
+) -> Result<Findings, HostFault>
+    requires { IsInside (H.session host.old) }
+    ensures inside { CallsInside HostFault.Failed (H.session host.old) (H.session host.new) result }
+    ensures looks { IsTrue H.tells → H.world host.new ≡ H.world host.old }
+    ensures undecided { (marks : List Mark) → TellLifecycles marks lives.now
+        → IfOk result (λ findings. AreUndecided marks (files_found findings.seen.items)) }
+    ensures findings { IsTrue H.tells → (marks : List Mark) → TellLifecycles marks lives.now
+        → IfOk result (AreFindings marks (finite.entries (reading (H.world host.old)))) }
+{
+    let names = host.names(alloc)?;
+    let mut findings = Findings {
+        seen: Vec::new(alloc),
+        leftover: Vec::new(alloc),
+    };
+    for name in &names {
+        find_file(alloc, host, lives, *name, &mut findings)?;
+    }
+    Ok(findings)
+}
+
+// Puts what is found of one file more to the findings.
+fn find_file<H: Host>(
+    alloc: Global,
+    host: &mut H,
+    lives: &Lifecycles,
+    name: Name,
+    findings: &mut Findings,
+) -> Result<(), HostFault>
+    requires inside { IsInside (H.session host.old) }
+    requires held { IsTrue H.tells → IsSome (finite.get (reading (H.world host.old)) name) }
+    ensures inside { CallsInside HostFault.Failed (H.session host.old) (H.session host.new) result }
+    ensures looks { IsTrue H.tells → H.world host.new ≡ H.world host.old }
+    ensures undecided { (marks : List Mark) → TellLifecycles marks lives.now
+        → OnOk result (AreUndecided marks (files_found findings.old.seen.items)
+        → AreUndecided marks (files_found findings.new.seen.items)) }
+    ensures seen { IsTrue H.tells → (marks : List Mark) (bytes : List ℕ) → TellLifecycles marks lives.now
+        → finite.get (reading (H.world host.old)) name ≡ Some bytes
+        → OnOk result (files_found findings.new.seen.items
+        ≡ files_found findings.old.seen.items ++ job_files marks ((name, take MAX_HEADER bytes) ∷ [])) }
+    ensures leftover { (marks : List Mark) → TellLifecycles marks lives.now
+        → OnOk result (findings.new.leftover.items
+        ≡ findings.old.leftover.items ++ (if is_left_over marks name then name ∷ [] else [])) }
+{
+    match kind_of(lives, name) {
+        Kind::Counts(job) => {
+            let front = Bytes::from(host.read(alloc, &name, 0, MAX_HEADER)?);
+            findings.add(FoundJob { name, job, front })?;
+        }
+        Kind::LeftOver => findings.leave_over(name)?,
+        Kind::Other => {}
+    }
+    Ok(())
+}
+
+fn kind_of(lives: &Lifecycles, name: Name) -> Kind
+    ensures { (marks : List Mark) → TellLifecycles marks lives.now → IsKind marks name result }
+{
+    match JobName::read(name.as_bytes()) {
+        Some(job) if lives.get(job.number).fate.is_some() => Kind::LeftOver,
+        Some(job) => Kind::Counts(job),
+        None if is_temporary(name) => Kind::LeftOver,
+        None => Kind::Other,
+    }
+}
+
+fn is_temporary(name: Name) -> bool
+    ensures { result ≡ pointwise nat_eq name temporary_file }
+{
+    name == temporary_name()
+}

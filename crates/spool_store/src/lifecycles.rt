@@ -1,0 +1,110 @@
+//! What the marks of a journal tell of each number.
+ghost use Rattle.std.specs.Prelude.{◌≡◌, ℕ, None, Some, IfOk, OnOk};
+ghost use Rattle.std.specs.BTreeMap.{IsOrdered};
+ghost use Rattle.std.specs.List.{filter_map};
+ghost use Rattle.std.specs.Ordering.{nat_cmp};
+ghost use Rattle.spool_store.specs.inside.Lifecycles.{TellLifecycles, lifecycle_in, lifecycle_with, decided_of, remembered_fate};
+ghost use Rattle.start_journal.specs.Marks.{number_of};
+
+use spool_model::{Decided, Fate};
+use start_journal::Mark;
+use std::alloc::{AllocError, Global};
+use std::collections::BTreeMap;
+
+// What marks tell of one number.
+#[derive(Clone, Copy)]
+pub(crate) struct Lifecycle {
+    /// The second of its start.
+    pub(crate) started: Option<i64>,
+    pub(crate) fate: Option<Fate>,
+    pub(crate) forgotten: bool,
+}
+
+const UNTOLD: Lifecycle = Lifecycle {
+    started: None,
+    fate: None,
+    forgotten: false,
+};
+
+impl Lifecycle {
+    // The life with what a mark of its number tells.
+    fn with(self, mark: Mark) -> Lifecycle
+        ensures { (number : ℕ) → number_of mark ≡ Some number → result ≡ lifecycle_with number mark self }
+    {
+        let mut life = self;
+        match mark {
+            Mark::Removed(_) => life.fate = self.fate.or(Some(Fate::Removed)),
+            Mark::Started { second, .. } => life.started = self.started.or(Some(second)),
+            Mark::Ended { ending, .. } => life.fate = self.fate.or(Some(Fate::Finished(ending))),
+            Mark::Interrupted(_) => life.fate = self.fate.or(Some(Fate::Interrupted)),
+            Mark::Forgotten(_) => life.forgotten = true,
+            Mark::Batch(_) => {}
+        }
+        life
+    }
+
+    // Its fate, unless it was forgotten.
+    pub(crate) fn remembered(self) -> Option<Fate>
+        ensures { result ≡ remembered_fate self }
+    {
+        if self.forgotten { None } else { self.fate }
+    }
+}
+
+// What marks tell, by the numbers that they name.
+#[derive(Drop)]
+pub(crate) struct Lifecycles {
+    pub(crate) by_number: BTreeMap<u32, Lifecycle>,
+}
+
+impl Lifecycles {
+    // What these marks tell.
+    pub(crate) fn of(alloc: Global, marks: &[Mark]) -> Result<Lifecycles, AllocError>
+        ensures { IfOk result (λ lives. TellLifecycles marks.now lives) }
+    {
+        let mut lives = Lifecycles {
+            by_number: BTreeMap::new(alloc),
+        };
+        for mark in marks {
+            lives.add(*mark)?;
+        }
+        Ok(lives)
+    }
+
+    // What is told of the number.
+    pub(crate) fn get(&self, number: u32) -> Lifecycle
+        ensures { result ≡ lifecycle_in self.now number }
+    {
+        self.by_number.get(&number).copied().unwrap_or(UNTOLD)
+    }
+
+    // The numbers whose fate is remembered, in their order.
+    pub(crate) fn decided(&self, alloc: Global) -> Result<Vec<Decided>, AllocError>
+        ensures items { IfOk result (λ list. list.items ≡ filter_map decided_of self.now.by_number.entries) }
+        ensures ordered { IsOrdered nat_cmp self.now.by_number }
+    {
+        let lives = self.by_number.iter();
+        lives
+            .filter_map(|(number, life)| decided_of(*number, *life))
+            .collect(alloc)
+    }
+
+    // Puts what one mark more tells to what is told.
+    fn add(&mut self, mark: Mark) -> Result<(), AllocError>
+        ensures { OnOk result ((number : ℕ)
+            → lifecycle_in self.new number ≡ lifecycle_with number mark (lifecycle_in self.old number)) }
+    {
+        if let Some(number) = mark.number() {
+            let life = self.get(number).with(mark);
+            self.by_number.insert(number, life)?;
+        }
+        Ok(())
+    }
+}
+
+fn decided_of(number: u32, life: Lifecycle) -> Option<Decided>
+    ensures { result ≡ decided_of (number, life) }
+{
+    let fate = life.remembered()?;
+    Some(Decided { number, fate })
+}

@@ -1,0 +1,51 @@
+//! The look at a settled folder, which changes nothing.
+ghost use Rattle.std.specs.Prelude.{◌≡◌, Err, IfOk, IfErr, IsTrue};
+ghost use Rattle.host_calls.specs.Session.{CallsInside, IsInside};
+ghost use Rattle.host_calls.specs.World.{reading};
+ghost use Rattle.spool_shows.specs.Shown.{shown_by};
+ghost use Rattle.host_calls.specs.Damages.{IfDamaged};
+ghost use Rattle.spool_store.specs.Faults.{IsOfReading};
+ghost use Rattle.spool_store.specs.inside.Survey.{IsSurvey};
+ghost use Rattle.spool_store.specs.Stored.{IsStored};
+
+use crate::fault::StoreFault;
+use crate::findings::{Findings, find_files};
+use crate::jobs::Jobs;
+use crate::lifecycles::Lifecycles;
+use crate::tables::jobs_shown;
+use host_calls::{Host, Name};
+use sequence_file::last;
+use start_journal::Journal;
+use std::alloc::Global;
+
+// What is read of a folder that shows a table.
+#[derive(Drop)]
+pub(crate) struct Survey {
+    pub(crate) jobs: Jobs,
+    pub(crate) journal: Journal,
+    /// The names of the files that count no more.
+    pub(crate) leftover: Vec<Name>,
+}
+
+// The table that the folder shows, with its journal and the names of the files that count no more.
+pub(crate) fn take_survey<H: Host>(alloc: Global, host: &mut H) -> Result<Survey, StoreFault>
+    requires { IsInside (H.session host.old) }
+    ensures inside { CallsInside StoreFault.FileFault (H.session host.old) (H.session host.new) result }
+    ensures of_reading { IfErr result IsOfReading }
+    ensures looks { IsTrue H.tells → H.world host.new ≡ H.world host.old }
+    ensures stored { IfOk result (λ look. IsStored (record { table = look.jobs; journal = look.journal })) }
+    ensures shown { IsTrue H.tells → IfOk result (IsSurvey (reading (H.world host.old))) }
+    ensures damaged { IsTrue H.tells
+        → IfDamaged StoreFault.Damaged (λ damage. shown_by (reading (H.world host.old)) ≡ Err damage) result }
+{
+    let number = last(alloc, host)?;
+    let journal = Journal::recall(alloc, host, number)?;
+    let lives = Lifecycles::of(alloc, journal.marks())?;
+    let Findings { seen, leftover } = find_files(alloc, host, &lives)?;
+    let jobs = jobs_shown(alloc, number, journal.marks(), &lives, seen.as_slice())?;
+    Ok(Survey {
+        jobs,
+        journal,
+        leftover,
+    })
+}

@@ -1,0 +1,6 @@
+pub mod Changes
+pub mod JobCommand
+pub mod LockByte
+pub mod Paths
+pub mod Seconds
+pub mod Torn
