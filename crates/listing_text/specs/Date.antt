@@ -1,6 +1,7 @@
 -- A date as `date +"%a %b %e %T %Y"` writes it in the POSIX locale (XCU date, XBD LC_TIME).
 use Rattle.std.specs.Prelude.{ℕ, ◌+◌, ◌-◌, ◌/◌, ◌%◌, List, [], ◌∷◌, ◌++◌, slice_index_or, codes, nat_lt, if◌then◌else◌}
 use Rattle.std.specs.Fmt.{signed_decimal}
+use Rattle.touch_time.specs.Touch.{two_digits}
 use Rattle.civil_minute.specs.declared.civil.CivilMinute.{CivilMinute}
 
 -- `%a`: the short name of a weekday, counted from Sunday as 0
@@ -20,10 +21,6 @@ month_text month =
 -- the digit of a number below 10
 abbrev pub digit : ℕ → ℕ
 digit number = 48 + number
-
--- a number below 100 in two digits
-abbrev pub two_digits : ℕ → List ℕ
-two_digits number = digit (number / 10) ∷ digit (number % 10) ∷ []
 
 -- the first place of a day: a space below 10
 abbrev pub day_tens : ℕ → ℕ
