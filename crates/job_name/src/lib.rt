@@ -2,8 +2,10 @@
 #![tactic(auto)]
 
 mod job;
+mod laws;
 
 pub use job::{JobName, LENGTH};
+pub use laws::names_are_of_one_job;
 
 #[cfg(test)]
 mod tests;
