@@ -13,8 +13,8 @@ use host_calls::{Host, HostFault};
 use std::alloc::Global;
 use whole_file::{place, temporary_name};
 
-/// Draws the number after the last one. A number that was drawn stays drawn, also where the call that
-/// drew it has failed since.
+/// Draws the number after the last one. Where the call fails, or a crash cuts it short, the number may be
+/// drawn or not.
 pub fn draw<H: Host>(alloc: Global, host: &mut H, last: u32) -> Result<u32, HostFault>
     requires inside { IsInside (H.session host.old) }
     requires few { last < LAST_NUMBER }

@@ -1,7 +1,7 @@
 use Rattle.std.proofs.Common.{sym, ◌∙◌}
 use Rattle.host_calls.specs.World.{reading}
 use Rattle.whole_file.proofs.ContentLemmas.{found_is, none_found}
-use Rattle.whole_file.proofs.reading.content.Goals as goal
+use Rattle.whole_file.proofs.whole_content.content.Goals as goal
 
 pub returns-then-not-contains-clause-content : goal.returns-then-not-contains-clause-content
 returns-then-not-contains-clause-content g c = λ tells.
