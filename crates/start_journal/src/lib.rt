@@ -12,7 +12,7 @@ mod keeping;
 mod laws;
 mod mark;
 mod names;
-mod reading;
+mod recalling;
 mod slot;
 mod stage;
 mod stages;

@@ -1,5 +1,5 @@
 //! Slots of the journal, and journals, by the tables of their format.
-use crate::reading::read;
+use crate::recalling::read;
 use crate::text::journal_text;
 use crate::{JournalFault, Mark, mark_text, read_mark};
 use host_calls::Ending;

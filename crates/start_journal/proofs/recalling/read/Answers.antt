@@ -6,8 +6,8 @@ use Rattle.start_journal.specs.Marks.{IsLegalAfter}
 use Rattle.start_journal.proofs.StageLemmas.{told_again}
 use Rattle.start_journal.specs.Journals.{JournalRead, journal_in}
 use Rattle.start_journal.proofs.ReadLemmas.{IsBehind, end_sound, marked, one_behind, unmarked, read_whole, rest_damaged, slot_damaged}
-use Rattle.start_journal.proofs.reading.read.Goals as goal
-use Rattle.start_journal.proofs.reading.read.Goals.{in-None, in-Some+in_ok-put-in-Some}
+use Rattle.start_journal.proofs.recalling.read.Goals as goal
+use Rattle.start_journal.proofs.recalling.read.Goals.{in-None, in-Some+in_ok-put-in-Some}
 
 -- the bytes are damaged so
 abbrev Damages : ℕ → List ℕ → Damage → Type 0

@@ -1,7 +1,7 @@
 use Rattle.std.proofs.Common.{◌≡◌, ◌*◌, ◌≤◌, drop}
 use Rattle.start_journal.specs.Journals.{all_slots, nothing_read}
 use Rattle.start_journal.specs.Stages.{TellStages}
-use Rattle.start_journal.proofs.reading.read.Given as goal
+use Rattle.start_journal.proofs.recalling.read.Given as goal
 
 abbrev pub invariant-loop-place : goal.invariant-loop-place
 invariant-loop-place l = record {

@@ -1,6 +1,6 @@
 use Rattle.std.proofs.Common.{refl}
 use Rattle.start_journal.proofs.StageLemmas.{told_again}
-use Rattle.start_journal.proofs.reading.put.Goals as goal
+use Rattle.start_journal.proofs.recalling.put.Goals as goal
 
 pub returns-clause-stages : goal.returns-clause-stages
 returns-clause-stages c = λ tell legal.

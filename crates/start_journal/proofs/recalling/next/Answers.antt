@@ -4,8 +4,8 @@ use Rattle.start_journal.specs.Journals.{is_drawn, is_legal_after}
 use Rattle.start_journal.proofs.JournalLemmas.{legal_is}
 use Rattle.start_journal.proofs.MarkLemmas.{and_false}
 use Rattle.start_journal.proofs.ReadLemmas.{none_read, refused, taken}
-use Rattle.start_journal.proofs.reading.next.Goals as goal
-use Rattle.start_journal.proofs.reading.next.Goals.{else-allow-via-else-allow, else-allow-via-then-allow+else-is_drawn}
+use Rattle.start_journal.proofs.recalling.next.Goals as goal
+use Rattle.start_journal.proofs.recalling.next.Goals.{else-allow-via-else-allow, else-allow-via-then-allow+else-is_drawn}
 
 pub returns-in-None-clause-slot : goal.returns-in-None-clause-slot
 returns-in-None-clause-slot c = λ marks tell.
