@@ -23,6 +23,8 @@ use Rattle.spool_shows.specs.JobFiles.{JobFile}
 use Rattle.job_name.specs.JobName.{NamedJob, job_named}
 use Rattle.spool_shows.specs.Laws.{HasAccepted}
 use Rattle.spool_shows.specs.Shown.{job_of, live_entry, state_since, user_of}
+use Rattle.sequence_file.proofs.LastNumbers.{last_spelled}
+use Rattle.spool_shows.proofs.ByNameReads.{journal_read, read_gives_journal}
 use Rattle.spool_shows.proofs.FreshNumbers.{fresh_not_started, fresh_undecided}
 use Rattle.start_journal.proofs.JournalReads.{journal_drawn, journal_more}
 use Rattle.spool_shows.proofs.NameLemmas.{KeepFiles, entry_kept, is_there, job_name_apart, job_name_differs, journal_apart, journal_no_job, sequence_no_job, temporary_no_job, whole_more}
@@ -148,7 +150,7 @@ accepted_by_name before after table job shows has =
     let least : table.last ≤ table.last + 1 = omega arith in
     let same_journal : map.get after journal_file ≡ map.get before journal_file = has.others journal_file journal_apart (λ same. job_name_differs has.name journal_file _ has.named journal_no_job (sym same)) in
     let more : HasOneMore table.last marks has.name job before after = record {
-      drawn = journal_drawn table.last (map.get before journal_file) shows.read shows.journal;
+      drawn = journal_drawn table.last (map.get before journal_file) shows.read (journal_read before table shows);
       sound = shows.sound;
       named = has.named;
       header = subst IsSome (sym has.header) refl;
@@ -157,8 +159,8 @@ accepted_by_name before after table job shows has =
     } in
     record {
       read = shows.read;
-      last = has.number;
-      journal = ap (journal_in (table.last + 1)) same_journal ∙ journal_more table.last (table.last + 1) (map.get before journal_file) shows.read least shows.journal;
+      last = last_spelled (map.get after sequence_file) (table.last + 1) has.number;
+      journal = read_gives_journal (table.last + 1) (map.get after journal_file) shows.read (ap (journal_in (table.last + 1)) same_journal ∙ journal_more table.last (table.last + 1) (map.get before journal_file) shows.read least (journal_read before table shows));
       sound = sound_after table.last marks has.name job before after more;
       batch = shows.batch;
       entries = entries_after_it table.last marks has.name job before after more has.mail has.header table.entries shows.entries;

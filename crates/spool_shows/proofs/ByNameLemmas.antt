@@ -19,6 +19,8 @@ use Rattle.spool_shows.specs.JobFiles.{JobFile, files_damage}
 use Rattle.sequence_file.specs.LastNumber.{last_in}
 use Rattle.spool_shows.specs.Laws.{FoldersAreShownByName}
 use Rattle.spool_shows.specs.Shown.{Shows, damage_of_jobs, entries_shown, live_entry, shown_behind_journal, shown_behind_last, shown_by, starts_damage, table_or_damage, table_shown}
+use Rattle.sequence_file.proofs.LastNumbers.{last_spelled}
+use Rattle.spool_shows.proofs.ByNameReads.{journal_read, last_read, read_gives_journal}
 use Rattle.spool_shows.proofs.DeciderLemmas.{one_done_entry}
 use Rattle.spool_shows.proofs.EntryLemmas.{done_decides, shows_found}
 use Rattle.spool_shows.proofs.FileLemmas.{counted_is_file, file_is_counted, files_that_count, names_apart, one_file}
@@ -96,8 +98,8 @@ by_name_of files table is =
     let entries_are : table.entries ≡ from_entries (entries_shown is.read.marks (files_that_count is.read.marks files)) = ap (λ (of : JobTable). of.entries) (sym is.shown) in
     record {
       read = is.read;
-      last = ap last_in (get-entries files sequence_file) ∙ is.number ∙ ap Ok (sym last_is);
-      journal = ap (journal_in table.last) (get-entries files journal_file) ∙ subst (λ last. journal_in last (find name_cmp journal_file (entries files)) ≡ Ok is.read) (sym last_is) is.journal;
+      last = last_spelled (map.get files sequence_file) table.last (ap last_in (get-entries files sequence_file) ∙ is.number ∙ ap Ok (sym last_is));
+      journal = read_gives_journal table.last (map.get files journal_file) is.read (ap (journal_in table.last) (get-entries files journal_file) ∙ subst (λ last. journal_in last (find name_cmp journal_file (entries files)) ≡ Ok is.read) (sym last_is) is.journal);
       sound = subst (λ last. AreSound last is.read.marks files) (sym last_is) (sound_of is.last is.read.marks files is.undamaged);
       batch = ap (λ (of : JobTable). of.last_batch) (sym is.shown);
       entries = λ number. subst (ShowsEntry is.read.marks files number) (sym (ap (λ (of : JobEntries). map.get of number) entries_are ∙ entry_of_list is.read.marks files number)) (shows_found is.read.marks files number);
@@ -137,14 +139,14 @@ entry_once last marks files number one other legal sound is same = by_test (is_d
 reads_of : (files : Files) (table : JobTable) → ShowsByName files table → Reads files table
 reads_of files table is =
     let marks : List Mark = is.read.marks in
-    let legal : AreLegal marks = journal_legal table.last (map.get files journal_file) is.read is.journal in
+    let legal : AreLegal marks = journal_legal table.last (map.get files journal_file) is.read (journal_read files table is) in
     let same : table.entries ≡ from_entries (entries_shown marks (files_that_count marks files)) = same_map nat_cmp_total nat_cmp-IsAntisymmetric _ _
     (λ number. entry_once table.last marks files number _ _ legal is.sound (is.entries number) (shows_found marks files number) ∙ sym (entry_of_list marks files number)) in
     record {
       last = table.last;
       read = is.read;
-      number = ap last_in (sym (get-entries files sequence_file)) ∙ is.last;
-      journal = ap (journal_in table.last) (sym (get-entries files journal_file)) ∙ is.journal;
+      number = ap last_in (sym (get-entries files sequence_file)) ∙ last_read files table is;
+      journal = ap (journal_in table.last) (sym (get-entries files journal_file)) ∙ journal_read files table is;
       undamaged = undamaged_of table.last marks files is.sound;
       shown = λ i. table_of table.last (sym same i) (sym is.batch i);
     }

@@ -5,6 +5,7 @@ use Rattle.std.specs.FinMap as map
 use Rattle.std.specs.List.{All}
 use Rattle.std.proofs.lemmas.List.Elements.{All-cons, All-contains, All-nil}
 use Rattle.host_calls.specs.Folder.{Files}
+use Rattle.sequence_file.specs.Sequence.{sequence_file}
 use Rattle.spool_model.specs.JobTable.{JobEntry, JobTable, entry_at}
 use Rattle.start_journal.specs.declared.mark.Mark.{Mark}
 use Rattle.start_journal.specs.declared.mark.Mark.TheVariants.{Started}
@@ -15,6 +16,8 @@ use Rattle.start_journal.proofs.MarkLemmas.{decides_names, kept_marks_keep_what_
 use Rattle.spool_shows.specs.ByName.{AreSound, HasFile, IsJobFile, ShowsByName, ShowsDone, ShowsEntry, ShowsLive}
 use Rattle.spool_shows.specs.JobFiles.{JobFile}
 use Rattle.spool_shows.specs.Laws.{HasCompacted, HasNoForgotten}
+use Rattle.sequence_file.proofs.LastNumbers.{last_spelled}
+use Rattle.spool_shows.proofs.ByNameReads.{last_read, read_gives_journal}
 use Rattle.spool_shows.proofs.MarkTests.{neither, tell_same}
 use Rattle.start_journal.proofs.MarkLemmas.{forgotten_was_decided}
 use Rattle.spool_shows.proofs.OneMark.{had_same, last_moves, marks_legal}
@@ -124,8 +127,8 @@ compacted_by_name before after table shows had =
     } in
     record {
       read = record { marks = kept_marks marks; free = had.free };
-      last = last_moves before after table.last had.others shows.last;
-      journal = subst (λ list. journal_in table.last (map.get after journal_file) ≡ Ok (record { marks = kept_marks list; free = had.free })) (sym same_marks) had.journal;
+      last = last_spelled (map.get after sequence_file) table.last (last_moves before after table.last had.others (last_read before table shows));
+      journal = read_gives_journal table.last (map.get after journal_file) _ (subst (λ list. journal_in table.last (map.get after journal_file) ≡ Ok (record { marks = kept_marks list; free = had.free })) (sym same_marks) had.journal);
       sound = sound_kept table.last marks before after compacted shows.sound;
       batch = shows.batch ∙ sym keeps.batch;
       entries = λ number. entry_kept marks before after number (entry_at table number) compacted (shows.entries number);

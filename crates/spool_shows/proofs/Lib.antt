@@ -1,5 +1,6 @@
 pub mod AcceptLemmas
 pub mod ByNameLemmas
+pub mod ByNameReads
 pub mod Compacted
 pub mod DeciderLemmas
 pub mod DrawLemmas

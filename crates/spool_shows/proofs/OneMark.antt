@@ -22,6 +22,8 @@ use Rattle.spool_shows.specs.Laws.{AgreeElsewhere, HasMarked, HasMarks}
 use Rattle.sequence_file.specs.LastNumber.{last_in}
 use Rattle.spool_shows.specs.Shown.{done_entry}
 use Rattle.start_journal.proofs.JournalReads.{journal_legal}
+use Rattle.sequence_file.proofs.LastNumbers.{last_spelled}
+use Rattle.spool_shows.proofs.ByNameReads.{journal_read, last_read, read_gives_journal}
 use Rattle.spool_shows.proofs.MarkTests.{batch_more, marks_of_other, none_before, tell_same}
 use Rattle.start_journal.proofs.LifeLemmas.{any_with, any_without}
 use Rattle.spool_shows.proofs.ShownEntries.{SameJobs, file_moves, same_back, same_jobs, shows_done}
@@ -34,14 +36,14 @@ ok_same answer is also = cc
 -- the marks of the journal are those of the table
 pub had_same : (files : Files) (table : JobTable) (marks : List Mark) (shows : ShowsByName files table) → HasMarks files marks → shows.read.marks ≡ marks
 had_same files table marks shows had =
-    let last_is : table.last ≡ had.last = ok_same (last_in (map.get files sequence_file)) shows.last had.number in
+    let last_is : table.last ≡ had.last = ok_same (last_in (map.get files sequence_file)) (last_read files table shows) had.number in
     let read_is : shows.read ≡ record { marks = marks; free = had.free } =
-    ok_same (journal_in had.last (map.get files journal_file)) (ap (λ last. journal_in last (map.get files journal_file)) (sym last_is) ∙ shows.journal) had.journal in
+    ok_same (journal_in had.last (map.get files journal_file)) (ap (λ last. journal_in last (map.get files journal_file)) (sym last_is) ∙ journal_read files table shows) had.journal in
     ap (λ (read : JournalRead). read.marks) read_is
 
 -- those marks are legal
 pub marks_legal : (files : Files) (table : JobTable) (shows : ShowsByName files table) → AreLegal shows.read.marks
-marks_legal files table shows = journal_legal table.last (map.get files journal_file) shows.read shows.journal
+marks_legal files table shows = journal_legal table.last (map.get files journal_file) shows.read (journal_read files table shows)
 
 -- the sequence file is neither the journal nor a file that is being made
 sequence_elsewhere : ¬ (IsEither temporary_file journal_file sequence_file)
@@ -87,8 +89,8 @@ step_shown before after table entries last_batch added number shows marked step 
     let same : SameJobs before after = same_jobs before after marked.others in
     record {
       read = record { marks = marks ++ added ∷ []; free = marked.free };
-      last = last_moves before after table.last marked.others shows.last;
-      journal = subst (λ list. journal_in table.last (map.get after journal_file) ≡ Ok (record { marks = list ++ added ∷ []; free = marked.free })) (sym (had_same before table marked.marks shows marked.had)) marked.journal;
+      last = last_spelled (map.get after sequence_file) table.last (last_moves before after table.last marked.others (last_read before table shows));
+      journal = read_gives_journal table.last (map.get after journal_file) _ (subst (λ list. journal_in table.last (map.get after journal_file) ≡ Ok (record { marks = list ++ added ∷ []; free = marked.free })) (sym (had_same before table marked.marks shows marked.had)) marked.journal);
       sound = sound_more table.last before after marks added same step.starts shows.sound;
       batch = step.batch ∙ ap (first_of_two (batch_second added)) shows.batch ∙ sym (batch_more marks added);
       entries = entries_more before after table entries last_batch added number marks same shows.entries step;

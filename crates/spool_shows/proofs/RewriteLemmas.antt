@@ -1,6 +1,8 @@
 -- A folder whose journal was written anew with the same marks shows the same table.
 use Rattle.std.proofs.Common.{◌≡◌, ◌≤◌, List, ap, subst, ◌∙◌, arith}
+use Rattle.std.specs.FinMap as map
 use Rattle.host_calls.specs.Folder.{Files}
+use Rattle.sequence_file.specs.Sequence.{sequence_file}
 use Rattle.whole_file.specs.Temporary.{temporary_file}
 use Rattle.spool_model.specs.JobTable.{JobTable, entry_at}
 use Rattle.start_journal.specs.declared.mark.Mark.{Mark}
@@ -8,6 +10,8 @@ use Rattle.start_journal.specs.Journals.{journal_file}
 use Rattle.start_journal.specs.Marks.{last_batch}
 use Rattle.spool_shows.specs.ByName.{AreSound, ShowsByName, ShowsEntry}
 use Rattle.spool_shows.specs.Laws.{HasRewritten}
+use Rattle.sequence_file.proofs.LastNumbers.{last_spelled}
+use Rattle.spool_shows.proofs.ByNameReads.{last_read, read_gives_journal}
 use Rattle.spool_shows.proofs.NameLemmas.{AgreeOnNames, agreeing_keep, entry_kept, job_name_apart, journal_no_job, sound_kept, temporary_no_job}
 use Rattle.spool_shows.proofs.OneMark.{had_same, last_moves}
 
@@ -19,8 +23,8 @@ rewritten_by_name before after table shows has =
     let sound : AreSound table.last has.marks before = subst (λ (marks : List Mark). AreSound table.last marks before) same shows.sound in
     record {
       read = record { marks = has.marks; free = has.free };
-      last = last_moves before after table.last has.others shows.last;
-      journal = has.journal;
+      last = last_spelled (map.get after sequence_file) table.last (last_moves before after table.last has.others (last_read before table shows));
+      journal = read_gives_journal table.last (map.get after journal_file) _ has.journal;
       sound = sound_kept table.last table.last has.marks before after least agree sound;
       batch = shows.batch ∙ ap last_batch same;
       entries = λ number. entry_kept has.marks before after number (entry_at table number) (agreeing_keep has.marks before after number agree)

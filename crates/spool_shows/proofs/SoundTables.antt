@@ -9,7 +9,6 @@ use Rattle.std.proofs.lemmas.Bool.Decides.{nat_tests}
 use Rattle.host_calls.specs.Folder.{Files}
 use Rattle.job_name.proofs.NamedJobs.{name_spelled}
 use Rattle.sequence_file.specs.Sequence.{Gives, sequence_file}
-use Rattle.sequence_file.proofs.LastNumbers.{last_spelled}
 use Rattle.spool_model.specs.declared.number.TheConstants.{LAST_NUMBER}
 use Rattle.spool_model.specs.JobTable.{JobEntry, JobTable, entry_at}
 use Rattle.start_journal.specs.declared.mark.Mark.{Mark}
@@ -21,6 +20,7 @@ use Rattle.start_journal.proofs.JournalReads.{journal_drawn, journal_writable}
 use Rattle.start_journal.proofs.MarkLemmas.{decides_names}
 use Rattle.spool_shows.specs.ByName.{ShowsByName, ShowsDone, ShowsEntry, ShowsLive}
 use Rattle.spool_shows.specs.Laws.{ShownTablesAreSound}
+use Rattle.spool_shows.proofs.ByNameReads.{journal_read}
 use Rattle.spool_shows.proofs.ByNameLemmas.{folders_are_shown_by_name}
 use Rattle.spool_shows.proofs.EntryLemmas.{done_decides}
 use Rattle.spool_shows.proofs.Membership.{Has, has_contained}
@@ -57,8 +57,8 @@ entry_drawn : (files : Files) (table : JobTable) (is : ShowsByName files table) 
 entry_drawn files table is number some = by_entry (entry_at table number) some (is.entries number) where
   by_done : (entry : JobEntry) → ShowsDone is.read.marks number (Some entry) → (1 ≤ number) × (number ≤ table.last)
   by_done entry done =
-      let writable : AreWritable is.read.marks = journal_writable table.last (map.get files journal_file) is.read is.journal in
-      let drawn : are_drawn table.last is.read.marks ≡ true = journal_drawn table.last (map.get files journal_file) is.read is.journal in
+      let writable : AreWritable is.read.marks = journal_writable table.last (map.get files journal_file) is.read (journal_read files table is) in
+      let drawn : are_drawn table.last is.read.marks ≡ true = journal_drawn table.last (map.get files journal_file) is.read (journal_read files table is) in
       named_drawn table.last number done.0 (subst IsWritable done.1.2 (writable done.1.0 done.0 done.1.1))
       (one_of_all (is_drawn table.last) is.read.marks done.0 drawn (has_contained is.read.marks done.0 done.1))
       (decides_names number done.0 (done_decides is.read.marks done.0 number entry done.2).0)
@@ -80,6 +80,6 @@ pub shown_tables_are_sound : ShownTablesAreSound
 shown_tables_are_sound files table shows =
     let is : ShowsByName files table = (folders_are_shown_by_name files table).by_name shows in
     record {
-      few = few_of (map.get files sequence_file) table.last (last_spelled (map.get files sequence_file) table.last is.last);
+      few = few_of (map.get files sequence_file) table.last is.last;
       each = λ number some. let drawn : (1 ≤ number) × (number ≤ table.last) = entry_drawn files table is number some in record { some = drawn.0; drawn = drawn.1 };
     }

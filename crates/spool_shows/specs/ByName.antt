@@ -1,17 +1,17 @@
 -- What a folder shows, said name by name and number by number (own), with no order of the files.
-use Rattle.std.specs.Prelude.{◌≡◌, ◌≤◌, ℕ, ℤ, true, false, List, Option, Some, None, Ok, IsSome, MatchBool, Contains}
+use Rattle.std.specs.Prelude.{◌≡◌, ◌≤◌, ℕ, ℤ, true, false, List, Option, Some, None, IsSome, MatchBool, Contains}
 use Rattle.std.specs.FinMap as map
 use Rattle.host_calls.specs.Folder.{Files}
 use Rattle.job_script.specs.HeaderIn.{header_in}
-use Rattle.sequence_file.specs.Sequence.{sequence_file}
+use Rattle.sequence_file.specs.Sequence.{Gives, sequence_file}
 use Rattle.spool_model.specs.JobTable.{JobEntry, JobTable, entry_at}
 use Rattle.start_journal.specs.declared.mark.Mark.{Mark}
 use Rattle.start_journal.specs.declared.mark.Mark.TheVariants.{Started}
-use Rattle.start_journal.specs.Journals.{JournalRead, journal_file, journal_in}
+use Rattle.start_journal.specs.FirstFault.{GivesJournal}
+use Rattle.start_journal.specs.Journals.{JournalRead, journal_file}
 use Rattle.start_journal.specs.Marks.{is_decided, is_forgotten, last_batch}
 use Rattle.spool_shows.specs.JobFiles.{JobFile}
 use Rattle.job_name.specs.JobName.{job_named}
-use Rattle.sequence_file.specs.LastNumber.{last_in}
 use Rattle.spool_shows.specs.Shown.{done_entry, live_entry}
 
 -- the file is there under the name of a job whose number is not decided
@@ -59,8 +59,8 @@ ShowsEntry marks files number entry =
 -- The folder shows the table, by each of its names and numbers.
 pub record ShowsByName (files : Files) (table : JobTable) : Type 0 where
   pub read : JournalRead
-  pub last : last_in (map.get files sequence_file) ≡ Ok table.last
-  pub journal : journal_in table.last (map.get files journal_file) ≡ Ok read
+  pub last : Gives (map.get files sequence_file) table.last
+  pub journal : GivesJournal table.last (map.get files journal_file) read
   pub sound : AreSound table.last read.marks files
   pub batch : table.last_batch ≡ last_batch read.marks
   pub entries : (number : ℕ) → ShowsEntry read.marks files number (entry_at table number)

@@ -19,6 +19,7 @@ use Rattle.job_name.specs.JobName.{job_named}
 use Rattle.sequence_file.specs.LastNumber.{last_in}
 use Rattle.spool_shows.specs.Laws.{AgreeElsewhere, HasAccepted, HasDrawn}
 use Rattle.spool_shows.specs.Shown.{Shows}
+use Rattle.spool_shows.proofs.ByNameReads.{journal_read, read_gives_journal}
 use Rattle.spool_shows.proofs.NameLemmas.{AgreeOnNames, agreeing_keep, differ_by, entry_kept, job_name_apart, job_name_differs, journal_apart, sequence_no_job, sound_kept, temporary_no_job}
 use Rattle.sequence_file.proofs.LastNumbers.{last_given, last_spelled}
 use Rattle.spool_shows.proofs.StepLaws.{accepts_are_shown, by_name, draws_are_shown, shown}
@@ -28,7 +29,7 @@ use Rattle.spool_store.specs.Submitting.{submission}
 
 -- where each image shows the table, each gives its last number
 pub each_gives : (folder : Folder) (table : JobTable) → EachShows folder table → EachGives table.last folder
-each_gives folder table shows image is = last_spelled (finite.get image sequence_file) table.last (by_name image table (shows image is)).last
+each_gives folder table shows image is = (by_name image table (shows image is)).last
 
 -- the folder shows the same where the sequence file gives the same
 same_number_shown : (before after : Files) (table : JobTable) → Shows before table → last_in (finite.get after sequence_file) ≡ Ok table.last → AgreeElsewhere temporary_file sequence_file before after → Shows after table
@@ -37,8 +38,8 @@ same_number_shown before after table shows number others =
     let agree : AgreeOnNames before after = λ name job named. others name (job_name_apart temporary_file sequence_file name job temporary_no_job sequence_no_job named) in
     shown after table (record {
       read = is.read;
-      last = number;
-      journal = ap (journal_in table.last) (others journal_file journal_apart) ∙ is.journal;
+      last = last_spelled (finite.get after sequence_file) table.last number;
+      journal = read_gives_journal table.last (finite.get after journal_file) is.read (ap (journal_in table.last) (others journal_file journal_apart) ∙ journal_read before table is);
       sound = sound_kept table.last table.last is.read.marks before after (omega arith) agree is.sound;
       batch = is.batch;
       entries = λ at. entry_kept is.read.marks before after at (entry_at table at) (agreeing_keep is.read.marks before after at agree) (is.entries at);

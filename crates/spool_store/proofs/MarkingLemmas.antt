@@ -24,6 +24,7 @@ use Rattle.spool_shows.specs.ByName.{ShowsByName}
 use Rattle.spool_shows.specs.Laws.{AddsMark, AgreeElsewhere, HasMarks, HasNoForgotten}
 use Rattle.spool_shows.specs.Shown.{Shows}
 use Rattle.start_journal.proofs.JournalReads.{journal_drawn, journal_legal, journal_more}
+use Rattle.spool_shows.proofs.ByNameReads.{journal_read, last_read}
 use Rattle.spool_shows.proofs.OneMark.{ok_same}
 use Rattle.spool_shows.proofs.ShownStates.{IsDoneBy, IsLiveBy}
 use Rattle.spool_shows.proofs.StepLaws.{by_name, compactions_are_shown, marks_are_shown, rewrites_are_shown}
@@ -83,21 +84,21 @@ pub record IsShownWith (journal : JournalRead) (table : JobTable) (files : Files
 pub reads_as : (journal : JournalRead) (table : JobTable) (files : Files) (is : IsShownWith journal table files) → (by_name files table is.shows).read ≡ journal
 reads_as journal table files is =
     let shows : ShowsByName files table = by_name files table is.shows in
-    same_journal table.last (map.get files journal_file) shows.read journal shows.journal is.gives
+    same_journal table.last (map.get files journal_file) shows.read journal (journal_read files table shows) is.gives
 
 -- they name drawn numbers
 pub drawn_there : (journal : JournalRead) (table : JobTable) (files : Files) → IsShownWith journal table files → are_drawn table.last journal.marks ≡ true
 drawn_there journal table files is =
     let shows : ShowsByName files table = by_name files table is.shows in
     ap (λ (read : JournalRead). are_drawn table.last read.marks) (sym (reads_as journal table files is))
-    ∙ journal_drawn table.last (map.get files journal_file) shows.read shows.journal
+    ∙ journal_drawn table.last (map.get files journal_file) shows.read (journal_read files table shows)
 
 -- they are legal
 pub legal_there : (journal : JournalRead) (table : JobTable) (files : Files) → IsShownWith journal table files → AreLegal journal.marks
 legal_there journal table files is =
     let shows : ShowsByName files table = by_name files table is.shows in
     subst (λ (read : JournalRead). AreLegal read.marks) (reads_as journal table files is)
-    (journal_legal table.last (map.get files journal_file) shows.read shows.journal)
+    (journal_legal table.last (map.get files journal_file) shows.read (journal_read files table shows))
 
 -- and they are the folder's
 pub has_marks : (journal : JournalRead) (table : JobTable) (files : Files) → IsShownWith journal table files → HasMarks files journal.marks
@@ -106,8 +107,8 @@ has_marks journal table files is =
     record {
       last = table.last;
       free = journal.free;
-      number = shows.last;
-      journal = shows.journal ∙ ap Ok (reads_as journal table files is);
+      number = last_read files table shows;
+      journal = journal_read files table shows ∙ ap Ok (reads_as journal table files is);
     }
 
 -- The number of a step was drawn.
@@ -143,7 +144,7 @@ decided_drawn last number (mark ∷ later) drawn is =
 done_drawn : (files : Files) (table : JobTable) (number : ℕ) (fate : Fate) → ShowsByName files table → entry_at table number ≡ Some (Done fate) → nat_le number table.last ≡ true
 done_drawn files table number fate shows is =
     let done : IsDoneBy shows.read.marks number = done_in files table number fate shows is in
-    decided_drawn table.last number shows.read.marks (journal_drawn table.last (map.get files journal_file) shows.read shows.journal) done.decided
+    decided_drawn table.last number shows.read.marks (journal_drawn table.last (map.get files journal_file) shows.read (journal_read files table shows)) done.decided
 
 -- and that of each step that adds a mark
 step_drawn : (files : Files) (table : JobTable) (step : Step) (mark : Mark) → ShowsByName files table → IsLegal table step → AddsMark table step mark → is_drawn table.last mark ≡ true

@@ -20,6 +20,7 @@ use Rattle.whole_file.proofs.OthersLemmas.{changes_none, changes_then}
 use Rattle.spool_shows.specs.ByName.{ShowsByName}
 use Rattle.spool_shows.specs.Laws.{HasMarks}
 use Rattle.spool_shows.specs.Shown.{shown_by}
+use Rattle.spool_shows.proofs.ByNameReads.{last_read}
 use Rattle.spool_shows.proofs.OneMark.{had_same}
 use Rattle.spool_shows.proofs.OtherLemmas.{other_files_count_for_nothing}
 use Rattle.spool_shows.proofs.StepLaws.{by_name}
@@ -134,7 +135,7 @@ module _ (old looked : World) (look : Survey) (at : HasSettled old looked look) 
   marks_are others has =
       let shows : ShowsByName files at.found.table = by_name files at.found.table at.found.shows in
       sym (had_same files at.found.table others shows has)
-      ∙ had_same files at.found.table marks shows (record { last = at.found.table.last; free = look.journal.free; number = shows.last; journal = at.found.journal })
+      ∙ had_same files at.found.table marks shows (record { last = at.found.table.last; free = look.journal.free; number = last_read files at.found.table shows; journal = at.found.journal })
 
   -- so it shows the same, since names that are left over count for nothing
   shows_same : (image : Files) → IsLeft image → shown_by image ≡ shown_by files
