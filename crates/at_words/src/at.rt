@@ -9,9 +9,9 @@ ghost use Rattle.at_words.specs.Asked.{listing_asked, queue_asked, submission_as
 ghost use Rattle.at_words.specs.Commands.{at_app};
 ghost use Rattle.at_words.specs.Rows.{text_of};
 
+use crate::arguments::{has_flag, has_value, operands, parsed, text, value};
 use crate::building::{bare, with_flag, with_operands, with_value};
 use crate::jobs::{filter, one_or_more};
-use crate::reading::{has_flag, has_value, operands, parsed, text, value};
 use crate::{Numbers, ToolRequest, When, WordsFault, queue};
 use clap::{ArgMatches, Command};
 use host_calls::Text;

@@ -8,8 +8,8 @@ ghost use Rattle.at_words.specs.Commands.{atday_app};
 ghost use Rattle.at_words.specs.Daemons.{atday_asked, make_asked};
 ghost use Rattle.at_words.specs.Rows.{text_of};
 
+use crate::arguments::{parsed, value};
 use crate::building::{bare, with_long};
-use crate::reading::{parsed, value};
 use crate::{ToolRequest, WordsFault, digits};
 use clap::{ArgMatches, Command};
 use std::alloc::{AllocError, Global};

@@ -7,9 +7,9 @@ ghost use Rattle.at_words.specs.Answers.{Answers, asked_of};
 ghost use Rattle.at_words.specs.Asked.{atq_asked};
 ghost use Rattle.at_words.specs.Commands.{atq_app};
 
+use crate::arguments::{parsed, value};
 use crate::building::{bare, with_value};
 use crate::jobs::filter;
-use crate::reading::{parsed, value};
 use crate::{ToolRequest, WordsFault};
 use clap::{ArgMatches, Command};
 use std::alloc::{AllocError, Global};

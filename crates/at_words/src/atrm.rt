@@ -7,9 +7,9 @@ ghost use Rattle.at_words.specs.Answers.{Answers, asked_of};
 ghost use Rattle.at_words.specs.Asked.{atrm_asked};
 ghost use Rattle.at_words.specs.Commands.{atrm_app};
 
+use crate::arguments::{operands, parsed};
 use crate::building::{bare, with_operands};
 use crate::jobs::one_or_more;
-use crate::reading::{operands, parsed};
 use crate::{ToolRequest, WordsFault};
 use clap::{ArgMatches, Command};
 use std::alloc::{AllocError, Global};

@@ -7,8 +7,8 @@ ghost use Rattle.at_words.specs.Answers.{Answers, asked_of};
 ghost use Rattle.at_words.specs.Asked.{batch_asked};
 ghost use Rattle.at_words.specs.Commands.{batch_app};
 
+use crate::arguments::{parsed, text};
 use crate::building::{bare, with_value};
-use crate::reading::{parsed, text};
 use crate::{ToolRequest, When, WordsFault};
 use clap::{ArgMatches, Command};
 use host_calls::Text;

@@ -2,6 +2,7 @@
 //! words are read by `clap` as one simple command.
 #![tactic(auto)]
 
+mod arguments;
 mod at;
 mod atd;
 mod atday;
@@ -15,7 +16,6 @@ mod filter;
 mod jobs;
 mod numbers;
 mod queue;
-mod reading;
 mod tool;
 mod tool_request;
 mod when;

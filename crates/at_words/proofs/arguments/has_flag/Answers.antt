@@ -1,5 +1,5 @@
 use Rattle.std.proofs.Common.{rules}
-use Rattle.at_words.proofs.reading.has_flag.Goals as goal
+use Rattle.at_words.proofs.arguments.has_flag.Goals as goal
 
 pub returns-in-Some : goal.returns-in-Some
 returns-in-Some c = rw (← c.in-Some.ensures) (search rules)
