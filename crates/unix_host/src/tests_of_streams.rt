@@ -1,11 +1,12 @@
 //! Readings, inputs and sinks.
+use crate::front::front;
 use crate::tests::{clear, fresh_spool, line};
 use crate::tests_outside::Outside;
 use crate::{UnixErr, UnixInputs, UnixOut, UnixReadings};
 use host_calls::{InputFault, Inputs, Readings, Sink, SinkFault};
 use std::fmt::Display;
 use std::fs::File;
-use std::io::Write;
+use std::io::{ErrorKind, Read, Write};
 use std::test::Fail;
 use std::{fs, io};
 
@@ -76,6 +77,44 @@ fn standard_input_is_read_part_by_part(rt: HostRuntime) -> Result<(), Fail> {
         assert_eq!(rt; bytes.as_slice(), wanted.as_bytes());
     }
     assert_eq!(rt; inputs.input_faults, 0);
+    Ok(())
+}
+
+/// A reader that gives one byte at a time, each of them behind an interruption.
+#[derive(Drop)]
+struct Halting<'a> {
+    left: &'a [u8],
+    was_interrupted: bool,
+}
+
+impl Read for Halting<'_> {
+    fn read(&mut self, buffer: &mut [u8]) -> io::Result<usize> {
+        self.was_interrupted = !self.was_interrupted;
+        if self.was_interrupted {
+            return Err(io::Error::from(ErrorKind::Interrupted));
+        }
+        let Some((first, rest)) = self.left.split_first() else {
+            return Ok(0);
+        };
+        let Some(place) = buffer.first_mut() else {
+            return Ok(0);
+        };
+        *place = *first;
+        self.left = rest;
+        Ok(1)
+    }
+}
+
+#[test]
+fn an_interrupted_read_goes_on(rt: HostRuntime) -> Result<(), Fail> {
+    for (most, wanted) in [(4, "echo"), (100, "echo hi\n")] {
+        let mut reader = Halting {
+            left: b"echo hi\n",
+            was_interrupted: false,
+        };
+        let bytes = front(rt.alloc(), &mut reader, most)?;
+        assert_eq!(rt; bytes.as_slice(), wanted.as_bytes());
+    }
     Ok(())
 }
 

@@ -33,6 +33,34 @@ fn a_link_has_the_lock_of_its_folder(rt: HostRuntime) -> Result<(), Fail> {
     Ok(())
 }
 
+// What a second host of the folder is answered while the first one is in its session.
+fn answer_beside<H: Host>(
+    alloc: Global,
+    first: &mut H,
+    second: &mut H,
+) -> Result<Option<EnterFault>, HostFault>
+    requires first { IsOutside (H.session first.old) }
+    requires second { IsOutside (H.session second.old) }
+{
+    begin(alloc, first)?;
+    let answer = second.enter(alloc).err();
+    first.leave();
+    Ok(answer)
+}
+
+// The system's clock: this waits for nine seconds.
+#[test]
+fn a_host_is_refused_while_another_holds_the_lock(rt: HostRuntime) -> Result<(), Fail> {
+    let path = fresh_spool(&rt, "taken")?;
+    let mut first = host_of(&rt, path.as_str())?;
+    let mut second = host_of(&rt, path.as_str())?;
+    let answer = answer_beside(rt.alloc(), &mut first, &mut second);
+    clear(&rt, path.as_str())?;
+    assert!(rt; matches!(answer?, Some(EnterFault::Taken)));
+    assert_eq!(rt; (second.counts.taken, second.counts.files), (1, 0));
+    Ok(())
+}
+
 /// What one session does, between a settle and its end.
 #[derive(Clone, Copy)]
 enum Work {
