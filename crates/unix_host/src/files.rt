@@ -1,5 +1,6 @@
 //! What a folder holds. Only plain files are opened, so that a FIFO blocks nobody and a link leads nowhere.
-ghost use Rattle.std.specs.Prelude.{◌≤◌, IfOk, vec_len};
+ghost use Rattle.std.specs.Prelude.{◌≤◌, IfOk, IsSorted, vec_len};
+ghost use Rattle.host_calls.specs.Folder.{name_cmp};
 
 use crate::front::{FileFrom, fill};
 use crate::paths::Paths;
@@ -68,7 +69,9 @@ fn resolved<R: Files>(rt: &R, alloc: Global, spool: &str) -> Result<Paths, Enter
 }
 
 /// The names of the plain files, in byte order. Whatever has no `Name` is left out.
-pub fn names<R: Runtime>(rt: &R, alloc: Global, folder: &str) -> Result<Vec<Name>, HostFault> {
+pub fn names<R: Runtime>(rt: &R, alloc: Global, folder: &str) -> Result<Vec<Name>, HostFault>
+    ensures order { IfOk result (λ names. IsSorted name_cmp names.items) }
+{
     let mut names = Vec::new(alloc);
     for entry in fs::read_dir(rt, folder).map_err(fault_of)? {
         match entry {

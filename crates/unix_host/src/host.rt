@@ -1,6 +1,7 @@
 //! A spool folder on a disk.
-ghost use Rattle.std.specs.Prelude.{◌≡◌, ◌≢◌, [], true, false, Contains, IsErrOf, IsSome, IfOk, OnErr, OnOk, Ok, Some, slice_get};
+ghost use Rattle.std.specs.Prelude.{◌≡◌, ◌≢◌, [], true, false, Contains, IsErrOf, IsSome, IsSorted, IfOk, IfSome, OnErr, OnOk, Ok, Some, slice_get};
 ghost use Rattle.host_calls.specs.Causes.{HasCause, Rose};
+ghost use Rattle.host_calls.specs.Folder.{name_cmp};
 ghost use Rattle.host_calls.specs.Session.{IsInside, IsOutside, CallsInside, Enters, Starts, StaysInside};
 ghost use Rattle.unix_host.specs.declared.unsynced.Unsynced.{Unsynced};
 ghost use Rattle.unix_host.specs.UnixHost.{ending_in, starts_of, session_of, told_of, torn_file, unsynced_of};
@@ -103,7 +104,11 @@ impl<R: Runtime<File = File> + Processes> Host for UnixHost<R> {
         }
     }
 
-    fn names(&mut self, alloc: Global) -> Result<Vec<Name>, HostFault> {
+    fn names(&mut self, alloc: Global) -> Result<Vec<Name>, HostFault>
+        requires { IsInside (session_of self.old) }
+        ensures inside { CallsInside HostFault.Failed (session_of self.old) (session_of self.new) result }
+        ensures order { IfOk result (λ names. IsSorted name_cmp names.items) }
+    {
         let Some(folder) = &mut self.folder else {
             unreachable!()
         };
@@ -270,6 +275,7 @@ impl<R: Runtime<File = File> + Processes> Host for UnixHost<R> {
         ensures inside { StaysInside (session_of self.old) (session_of self.new) }
         ensures was_started { result ≢ Ok (Some Ending.NotStarted) }
         ensures told { IfOk result (λ told. IsSome told → told ≡ ending_in self.new child.now.id) }
+        ensures again { IfSome (ending_in self.old child.now.id) (λ ending. result ≡ Ok (Some ending)) }
     {
         let _ = alloc;
         let kid = &mut self.kids[child.id as usize];
