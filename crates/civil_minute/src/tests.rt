@@ -126,6 +126,16 @@ fn times_mean_their_minutes(rt: HostRuntime) -> Result<(), AllocError> {
         ),
         ("now next week", NEW_YEAR, Zone::Utc, Ok(28_938_240)),
         ("noon jan 31 + 1 month", NEW_YEAR, Zone::Utc, Ok(29_012_400)),
+        ("teatime tomorrow", NEW_YEAR, Zone::Utc, Ok(28_930_560)),
+        ("noon 12/25/2025", NEW_YEAR, Zone::Utc, Ok(29_444_400)),
+        ("1000 25.12.2025", NEW_YEAR, Zone::Utc, Ok(29_444_280)),
+        ("8:15 2025-12-25", NEW_YEAR, Zone::Utc, Ok(29_444_175)),
+        (
+            "noon 02/30/2025",
+            NEW_YEAR,
+            Zone::Utc,
+            Err(DateFault::NoSuchDay),
+        ),
         (
             "noon feb 29",
             NEW_YEAR,

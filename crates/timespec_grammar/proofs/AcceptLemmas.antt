@@ -14,7 +14,7 @@ use Rattle.timespec_grammar.specs.declared.read.Read.{Read}
 use Rattle.timespec_grammar.specs.declared.read.Read.TheVariants as read
 use Rattle.timespec_grammar.specs.Grammar as grammar
 use Rattle.timespec_grammar.specs.Grammar.{IsClock24, IsClock12, IsHalf, IsTime, IsDate, IsIncrement, Spells, timespec_of}
-use Rattle.timespec_grammar.specs.Numbers.{is_hour, is_hour_minute, is_twelve, is_minute, is_month, is_weekday, is_day, is_year, is_count}
+use Rattle.timespec_grammar.specs.Numbers.{is_hour, is_hour_minute, is_twelve, is_minute, is_month, is_month_number, is_weekday, is_day, is_year, is_date_number, is_count}
 use Rattle.timespec_grammar.specs.inside.Steps.{timespec_read}
 use Rattle.timespec_grammar.proofs.ReadLemmas.{run}
 
@@ -69,6 +69,16 @@ time_ends at _ _ alone = refl
 time_ends at _ _ (later _ _ (grammar.plus digits count period fits)) = refl
 time_ends at _ _ (later _ _ (grammar.next period)) = refl
 
+-- what a number that begins a date may be
+day_begins : (digits value : ℕ) → is_day digits value ≡ true → is_date_number digits value ≡ true
+day_begins digits value known = grind (arith, nat_tests)
+
+month_begins : (digits value : ℕ) → is_month_number digits value ≡ true → is_date_number digits value ≡ true
+month_begins digits value fits = grind (arith, nat_tests)
+
+year_begins : (digits value : ℕ) → is_year digits value ≡ true → is_date_number digits value ≡ true
+year_begins digits value four = grind (arith, nat_tests)
+
 -- a date and its end, behind a time
 date_accepted : (at : Clock) (dates rest : List Token) (day : DatePart) (by : Option Increment) → IsDate dates day
     → IsEnd rest by → accepts (read.Timed at) (dates ++ rest) ≡ Some (timespec_of at day by)
@@ -83,6 +93,32 @@ date_accepted at _ rest _ by (grammar.month_day_year month digits value year_dig
     ∙ when (is_day digits value) (read.DayNamed at month value) None
     (token.Comma ∷ token.Number year_digits year ∷ rest) known
     ∙ when (is_year year_digits year) (read.Dated at (date.MonthDay month value (Some year))) None rest four
+    ∙ end_accepted at (date.MonthDay month value (Some year)) rest by end
+date_accepted at _ rest _ by (grammar.slashes month_digits month digits value year_digits year fits known four) end =
+    when (is_date_number month_digits month) (read.DateNumber at month_digits month) None
+    (token.Slash ∷ token.Number digits value ∷ token.Slash ∷ token.Number year_digits year ∷ rest) (month_begins month_digits month fits)
+    ∙ when (is_month_number month_digits month) (read.MonthSlash at month) None
+    (token.Number digits value ∷ token.Slash ∷ token.Number year_digits year ∷ rest) fits
+    ∙ when (is_day digits value) (read.SlashDay at month value) None (token.Slash ∷ token.Number year_digits year ∷ rest) known
+    ∙ when (is_year year_digits year) (read.Dated at (date.MonthDay month value (Some year))) None rest four
+    ∙ end_accepted at (date.MonthDay month value (Some year)) rest by end
+date_accepted at _ rest _ by (grammar.dots month_digits month digits value year_digits year fits known four) end =
+    when (is_date_number digits value) (read.DateNumber at digits value) None
+    (token.Dot ∷ token.Number month_digits month ∷ token.Dot ∷ token.Number year_digits year ∷ rest) (day_begins digits value known)
+    ∙ when (is_day digits value) (read.DayDot at value) None
+    (token.Number month_digits month ∷ token.Dot ∷ token.Number year_digits year ∷ rest) known
+    ∙ when (is_month_number month_digits month) (read.DotMonth at month value) None
+    (token.Dot ∷ token.Number year_digits year ∷ rest) fits
+    ∙ when (is_year year_digits year) (read.Dated at (date.MonthDay month value (Some year))) None rest four
+    ∙ end_accepted at (date.MonthDay month value (Some year)) rest by end
+date_accepted at _ rest _ by (grammar.dashes month_digits month digits value year_digits year fits known four) end =
+    when (is_date_number year_digits year) (read.DateNumber at year_digits year) None
+    (token.Dash ∷ token.Number month_digits month ∷ token.Dash ∷ token.Number digits value ∷ rest) (year_begins year_digits year four)
+    ∙ when (is_year year_digits year) (read.YearDash at year) None
+    (token.Number month_digits month ∷ token.Dash ∷ token.Number digits value ∷ rest) four
+    ∙ when (is_month_number month_digits month) (read.DashMonth at month year) None
+    (token.Dash ∷ token.Number digits value ∷ rest) fits
+    ∙ when (is_day digits value) (read.Dated at (date.MonthDay month value (Some year))) None rest known
     ∙ end_accepted at (date.MonthDay month value (Some year)) rest by end
 date_accepted at _ rest _ by (grammar.weekday value fits) end =
     when (is_weekday value) (read.Dated at (date.Weekday value)) None rest fits
@@ -115,6 +151,9 @@ clock_tail _ _ _ _ _ _ (hour_alone hour) (undated _ _ (later _ _ (grammar.plus d
 clock_tail _ _ _ _ _ _ (hour_alone hour) (undated _ _ (later _ _ (grammar.next period))) = refl
 clock_tail _ _ _ _ _ _ (hour_alone hour) (dated _ _ _ _ (grammar.month_day _ _ _ _ _) end) = refl
 clock_tail _ _ _ _ _ _ (hour_alone hour) (dated _ _ _ _ (grammar.month_day_year _ _ _ _ _ _ _ _) end) = refl
+clock_tail _ _ _ _ _ _ (hour_alone hour) (dated _ _ _ _ (grammar.slashes _ _ _ _ _ _ _ _ _) end) = refl
+clock_tail _ _ _ _ _ _ (hour_alone hour) (dated _ _ _ _ (grammar.dots _ _ _ _ _ _ _ _ _) end) = refl
+clock_tail _ _ _ _ _ _ (hour_alone hour) (dated _ _ _ _ (grammar.dashes _ _ _ _ _ _ _ _ _) end) = refl
 clock_tail _ _ _ _ _ _ (hour_alone hour) (dated _ _ _ _ (grammar.weekday _ _) end) = refl
 clock_tail _ _ _ _ _ _ (hour_alone hour) (dated _ _ _ _ grammar.today end) = refl
 clock_tail _ _ _ _ _ _ (hour_alone hour) (dated _ _ _ _ grammar.tomorrow end) = refl
@@ -123,6 +162,9 @@ clock_tail _ _ _ _ _ _ (with_minute hour minute) (undated _ _ (later _ _ (gramma
 clock_tail _ _ _ _ _ _ (with_minute hour minute) (undated _ _ (later _ _ (grammar.next period))) = refl
 clock_tail _ _ _ _ _ _ (with_minute hour minute) (dated _ _ _ _ (grammar.month_day _ _ _ _ _) end) = refl
 clock_tail _ _ _ _ _ _ (with_minute hour minute) (dated _ _ _ _ (grammar.month_day_year _ _ _ _ _ _ _ _) end) = refl
+clock_tail _ _ _ _ _ _ (with_minute hour minute) (dated _ _ _ _ (grammar.slashes _ _ _ _ _ _ _ _ _) end) = refl
+clock_tail _ _ _ _ _ _ (with_minute hour minute) (dated _ _ _ _ (grammar.dots _ _ _ _ _ _ _ _ _) end) = refl
+clock_tail _ _ _ _ _ _ (with_minute hour minute) (dated _ _ _ _ (grammar.dashes _ _ _ _ _ _ _ _ _) end) = refl
 clock_tail _ _ _ _ _ _ (with_minute hour minute) (dated _ _ _ _ (grammar.weekday _ _) end) = refl
 clock_tail _ _ _ _ _ _ (with_minute hour minute) (dated _ _ _ _ grammar.today end) = refl
 clock_tail _ _ _ _ _ _ (with_minute hour minute) (dated _ _ _ _ grammar.tomorrow end) = refl
@@ -135,6 +177,9 @@ half_tail hour minute _ _ _ (undated _ _ (later _ _ (grammar.plus digits count p
 half_tail hour minute _ _ _ (undated _ _ (later _ _ (grammar.next period))) = refl
 half_tail hour minute _ _ _ (dated _ _ _ _ (grammar.month_day _ _ _ _ _) end) = refl
 half_tail hour minute _ _ _ (dated _ _ _ _ (grammar.month_day_year _ _ _ _ _ _ _ _) end) = refl
+half_tail hour minute _ _ _ (dated _ _ _ _ (grammar.slashes _ _ _ _ _ _ _ _ _) end) = refl
+half_tail hour minute _ _ _ (dated _ _ _ _ (grammar.dots _ _ _ _ _ _ _ _ _) end) = refl
+half_tail hour minute _ _ _ (dated _ _ _ _ (grammar.dashes _ _ _ _ _ _ _ _ _) end) = refl
 half_tail hour minute _ _ _ (dated _ _ _ _ (grammar.weekday _ _) end) = refl
 half_tail hour minute _ _ _ (dated _ _ _ _ grammar.today end) = refl
 half_tail hour minute _ _ _ (dated _ _ _ _ grammar.tomorrow end) = refl
@@ -213,6 +258,7 @@ time_accepted _ tail _ day by (grammar.clock12_utc tokens twelve hour minute hal
     ∙ tail_accepted (clock.At hour minute true) tail day by ends)
 time_accepted _ tail _ day by grammar.noon ends = tail_accepted (clock.At 12 0 false) tail day by ends
 time_accepted _ tail _ day by grammar.midnight ends = tail_accepted (clock.At 0 0 false) tail day by ends
+time_accepted _ tail _ day by grammar.teatime ends = tail_accepted (clock.At 16 0 false) tail day by ends
 
 -- each spelling is accepted as its timespec
 pub spells_accepted : (tokens : List Token) (spec : Timespec) → Spells tokens spec

@@ -8,10 +8,11 @@ use Rattle.timespec_lexer.specs.declared.placed.Placed.{Placed}
 use Rattle.timespec_grammar.specs.declared.timespec.Timespec.{Timespec}
 use Rattle.timespec_grammar.specs.declared.read.Read.{Read}
 use Rattle.timespec_grammar.specs.declared.read.Read.TheVariants as read
-use Rattle.timespec_grammar.specs.Grammar.{StopsAt, IsViable, Spells, tokens_of}
+use Rattle.timespec_grammar.specs.Grammar.{Spells, tokens_of}
+use Rattle.timespec_grammar.specs.Viable.{FrontsAreViable, GoesOn, IsViable, StopsAt}
 use Rattle.timespec_grammar.specs.inside.Steps.{step, timespec_read}
 use Rattle.timespec_grammar.proofs.ReadLemmas.{Reads, nothing_read, run, run_goes}
-use Rattle.timespec_grammar.proofs.ViableLemmas.{ends_spell, reads_viable}
+use Rattle.timespec_grammar.proofs.ViableLemmas.{ends_spell, reads_viable, viable_goes_on}
 use Rattle.timespec_grammar.proofs.AcceptLemmas.{accepts, spells_accepted}
 
 -- what is read from tokens in two parts
@@ -38,34 +39,41 @@ one_more front next so_far ran =
     run-append read.Nothing front (next ∷ []) ∙ ap (λ (read : Option Read). option_and_then (λ onward. run onward (next ∷ [])) read) ran
 
 -- what can't be read begins no timespec
-unread : (tokens : List Token) → run read.Nothing tokens ≡ None → IsViable tokens → ⊥
-unread tokens ran viable =
-    let none_read : run read.Nothing (tokens ++ viable.rest) ≡ None = run-append read.Nothing tokens viable.rest
-    ∙ ap (λ (read : Option Read). option_and_then (λ onward. run onward viable.rest) read) ran in
-    let refused : accepts read.Nothing (tokens ++ viable.rest) ≡ None = ap (λ (read : Option Read). option_and_then timespec_read read) none_read in
-    cc (refused, spells_accepted (tokens ++ viable.rest) viable.whole viable.spelled)
+unread : (tokens : List Token) → run read.Nothing tokens ≡ None → GoesOn tokens → ⊥
+unread tokens ran onward =
+    let none_read : run read.Nothing (tokens ++ onward.rest) ≡ None = run-append read.Nothing tokens onward.rest
+    ∙ ap (λ (read : Option Read). option_and_then (λ more. run more onward.rest) read) ran in
+    let refused : accepts read.Nothing (tokens ++ onward.rest) ≡ None = ap (λ (read : Option Read). option_and_then timespec_read read) none_read in
+    cc (refused, spells_accepted (tokens ++ onward.rest) onward.whole onward.spelled)
+
+-- what begins a timespec is viable, by what is read of it
+viable_of : (tokens : List Token) (reading : Option Read) → run read.Nothing tokens ≡ reading → GoesOn tokens → IsViable tokens
+viable_of tokens None ran onward = absurd (unread tokens ran onward)
+viable_of tokens (Some so_far) ran onward = reads_viable tokens so_far (reads_of tokens so_far ran)
+
+begins_viable : (tokens : List Token) → GoesOn tokens → IsViable tokens
+begins_viable tokens onward = viable_of tokens (run read.Nothing tokens) refl onward
+
+pub fronts_are_viable : FrontsAreViable
+fronts_are_viable tokens rest whole spelled = begins_viable tokens (record { rest = rest; whole = whole; spelled = spelled })
 
 -- what spells a timespec begins one with each of its fronts
 spelled_front : (tokens : List Token) (count : ℕ) (spec : Timespec) → Spells tokens spec → IsViable (take count tokens)
-spelled_front tokens count spec spelled = record {
-  rest = drop count tokens;
-  whole = spec;
-  spelled = subst (λ (all : List Token). Spells all spec) (sym (take-append-drop count tokens)) spelled;
-}
+spelled_front tokens count spec spelled =
+    fronts_are_viable (take count tokens) (drop count tokens) spec
+    (subst (λ (all : List Token). Spells all spec) (sym (take-append-drop count tokens)) spelled)
 
--- what can go on can go on from each of its fronts
+-- the fronts of what is viable are viable
 front_viable : (tokens : List Token) (fault count : ℕ) → count ≤ fault → IsViable (take fault tokens)
     → IsViable (take count tokens)
 front_viable tokens fault count below viable =
+    let onward : GoesOn (take fault tokens) = viable_goes_on (take fault tokens) viable in
     let parts : take count tokens ++ drop count (take fault tokens) ≡ take fault tokens
     = ap (λ (front : List Token). front ++ drop count (take fault tokens)) (sym (take-take count fault tokens below))
     ∙ take-append-drop count (take fault tokens) in
-    record {
-      rest = drop count (take fault tokens) ++ viable.rest;
-      whole = viable.whole;
-      spelled = subst (λ (all : List Token). Spells all viable.whole)
-          (ap (λ (front : List Token). front ++ viable.rest) (sym parts) ∙ append_assoc (take count tokens) (drop count (take fault tokens)) viable.rest) viable.spelled;
-    }
+    fronts_are_viable (take count tokens) (drop count (take fault tokens) ++ onward.rest) onward.whole
+    (subst (λ (all : List Token). Spells all onward.whole)
+    (ap (λ (front : List Token). front ++ onward.rest) (sym parts) ∙ append_assoc (take count tokens) (drop count (take fault tokens)) onward.rest) onward.spelled)
 
 -- the front that one token more makes
 front_more : (placed : List Placed) (index : ℕ) (or : Placed) → index < length placed
@@ -94,7 +102,7 @@ not_viable placed index or so_far inside ran stops viable =
     (ap (run read.Nothing) (front_more placed index or inside)
     ∙ one_more (tokens_of (take index placed)) (get_or placed index or).token so_far ran
     ∙ ap (λ (read : Option Read). option_and_then (λ more. run more []) read) stops)
-    viable
+    (viable_goes_on (take (index + 1) (tokens_of placed)) viable)
 
 -- the fault at a token that may not follow
 pub fault_within : (placed : List Placed) (index : ℕ) (or : Placed) (so_far : Read) → index < length placed

@@ -1,5 +1,6 @@
 -- The numbers of a timespec are within their ranges.
-use Rattle.std.proofs.Common.{◌≡◌, ℕ, ◌/◌, ◌%◌, ◌≤◌, true, List, arith}
+use Rattle.std.proofs.Common.{◌≡◌, ℕ, ◌/◌, ◌%◌, ◌≤◌, true, List, Some, arith}
+use Rattle.timespec_grammar.specs.declared.date.DatePart.TheVariants as date
 use Rattle.std.proofs.lemmas.Bool.Decides.{nat_tests}
 use Rattle.timespec_lexer.specs.declared.token.Token.{Token}
 use Rattle.timespec_grammar.specs.declared.clock.Clock.{Clock}
@@ -9,7 +10,7 @@ use Rattle.timespec_grammar.specs.declared.timespec.Timespec.{Timespec}
 use Rattle.timespec_grammar.specs.declared.numbers.TheConstants.{MAX_COUNT}
 use Rattle.timespec_grammar.specs.Grammar as grammar
 use Rattle.timespec_grammar.specs.Grammar.{IsClock24, IsClock12, IsHalf, IsTime, IsDate, IsIncrement, Spells, IsClockInRange, IsDateInRange, IsTimespecInRange}
-use Rattle.timespec_grammar.specs.Numbers.{is_hour, is_hour_minute, is_minute, is_month, is_weekday, is_day, is_year, is_count}
+use Rattle.timespec_grammar.specs.Numbers.{is_hour, is_hour_minute, is_minute, is_month, is_month_number, is_weekday, is_day, is_year, is_count}
 
 hour_small : (digits value : ℕ) → is_hour digits value ≡ true → value ≤ 23
 hour_small digits value fits = grind (arith, nat_tests)
@@ -28,6 +29,9 @@ month_some month fits = grind (arith, nat_tests)
 
 month_small : (month : ℕ) → is_month month ≡ true → month ≤ 12
 month_small month fits = grind (arith, nat_tests)
+
+number_month : (digits value : ℕ) → is_month_number digits value ≡ true → is_month value ≡ true
+number_month digits value fits = grind (arith, nat_tests)
 
 weekday_small : (day : ℕ) → is_weekday day ≡ true → day ≤ 6
 weekday_small day fits = grind (arith, nat_tests)
@@ -61,12 +65,26 @@ time_range _ _ (grammar.clock12_utc tokens twelve hour minute half is which) =
     (half_range half twelve hour which, (clock24_range tokens twelve minute is.same).1)
 time_range _ _ grammar.noon = (omega arith, omega arith)
 time_range _ _ grammar.midnight = (omega arith, omega arith)
+time_range _ _ grammar.teatime = (omega arith, omega arith)
+
+-- a month, a day and a year that were given in numbers
+numbers_range : (month_digits month digits day year_digits year : ℕ) → is_month_number month_digits month ≡ true
+    → is_day digits day ≡ true → is_year year_digits year ≡ true → IsDateInRange (date.MonthDay month day (Some year))
+numbers_range month_digits month digits day year_digits year fits known four =
+    let named : is_month month ≡ true = number_month month_digits month fits in
+    (month_some month named, month_small month named, day_small digits day known, year_small year_digits year four)
 
 date_range : (tokens : List Token) (day : DatePart) → IsDate tokens day → IsDateInRange day
 date_range _ _ (grammar.month_day month digits day fits known) =
     (month_some month fits, month_small month fits, day_small digits day known, tt)
 date_range _ _ (grammar.month_day_year month digits day count year fits known four) =
     (month_some month fits, month_small month fits, day_small digits day known, year_small count year four)
+date_range _ _ (grammar.slashes month_digits month digits day count year fits known four) =
+    numbers_range month_digits month digits day count year fits known four
+date_range _ _ (grammar.dots month_digits month digits day count year fits known four) =
+    numbers_range month_digits month digits day count year fits known four
+date_range _ _ (grammar.dashes month_digits month digits day count year fits known four) =
+    numbers_range month_digits month digits day count year fits known four
 date_range _ _ (grammar.weekday day fits) = weekday_small day fits
 date_range _ _ grammar.today = tt
 date_range _ _ grammar.tomorrow = tt

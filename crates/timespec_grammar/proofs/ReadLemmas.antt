@@ -12,9 +12,9 @@ use Rattle.timespec_grammar.specs.declared.timespec.Timespec.{Timespec}
 use Rattle.timespec_grammar.specs.declared.read.Read.{Read}
 use Rattle.timespec_grammar.specs.declared.read.Read.TheVariants as read
 use Rattle.timespec_grammar.specs.Grammar as grammar
-use Rattle.timespec_grammar.specs.Grammar.{IsClock24, IsClock12, IsHalf, IsTime, IsDate, IsIncrement, Spells, IsViable, timespec_of}
-use Rattle.timespec_grammar.specs.Numbers.{is_hour, is_hour_minute, is_twelve, is_minute, is_month, is_weekday, is_day, is_year, is_count}
-use Rattle.timespec_grammar.specs.inside.Steps.{begin, after_colon, after_date, after_time, after_half, after_minute, after_hour, after_month, after_day, after_comma, after_plus, after_count, step}
+use Rattle.timespec_grammar.specs.Grammar.{IsClock24, IsClock12, IsHalf, IsTime, IsDate, IsIncrement, Spells, timespec_of}
+use Rattle.timespec_grammar.specs.Numbers.{is_hour, is_hour_minute, is_twelve, is_minute, is_month, is_month_number, is_weekday, is_day, is_year, is_date_number, is_count}
+use Rattle.timespec_grammar.specs.inside.Steps.{begin, after_colon, after_date, after_time, after_half, after_minute, after_hour, after_month, after_day, after_plus, after_count, year_due, after_number, after_slash, second_slash, after_dot, second_dot, after_dash, second_dash, day_due, step}
 
 -- what may stand before an increment
 pub data Opens : List Token → Clock → DatePart → Type 0 where
@@ -38,6 +38,25 @@ opens_later _ later _ _ by (opens_time tokens at time) more = grammar.time_incre
 opens_later _ later _ _ by (opens_date tokens dates at day time it) more =
     grammar.time_date_increment tokens dates later at day by time it more
 
+-- the tokens of a date up to its year
+pub data BeforeYear : List Token → ℕ → ℕ → Type 0 where
+  comma : (month digits day : ℕ) → IsTrue (is_month month) → IsTrue (is_day digits day)
+      → BeforeYear (token.Month month ∷ token.Number digits day ∷ token.Comma ∷ []) month day
+  slashes : (month_digits month digits day : ℕ) → IsTrue (is_month_number month_digits month) → IsTrue (is_day digits day)
+      → BeforeYear (token.Number month_digits month ∷ token.Slash ∷ token.Number digits day ∷ token.Slash ∷ []) month day
+  dots : (month_digits month digits day : ℕ) → IsTrue (is_month_number month_digits month) → IsTrue (is_day digits day)
+      → BeforeYear (token.Number digits day ∷ token.Dot ∷ token.Number month_digits month ∷ token.Dot ∷ []) month day
+
+-- with its year it is a date
+pub with_year : (tokens : List Token) (month day digits year : ℕ) → BeforeYear tokens month day → IsTrue (is_year digits year)
+    → IsDate (tokens ++ token.Number digits year ∷ []) (date.MonthDay month day (Some year))
+with_year _ _ _ digits year (comma number digits' day fits known) four =
+    grammar.month_day_year number digits' day digits year fits known four
+with_year _ _ _ digits year (slashes month_digits number digits' day fits known) four =
+    grammar.slashes month_digits number digits' day digits year fits known four
+with_year _ _ _ digits year (dots month_digits number digits' day fits known) four =
+    grammar.dots month_digits number digits' day digits year fits known four
+
 -- the tokens are what was read
 pub data Reads : List Token → Read → Type 0 where
   nothing_read : Reads [] read.Nothing
@@ -53,9 +72,29 @@ pub data Reads : List Token → Read → Type 0 where
   day_read : (tokens : List Token) (at : Clock) (month digits day : ℕ) → IsTime tokens at → IsTrue (is_month month)
       → IsTrue (is_day digits day)
       → Reads (tokens ++ token.Month month ∷ token.Number digits day ∷ []) (read.DayNamed at month day)
-  comma_read : (tokens : List Token) (at : Clock) (month digits day : ℕ) → IsTime tokens at → IsTrue (is_month month)
-      → IsTrue (is_day digits day)
-      → Reads (tokens ++ token.Month month ∷ token.Number digits day ∷ token.Comma ∷ []) (read.DayComma at month day)
+  year_due_read : (tokens dates : List Token) (at : Clock) (month day : ℕ) → IsTime tokens at → BeforeYear dates month day
+      → Reads (tokens ++ dates) (read.YearDue at month day)
+  number_read : (tokens : List Token) (at : Clock) (digits value : ℕ) → IsTime tokens at → IsTrue (is_date_number digits value)
+      → Reads (tokens ++ token.Number digits value ∷ []) (read.DateNumber at digits value)
+  slash_read : (tokens : List Token) (at : Clock) (digits month : ℕ) → IsTime tokens at → IsTrue (is_month_number digits month)
+      → Reads (tokens ++ token.Number digits month ∷ token.Slash ∷ []) (read.MonthSlash at month)
+  slash_day_read : (tokens : List Token) (at : Clock) (month_digits month digits day : ℕ) → IsTime tokens at
+      → IsTrue (is_month_number month_digits month) → IsTrue (is_day digits day)
+      → Reads (tokens ++ token.Number month_digits month ∷ token.Slash ∷ token.Number digits day ∷ []) (read.SlashDay at month day)
+  dot_read : (tokens : List Token) (at : Clock) (digits day : ℕ) → IsTime tokens at → IsTrue (is_day digits day)
+      → Reads (tokens ++ token.Number digits day ∷ token.Dot ∷ []) (read.DayDot at day)
+  dot_month_read : (tokens : List Token) (at : Clock) (month_digits month digits day : ℕ) → IsTime tokens at
+      → IsTrue (is_month_number month_digits month) → IsTrue (is_day digits day)
+      → Reads (tokens ++ token.Number digits day ∷ token.Dot ∷ token.Number month_digits month ∷ []) (read.DotMonth at month day)
+  dash_read : (tokens : List Token) (at : Clock) (digits year : ℕ) → IsTime tokens at → IsTrue (is_year digits year)
+      → Reads (tokens ++ token.Number digits year ∷ token.Dash ∷ []) (read.YearDash at year)
+  dash_month_read : (tokens : List Token) (at : Clock) (month_digits month digits year : ℕ) → IsTime tokens at
+      → IsTrue (is_month_number month_digits month) → IsTrue (is_year digits year)
+      → Reads (tokens ++ token.Number digits year ∷ token.Dash ∷ token.Number month_digits month ∷ []) (read.DashMonth at month year)
+  day_due_read : (tokens : List Token) (at : Clock) (month_digits month digits year : ℕ) → IsTime tokens at
+      → IsTrue (is_month_number month_digits month) → IsTrue (is_year digits year)
+      → Reads (tokens ++ token.Number digits year ∷ token.Dash ∷ token.Number month_digits month ∷ token.Dash ∷ [])
+      (read.DayDue at month year)
   opening_read : (tokens : List Token) (at : Clock) (day : DatePart) → Opens tokens at day → Reads tokens (read.Dated at day)
   added_read : (tokens : List Token) (at : Clock) (day : DatePart) → Opens tokens at day
       → Reads (tokens ++ token.Plus ∷ []) (read.Added at day)
@@ -90,6 +129,9 @@ time_goes tokens at (token.Weekday number) is =
     chosen (Reads (tokens ++ token.Weekday number ∷ [])) (is_weekday number) (read.Dated at (date.Weekday number)) None
     (λ fits. opening_read (tokens ++ token.Weekday number ∷ []) at (date.Weekday number)
     (opens_date tokens (token.Weekday number ∷ []) at (date.Weekday number) is (grammar.weekday number fits))) tt
+time_goes tokens at (token.Number digits value) is =
+    chosen (Reads (tokens ++ token.Number digits value ∷ [])) (is_date_number digits value) (read.DateNumber at digits value) None
+    (λ fits. number_read tokens at digits value is fits) tt
 time_goes tokens at token.Today is =
     opening_read (tokens ++ token.Today ∷ []) at date.Today (opens_date tokens (token.Today ∷ []) at date.Today is grammar.today)
 time_goes tokens at token.Tomorrow is =
@@ -135,6 +177,7 @@ first_goes (token.Number digits value) =
 first_goes token.Now = opening_read (token.Now ∷ []) clock.Now date.Absent opens_now
 first_goes token.Noon = time_read (token.Noon ∷ []) (clock.At 12 0 false) grammar.noon
 first_goes token.Midnight = time_read (token.Midnight ∷ []) (clock.At 0 0 false) grammar.midnight
+first_goes token.Teatime = time_read (token.Teatime ∷ []) (clock.At 16 0 false) grammar.teatime
 first_goes _ = tt
 
 month_goes : (tokens : List Token) (at : Clock) (number : ℕ) (coming : Token) → IsTime tokens at → IsTrue (is_month number)
@@ -149,23 +192,105 @@ day_goes : (tokens : List Token) (at : Clock) (number digits value : ℕ) (comin
     → IsTrue (is_month number) → IsTrue (is_day digits value)
     → Goes (tokens ++ token.Month number ∷ token.Number digits value ∷ []) coming (after_day at number value coming)
 day_goes tokens at number digits value token.Comma is fits known =
-    rw append_assoc (comma_read tokens at number digits value is fits known)
+    rw append_assoc (year_due_read tokens (token.Month number ∷ token.Number digits value ∷ token.Comma ∷ []) at number value is
+    (comma number digits value fits known))
 day_goes tokens at number digits value coming is fits known =
     date_goes (tokens ++ token.Month number ∷ token.Number digits value ∷ []) at (date.MonthDay number value None) coming
     (opens_date tokens (token.Month number ∷ token.Number digits value ∷ []) at (date.MonthDay number value None) is
     (grammar.month_day number digits value fits known))
 
-comma_goes : (tokens : List Token) (at : Clock) (number digits value : ℕ) (coming : Token) → IsTime tokens at
-    → IsTrue (is_month number) → IsTrue (is_day digits value)
-    → Goes (tokens ++ token.Month number ∷ token.Number digits value ∷ token.Comma ∷ []) coming (after_comma at number value coming)
-comma_goes tokens at number digits value (token.Number count year) is fits known =
-    let all : List Token = token.Month number ∷ token.Number digits value ∷ token.Comma ∷ token.Number count year ∷ [] in
-    chosen (Reads ((tokens ++ token.Month number ∷ token.Number digits value ∷ token.Comma ∷ []) ++ token.Number count year ∷ []))
+year_goes : (tokens dates : List Token) (at : Clock) (number value : ℕ) (coming : Token) → IsTime tokens at
+    → BeforeYear dates number value → Goes (tokens ++ dates) coming (year_due at number value coming)
+year_goes tokens dates at number value (token.Number count year) is before =
+    chosen (Reads ((tokens ++ dates) ++ token.Number count year ∷ []))
     (is_year count year) (read.Dated at (date.MonthDay number value (Some year))) None
-    (λ four. rw append_assoc (opening_read (tokens ++ all) at (date.MonthDay number value (Some year))
+    (λ four. rw append_assoc (opening_read (tokens ++ (dates ++ token.Number count year ∷ [])) at (date.MonthDay number value (Some year))
+    (opens_date tokens (dates ++ token.Number count year ∷ []) at (date.MonthDay number value (Some year)) is
+    (with_year dates number value count year before four)))) tt
+year_goes tokens dates at number value _ is before = tt
+
+number_goes : (tokens : List Token) (at : Clock) (digits value : ℕ) (coming : Token) → IsTime tokens at
+    → Goes (tokens ++ token.Number digits value ∷ []) coming (after_number at digits value coming)
+number_goes tokens at digits value token.Slash is =
+    chosen (Reads ((tokens ++ token.Number digits value ∷ []) ++ token.Slash ∷ [])) (is_month_number digits value)
+    (read.MonthSlash at value) None
+    (λ fits. rw append_assoc (slash_read tokens at digits value is fits)) tt
+number_goes tokens at digits value token.Dot is =
+    chosen (Reads ((tokens ++ token.Number digits value ∷ []) ++ token.Dot ∷ [])) (is_day digits value) (read.DayDot at value) None
+    (λ fits. rw append_assoc (dot_read tokens at digits value is fits)) tt
+number_goes tokens at digits value token.Dash is =
+    chosen (Reads ((tokens ++ token.Number digits value ∷ []) ++ token.Dash ∷ [])) (is_year digits value) (read.YearDash at value) None
+    (λ fits. rw append_assoc (dash_read tokens at digits value is fits)) tt
+number_goes tokens at digits value _ is = tt
+
+slash_goes : (tokens : List Token) (at : Clock) (digits number : ℕ) (coming : Token) → IsTime tokens at
+    → IsTrue (is_month_number digits number)
+    → Goes (tokens ++ token.Number digits number ∷ token.Slash ∷ []) coming (after_slash at number coming)
+slash_goes tokens at digits number (token.Number count value) is fits =
+    chosen (Reads ((tokens ++ token.Number digits number ∷ token.Slash ∷ []) ++ token.Number count value ∷ [])) (is_day count value)
+    (read.SlashDay at number value) None
+    (λ known. rw append_assoc (slash_day_read tokens at digits number count value is fits known)) tt
+slash_goes tokens at digits number _ is fits = tt
+
+slash_day_goes : (tokens : List Token) (at : Clock) (digits number count value : ℕ) (coming : Token) → IsTime tokens at
+    → IsTrue (is_month_number digits number) → IsTrue (is_day count value)
+    → Goes (tokens ++ token.Number digits number ∷ token.Slash ∷ token.Number count value ∷ []) coming
+    (second_slash at number value coming)
+slash_day_goes tokens at digits number count value token.Slash is fits known =
+    rw append_assoc (year_due_read tokens
+    (token.Number digits number ∷ token.Slash ∷ token.Number count value ∷ token.Slash ∷ []) at number value is
+    (slashes digits number count value fits known))
+slash_day_goes tokens at digits number count value _ is fits known = tt
+
+dot_goes : (tokens : List Token) (at : Clock) (count value : ℕ) (coming : Token) → IsTime tokens at
+    → IsTrue (is_day count value)
+    → Goes (tokens ++ token.Number count value ∷ token.Dot ∷ []) coming (after_dot at value coming)
+dot_goes tokens at count value (token.Number digits number) is known =
+    chosen (Reads ((tokens ++ token.Number count value ∷ token.Dot ∷ []) ++ token.Number digits number ∷ []))
+    (is_month_number digits number) (read.DotMonth at number value) None
+    (λ fits. rw append_assoc (dot_month_read tokens at digits number count value is fits known)) tt
+dot_goes tokens at count value _ is known = tt
+
+dot_month_goes : (tokens : List Token) (at : Clock) (digits number count value : ℕ) (coming : Token) → IsTime tokens at
+    → IsTrue (is_month_number digits number) → IsTrue (is_day count value)
+    → Goes (tokens ++ token.Number count value ∷ token.Dot ∷ token.Number digits number ∷ []) coming (second_dot at number value coming)
+dot_month_goes tokens at digits number count value token.Dot is fits known =
+    rw append_assoc (year_due_read tokens
+    (token.Number count value ∷ token.Dot ∷ token.Number digits number ∷ token.Dot ∷ []) at number value is
+    (dots digits number count value fits known))
+dot_month_goes tokens at digits number count value _ is fits known = tt
+
+dash_goes : (tokens : List Token) (at : Clock) (count year : ℕ) (coming : Token) → IsTime tokens at
+    → IsTrue (is_year count year)
+    → Goes (tokens ++ token.Number count year ∷ token.Dash ∷ []) coming (after_dash at year coming)
+dash_goes tokens at count year (token.Number digits number) is four =
+    chosen (Reads ((tokens ++ token.Number count year ∷ token.Dash ∷ []) ++ token.Number digits number ∷ []))
+    (is_month_number digits number) (read.DashMonth at number year) None
+    (λ fits. rw append_assoc (dash_month_read tokens at digits number count year is fits four)) tt
+dash_goes tokens at count year _ is four = tt
+
+dash_month_goes : (tokens : List Token) (at : Clock) (digits number count year : ℕ) (coming : Token) → IsTime tokens at
+    → IsTrue (is_month_number digits number) → IsTrue (is_year count year)
+    → Goes (tokens ++ token.Number count year ∷ token.Dash ∷ token.Number digits number ∷ []) coming
+    (second_dash at number year coming)
+dash_month_goes tokens at digits number count year token.Dash is fits four =
+    rw append_assoc (day_due_read tokens at digits number count year is fits four)
+dash_month_goes tokens at digits number count year _ is fits four = tt
+
+day_due_goes : (tokens : List Token) (at : Clock) (digits number count year : ℕ) (coming : Token) → IsTime tokens at
+    → IsTrue (is_month_number digits number) → IsTrue (is_year count year)
+    → Goes (tokens ++ token.Number count year ∷ token.Dash ∷ token.Number digits number ∷ token.Dash ∷ []) coming
+    (day_due at number year coming)
+day_due_goes tokens at digits number count year (token.Number length value) is fits four =
+    let all : List Token
+    = token.Number count year ∷ token.Dash ∷ token.Number digits number ∷ token.Dash ∷ token.Number length value ∷ [] in
+    chosen (Reads ((tokens ++ token.Number count year ∷ token.Dash ∷ token.Number digits number ∷ token.Dash ∷ [])
+    ++ token.Number length value ∷ []))
+    (is_day length value) (read.Dated at (date.MonthDay number value (Some year))) None
+    (λ known. rw append_assoc (opening_read (tokens ++ all) at (date.MonthDay number value (Some year))
     (opens_date tokens all at (date.MonthDay number value (Some year)) is
-    (grammar.month_day_year number digits value count year fits known four)))) tt
-comma_goes tokens at number digits value _ is fits known = tt
+    (grammar.dashes digits number length value count year fits known four)))) tt
+day_due_goes tokens at digits number count year _ is fits four = tt
 
 count_goes : (tokens : List Token) (at : Clock) (day : DatePart) (coming : Token) → Opens tokens at day
     → Goes (tokens ++ token.Plus ∷ []) coming (after_plus at day coming)
@@ -201,7 +326,19 @@ step_goes _ _ coming (half_read tokens twelve value number it is which) =
 step_goes _ _ coming (time_read tokens at is) = time_goes tokens at coming is
 step_goes _ _ coming (month_read tokens at number is fits) = month_goes tokens at number coming is fits
 step_goes _ _ coming (day_read tokens at number digits value is fits known) = day_goes tokens at number digits value coming is fits known
-step_goes _ _ coming (comma_read tokens at number digits value is fits known) = comma_goes tokens at number digits value coming is fits known
+step_goes _ _ coming (year_due_read tokens dates at number value is before) = year_goes tokens dates at number value coming is before
+step_goes _ _ coming (number_read tokens at digits value is fits) = number_goes tokens at digits value coming is
+step_goes _ _ coming (slash_read tokens at digits number is fits) = slash_goes tokens at digits number coming is fits
+step_goes _ _ coming (slash_day_read tokens at digits number count value is fits known) =
+    slash_day_goes tokens at digits number count value coming is fits known
+step_goes _ _ coming (dot_read tokens at count value is known) = dot_goes tokens at count value coming is known
+step_goes _ _ coming (dot_month_read tokens at digits number count value is fits known) =
+    dot_month_goes tokens at digits number count value coming is fits known
+step_goes _ _ coming (dash_read tokens at count year is four) = dash_goes tokens at count year coming is four
+step_goes _ _ coming (dash_month_read tokens at digits number count year is fits four) =
+    dash_month_goes tokens at digits number count year coming is fits four
+step_goes _ _ coming (day_due_read tokens at digits number count year is fits four) =
+    day_due_goes tokens at digits number count year coming is fits four
 step_goes _ _ coming (opening_read tokens at day opens) = date_goes tokens at day coming opens
 step_goes _ _ coming (added_read tokens at day opens) = count_goes tokens at day coming opens
 step_goes _ _ coming (counted_read tokens at day digits count opens fits) = unit_goes tokens at day digits count coming opens fits

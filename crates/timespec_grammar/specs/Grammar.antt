@@ -1,6 +1,6 @@
--- The grammar of a time (POSIX.1-2017, XCU, at: timespec). The one zone is `utc`, which is this
--- project's own. Each relation has a case for each production, text first and value last.
-use Rattle.std.specs.Prelude.{◌≡◌, ℕ, ◌+◌, ◌/◌, ◌%◌, ◌<◌, ◌≤◌, ◌⊎◌, true, false, List, [], ◌∷◌, ◌++◌, length, map, take, IsTrue, ⊤, IfSome, Option, Some, None}
+-- The grammar of a time (POSIX.1-2017, XCU, at: timespec; teatime and the three dates in numbers: Debian's at(1)). The one
+-- zone is `utc`, which is this project's own. Each relation has a case for each production, text first and value last.
+use Rattle.std.specs.Prelude.{ℕ, ◌+◌, ◌/◌, ◌%◌, ◌≤◌, true, false, List, [], ◌∷◌, ◌++◌, map, IsTrue, ⊤, IfSome, Option, Some, None}
 use Rattle.timespec_lexer.specs.declared.token.Token.{Token}
 use Rattle.timespec_lexer.specs.declared.token.Token.TheVariants as token
 use Rattle.timespec_lexer.specs.declared.placed.Placed.{Placed}
@@ -12,7 +12,7 @@ use Rattle.timespec_grammar.specs.declared.date.DatePart.TheVariants as date
 use Rattle.timespec_grammar.specs.declared.increment.Increment.{Increment}
 use Rattle.timespec_grammar.specs.declared.timespec.Timespec.{Timespec}
 use Rattle.timespec_grammar.specs.declared.numbers.TheConstants.{MAX_COUNT}
-use Rattle.timespec_grammar.specs.Numbers.{is_hour, is_hour_minute, is_twelve, is_minute, is_month, is_weekday, is_day, is_year, is_count}
+use Rattle.timespec_grammar.specs.Numbers.{is_hour, is_hour_minute, is_twelve, is_minute, is_month, is_month_number, is_weekday, is_day, is_year, is_count}
 
 -- an hour and a minute of the 24-hour clock
 pub data IsClock24 : List Token → ℕ → ℕ → Type 0 where
@@ -48,6 +48,7 @@ pub data IsTime : List Token → Clock → Type 0 where
       → IsTime (tokens ++ half ∷ token.Utc ∷ []) (clock.At hour minute true)
   noon : IsTime (token.Noon ∷ []) (clock.At 12 0 false)
   midnight : IsTime (token.Midnight ∷ []) (clock.At 0 0 false)
+  teatime : IsTime (token.Teatime ∷ []) (clock.At 16 0 false)
 
 -- a date
 pub data IsDate : List Token → DatePart → Type 0 where
@@ -57,6 +58,21 @@ pub data IsDate : List Token → DatePart → Type 0 where
       → IsTrue (is_day digits day) → IsTrue (is_year year_digits year)
       → IsDate
       (token.Month month ∷ token.Number digits day ∷ token.Comma ∷ token.Number year_digits year ∷ [])
+      (date.MonthDay month day (Some year))
+  slashes : (month_digits month digits day year_digits year : ℕ) → IsTrue (is_month_number month_digits month)
+      → IsTrue (is_day digits day) → IsTrue (is_year year_digits year)
+      → IsDate
+      (token.Number month_digits month ∷ token.Slash ∷ token.Number digits day ∷ token.Slash ∷ token.Number year_digits year ∷ [])
+      (date.MonthDay month day (Some year))
+  dots : (month_digits month digits day year_digits year : ℕ) → IsTrue (is_month_number month_digits month)
+      → IsTrue (is_day digits day) → IsTrue (is_year year_digits year)
+      → IsDate
+      (token.Number digits day ∷ token.Dot ∷ token.Number month_digits month ∷ token.Dot ∷ token.Number year_digits year ∷ [])
+      (date.MonthDay month day (Some year))
+  dashes : (month_digits month digits day year_digits year : ℕ) → IsTrue (is_month_number month_digits month)
+      → IsTrue (is_day digits day) → IsTrue (is_year year_digits year)
+      → IsDate
+      (token.Number year_digits year ∷ token.Dash ∷ token.Number month_digits month ∷ token.Dash ∷ token.Number digits day ∷ [])
       (date.MonthDay month day (Some year))
   weekday : (day : ℕ) → IsTrue (is_weekday day) → IsDate (token.Weekday day ∷ []) (date.Weekday day)
   today : IsDate (token.Today ∷ []) date.Today
@@ -89,22 +105,9 @@ pub data Spells : List Token → Timespec → Type 0 where
   now_increment : (later : List Token) (by : Increment) → IsIncrement later by
       → Spells (token.Now ∷ later) (timespec_of clock.Now date.Absent (Some by))
 
--- the tokens can go on to spell some timespec
-pub record IsViable (tokens : List Token) : Type 0 where
-  pub rest : List Token
-  pub whole : Timespec
-  pub spelled : Spells (tokens ++ rest) whole
-
 -- the tokens without their places
 abbrev pub tokens_of : List Placed → List Token
 tokens_of placed = map (λ one. one.token) placed
-
--- The first token that no timespec has there, or the number of tokens that end too early: up to it
--- each front can go on, and with it none can, or it is the end and the tokens spell nothing.
-pub record StopsAt (tokens : List Token) (fault : ℕ) : Type 0 where
-  pub fronts : (count : ℕ) → count ≤ fault → IsViable (take count tokens)
-  pub stops : ((fault < length tokens) × ¬ IsViable (take (fault + 1) tokens))
-      ⊎ ((fault ≡ length tokens) × ((whole : Timespec) → ¬ Spells tokens whole))
 
 -- an hour and a minute of a day
 abbrev pub IsClockInRange : Clock → Type 0

@@ -31,9 +31,17 @@ is_weekday day = nat_le day 6
 abbrev pub is_day : ℕ → ℕ → Bool
 is_day digits value = nat_le 1 digits && nat_le digits 2 && nat_le value 99
 
+-- a month in one digit or two: January is 1
+abbrev pub is_month_number : ℕ → ℕ → Bool
+is_month_number digits value = ((digits == 1 && nat_le value 9) || digits == 2) && is_month value
+
 -- a year, in four digits
 abbrev pub is_year : ℕ → ℕ → Bool
 is_year digits value = digits == 4 && nat_le value 9999
+
+-- a number that a date may begin with: that of a day, as which each month's number counts too, or that of a year
+abbrev pub is_date_number : ℕ → ℕ → Bool
+is_date_number digits value = is_day digits value || is_year digits value
 
 -- a count of periods, in few digits
 abbrev pub is_count : ℕ → ℕ → Bool

@@ -5,7 +5,9 @@ mod clock;
 mod date;
 mod fault;
 mod increment;
+mod laws;
 mod numbers;
+mod numeric;
 mod parser;
 mod read;
 mod steps;
@@ -15,6 +17,7 @@ pub use clock::Clock;
 pub use date::DatePart;
 pub use fault::GrammarFault;
 pub use increment::Increment;
+pub use laws::viable_tokens_are_fronts;
 pub use parser::parse;
 pub use timespec::Timespec;
 

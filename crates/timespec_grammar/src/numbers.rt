@@ -1,6 +1,6 @@
 //! Which numbers may stand where.
 ghost use Rattle.std.specs.Prelude.{◌≡◌, ◌≤◌, ◌/◌, ◌%◌, IsTrue};
-ghost use Rattle.timespec_grammar.specs.Numbers.{is_hour, is_hour_minute, is_twelve, is_minute, is_month, is_weekday, is_day, is_year, is_count};
+ghost use Rattle.timespec_grammar.specs.Numbers.{is_hour, is_hour_minute, is_twelve, is_minute, is_month, is_month_number, is_weekday, is_day, is_year, is_date_number, is_count};
 
 /// The greatest count of an increment.
 pub const MAX_COUNT: u32 = 999_999;
@@ -62,12 +62,27 @@ pub fn is_day(digits: u8, value: u32) -> bool
     1 <= digits && digits <= 2 && value <= 99
 }
 
+/// A month in one or two digits.
+pub fn is_month_number(digits: u8, value: u32) -> bool
+    ensures test { result ≡ is_month_number digits value }
+    ensures small { IsTrue result → value ≤ 12 }
+{
+    (digits == 1 && value <= 9 || digits == 2) && 1 <= value && value <= 12
+}
+
 /// A year in four digits.
 pub fn is_year(digits: u8, value: u32) -> bool
     ensures test { result ≡ is_year digits value }
     ensures small { IsTrue result → value ≤ 9999 }
 {
     digits == 4 && value <= 9999
+}
+
+/// A number that a date may begin with: a day, as which each month counts too, or a year.
+pub fn is_date_number(digits: u8, value: u32) -> bool
+    ensures { result ≡ is_date_number digits value }
+{
+    is_day(digits, value) || is_year(digits, value)
 }
 
 /// A count of periods, which may be 0.

@@ -1,6 +1,7 @@
 //! From tokens to a timespec.
 ghost use Rattle.std.specs.Prelude.{◌≡◌, length, IfOk, IfErr, OnErr};
-ghost use Rattle.timespec_grammar.specs.Grammar.{Spells, StopsAt, IsTimespecInRange, tokens_of};
+ghost use Rattle.timespec_grammar.specs.Grammar.{Spells, IsTimespecInRange, tokens_of};
+ghost use Rattle.timespec_grammar.specs.Viable.{StopsAt};
 ghost use Rattle.timespec_grammar.specs.declared.timespec.Timespec.{Timespec as Spec};
 
 use crate::read::Read;

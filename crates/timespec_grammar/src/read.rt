@@ -19,8 +19,24 @@ pub enum Read {
     MonthNamed(Clock, u8),
     /// A time, a month and a day.
     DayNamed(Clock, u8, u8),
-    /// A time, a month, a day and a comma.
-    DayComma(Clock, u8, u8),
+    /// A time, a month, a day and the mark before the year.
+    YearDue(Clock, u8, u8),
+    /// A time and a number that begins a date, with its digits.
+    DateNumber(Clock, u8, u32),
+    /// A time, a month and a slash.
+    MonthSlash(Clock, u8),
+    /// A time, a month, a slash and a day.
+    SlashDay(Clock, u8, u8),
+    /// A time, a day and a dot.
+    DayDot(Clock, u8),
+    /// A time, a day, a dot and a month; the month stands first here.
+    DotMonth(Clock, u8, u8),
+    /// A time, a year and a dash.
+    YearDash(Clock, u16),
+    /// A time, a year, a dash and a month; the month stands first here.
+    DashMonth(Clock, u8, u16),
+    /// A time, a year, a month and the dash before the day.
+    DayDue(Clock, u8, u16),
     /// All that may stand before an increment.
     Dated(Clock, DatePart),
     /// The same and a plus.

@@ -1,10 +1,15 @@
 //! One token more: what may follow what was read so far.
 ghost use Rattle.std.specs.Prelude.{◌≡◌};
 ghost use Rattle.timespec_grammar.specs.Grammar.{timespec_of};
-ghost use Rattle.timespec_grammar.specs.inside.Steps.{step, timespec_read, begin, after_colon, after_date, after_time, after_half, after_minute, after_hour, after_month, after_day, after_comma, after_plus, after_count};
+ghost use Rattle.timespec_grammar.specs.inside.Steps.{step, timespec_read, begin, after_colon, after_date, after_time, after_half, after_minute, after_hour, after_month, after_day, after_plus, after_count};
 
 use crate::numbers::{
-    is_count, is_day, is_hour, is_hour_minute, is_minute, is_month, is_twelve, is_weekday, is_year,
+    is_count, is_date_number, is_day, is_hour, is_hour_minute, is_minute, is_month, is_twelve,
+    is_weekday,
+};
+use crate::numeric::{
+    after_dash, after_dot, after_number, after_slash, day_due, second_dash, second_dot,
+    second_slash, year_due,
 };
 use crate::read::Read;
 use crate::{Clock, DatePart, Increment, Timespec};
@@ -23,7 +28,15 @@ pub fn step(read: Read, token: Token) -> Option<Read>
         Read::Timed(clock) => after_time(clock, token),
         Read::MonthNamed(clock, month) => after_month(clock, month, token),
         Read::DayNamed(clock, month, day) => after_day(clock, month, day, token),
-        Read::DayComma(clock, month, day) => after_comma(clock, month, day, token),
+        Read::YearDue(clock, month, day) => year_due(clock, month, day, token),
+        Read::DateNumber(clock, digits, value) => after_number(clock, digits, value, token),
+        Read::MonthSlash(clock, month) => after_slash(clock, month, token),
+        Read::SlashDay(clock, month, day) => second_slash(clock, month, day, token),
+        Read::DayDot(clock, day) => after_dot(clock, day, token),
+        Read::DotMonth(clock, month, day) => second_dot(clock, month, day, token),
+        Read::YearDash(clock, year) => after_dash(clock, year, token),
+        Read::DashMonth(clock, month, year) => second_dash(clock, month, year, token),
+        Read::DayDue(clock, month, year) => day_due(clock, month, year, token),
         Read::Dated(clock, date) => after_date(clock, date, token),
         Read::Added(clock, date) => after_plus(clock, date, token),
         Read::Counted(clock, date, count) => after_count(clock, date, count, token),
@@ -56,7 +69,7 @@ fn at(hour: u8, minute: u8, utc: bool) -> Clock
 }
 
 // A day of a month.
-fn month_day(month: u8, day: u8, year: Option<u16>) -> DatePart
+pub(crate) fn month_day(month: u8, day: u8, year: Option<u16>) -> DatePart
     ensures { result ≡ DatePart.MonthDay month day year }
 {
     DatePart::MonthDay { month, day, year }
@@ -85,6 +98,7 @@ fn begin(token: Token) -> Option<Read>
         Token::Now => Some(Read::Dated(Clock::Now, DatePart::Absent)),
         Token::Noon => Some(Read::Timed(at(12, 0, false))),
         Token::Midnight => Some(Read::Timed(at(0, 0, false))),
+        Token::Teatime => Some(Read::Timed(at(16, 0, false))),
         _ => None,
     }
 }
@@ -139,6 +153,9 @@ fn after_time(clock: Clock, token: Token) -> Option<Read>
     match token {
         Token::Month(month) if is_month(month) => Some(Read::MonthNamed(clock, month)),
         Token::Weekday(day) if is_weekday(day) => Some(Read::Dated(clock, DatePart::Weekday(day))),
+        Token::Number { digits, value } if is_date_number(digits, value) => {
+            Some(Read::DateNumber(clock, digits, value))
+        }
         Token::Today => Some(Read::Dated(clock, DatePart::Today)),
         Token::Tomorrow => Some(Read::Dated(clock, DatePart::Tomorrow)),
         _ => after_date(clock, DatePart::Absent, token),
@@ -162,21 +179,8 @@ fn after_day(clock: Clock, month: u8, day: u8, token: Token) -> Option<Read>
     ensures { result ≡ after_day clock month day token }
 {
     match token {
-        Token::Comma => Some(Read::DayComma(clock, month, day)),
+        Token::Comma => Some(Read::YearDue(clock, month, day)),
         _ => after_date(clock, month_day(month, day, None), token),
-    }
-}
-
-// The year behind a month, a day and a comma.
-fn after_comma(clock: Clock, month: u8, day: u8, token: Token) -> Option<Read>
-    ensures { result ≡ after_comma clock month day token }
-{
-    match token {
-        Token::Number { digits, value } if is_year(digits, value) => {
-            let year = Some(value as u16);
-            Some(Read::Dated(clock, month_day(month, day, year)))
-        }
-        _ => None,
     }
 }
 

@@ -69,6 +69,16 @@ fn texts_with_their_timespecs(rt: HostRuntime) {
         ),
         ("now", Clock::Now, absent, None),
         ("midnight", at(0, 0), absent, None),
+        ("teatime tomorrow", at(16, 0), DatePart::Tomorrow, None),
+        ("noon 12/25/2025", at(12, 0), day(12, 25, Some(2025)), None),
+        ("1000 25.12.2025", at(10, 0), day(12, 25, Some(2025)), None),
+        ("8:15 2025-12-25", at(8, 15), day(12, 25, Some(2025)), None),
+        (
+            "5 pm utc 1/2/0099 + 1 day",
+            utc(17, 0),
+            day(1, 2, Some(99)),
+            by(1, Period::Day),
+        ),
         ("9", at(9, 0), absent, None),
         ("2359", at(23, 59), absent, None),
         ("23:5 utc today", utc(23, 5), DatePart::Today, None),
@@ -116,6 +126,16 @@ fn refused_places(rt: HostRuntime) {
         ("noon today tomorrow", 11),
         ("noon +", 6),
         ("8:15:30", 4),
+        ("noon 13/25/2025", 7),
+        ("noon 25.12.25", 11),
+        ("noon 25.13.2025", 8),
+        ("noon 2025-12", 12),
+        ("noon 12/25", 10),
+        ("noon 100/1/2025", 5),
+        ("noon 12-25-2025", 7),
+        ("noon 12 25", 8),
+        ("now 12/25/2025", 4),
+        ("teatime utc", 8),
     ];
     for (text, place) in cases {
         assert!(rt; refusal_of(text) == Some(place), "{text}");

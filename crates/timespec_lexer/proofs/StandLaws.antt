@@ -25,18 +25,32 @@ letter_solid byte letter = grind (arith, nat_tests)
 letter_no_digit : (byte : ℕ) → is_ascii_alphabetic byte ≡ true → is_ascii_digit byte ≡ false
 letter_no_digit byte letter = grind (arith, nat_tests)
 
--- a mark is one of three bytes
-mark_bytes : (byte : ℕ) (token : Token) → mark_of byte ≡ Some token → (byte ≡ 58) ⊎ ((byte ≡ 44) ⊎ (byte ≡ 43))
+-- a mark is a colon, or one of the five bytes from a plus up to a slash
+mark_bytes : (byte : ℕ) (token : Token) → mark_of byte ≡ Some token → (byte ≡ 58) ⊎ ((43 ≤ byte) × (byte ≤ 47))
 mark_bytes byte token mark = grind (arith, nat_tests)
 
+colon_or_near : (P : ℕ → Bool) (byte : ℕ) (token : Token) → P 58 ≡ false
+    → ((near : ℕ) → 43 ≤ near → near ≤ 47 → P near ≡ false) → mark_of byte ≡ Some token → P byte ≡ false
+colon_or_near P byte token colon near mark =
+    elim (mark_bytes byte token mark) [ inl e ↦ rw e colon | inr within ↦ near byte within.0 within.1 ]
+
+near_solid : (near : ℕ) → 43 ≤ near → near ≤ 47 → is_separator near ≡ false
+near_solid near least most = grind (arith, nat_tests)
+
+near_no_digit : (near : ℕ) → 43 ≤ near → near ≤ 47 → is_ascii_digit near ≡ false
+near_no_digit near least most = grind (arith, nat_tests)
+
+near_no_letter : (near : ℕ) → 43 ≤ near → near ≤ 47 → is_ascii_alphabetic near ≡ false
+near_no_letter near least most = grind (arith, nat_tests)
+
 mark_solid : (byte : ℕ) (token : Token) → mark_of byte ≡ Some token → is_separator byte ≡ false
-mark_solid byte token mark = elim (mark_bytes byte token mark) [ inl e ↦ rw e refl | inr (inl e) ↦ rw e refl | inr (inr e) ↦ rw e refl ]
+mark_solid byte token mark = colon_or_near is_separator byte token refl near_solid mark
 
 mark_no_digit : (byte : ℕ) (token : Token) → mark_of byte ≡ Some token → is_ascii_digit byte ≡ false
-mark_no_digit byte token mark = elim (mark_bytes byte token mark) [ inl e ↦ rw e refl | inr (inl e) ↦ rw e refl | inr (inr e) ↦ rw e refl ]
+mark_no_digit byte token mark = colon_or_near is_ascii_digit byte token refl near_no_digit mark
 
 mark_no_letter : (byte : ℕ) (token : Token) → mark_of byte ≡ Some token → is_ascii_alphabetic byte ≡ false
-mark_no_letter byte token mark = elim (mark_bytes byte token mark) [ inl e ↦ rw e refl | inr (inl e) ↦ rw e refl | inr (inr e) ↦ rw e refl ]
+mark_no_letter byte token mark = colon_or_near is_ascii_alphabetic byte token refl near_no_letter mark
 
 -- the first byte of a number
 first_digit : (text : List ℕ) (from to : ℕ) (token : Token) → StandsNumber text from to token → is_ascii_digit (slice_index text from) ≡ true
@@ -80,7 +94,7 @@ and_right false b both = absurd (cc)
 
 -- the row in which a word stands first
 first_row : List ℕ → ℕ
-first_row word = unwrap_or (position_from (λ row. bytes_eq row.0 word) 0 keywords) 58
+first_row word = unwrap_or (position_from (λ row. bytes_eq row.0 word) 0 keywords) 59
 
 -- each of the rows before one is the first with its word
 rows_first : ℕ → Bool
@@ -102,7 +116,7 @@ row_first (suc n) all k below =
 row_of_word : (word : List ℕ) (token : Token) (listed : Contains keywords (word, token)) → first_row word ≡ listed.0
 unfolding keywords rows_first first_row
 row_of_word word token listed =
-    let first : first_row (get_or keywords listed.0 ([], Now)).0 ≡ listed.0 = row_first 58 refl listed.0 listed.1 in
+    let first : first_row (get_or keywords listed.0 ([], Now)).0 ≡ listed.0 = row_first 59 refl listed.0 listed.1 in
     let row : get_or keywords listed.0 ([], Now) ≡ (word, token) = get_or_default keywords listed.0 ([], Now) (word, token) listed.1 ∙ listed.2 in
     ap (λ (row : List ℕ × Token). first_row row.0) (sym row) ∙ first
 

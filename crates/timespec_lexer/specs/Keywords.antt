@@ -1,13 +1,13 @@
--- The words of a time (POSIX.1-2017, XCU, at: timespec), and the tokens that they are.
+-- The words of a time (POSIX.1-2017, XCU, at: timespec), and the tokens that they are. `teatime` is from Debian's at(1).
 use Rattle.std.specs.Prelude.{ℕ, List, [], ◌∷◌, codes}
 use Rattle.timespec_lexer.specs.declared.period.Period.TheVariants as Period
 use Rattle.timespec_lexer.specs.declared.token.Token.{Token}
-use Rattle.timespec_lexer.specs.declared.token.Token.TheVariants.{Now, Noon, Midnight, Today, Tomorrow, Next, Am, Pm, Utc, Month, Weekday, Unit}
+use Rattle.timespec_lexer.specs.declared.token.Token.TheVariants.{Now, Noon, Midnight, Teatime, Today, Tomorrow, Next, Am, Pm, Utc, Month, Weekday, Unit}
 
 -- each keyword in lower case, and its token
 unfoldable pub keywords : List (List ℕ × Token)
 keywords =
-    (codes "now", Now) ∷ (codes "noon", Noon) ∷ (codes "midnight", Midnight) ∷
+    (codes "now", Now) ∷ (codes "noon", Noon) ∷ (codes "midnight", Midnight) ∷ (codes "teatime", Teatime) ∷
     (codes "today", Today) ∷ (codes "tomorrow", Tomorrow) ∷ (codes "next", Next) ∷
     (codes "am", Am) ∷ (codes "pm", Pm) ∷ (codes "utc", Utc) ∷ (codes "january", Month 1) ∷
     (codes "jan", Month 1) ∷ (codes "february", Month 2) ∷ (codes "feb", Month 2) ∷

@@ -1,12 +1,12 @@
--- The tokens of a text (POSIX.1-2017, XCU, at: timespec). That separators may be absent, and how many
--- digits a number and how many tokens a text may have, is this project's own.
+-- The tokens of a text (POSIX.1-2017, XCU, at: timespec; the marks of numeric dates: Debian's at(1)). That separators may
+-- be absent, and how many digits a number and how many tokens a text may have, is this project's own.
 use Rattle.std.specs.Prelude.{◌≡◌, ℕ, zero, suc, ◌+◌, ◌-◌, ◌*◌, ◌<◌, ◌≤◌, ◌⊎◌, ◌==◌, ◌||◌, Bool, false, List, [], ◌∷◌, length, slice_index, IsTrue, All, Contains, Option, Some, None, if◌then◌else◌}
 use Rattle.std.specs.Char.{is_ascii_digit, is_ascii_alphabetic, to_ascii_lowercase}
 use Rattle.timespec_lexer.specs.Keywords.{keywords}
 use Rattle.timespec_lexer.specs.declared.lexer.TheConstants.{MAX_TOKENS}
 use Rattle.timespec_lexer.specs.declared.number.TheConstants.{MAX_DIGITS}
 use Rattle.timespec_lexer.specs.declared.token.Token.{Token}
-use Rattle.timespec_lexer.specs.declared.token.Token.TheVariants.{Number, Colon, Comma, Plus}
+use Rattle.timespec_lexer.specs.declared.token.Token.TheVariants.{Number, Colon, Comma, Plus, Slash, Dot, Dash}
 use Rattle.timespec_lexer.specs.declared.placed.Placed.{Placed}
 
 -- a space, a tab or a newline
@@ -40,7 +40,10 @@ mark_of byte =
     if byte == 58 then Some Colon
     else (if byte == 44 then Some Comma
     else (if byte == 43 then Some Plus
-    else None))
+    else (if byte == 47 then Some Slash
+    else (if byte == 46 then Some Dot
+    else (if byte == 45 then Some Dash
+    else None)))))
 
 -- the text has the word at a place, in letters of either case
 pub record HasWord (text : List ℕ) (place : ℕ) (word : List ℕ) : Type 0 where

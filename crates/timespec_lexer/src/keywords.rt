@@ -2,10 +2,11 @@
 use crate::{Period, Token};
 
 /// Each keyword in lower case, and its token.
-pub const KEYWORDS: [(&str, Token); 58] = [
+pub const KEYWORDS: [(&str, Token); 59] = [
     ("now", Token::Now),
     ("noon", Token::Noon),
     ("midnight", Token::Midnight),
+    ("teatime", Token::Teatime),
     ("today", Token::Today),
     ("tomorrow", Token::Tomorrow),
     ("next", Token::Next),

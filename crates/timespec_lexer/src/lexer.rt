@@ -91,6 +91,9 @@ fn mark_of(byte: u8) -> Option<Token>
         b':' => Some(Token::Colon),
         b',' => Some(Token::Comma),
         b'+' => Some(Token::Plus),
+        b'/' => Some(Token::Slash),
+        b'.' => Some(Token::Dot),
+        b'-' => Some(Token::Dash),
         _ => None,
     }
 }

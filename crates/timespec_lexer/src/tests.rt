@@ -1,7 +1,7 @@
 //! Texts with their tokens and places of refusal.
 use crate::Token::{
-    Am, Colon, Comma, Midnight, Month, Next, Noon, Now, Number, Plus, Pm, Today, Tomorrow, Unit,
-    Utc, Weekday,
+    Am, Colon, Comma, Dash, Dot, Midnight, Month, Next, Noon, Now, Number, Plus, Pm, Slash,
+    Teatime, Today, Tomorrow, Unit, Utc, Weekday,
 };
 use crate::{Period, Token, tokens};
 
@@ -63,6 +63,16 @@ fn texts_with_and_without_separators(rt: HostRuntime) {
     ];
     assert!(rt; reads("now + 1 months", &now));
     assert!(rt; reads(" \t\n", &[]));
+    let numeric = [
+        (Teatime, 0),
+        (number(2, 12), 7),
+        (Slash, 9),
+        (number(1, 5), 10),
+        (Dot, 12),
+        (Dash, 13),
+        (number(4, 2025), 14),
+    ];
+    assert!(rt; reads("TeaTime12/5 .-2025", &numeric));
 }
 
 #[test]
@@ -126,7 +136,8 @@ fn places_of_refusal(rt: HostRuntime) {
         ("8;15", 1),
         ("noonj", 4),
         ("ja", 0),
-        ("now +1.", 6),
+        ("now +1;", 6),
+        ("tea", 0),
     ];
     for (text, place) in cases {
         assert!(rt; refused(text, place), "{text}");

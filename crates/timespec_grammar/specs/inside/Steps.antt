@@ -10,7 +10,7 @@ use Rattle.timespec_grammar.specs.declared.timespec.Timespec.{Timespec}
 use Rattle.timespec_grammar.specs.declared.read.Read.{Read}
 use Rattle.timespec_grammar.specs.declared.read.Read.TheVariants as read
 use Rattle.timespec_grammar.specs.Grammar.{timespec_of}
-use Rattle.timespec_grammar.specs.Numbers.{is_hour, is_hour_minute, is_twelve, is_minute, is_month, is_weekday, is_day, is_year, is_count}
+use Rattle.timespec_grammar.specs.Numbers.{is_hour, is_hour_minute, is_twelve, is_minute, is_month, is_month_number, is_weekday, is_day, is_year, is_date_number, is_count}
 
 -- the first token
 abbrev pub begin : Token → Option Read
@@ -21,6 +21,7 @@ begin (token.Number digits value) =
 begin token.Now = Some (read.Dated clock.Now date.Absent)
 begin token.Noon = Some (read.Timed (clock.At 12 0 false))
 begin token.Midnight = Some (read.Timed (clock.At 0 0 false))
+begin token.Teatime = Some (read.Timed (clock.At 16 0 false))
 begin _ = None
 
 -- the minute behind an hour and a colon
@@ -39,6 +40,7 @@ after_date at day _ = None
 abbrev pub after_time : Clock → Token → Option Read
 after_time at (token.Month month) = if is_month month then Some (read.MonthNamed at month) else None
 after_time at (token.Weekday day) = if is_weekday day then Some (read.Dated at (date.Weekday day)) else None
+after_time at (token.Number digits value) = if is_date_number digits value then Some (read.DateNumber at digits value) else None
 after_time at token.Today = Some (read.Dated at date.Today)
 after_time at token.Tomorrow = Some (read.Dated at date.Tomorrow)
 after_time at other = after_date at date.Absent other
@@ -67,14 +69,60 @@ after_month at month _ = None
 
 -- what follows a month and a day: a comma, or what follows a date
 abbrev pub after_day : Clock → ℕ → ℕ → Token → Option Read
-after_day at month day token.Comma = Some (read.DayComma at month day)
+after_day at month day token.Comma = Some (read.YearDue at month day)
 after_day at month day other = after_date at (date.MonthDay month day None) other
 
--- the year behind a month, a day and a comma
-abbrev pub after_comma : Clock → ℕ → ℕ → Token → Option Read
-after_comma at month day (token.Number digits value) =
+-- the year behind a month and a day
+abbrev pub year_due : Clock → ℕ → ℕ → Token → Option Read
+year_due at month day (token.Number digits value) =
     if is_year digits value then Some (read.Dated at (date.MonthDay month day (Some value))) else None
-after_comma at month day _ = None
+year_due at month day _ = None
+
+-- the mark behind a number that begins a date: it says whether that was a month, a day or a year
+abbrev pub after_number : Clock → ℕ → ℕ → Token → Option Read
+after_number at digits value token.Slash = if is_month_number digits value then Some (read.MonthSlash at value) else None
+after_number at digits value token.Dot = if is_day digits value then Some (read.DayDot at value) else None
+after_number at digits value token.Dash = if is_year digits value then Some (read.YearDash at value) else None
+after_number at digits value _ = None
+
+-- the day behind a month and a slash
+abbrev pub after_slash : Clock → ℕ → Token → Option Read
+after_slash at month (token.Number digits value) =
+    if is_day digits value then Some (read.SlashDay at month value) else None
+after_slash at month _ = None
+
+-- the second slash
+abbrev pub second_slash : Clock → ℕ → ℕ → Token → Option Read
+second_slash at month day token.Slash = Some (read.YearDue at month day)
+second_slash at month day _ = None
+
+-- the month behind a day and a dot
+abbrev pub after_dot : Clock → ℕ → Token → Option Read
+after_dot at day (token.Number digits value) =
+    if is_month_number digits value then Some (read.DotMonth at value day) else None
+after_dot at day _ = None
+
+-- the second dot
+abbrev pub second_dot : Clock → ℕ → ℕ → Token → Option Read
+second_dot at month day token.Dot = Some (read.YearDue at month day)
+second_dot at month day _ = None
+
+-- the month behind a year and a dash
+abbrev pub after_dash : Clock → ℕ → Token → Option Read
+after_dash at year (token.Number digits value) =
+    if is_month_number digits value then Some (read.DashMonth at value year) else None
+after_dash at year _ = None
+
+-- the second dash
+abbrev pub second_dash : Clock → ℕ → ℕ → Token → Option Read
+second_dash at month year token.Dash = Some (read.DayDue at month year)
+second_dash at month year _ = None
+
+-- the day behind a year and a month
+abbrev pub day_due : Clock → ℕ → ℕ → Token → Option Read
+day_due at month year (token.Number digits value) =
+    if is_day digits value then Some (read.Dated at (date.MonthDay month value (Some year))) else None
+day_due at month year _ = None
 
 -- the count behind a plus
 abbrev pub after_plus : Clock → DatePart → Token → Option Read
@@ -98,7 +146,15 @@ step (read.Half hour minute) coming = after_half hour minute coming
 step (read.Timed at) coming = after_time at coming
 step (read.MonthNamed at month) coming = after_month at month coming
 step (read.DayNamed at month day) coming = after_day at month day coming
-step (read.DayComma at month day) coming = after_comma at month day coming
+step (read.YearDue at month day) coming = year_due at month day coming
+step (read.DateNumber at digits value) coming = after_number at digits value coming
+step (read.MonthSlash at month) coming = after_slash at month coming
+step (read.SlashDay at month day) coming = second_slash at month day coming
+step (read.DayDot at day) coming = after_dot at day coming
+step (read.DotMonth at month day) coming = second_dot at month day coming
+step (read.YearDash at year) coming = after_dash at year coming
+step (read.DashMonth at month year) coming = second_dash at month year coming
+step (read.DayDue at month year) coming = day_due at month year coming
 step (read.Dated at day) coming = after_date at day coming
 step (read.Added at day) coming = after_plus at day coming
 step (read.Counted at day count) coming = after_count at day count coming

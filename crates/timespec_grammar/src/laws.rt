@@ -1,0 +1,8 @@
+//! What the definitions say of tokens that a timespec begins with.
+ghost use Rattle.timespec_grammar.specs.Viable.{FrontsAreViable, ViableTokensGoOn};
+
+/// The tokens that are viable by cases are the first tokens of timespecs, and no others.
+pub fn viable_tokens_are_fronts()
+    ensures goes_on { ViableTokensGoOn }
+    ensures fronts { FrontsAreViable }
+{}
