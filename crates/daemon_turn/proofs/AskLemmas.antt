@@ -25,11 +25,11 @@ pub record HasAsked (tells : Bool) (kids : List Kid) (count : ℕ) (before after
   pub asked : tells ≡ true → (kept : Kept) (table : JobTable) → IsCurrent kept old.now.folder table →
       AreMade table [] [] (questions kids answers) kept old new
 
-ends_of_none : (kids : List Kid) → ends kids [] ≡ []
+pub ends_of_none : (kids : List Kid) → ends kids [] ≡ []
 ends_of_none [] = refl
 ends_of_none (kid ∷ kids) = refl
 
-questions_of_none : (kids : List Kid) → questions kids [] ≡ []
+pub questions_of_none : (kids : List Kid) → questions kids [] ≡ []
 questions_of_none [] = refl
 questions_of_none (kid ∷ kids) = refl
 

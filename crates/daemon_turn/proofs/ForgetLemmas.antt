@@ -1,5 +1,16 @@
 -- What is forgotten, by the list of what is done.
-use Rattle.std.proofs.Common.{◌≡◌, ◌-◌, ℕ, List, [], ◌∷◌, length, map, take, zero, suc, sym, ap, ◌∙◌, refl}
+use Rattle.std.proofs.Common.{◌≡◌, ◌-◌, ◌++◌, ℕ, Bool, List, [], ◌∷◌, append-nil, length, map, take, zero, suc, sym, ap, subst, ◌∙◌, refl, arith}
+use Rattle.std.specs.Prelude.{IfOk, IsErrAnd, Result, Ok, Err}
+use Rattle.std.proofs.Math.Seq.{take-length}
+use Rattle.host_calls.specs.Session.{IsInside, Session, StaysInside}
+use Rattle.host_calls.specs.World.{World}
+use Rattle.spool_model.specs.Steps.{AreLegal, IsLegal}
+use Rattle.job_runs.specs.Current.{Kept}
+use Rattle.job_runs.specs.Hands.{StartNothing}
+use Rattle.job_runs.proofs.MadeLemmas.{no_steps_are_made}
+use Rattle.spool_store.specs.declared.fault.StoreFault.{StoreFault}
+use Rattle.spool_store.specs.declared.fault.StoreFault.TheVariants.{Memory}
+use Rattle.spool_shows.proofs.Membership.{Has, made_has}
 use Rattle.spool_model.specs.declared.decided.Decided.{Decided}
 use Rattle.spool_model.specs.JobTable.{JobTable}
 use Rattle.spool_model.specs.Lists.{done_numbers}
@@ -9,6 +20,15 @@ use Rattle.daemon_turn.specs.declared.forgetting.TheConstants.{MAX_DONE}
 use Rattle.daemon_turn.specs.declared.step.TurnStep.{TurnStep}
 use Rattle.daemon_turn.specs.declared.step.TurnStep.TheVariants.{Forgotten}
 use Rattle.daemon_turn.specs.Starting.{forgets}
+use Rattle.daemon_turn.specs.StepsOf.{number_of, step_of, steps_of}
+use Rattle.daemon_turn.specs.inside.Forgetting.{Forgets}
+use Rattle.daemon_turn.specs.inside.Going.{MayGo}
+use Rattle.daemon_turn.specs.inside.Making.{MakesAll, MayMake}
+use Rattle.daemon_turn.proofs.ApartLemmas.{Apart}
+use Rattle.daemon_turn.proofs.DecideLemmas.{made_front}
+use Rattle.daemon_turn.proofs.GoLemmas.{asked_part, made_part, makes_go, memory_goes, stays_inside}
+use Rattle.daemon_turn.proofs.LegalLemmas.{legal_apart}
+use Rattle.daemon_turn.proofs.RowLemmas.{done_apart, done_held, take_apart, take_has}
 
 -- as many numbers as are done
 length_numbers : (decided : List Decided) → length (map (λ (done : Decided). done.number) decided) ≡ length decided
@@ -34,3 +54,59 @@ pub forgets_cut : (table : JobTable) (decided : List Decided) (surplus : ℕ) �
     map (λ (done : Decided). Forgotten done.number) (take surplus decided) ≡ forgets table
 forgets_cut table decided surplus lists is =
     ap (λ (n : ℕ). map (λ (done : Decided). Forgotten done.number) (take n decided)) is ∙ forgets_are table decided lists
+
+-- what is forgotten is legal
+forgets_numbers : (numbers : List ℕ) → map number_of (map Forgotten numbers) ≡ numbers
+forgets_numbers [] = refl
+forgets_numbers (number ∷ numbers) = ap (λ (l : List ℕ). number ∷ l) (forgets_numbers numbers)
+
+quiet_forgets : (numbers : List ℕ) → StartNothing (steps_of (map Forgotten numbers))
+quiet_forgets [] = tt
+quiet_forgets (number ∷ numbers) = quiet_forgets numbers
+
+pub forgets_legal : (table : JobTable) → AreLegal table (steps_of (forgets table))
+forgets_legal table =
+    let numbers : List ℕ = take (length (done_numbers table) - MAX_DONE) (done_numbers table) in
+    legal_apart table (map Forgotten numbers)
+    (λ step has. (let of : (number : ℕ) × Has numbers number × (Forgotten number ≡ step) = made_has Forgotten numbers step has in
+    subst (λ (one : TurnStep). IsLegal table (step_of one)) of.2 (done_held table of.0 (take_has (length (done_numbers table) - MAX_DONE) (done_numbers table) of.0 of.1))))
+    (subst Apart (sym (forgets_numbers numbers)) (take_apart (length (done_numbers table) - MAX_DONE) (done_numbers table) (done_apart table)))
+
+pub may_forget : (tells : Bool) (session : Session) (world : World) (kept : Kept) (steps : List TurnStep) → MayGo tells session world kept → steps ≡ forgets kept.table → MayMake tells session world kept steps
+may_forget tells session world kept steps may is = record {
+  inside = may.inside;
+  legal = subst (λ (l : List TurnStep). AreLegal kept.table (steps_of l)) (sym is) (forgets_legal kept.table);
+  quiet = subst (λ (l : List TurnStep). StartNothing (steps_of l)) (sym is) (quiet_forgets (take (length (done_numbers kept.table) - MAX_DONE) (done_numbers kept.table)));
+  current = may.current;
+}
+
+-- where memory is wanting for the steps
+pub forgot_nothing : (tells : Bool) (session : Session) (world : World) (kept : Kept) (was : List TurnStep) (result : Result Kept StoreFault) → IsErrAnd result (λ other. other ≡ Memory) →
+    IsInside session → Forgets tells session session world world kept was was result
+forgot_nothing tells session world kept was (Ok store) err inside = absurd err
+forgot_nothing tells session world kept was (Err other) err inside = subst (λ (of : StoreFault). Forgets tells session session world world kept was was (Err of)) (sym err) (record {
+  part = asked_part [];
+  goes = memory_goes tells session session world world kept [] (stays_inside session inside) (λ told now table current. no_steps_are_made table now world current);
+  forgotten = record { front = (forgets kept.table, refl); all = tt; asked = refl; flags = refl; added = refl };
+  written = sym (append-nil was);
+})
+
+-- they were forgotten, or the first of them
+pub forgot_all : (tells : Bool) (before after : Session) (old new : World) (kept : Kept) (steps was is : List TurnStep) (result : Result Kept StoreFault) → steps ≡ forgets kept.table →
+    MakesAll tells before after old new kept steps was is result → Forgets tells before after old new kept was is result
+forgot_all tells before after old new kept steps was is result steps_are makes = record {
+  part = made_part steps makes.made result;
+  goes = makes_go tells before after old new kept steps was is result makes;
+  forgotten = record { front = front_of result makes; all = all_of result makes; asked = refl; flags = refl; added = refl };
+  written = makes.written;
+} where
+  front_of : (of : Result Kept StoreFault) (made : MakesAll tells before after old new kept steps was is of) →
+      (behind : List TurnStep) × (forgets kept.table ≡ (take made.made steps ++ (made_part steps made.made of).next) ++ behind)
+  front_of (Ok store) made = ([], sym steps_are ∙ sym (all_taken store made) ∙ sym (append-nil (take made.made steps)) ∙ sym (append-nil (take made.made steps ++ []))) where
+    all_taken : (store : Kept) (made : MakesAll tells before after old new kept steps was is (Ok store)) → take made.made steps ≡ steps
+    all_taken store made = ap (λ (n : ℕ). take n steps) made.all ∙ take-length steps
+  front_of (Err fault) made = (let front = made_front steps made.made in (front.0, sym steps_are ∙ front.1))
+
+  all_of : (of : Result Kept StoreFault) (made : MakesAll tells before after old new kept steps was is of) → IfOk of (λ store. take made.made steps ≡ forgets kept.table)
+  all_of (Ok store) made = ap (λ (n : ℕ). take n steps) made.all ∙ take-length steps ∙ steps_are
+  all_of (Err fault) made = tt

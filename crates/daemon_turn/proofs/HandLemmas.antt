@@ -32,15 +32,17 @@ use Rattle.spool_store.specs.Scripts.{HoldsScript, IsFileOf}
 use Rattle.spool_store.specs.Stepping.{MakesStep}
 use Rattle.daemon_turn.specs.inside.Handing.{HandingEnds, HandsJobOver}
 
--- a job that was started lives
+-- the job that was started runs since then
+pub started_entry : (table after : JobTable) (number : ℕ) (second : ℤ) (legal : IsLegal table (Start number second)) → after ≡ after_step table (Start number second) →
+    entry_at after number ≡ Some (Live legal.0 (Running second))
+started_entry table after number second legal is =
+    ap (λ (t : JobTable). entry_at t number) is
+    ∙ ap (λ (found : Option JobEntry). finite.get (with_state number (Running second) found table.entries) number) legal.1
+    ∙ get-put_same table.entries number (Live legal.0 (Running second))
+
+-- and lives
 pub started_lives : (table after : JobTable) (number : ℕ) (second : ℤ) → IsLegal table (Start number second) → after ≡ after_step table (Start number second) → IsLive after number
-started_lives table after number second legal is = (
-  legal.0,
-  Running second,
-  ap (λ (t : JobTable). entry_at t number) is
-      ∙ ap (λ (found : Option JobEntry). finite.get (with_state number (Running second) found table.entries) number) legal.1
-      ∙ get-put_same table.entries number (Live legal.0 (Running second)),
-)
+started_lives table after number second legal is = (legal.0, Running second, started_entry table after number second legal is)
 
 same_job : (one other : Job) (state since : JobState) → ◌≡◌ {A = Option JobEntry} (Some (Live one state)) (Some (Live other since)) → one ≡ other
 same_job one other state since is = cc
@@ -120,7 +122,7 @@ pub script_held : (table : JobTable) (files : Files) (number : ℕ) (name : List
 script_held table files number name nice file = subst IsSome (sym file.held) refl
 
 -- counts go on
-counts_on : (old middle new : Session) → KeepsCounts old middle → KeepsCounts middle new → KeepsCounts old new
+pub counts_on : (old middle new : Session) → KeepsCounts old middle → KeepsCounts middle new → KeepsCounts old new
 counts_on old middle new before behind = record {
   made_as = behind.made_as ∙ before.made_as;
   file_faults = omega (arith, before.file_faults, behind.file_faults);
@@ -212,3 +214,15 @@ pub made_at : (tells : Bool) (before after : Session) (old new : World) (kept : 
     MakesStep tells before after old new kept (Start number written) result → MakesStep tells before after old new kept (Start number second) result
 made_at tells before after old new kept number written second result same makes =
     subst (λ (of : ℤ). MakesStep tells before after old new kept (Start number of) result) same makes
+
+-- and what comes of it, where it is known whether a child came
+pub handed_at : (tells : Bool) (before after : Session) (old new : World) (kept store : Kept) (number : ℕ) (written second : ℤ) (found child : Option Child) → written ≡ second → found ≡ child →
+    HandsJobOver tells before after old new kept number written (Ok (store, found)) → HandsJobOver tells before after old new kept number second (Ok (store, child))
+handed_at tells before after old new kept store number written second found child same is hands =
+    subst (λ (of : ℤ). HandsJobOver tells before after old new kept number of (Ok (store, child))) same
+    (subst (λ (of : Option Child). HandsJobOver tells before after old new kept number written (Ok (store, of))) is hands)
+
+pub unhanded_at : (tells : Bool) (before after : Session) (old new : World) (kept : Kept) (number : ℕ) (written second : ℤ) (fault : StoreFault) → written ≡ second →
+    HandsJobOver tells before after old new kept number written (Err fault) → HandsJobOver tells before after old new kept number second (Err fault)
+unhanded_at tells before after old new kept number written second fault same hands =
+    subst (λ (of : ℤ). HandsJobOver tells before after old new kept number of (Err fault)) same hands

@@ -1,4 +1,15 @@
+pub mod ApartLemmas
 pub mod AskLemmas
-pub mod MakeLemmas
-pub mod HandLemmas
+pub mod DecideLemmas
+pub mod DecisionLemmas
 pub mod ForgetLemmas
+pub mod GoLemmas
+pub mod HandLemmas
+pub mod KidLemmas
+pub mod LaunchLemmas
+pub mod LegalLemmas
+pub mod MakeLemmas
+pub mod PlanLemmas
+pub mod RowLemmas
+pub mod TurnedLemmas
+pub mod WaitLemmas

@@ -1,5 +1,5 @@
 -- The kids of a daemon: between two turns, and behind a turn (own).
-use Rattle.std.specs.Prelude.{◌<◌, ◌&&◌, ◌==◌, ◌++◌, ℕ, Bool, false, not, List, AllPairs, Contains, IsPermutation, filter, map}
+use Rattle.std.specs.Prelude.{◌≡◌, ◌<◌, ◌&&◌, ◌==◌, ◌++◌, ℕ, Bool, false, not, List, AllPairs, Contains, IsPermutation, filter, map}
 use Rattle.std.specs.List.{list_any}
 use Rattle.host_calls.specs.declared.child.Child.{Child}
 use Rattle.host_calls.specs.declared.child.Handed.{Handed}
@@ -13,9 +13,13 @@ use Rattle.daemon_turn.specs.Decisions.{runs_in}
 abbrev pub AreByNumber : List Kid → Type 0
 AreByNumber kids = AllPairs (λ one other. one.number < other.number) kids
 
--- each kid is one of the children
+-- each kid has one of the children
 pub record AreChildren (children : List Child) (kids : List Kid) : Type 0 where
   pub each : (kid : Kid) → Contains kids kid → Contains children kid.child
+
+-- the children that there were stand in front of those that there are
+abbrev pub KeepsChildren : List Child → List Child → Type 0
+KeepsChildren old new = (more : List Child) × (new ≡ old ++ more)
 
 -- the step tells that the job of the number has ended
 abbrev pub tells_end_of : ℕ → TurnStep → Bool

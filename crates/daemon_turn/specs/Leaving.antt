@@ -13,33 +13,35 @@ use Rattle.job_runs.specs.Attempts.{IsAchieved, IsBegun, IsUnbegun}
 use Rattle.job_runs.specs.Hands.{Hands}
 use Rattle.job_runs.specs.Made.{HandsFronts, flags_of}
 use Rattle.daemon_turn.specs.declared.kid.Kid.{Kid}
+use Rattle.daemon_turn.specs.declared.occasion.Occasion.{Occasion}
 use Rattle.daemon_turn.specs.declared.report.TurnEnd.{TurnEnd}
 use Rattle.daemon_turn.specs.declared.report.TurnEnd.TheVariants.{Done, Busy, FileFault, Damaged, Memory}
 use Rattle.daemon_turn.specs.declared.step.TurnStep.{TurnStep}
+use Rattle.daemon_turn.specs.Daemons.{Watch}
 use Rattle.daemon_turn.specs.Decisions.{asked_kids, questions}
-use Rattle.daemon_turn.specs.Kids.{AreByNumber, AreChildren, AreKidsAfter, started_numbers}
-use Rattle.daemon_turn.specs.Starting.{Turn}
+use Rattle.daemon_turn.specs.Kids.{AreByNumber, AreChildren, AreKidsAfter, KeepsChildren, started_numbers}
+use Rattle.daemon_turn.specs.Starting.{Turn, turn_of}
 use Rattle.daemon_turn.specs.StepsOf.{steps_of}
 use Rattle.daemon_turn.specs.Turning.{AreFirstSteps, AreTurnSteps}
 
--- a host at one moment, and the kids of the daemon that works on it
+-- a host at one moment, and what the daemon that works on it keeps
 pub record Standing : Type 0 where
   pub session : Session
   pub world : World
-  pub kids : List Kid
+  pub watch : Watch
 
 -- What the turn handed over and asked, whose steps on the table were these. The kids are those that stay, and the
 -- children of the starts, each under its number.
-pub record Gave (turn : Turn) (table : JobTable) (steps : List TurnStep) (given : List Handed) (answers : List (Option Ending))
+pub record Gave (table : JobTable) (steps : List TurnStep) (given : List Handed) (answers : List (Option Ending))
     (old new : Standing) : Type 0 where
   pub handed : new.world.now.handed ≡ old.world.now.handed ++ given
   pub hands : Hands table (steps_of steps) given
   pub fronts : HandsFronts old.world new.world
-  pub asked : new.world.asked ≡ old.world.asked ++ questions (asked_kids table turn.kids) answers
+  pub asked : new.world.asked ≡ old.world.asked ++ questions (asked_kids table old.watch.kids) answers
   pub added : List Kid
   pub numbered : map (λ kid. kid.number) added ≡ started_numbers given
   pub children : new.session.children ≡ old.session.children ++ map (λ kid. kid.child) added
-  pub kids : AreKidsAfter table steps old.kids added new.kids
+  pub kids : AreKidsAfter table steps old.watch.kids added new.watch.kids
 
 -- The turn was made to its end: its steps are all those of a turn on the table that the reading showed, and they stand.
 pub record IsWhole (turn : Turn) (steps : List TurnStep) (old new : Standing) : Type 0 where
@@ -48,7 +50,7 @@ pub record IsWhole (turn : Turn) (steps : List TurnStep) (old new : Standing) : 
   pub answers : List (Option Ending)
   pub are : AreTurnSteps turn table answers (flags_of given) steps
   pub achieved : IsAchieved table (steps_of steps) old.world new.world
-  pub gave : Gave turn table steps given answers old new
+  pub gave : Gave table steps given answers old new
 
 -- The turn was stopped behind a recovery: these are the first of its steps, and the next one may stand too.
 pub record IsStopped (turn : Turn) (steps : List TurnStep) (old new : Standing) : Type 0 where
@@ -61,12 +63,16 @@ pub record IsStopped (turn : Turn) (steps : List TurnStep) (old new : Standing) 
   pub begun : IsBegun table (steps_of (steps ++ next)) old.world new.world
   pub ends : (image : Files) → IsImage new.world.now.folder image →
       Shows image (after_steps table (steps_of steps)) ⊎ Shows image (after_steps table (steps_of (steps ++ next)))
-  pub gave : Gave turn table steps given answers old new
+  pub gave : Gave table steps given answers old new
+
+-- no step was made, and the kids are as before
+pub record IsNone (steps : List TurnStep) (old new : Watch) : Type 0 where
+  pub none : steps ≡ []
+  pub kids : new.kids ≡ old.kids
 
 -- The turn was stopped before a recovery succeeded: no step was begun, and the kids are as before.
 pub record IsIdle (steps : List TurnStep) (old new : Standing) : Type 0 where
-  pub none : steps ≡ []
-  pub kids : new.kids ≡ old.kids
+  pub none : IsNone steps old.watch new.watch
   pub unbegun : IsUnbegun old.world new.world
   pub asked : new.world.asked ≡ old.world.asked
 
@@ -75,15 +81,29 @@ abbrev pub TurnLeaves : Turn → List TurnStep → Standing → Standing → Tur
 TurnLeaves turn steps old new Done = IsWhole turn steps old new
 TurnLeaves turn steps old new Busy = IsIdle steps old new × (new.world ≡ old.world)
 TurnLeaves turn steps old new FileFault = IsIdle steps old new ⊎ IsStopped turn steps old new
-TurnLeaves turn steps old new (Damaged damage) = IsIdle steps old new × (shown_by (reading old.world) ≡ Err damage)
+TurnLeaves turn steps old new (Damaged damage) =
+    IsIdle steps old new × (shown_by (reading old.world) ≡ Err damage) × (reading new.world ≡ reading old.world)
 TurnLeaves turn steps old new Memory = IsIdle steps old new ⊎ IsStopped turn steps old new
 
--- A turn: why it ended so, whose children the kids are, and, on a host that tells its files and is alone, what it leaves.
-pub record TurnsTo (tells alone : Bool) (turn : Turn) (old new : Standing) (end : TurnEnd) (steps : List TurnStep) : Type 0 where
+-- where no table was read, no step was made
+abbrev pub IfUnread : TurnEnd → Type 0 → Type 0
+IfUnread Busy none = none
+IfUnread (Damaged damage) none = none
+IfUnread Done none = Unit {0}
+IfUnread FileFault none = Unit {0}
+IfUnread Memory none = Unit {0}
+
+-- A turn. Of every host: its session is over, its children stay and the kids are some of them, by number; the limit and
+-- the interval stay; why it ended so. Of a host that tells its files and is alone: what it leaves.
+pub record TurnsTo (tells alone : Bool) (at : Occasion) (old new : Standing) (end : TurnEnd) (steps : List TurnStep) : Type 0 where
   pub outside : IsOutside new.session
   pub counts : KeepsCounts old.session new.session
+  pub kept : KeepsChildren old.session.children new.session.children
+  pub children : AreChildren new.session.children new.watch.kids
+  pub ordered : AreByNumber new.watch.kids
+  pub limit : new.watch.limit ≡ old.watch.limit
+  pub interval : new.watch.interval ≡ old.watch.interval
   pub busy : end ≡ Busy → Rose old.session.taken new.session.taken
   pub fault : end ≡ FileFault → Rose old.session.file_faults new.session.file_faults
-  pub children : AreChildren new.session.children new.kids
-  pub ordered : AreByNumber new.kids
-  pub leaves : tells ≡ true → alone ≡ true → TurnLeaves turn steps old new end
+  pub unread : IfUnread end (IsNone steps old.watch new.watch)
+  pub leaves : tells ≡ true → alone ≡ true → TurnLeaves (turn_of old.watch at) steps old new end

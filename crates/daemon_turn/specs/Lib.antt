@@ -1,3 +1,4 @@
+pub mod Daemons
 pub mod Decisions
 pub mod Kids
 pub mod Leaving

@@ -9,8 +9,10 @@ use Rattle.daemon_turn.specs.declared.kid.Kid.{Kid}
 use Rattle.daemon_turn.specs.declared.mode.Mode.{Mode}
 use Rattle.daemon_turn.specs.declared.mode.Mode.TheVariants.{Full, EndsOnly}
 use Rattle.daemon_turn.specs.declared.forgetting.TheConstants.{MAX_DONE}
+use Rattle.daemon_turn.specs.declared.occasion.Occasion.{Occasion}
 use Rattle.daemon_turn.specs.declared.step.TurnStep.{TurnStep}
 use Rattle.daemon_turn.specs.declared.step.TurnStep.TheVariants.{HandedOver, Ended, Forgotten}
+use Rattle.daemon_turn.specs.Daemons.{Watch}
 
 -- What a turn is made with: the kids, the limit of the load in hundredths, the interval of batch starts in seconds, the
 -- second now, the load, if one was read, and the mode.
@@ -21,6 +23,17 @@ pub record Turn : Type 0 where
   pub now : ℤ
   pub load : Option ℕ
   pub mode : Mode
+
+-- the turn of a daemon at an occasion
+abbrev pub turn_of : Watch → Occasion → Turn
+turn_of watch at = record {
+  kids = watch.kids;
+  limit = watch.limit;
+  interval = watch.interval;
+  now = at.now;
+  load = at.load;
+  mode = at.mode;
+}
 
 -- a batch job may start on the table
 abbrev pub has_batch_turn : Turn → JobTable → Bool

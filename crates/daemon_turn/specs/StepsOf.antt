@@ -1,5 +1,5 @@
 -- The steps of the job table that a turn reports (own).
-use Rattle.std.specs.Prelude.{List, map}
+use Rattle.std.specs.Prelude.{ℕ, List, map}
 use Rattle.spool_model.specs.declared.step.Step.{Step}
 use Rattle.spool_model.specs.declared.step.Step.TheVariants.{Start, End, Interrupt, Forget}
 use Rattle.daemon_turn.specs.declared.step.TurnStep.{TurnStep}
@@ -15,3 +15,10 @@ step_of (Forgotten number) = Forget number
 -- the steps of the job table, in order
 abbrev pub steps_of : List TurnStep → List Step
 steps_of steps = map step_of steps
+
+-- the number of the job that the step is of
+abbrev pub number_of : TurnStep → ℕ
+number_of (HandedOver number second) = number
+number_of (Ended number ending) = number
+number_of (Interrupted number) = number
+number_of (Forgotten number) = number

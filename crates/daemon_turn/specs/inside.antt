@@ -1,3 +1,11 @@
 pub mod Asking
+pub mod Deciding
+pub mod Ended
+pub mod Forgetting
+pub mod Going
 pub mod Handing
+pub mod Launching
 pub mod Making
+pub mod Planning
+pub mod Turned
+pub mod Waiting

@@ -22,6 +22,7 @@ pub(crate) fn ask_all<H: Host>(
     ensures inside { StaysInside (H.session host.old) (H.session host.new) }
     ensures asks { AsksAll H.tells kids.now told.old.items told.new.items (H.world host.old) (H.world host.new) result }
     ensures capacity { vec_capacity told.new ≡ vec_capacity told.old }
+    ensures len { vec_len told.new ≤ vec_len told.old + length kids.now }
 {
     for kid in kids {
         let answer = host.ended(alloc, &kid.child)?;

@@ -3,16 +3,23 @@
 #![tactic(auto)]
 
 mod asking;
+mod deciding;
 mod forgetting;
 mod handing;
 mod kid;
+mod kids;
 mod making;
 mod mode;
+mod occasion;
+mod planning;
 mod report;
+mod starting;
 mod step;
+mod turning;
 
 pub use forgetting::MAX_DONE;
 pub use kid::Kid;
 pub use mode::Mode;
+pub use occasion::Occasion;
 pub use report::{TurnEnd, TurnReport};
 pub use step::{TurnStep, TurnSteps};

@@ -23,6 +23,7 @@ pub(crate) fn make_all<H: Host>(
     ensures makes { MakesAll H.tells (H.session host.old) (H.session host.new)
         (H.world host.old) (H.world host.new) store steps.now report.old.items report.new.items result }
     ensures capacity { vec_capacity report.new ≡ vec_capacity report.old }
+    ensures len { vec_len report.new ≤ vec_len report.old + length steps.now }
 {
     let mut store = store;
     for step in steps {

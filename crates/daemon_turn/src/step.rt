@@ -1,5 +1,6 @@
 //! The steps of a turn.
 ghost use Rattle.std.specs.Prelude.{◌≡◌, [], ◌++◌, ◌∷◌};
+ghost use Rattle.daemon_turn.specs.StepsOf.{number_of};
 
 use host_calls::Ending;
 use std::alloc::Global;
@@ -16,6 +17,20 @@ pub enum TurnStep {
     Interrupted(u32),
     /// What became of the job is no longer kept.
     Forgotten(u32),
+}
+
+impl TurnStep {
+    // The number of the job that the step is of.
+    pub(crate) fn number(&self) -> u32
+        ensures { result ≡ number_of self.now }
+    {
+        match self {
+            TurnStep::HandedOver(number, _) => *number,
+            TurnStep::Ended(number, _) => *number,
+            TurnStep::Interrupted(number) => *number,
+            TurnStep::Forgotten(number) => *number,
+        }
+    }
 }
 
 /// Steps that a turn made, in order.

@@ -7,6 +7,7 @@ loop-kid-init g c = record {
   inside = search rules;
   has = none_asked g.H.Host.tells c.args.kids.now c.args.told.now.items (g.H.Host.world c.args.host.now);
   room = omega (arith, c.requires.room);
+  len = omega arith;
   capacity = search rules;
 }
 
@@ -27,6 +28,7 @@ loop-kid-preserved g c = record {
       (g.H.Host.world c.args.host.now) (g.H.Host.world c.loop-kid.host) (g.H.Host.world c.ended.new.self) _ c.in_ok-answer.answer
       c.loop-kid-test.true c.loop-kid.invariant.has c.write_end.ensures.items (λ tells. c.in_ok-answer.ensures.asked tells);
   room = omega (arith, c.loop-kid.invariant.room, c.write_end.ensures.len, c.write_end.ensures.capacity);
+  len = omega (arith, c.loop-kid.invariant.len, c.write_end.ensures.len);
   capacity = search rules;
 }
 

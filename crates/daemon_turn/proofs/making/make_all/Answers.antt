@@ -8,6 +8,7 @@ loop-step-init g c = record {
   has = none_made g.H.Host.tells _ (g.H.Host.world c.args.host.now) c.args.store c.args.steps.now c.requires.may;
   written = search rules;
   room = omega (arith, c.requires.room);
+  len = omega arith;
   capacity = search rules;
 }
 
@@ -37,6 +38,7 @@ loop-step-preserved g c = record {
       c.in_ok-store.store (g.H.Host.world c.make.new.host) c.in_ok-store.ensures.makes.table_is c.in_ok-store.ensures.makes.files;
   written = written_more c.args.steps.now c.loop-step.step-index _ c.args.report.now.items c.loop-step.report.items _ c.loop-step-test.true c.loop-step.invariant.written c.push_reserved.ensures.items;
   room = omega (arith, c.loop-step.invariant.room, c.push_reserved.ensures.len, c.push_reserved.ensures.capacity);
+  len = omega (arith, c.loop-step.invariant.len, c.push_reserved.ensures.len);
   capacity = search rules;
 }
 

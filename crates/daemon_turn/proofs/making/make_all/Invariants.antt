@@ -9,5 +9,6 @@ invariant-loop-step g l = record {
   has : HasMade g.H.Host.tells l.fn.store l.store l.steps l.step-index (g.H.Host.world l.fn.host) (g.H.Host.world l.host);
   written : l.report.items ≡ l.fn.report.items ++ take l.step-index l.steps;
   room : vec_len l.report + length l.steps ≤ vec_capacity l.report + l.step-index;
+  len : vec_len l.report ≤ vec_len l.fn.report + l.step-index;
   capacity : vec_capacity l.report ≡ vec_capacity l.fn.report;
 }

@@ -1,0 +1,20 @@
+-- What a daemon keeps from turn to turn (own).
+use Rattle.std.specs.Prelude.{ℕ, List, refl}
+use Rattle.std.specs.Coded.{Coded, code_by, coded×, coded_ℕ, coded_list}
+use Rattle.daemon_turn.specs.contracts.kid.Kid as kid
+use Rattle.daemon_turn.specs.declared.kid.Kid.{Kid}
+
+-- What a daemon keeps: its kids, by number, the limit of the load in hundredths, and how many seconds lie between two
+-- starts in batch queues.
+pub record Watch : Type 0 where
+  pub kids : List Kid
+  pub limit : ℕ
+  pub interval : ℕ
+
+-- how a proof tells one daemon from another: by these three
+abbrev pub watch_code : Coded Watch
+watch_code =
+    code_by (List Kid × (ℕ × ℕ)) (coded× (coded_list kid.the_row.coded) (coded× coded_ℕ coded_ℕ))
+    (λ watch. (watch.kids, (watch.limit, watch.interval)))
+    (λ parts. record { kids = parts.0; limit = parts.1.0; interval = parts.1.1 })
+    (λ _. refl)

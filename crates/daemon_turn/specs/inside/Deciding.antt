@@ -1,0 +1,49 @@
+-- What is decided of running jobs is made (own).
+use Rattle.std.specs.Prelude.{◌≡◌, ◌≤◌, ◌++◌, [], Bool, true, List, Option, Result, All, IfOk, length}
+use Rattle.host_calls.specs.declared.child.Ending.{Ending}
+use Rattle.host_calls.specs.Session.{Session}
+use Rattle.host_calls.specs.World.{World}
+use Rattle.spool_model.specs.JobTable.{JobTable}
+use Rattle.job_runs.specs.Current.{Kept}
+use Rattle.spool_store.specs.declared.fault.StoreFault.{StoreFault}
+use Rattle.daemon_turn.specs.declared.kid.Kid.{Kid}
+use Rattle.daemon_turn.specs.declared.step.TurnStep.{TurnStep}
+use Rattle.daemon_turn.specs.Decisions.{ends, interrupts, questions, runs_in}
+use Rattle.daemon_turn.specs.Kids.{AreByNumber, AreChildren}
+use Rattle.daemon_turn.specs.Turning.{IsFrontOf}
+use Rattle.daemon_turn.specs.inside.Ended.{without_ended}
+use Rattle.daemon_turn.specs.inside.Going.{Goes, MayGo, Part}
+
+-- The jobs that nobody watches were given up, and the kids asked, whose ends were made: all of these steps, or the first
+-- of them. Nothing was started.
+pub record AreDecided (table : JobTable) (kids : List Kid) (part : Part) (result : Result Kept StoreFault) : Type 0 where
+  pub answers : List (Option Ending)
+  pub few : length answers ≤ length kids
+  pub front : IsFrontOf (part.steps ++ part.next) (interrupts table kids ++ ends kids answers)
+  pub all : IfOk result (λ store.
+      (length answers ≡ length kids) × (part.steps ≡ interrupts table kids ++ ends kids answers))
+  pub asked : part.questions ≡ questions kids answers
+  pub flags : part.flags ≡ []
+  pub added : part.added ≡ []
+
+-- what is decided was made, and written down
+pub record MakesDecisions (tells : Bool) (before after : Session) (old new : World) (kept : Kept) (kids : List Kid)
+    (was is : List TurnStep) (result : Result Kept StoreFault) : Type 0 where
+  pub part : Part
+  pub goes : Goes tells before after old new kept part result
+  pub decided : AreDecided kept.table kids part result
+  pub written : is ≡ was ++ part.steps
+
+-- and the kids that have ended are dropped
+pub record Decides (tells : Bool) (before after : Session) (old new : World) (kept : Kept) (kids left : List Kid)
+    (was is : List TurnStep) (result : Result Kept StoreFault) : Type 0 where
+  pub made : MakesDecisions tells before after old new kept kids was is result
+  pub dropped : left ≡ without_ended made.part.steps kids
+
+-- The kids may be asked, and the jobs that nobody watches be given up: a session is on, the kids are of jobs that run, by
+-- number, and have children of the host.
+pub record MayDecide (tells : Bool) (session : Session) (world : World) (kept : Kept) (kids : List Kid) : Type 0 where
+  pub go : MayGo tells session world kept
+  pub run : All (λ kid. runs_in kept.table kid ≡ true) kids
+  pub ordered : AreByNumber kids
+  pub children : AreChildren session.children kids

@@ -1,0 +1,24 @@
+-- Ends by number, and the kids that have none of them (own).
+use Rattle.std.specs.Prelude.{◌≡◌, ◌<◌, Bool, true, false, not, List, All, AllPairs, filter}
+use Rattle.std.specs.List.{list_any}
+use Rattle.daemon_turn.specs.declared.kid.Kid.{Kid}
+use Rattle.daemon_turn.specs.declared.step.TurnStep.{TurnStep}
+use Rattle.daemon_turn.specs.declared.step.TurnStep.TheVariants.{HandedOver, Ended, Interrupted, Forgotten}
+use Rattle.daemon_turn.specs.Kids.{tells_end_of}
+use Rattle.daemon_turn.specs.StepsOf.{number_of}
+
+-- the step is an end
+abbrev pub is_end : TurnStep → Bool
+is_end (Ended number ending) = true
+is_end (HandedOver number second) = false
+is_end (Interrupted number) = false
+is_end (Forgotten number) = false
+
+-- the steps are ends, by number
+pub record AreEndsByNumber (steps : List TurnStep) : Type 0 where
+  pub each : All (λ step. is_end step ≡ true) steps
+  pub ordered : AllPairs (λ one other. number_of one < number_of other) steps
+
+-- the kids of which the steps tell no end
+abbrev pub without_ended : List TurnStep → List Kid → List Kid
+without_ended steps kids = filter (λ kid. not (list_any (tells_end_of kid.number) steps)) kids

@@ -1,0 +1,46 @@
+//! The kids of a daemon, in the order of their numbers.
+ghost use Rattle.std.specs.Prelude.{◌≡◌, ◌≤◌, IsPermutation, not, filter, map, vec_capacity, vec_len};
+ghost use Rattle.std.specs.List.{list_any};
+ghost use Rattle.queue_rules.specs.Order.{Differ};
+ghost use Rattle.daemon_turn.specs.Decisions.{has_kid};
+ghost use Rattle.daemon_turn.specs.Kids.{AreByNumber, tells_end_of};
+ghost use Rattle.daemon_turn.specs.inside.Ended.{AreEndsByNumber, without_ended};
+
+use crate::{Kid, TurnStep};
+
+// Whether one of the kids has the number.
+pub(crate) fn has_kid(kids: &[Kid], number: u32) -> bool
+    requires { AreByNumber kids.now }
+    ensures { result ≡ has_kid kids.now number }
+{
+    kids.binary_search_by_key(&number, |kid| kid.number).is_ok()
+}
+
+// Drops the kids of which the ends tell.
+pub(crate) fn drop_ended(kids: &mut Vec<Kid>, ended: &[TurnStep])
+    requires { AreEndsByNumber ended.now }
+    ensures items { kids.new.items ≡ without_ended ended.now kids.old.items }
+    ensures len { vec_len kids.new ≤ vec_len kids.old }
+    ensures capacity { vec_capacity kids.new ≡ vec_capacity kids.old }
+{
+    kids.retain(|kid| !has_ended(ended, kid.number));
+}
+
+// Whether one of the ends is that of the job of the number.
+fn has_ended(ended: &[TurnStep], number: u32) -> bool
+    requires { AreEndsByNumber ended.now }
+    ensures { result ≡ list_any (tells_end_of number) ended.now }
+{
+    ended
+        .binary_search_by_key(&number, |step| step.number())
+        .is_ok()
+}
+
+// Brings the kids into the order of their numbers. It takes no memory.
+pub(crate) fn sort_kids(kids: &mut Vec<Kid>)
+    requires { Differ (map (λ kid. kid.number) kids.old.items) }
+    ensures same { IsPermutation kids.old.items kids.new.items }
+    ensures ordered { AreByNumber kids.new.items }
+{
+    kids.sort_unstable_by_key(|kid| kid.number);
+}

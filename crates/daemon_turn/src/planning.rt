@@ -1,0 +1,124 @@
+//! What a turn will do is known before its first step.
+ghost use Rattle.clock_range.specs.ClockRange.{IsClockSecond};
+ghost use Rattle.std.specs.Prelude.{◌≡◌, List, IfOk, filter, map, option_to_list};
+ghost use Rattle.daemon_turn.specs.Decisions.{interrupts, is_left};
+ghost use Rattle.daemon_turn.specs.Kids.{AreByNumber};
+ghost use Rattle.daemon_turn.specs.Starting.{IsBatchOrderWhere, IsFullOrder, IsOrder, turn_of};
+ghost use Rattle.daemon_turn.specs.declared.kid.Kid.{Kid};
+ghost use Rattle.daemon_turn.specs.declared.step.TurnStep.TheVariants.{Interrupted};
+ghost use Rattle.daemon_turn.specs.inside.Planning.{IsPlan};
+ghost use Rattle.queue_rules.specs.Queues.{may_start_batch};
+
+use crate::kids::has_kid;
+use crate::{Kid, Mode, Occasion, TurnStep};
+use queue_rules::{due_order, first_batch, may_start_batch};
+use spool_model::{Row, State};
+use spool_store::Store;
+use std::alloc::{AllocError, Global};
+
+// What a turn will do on a store.
+#[derive(Drop)]
+pub(crate) struct Plan {
+    // The steps that give up the jobs that run and have no kid.
+    pub(crate) lost: Vec<TurnStep>,
+    // The numbers of the jobs that start, in order.
+    pub(crate) order: Vec<u32>,
+}
+
+// The plan of a turn with these kids on the store.
+pub(crate) fn make_plan(
+    alloc: Global,
+    store: &Store,
+    kids: &[Kid],
+    limit: u32,
+    interval: u32,
+    at: Occasion,
+) -> Result<Plan, AllocError>
+    requires ordered { AreByNumber kids.now }
+    requires second { IsClockSecond at.now }
+    ensures { IfOk result
+        (IsPlan (turn_of (record { kids = kids.now; limit = limit; interval = interval }) at) store.now.table) }
+{
+    let lost = lost(alloc, store, kids)?;
+    let order = order(alloc, store, limit, interval, at)?;
+    Ok(Plan { lost, order })
+}
+
+// The steps that give up the jobs that run and have no kid.
+fn lost(alloc: Global, store: &Store, kids: &[Kid]) -> Result<Vec<TurnStep>, AllocError>
+    requires { AreByNumber kids.now }
+    ensures { IfOk result (λ steps. steps.items ≡ interrupts store.now.table kids.now) }
+{
+    interrupts(alloc, store.rows(), kids)
+}
+
+fn interrupts(alloc: Global, rows: &[Row], kids: &[Kid]) -> Result<Vec<TurnStep>, AllocError>
+    requires { AreByNumber kids.now }
+    ensures { IfOk result
+        (λ steps. steps.items ≡ map (λ row. Interrupted row.number) (filter (is_left kids.now) rows.now)) }
+{
+    rows.iter()
+        .filter(|row| is_left(row, kids))
+        .map(|row| TurnStep::Interrupted(row.number))
+        .collect(alloc)
+}
+
+// Whether the job runs and has no kid.
+fn is_left(row: &Row, kids: &[Kid]) -> bool
+    requires { AreByNumber kids.now }
+    ensures { result ≡ is_left kids.now row.now }
+{
+    matches!(row.state, State::Running(_)) && !has_kid(kids, row.number)
+}
+
+// The numbers of the jobs that start, in order.
+fn order(
+    alloc: Global,
+    store: &Store,
+    limit: u32,
+    interval: u32,
+    at: Occasion,
+) -> Result<Vec<u32>, AllocError>
+    requires { IsClockSecond at.now }
+    ensures { IfOk result (λ numbers. (kids : List Kid)
+        → IsOrder (turn_of (record { kids = kids; limit = limit; interval = interval }) at)
+        store.now.table numbers.items) }
+{
+    match at.mode {
+        Mode::Full => full_order(alloc, store, limit, interval, at),
+        Mode::EndsOnly => Ok(Vec::new(alloc)),
+    }
+}
+
+// All jobs that are due, and behind them the first batch job, where one may start.
+fn full_order(
+    alloc: Global,
+    store: &Store,
+    limit: u32,
+    interval: u32,
+    at: Occasion,
+) -> Result<Vec<u32>, AllocError>
+    requires { IsClockSecond at.now }
+    ensures { IfOk result (λ numbers. (kids : List Kid)
+        → IsFullOrder (turn_of (record { kids = kids; limit = limit; interval = interval }) at)
+        store.now.table numbers.items) }
+{
+    let mut numbers = due_order(alloc, store.rows(), at.now)?;
+    if let Some(number) = batch_job(store, limit, interval, at) {
+        numbers.push(number)?;
+    }
+    Ok(numbers)
+}
+
+// The first batch job, where one may start.
+fn batch_job(store: &Store, limit: u32, interval: u32, at: Occasion) -> Option<u32>
+    requires { IsClockSecond at.now }
+    ensures { IsBatchOrderWhere (may_start_batch at.load limit store.now.table.last_batch at.now interval)
+        store.now.table at.now (option_to_list result) }
+{
+    if may_start_batch(at.load, limit, store.last_batch(), at.now, interval) {
+        first_batch(store.rows(), at.now)
+    } else {
+        None
+    }
+}
