@@ -1,0 +1,80 @@
+-- How the spool is opened, exit by exit.
+use Rattle.std.proofs.Common.{◌≡◌, Bool, true, false, List, ℕ, sym, ap, subst, ◌∙◌, refl, inl, inr}
+use Rattle.std.specs.Prelude.{Option, Err}
+use Rattle.host_calls.specs.World.{World, reading}
+use Rattle.whole_file.specs.Others.{ChangesFiles}
+use Rattle.access_lists.specs.Access.{may_use}
+use Rattle.spool_shows.specs.Shown.{shown_by}
+use Rattle.job_runs.specs.Calls.{ShowsAsBefore}
+use Rattle.job_runs.specs.Current.{Kept}
+use Rattle.job_runs.proofs.AttemptLemmas.{recoveries_begin_nothing}
+use Rattle.host_calls.specs.Damages.{IfDamaged}
+use Rattle.host_calls.specs.declared.fault.HostFault.{HostFault}
+use Rattle.host_calls.specs.declared.fault.HostFault.TheVariants as host
+use Rattle.spool_store.specs.declared.fault.StoreFault.{StoreFault}
+use Rattle.spool_store.specs.declared.fault.StoreFault.TheVariants as store
+use Rattle.spool_store.specs.Faults.{IsOfReading}
+use Rattle.spool_store.specs.Recovering.{IsRecovered, Recovered}
+use Rattle.command_answers.specs.Causes.{cause_of, cause_of_host}
+use Rattle.command_answers.specs.Sessions.{AreListsIn, IsNotOpened, IsOpened, faults, is_damaged, lacks_memory}
+use Rattle.command_answers.proofs.SpoolLemmas.{unbegun_same}
+
+-- a list could not be read
+pub lists_unread : (tells : Bool) (user : List ℕ) (old new : World) (fault : HostFault) → (tells ≡ true → new ≡ old) →
+    IsNotOpened tells user old new (cause_of_host fault)
+lists_unread tells user old new host.Failed same = faults (λ told. unbegun_same old new (same told))
+lists_unread tells user old new host.Memory same = lacks_memory (λ told. unbegun_same old new (same told))
+
+module _ (tells : Bool) (user : List ℕ) (allow deny : Option (List ℕ)) (old middle new : World)
+    (permits : may_use user allow deny ≡ true) (looks : tells ≡ true → middle ≡ old)
+    (lists : tells ≡ true → AreListsIn (reading old) allow deny)
+    (changes : tells ≡ true → ChangesFiles (ShowsAsBefore middle.now.folder) middle new) where
+  changed : tells ≡ true → ChangesFiles (ShowsAsBefore old.now.folder) old new
+  changed told = subst (λ (from : World). ChangesFiles (ShowsAsBefore from.now.folder) from new) (looks told) (changes told)
+
+  -- no store was recovered
+  pub unrecovered : (fault : StoreFault) → IsOfReading fault → (tells ≡ true → Recovered middle.now.folder new.now.folder (Err fault)) →
+      (tells ≡ true → IfDamaged {T = Kept} store.Damaged (λ damage. reading new ≡ reading middle) (Err fault)) →
+      IsNotOpened tells user old new (cause_of fault)
+  unrecovered store.FileFault of_reading recovered untouched = faults (λ told. recoveries_begin_nothing old new (changed told))
+  unrecovered store.Memory of_reading recovered untouched = lacks_memory (λ told. recoveries_begin_nothing old new (changed told))
+  unrecovered (store.Damaged damage) of_reading recovered untouched =
+      is_damaged damage allow deny permits lists (λ told. record {
+        shown = sym (ap (λ (world : World). shown_by (reading world)) (looks told)) ∙ recovered told;
+        unbegun = recoveries_begin_nothing old new (changed told);
+        same = untouched told damage refl ∙ ap reading (looks told);
+      })
+  unrecovered store.QueueFull of_reading recovered untouched = absurd of_reading
+  unrecovered store.NumbersUsedUp of_reading recovered untouched = absurd of_reading
+
+-- the store was recovered: its table is the one that the reading showed, or, where no files are told, the one that is kept
+pub store_opened : (tells : Bool) (user : List ℕ) (allow deny : Option (List ℕ)) (old middle new : World) (kept : Kept) →
+    may_use user allow deny ≡ true → (tells ≡ true → middle ≡ old) → (tells ≡ true → AreListsIn (reading old) allow deny) →
+    (tells ≡ true → ChangesFiles (ShowsAsBefore middle.now.folder) middle new) →
+    (tells ≡ true → IsRecovered middle.now.folder new.now.folder kept) → IsOpened tells user old new kept
+store_opened true user allow deny old middle new kept permits looks lists changes recovered =
+    let is : IsRecovered old.now.folder new.now.folder kept =
+    subst (λ (from : World). IsRecovered from.now.folder new.now.folder kept) (looks refl) (recovered refl) in
+    record {
+      allow = allow;
+      deny = deny;
+      table = is.table;
+      permits = permits;
+      keeps = inl is.current.bare_is;
+      lists = lists;
+      recovered = λ told. record {
+        shown = is.shown;
+        changes = subst (λ (from : World). ChangesFiles (ShowsAsBefore from.now.folder) from new) (looks refl) (changes refl);
+        others = is.others;
+        current = is.current;
+      };
+    }
+store_opened false user allow deny old middle new kept permits looks lists changes recovered = record {
+  allow = allow;
+  deny = deny;
+  table = kept.table;
+  permits = permits;
+  keeps = inr refl;
+  lists = lists;
+  recovered = λ told. let no : false ≡ true = told in cc;
+}

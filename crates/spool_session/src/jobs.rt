@@ -1,0 +1,61 @@
+//! Which jobs the user may ask for.
+ghost use Rattle.std.specs.Prelude.{◌≡◌};
+ghost use Rattle.daemon_turn.specs.Decisions.{is_running};
+ghost use Rattle.listing_text.specs.Listing.{may_see};
+ghost use Rattle.command_answers.specs.Verdict.{jobs_check, row_at, row_check};
+
+use listing_text::Refusal;
+use spool_model::{Row, State, UserName};
+use spool_store::Store;
+
+/// The first refusal of the jobs of these numbers: a job that is not there, that is another's, or that runs where it is
+/// to be removed.
+pub fn refusal_of_jobs(
+    store: &Store,
+    user: &UserName,
+    removing: bool,
+    numbers: &[u32],
+) -> Option<Refusal>
+    ensures { result ≡ jobs_check user.now removing store.now.table numbers.now }
+{
+    for number in numbers {
+        let refusal = refusal_of_job(store, user, removing, *number);
+        if refusal.is_some() {
+            return refusal;
+        }
+    }
+    None
+}
+
+fn refusal_of_job(store: &Store, user: &UserName, removing: bool, number: u32) -> Option<Refusal>
+    ensures { result ≡ row_check user.now removing number (row_at store.now.table number) }
+{
+    match store.row(number) {
+        None => Some(Refusal::NoSuchJob(number)),
+        Some(row) => refusal_of_row(row, user, removing, number),
+    }
+}
+
+fn refusal_of_row(row: &Row, user: &UserName, removing: bool, number: u32) -> Option<Refusal>
+    ensures { result ≡ row_check user.now removing number (Some row.now) }
+{
+    if !is_seen_by(row, user) {
+        return Some(Refusal::NotYours(number));
+    }
+    if removing && runs(row) {
+        return Some(Refusal::RunningJob(number));
+    }
+    None
+}
+
+fn is_seen_by(row: &Row, user: &UserName) -> bool
+    ensures { result ≡ may_see user.now row.now }
+{
+    user.as_bytes() == b"root".as_slice() || row.user.as_bytes() == user.as_bytes()
+}
+
+fn runs(row: &Row) -> bool
+    ensures { result ≡ is_running row.now.state }
+{
+    matches!(row.state, State::Running(_))
+}

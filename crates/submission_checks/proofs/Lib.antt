@@ -1,0 +1,2 @@
+pub mod PreparingLemmas
+pub mod TimeLemmas

@@ -1,0 +1,388 @@
+-- How the checks of a submission end, exit by exit.
+use Rattle.std.proofs.Common.{◌≡◌, ◌<◌, ◌≤◌, ℕ, ℤ, pos, Bool, true, false, List, [], ◌∷◌, length, sym, ap, subst, ◌∙◌, refl, inl, inr, cond, lt-ltb, le-ltb, arith, FitsSigned, w64, to_z, of_z}
+use Rattle.std.proofs.lemmas.Int.{to_z-of_z}
+use Rattle.std.specs.Prelude.{Option, Some, None, Result, Ok, Err}
+use Rattle.at_words.specs.declared.when.When.{When}
+use Rattle.civil_minute.specs.declared.zone.Zone.{Zone}
+use Rattle.clock_range.specs.ClockRange.{is_clock_second}
+use Rattle.host_calls.specs.Clock.{Answers, with_now}
+use Rattle.host_calls.specs.Inputs.{Contents}
+use Rattle.job_script.specs.Check.{IsFit, Written, first_fault, has_room, is_directory, is_user_name}
+use Rattle.job_script.specs.declared.checks.TheConstants.{MAX_ENVIRONMENT}
+use Rattle.job_script.specs.declared.writer.TheConstants.{MAX_COMMANDS}
+use Rattle.job_script.specs.JobText.{text_for}
+use Rattle.job_script.specs.Variables.{lines_length}
+use Rattle.job_script.specs.declared.context.Context.{Context}
+use Rattle.job_script.specs.declared.fault.ScriptFault.{ScriptFault}
+use Rattle.job_script.specs.declared.fault.ScriptFault.TheVariants as script
+use Rattle.listing_text.specs.declared.cause.Cause.{Cause}
+use Rattle.listing_text.specs.declared.cause.Cause.TheVariants.{Done, Refused, FileFault, InputFault, OutputFault, Busy, Memory, Damaged, StillRunning}
+use Rattle.listing_text.specs.declared.refusal.Refusal.{Refusal}
+use Rattle.listing_text.specs.declared.refusal.Refusal.TheVariants.{BadClock, BadDirectory, BadUser, BadZone, EnvironmentTooLarge, TooLong}
+use Rattle.command_answers.specs.declared.caller.Caller.{Caller}
+use Rattle.command_answers.specs.Causes.{cause_of_script, stopped_by}
+use Rattle.command_answers.specs.Checks.{Check, check_of, is_before, of_clock, of_input, of_length, of_lock, of_variables, of_zone}
+use Rattle.command_answers.specs.Ends.{KeepsOrder}
+use Rattle.command_answers.specs.Found.{AreRead, FindsInput, Found, found_of}
+use Rattle.command_answers.specs.Times.{IsMeant, IsTimeOf}
+use Rattle.command_answers.specs.Verdict.{clock_check, directory_check, first_refusal, is_unreadable, length_check, submission_checks, time_check, user_check, variables_check, zone_check}
+use Rattle.submission_checks.specs.Preparing.{Prepares}
+use Rattle.submission_checks.specs.Reading.{IsOfInput}
+use Rattle.submission_checks.specs.Timing.{MeansNone}
+use Rattle.submission_checks.specs.declared.submission.Submission.{Submission}
+
+-- a check that passes leaves the decision to the later ones
+pass : (check : Option Refusal) (later : List (Option Refusal)) → check ≡ None → first_refusal (check ∷ later) ≡ first_refusal later
+pass None later is = refl
+pass (Some refusal) later is = cc
+
+-- and one that refuses decides
+stop : (check : Option Refusal) (later : List (Option Refusal)) (refusal : Refusal) → check ≡ Some refusal →
+    first_refusal (check ∷ later) ≡ Some refusal
+stop None later refusal is = cc
+stop (Some other) later refusal is = is
+
+-- what the caller has passes its checks
+pub record HasPassed (context : Context) : Type 0 where
+  pub user : user_check context ≡ None
+  pub directory : directory_check context ≡ None
+  pub variables : variables_check context ≡ None
+
+-- the first fault of a context, by its three tests
+fault_by : (context : Context) (user directory room : Bool) → is_user_name context.user ≡ user → is_directory context.directory ≡ directory →
+    has_room context.environment ≡ room →
+    first_fault context ≡ cond user (cond directory (cond room None (Some script.EnvironmentTooLarge)) (Some script.BadDirectory)) (Some script.BadUser)
+fault_by context false directory room is_user is_way is_room = rw is_user refl
+fault_by context true false room is_user is_way is_room = rw (is_user, is_way) refl
+fault_by context true true false is_user is_way is_room = rw (is_user, is_way, is_room) refl
+fault_by context true true true is_user is_way is_room = rw (is_user, is_way, is_room) refl
+
+passed_by : (context : Context) (user directory room : Bool) → is_user_name context.user ≡ user → is_directory context.directory ≡ directory →
+    has_room context.environment ≡ room → first_fault context ≡ None → HasPassed context
+passed_by context false directory room is_user is_way is_room none =
+    let two : None ≡ Some script.BadUser = sym none ∙ fault_by context false directory room is_user is_way is_room in cc
+passed_by context true false room is_user is_way is_room none =
+    let two : None ≡ Some script.BadDirectory = sym none ∙ fault_by context true false room is_user is_way is_room in cc
+passed_by context true true false is_user is_way is_room none =
+    let two : None ≡ Some script.EnvironmentTooLarge = sym none ∙ fault_by context true true false is_user is_way is_room in cc
+passed_by context true true true is_user is_way is_room none = record {
+  user = rw is_user refl;
+  directory = rw is_way refl;
+  variables = rw is_room refl;
+}
+
+pub context_passes : (context : Context) → first_fault context ≡ None → HasPassed context
+context_passes context none =
+    passed_by context (is_user_name context.user) (is_directory context.directory) (has_room context.environment) refl refl refl none
+
+-- what the caller has is refused
+record IsContextRefused (fault : ScriptFault) (context : Context) : Type 0 where
+  refusal : Refusal
+  is : cause_of_script fault ≡ Refused refusal
+  verdict : (later : List (Option Refusal)) →
+      first_refusal (user_check context ∷ directory_check context ∷ variables_check context ∷ later) ≡ Some refusal
+  early : is_before (check_of refusal) of_lock ≡ true
+  before_clock : is_before of_variables (check_of refusal) ≡ false
+  before_zone : is_before of_zone (check_of refusal) ≡ false
+  before_input : is_before of_input (check_of refusal) ≡ false
+
+some_one : {A : Type 0} (a b : A) → Some a ≡ Some b → a ≡ b
+some_one a b is = cc
+
+refused_by : (context : Context) (fault : ScriptFault) (user directory room : Bool) → is_user_name context.user ≡ user →
+    is_directory context.directory ≡ directory → has_room context.environment ≡ room → first_fault context ≡ Some fault →
+    IsContextRefused fault context
+refused_by context fault false directory room is_user is_way is_room some =
+    let same : script.BadUser ≡ fault = some_one script.BadUser fault (sym (fault_by context false directory room is_user is_way is_room) ∙ some) in
+    record {
+      refusal = BadUser;
+      is = sym (ap cause_of_script same);
+      verdict = λ later. stop (user_check context) _ BadUser (rw is_user refl);
+      early = refl;
+      before_clock = refl;
+      before_zone = refl;
+      before_input = refl;
+    }
+refused_by context fault true false room is_user is_way is_room some =
+    let same : script.BadDirectory ≡ fault = some_one script.BadDirectory fault (sym (fault_by context true false room is_user is_way is_room) ∙ some) in
+    record {
+      refusal = BadDirectory;
+      is = sym (ap cause_of_script same);
+      verdict = λ later. pass (user_check context) _ (rw is_user refl) ∙ stop (directory_check context) _ BadDirectory (rw is_way refl);
+      early = refl;
+      before_clock = refl;
+      before_zone = refl;
+      before_input = refl;
+    }
+refused_by context fault true true false is_user is_way is_room some =
+    let same : script.EnvironmentTooLarge ≡ fault = some_one script.EnvironmentTooLarge fault (sym (fault_by context true true false is_user is_way is_room) ∙ some) in
+    record {
+      refusal = EnvironmentTooLarge;
+      is = sym (ap cause_of_script same);
+      verdict = λ later. pass (user_check context) _ (rw is_user refl) ∙ pass (directory_check context) _ (rw is_way refl)
+          ∙ stop (variables_check context) _ EnvironmentTooLarge (rw is_room refl);
+      early = refl;
+      before_clock = refl;
+      before_zone = refl;
+      before_input = refl;
+    }
+refused_by context fault true true true is_user is_way is_room some =
+    let two : None ≡ Some fault = sym (fault_by context true true true is_user is_way is_room) ∙ some in cc
+
+context_refused : (context : Context) (fault : ScriptFault) → first_fault context ≡ Some fault → IsContextRefused fault context
+context_refused context fault some =
+    refused_by context fault (is_user_name context.user) (is_directory context.directory) (has_room context.environment) refl refl refl some
+
+-- what a test of the clock's answer, as the machine holds it, says of the answer
+pub same_second : (second : ℤ) (answer : Bool) → FitsSigned w64 second → answer ≡ is_clock_second (to_z w64 (of_z w64 second)) → is_clock_second second ≡ answer
+same_second second answer fits is = sym (is ∙ ap is_clock_second (to_z-of_z w64 second fits))
+
+-- a refusal by the verdict keeps the order
+refused : (verdict : Option Refusal) (refusal : Refusal) → verdict ≡ Some refusal → KeepsOrder verdict (Refused refusal)
+refused verdict refusal is = rw is (inl refl)
+
+-- the minute that is meant at the second now, as the call had it
+pub meant_at : (when : When) (given now : ℤ) (zone : Zone) (time : Result ℕ Refusal) → given ≡ now → IsMeant when given zone time → IsMeant when now zone time
+meant_at when given now zone time same meant = subst (λ (of : ℤ). IsMeant when of zone time) same meant
+
+-- want of memory keeps the order
+no_memory : (verdict : Option Refusal) → KeepsOrder verdict Memory
+no_memory None = tt
+no_memory (Some refusal) = inr (inl refl)
+
+no_true : false ≡ true → ⊥
+no_true is = cc
+
+module _ (readings_tell inputs_tell : Bool) (caller : Caller) (mail : Bool) (file : Option (List ℕ)) (when : When)
+    (before after : Answers) (contents : Contents) where
+  -- nothing was read
+  finds_none : (found : Found) (reached : Check) → is_before of_zone reached ≡ false → is_before of_input reached ≡ false →
+      FindsInput inputs_tell file when caller.zone contents reached found
+  finds_none found reached zone input = record {
+    time = λ beyond. absurd (no_true (sym zone ∙ beyond));
+    commands = λ told beyond. absurd (no_true (sym input ∙ beyond));
+  }
+
+  -- what the caller has was refused
+  pub context_stops : (fault : ScriptFault) → first_fault caller.context ≡ Some fault → after ≡ before →
+      Prepares readings_tell inputs_tell caller mail file when before after contents (Err (stopped_by (cause_of_script fault)))
+  context_stops fault some same =
+      let is : IsContextRefused fault caller.context = context_refused caller.context fault some in
+      let found : Found = found_of (pos 0) (Ok 0) [] None None in
+      record {
+        now = pos 0;
+        time = Ok 0;
+        commands = [];
+        reached = check_of is.refusal;
+        clock = λ told. same ∙ sym (ap (λ b. cond b (with_now (pos 0) before) before) is.before_clock);
+        finds = finds_none found (check_of is.refusal) is.before_zone is.before_input;
+        ends = rw is.is (record {
+          order = refused (first_refusal (submission_checks caller found)) is.refusal (is.verdict _);
+          reach = refl;
+          early = is.early;
+          comes = tt;
+        });
+      }
+
+  module _ (passed : HasPassed caller.context) (now : ℤ) (told : readings_tell ≡ true → after ≡ with_now now before) where
+    -- the verdict from the clock on
+    from_clock : (found : Found) → first_refusal (submission_checks caller found)
+        ≡ first_refusal (clock_check found ∷ zone_check caller.zone ∷ time_check found ∷ length_check found ∷ [])
+    from_clock found =
+        pass (user_check caller.context) _ passed.user ∙ pass (directory_check caller.context) _ passed.directory
+        ∙ pass (variables_check caller.context) _ passed.variables
+
+    -- the clock was out of range
+    pub clock_stops : is_clock_second now ≡ false →
+        Prepares readings_tell inputs_tell caller mail file when before after contents (Err (stopped_by (Refused BadClock)))
+    clock_stops out =
+        let found : Found = found_of now (Ok 0) [] None None in
+        record {
+          now = now;
+          time = Ok 0;
+          commands = [];
+          reached = of_clock;
+          clock = told;
+          finds = finds_none found of_clock refl refl;
+          ends = record {
+            order = refused (first_refusal (submission_checks caller found)) BadClock
+                (from_clock found ∙ stop (clock_check found) _ BadClock (rw out refl));
+            reach = refl;
+            early = refl;
+            comes = tt;
+          };
+        }
+
+    module _ (in_range : is_clock_second now ≡ true) where
+      from_zone : (found : Found) → found.now ≡ now → first_refusal (submission_checks caller found)
+          ≡ first_refusal (zone_check caller.zone ∷ time_check found ∷ length_check found ∷ [])
+      from_zone found same = from_clock found ∙ pass (clock_check found) _ (rw same (rw in_range refl))
+
+      -- the zone could not be read
+      pub zone_stops : is_unreadable caller.zone ≡ true →
+          Prepares readings_tell inputs_tell caller mail file when before after contents (Err (stopped_by (Refused BadZone)))
+      zone_stops unreadable =
+          let found : Found = found_of now (Ok 0) [] None None in
+          record {
+            now = now;
+            time = Ok 0;
+            commands = [];
+            reached = of_zone;
+            clock = told;
+            finds = finds_none found of_zone refl refl;
+            ends = record {
+              order = refused (first_refusal (submission_checks caller found)) BadZone
+                  (from_zone found refl ∙ stop (zone_check caller.zone) _ BadZone (rw unreadable refl));
+              reach = refl;
+              early = refl;
+              comes = tt;
+            };
+          }
+
+      module _ (readable : is_unreadable caller.zone ≡ false) where
+        from_time : (found : Found) → found.now ≡ now → first_refusal (submission_checks caller found)
+            ≡ first_refusal (time_check found ∷ length_check found ∷ [])
+        from_time found same = from_zone found same ∙ pass (zone_check caller.zone) _ (rw readable refl)
+
+        -- there was no memory
+        pub memory_stops : Prepares readings_tell inputs_tell caller mail file when before after contents (Err (stopped_by Memory))
+        memory_stops =
+            let found : Found = found_of now (Ok 0) [] None None in
+            record {
+              now = now;
+              time = Ok 0;
+              commands = [];
+              reached = of_zone;
+              clock = told;
+              finds = finds_none found of_zone refl refl;
+              ends = record { order = no_memory _; reach = tt; early = refl; comes = tt };
+            }
+
+        -- the time means no minute
+        time_stops : (refusal : Refusal) → IsMeant when now caller.zone (Err refusal) → is_before of_variables (check_of refusal) ≡ true →
+            is_before of_input (check_of refusal) ≡ false → is_before (check_of refusal) of_lock ≡ true →
+            Prepares readings_tell inputs_tell caller mail file when before after contents (Err (stopped_by (Refused refusal)))
+        time_stops refusal meant behind_clock before_input early =
+            let found : Found = found_of now (Err refusal) [] None None in
+            record {
+              now = now;
+              time = Err refusal;
+              commands = [];
+              reached = check_of refusal;
+              clock = λ tells. told tells ∙ sym (ap (λ b. cond b (with_now now before) before) behind_clock);
+              finds = record { time = λ beyond. meant; commands = λ tells beyond. absurd (no_true (sym before_input ∙ beyond)) };
+              ends = record {
+                order = refused (first_refusal (submission_checks caller found)) refusal (from_time found refl);
+                reach = refl;
+                early = early;
+                comes = tt;
+              };
+            }
+
+        pub meant_stops : (cause : Cause) → MeansNone (IsTimeOf when now caller.zone) cause →
+            Prepares readings_tell inputs_tell caller mail file when before after contents (Err (stopped_by cause))
+        meant_stops Memory none = memory_stops
+        meant_stops (Refused refusal) none = elim none.comes [
+          | inl is ↦ time_stops refusal none.time (ap (λ check. is_before of_variables check) is) (ap (λ check. is_before of_input check) is) (ap (λ check. is_before check of_lock) is)
+          | inr is ↦ time_stops refusal none.time (ap (λ check. is_before of_variables check) is) (ap (λ check. is_before of_input check) is) (ap (λ check. is_before check of_lock) is)
+        ]
+        meant_stops Done none = absurd none
+        meant_stops FileFault none = absurd none
+        meant_stops InputFault none = absurd none
+        meant_stops OutputFault none = absurd none
+        meant_stops Busy none = absurd none
+        meant_stops (Damaged damage) none = absurd none
+        meant_stops StillRunning none = absurd none
+
+        -- at the second now as the call had it
+        pub meant_stops_at : (given : ℤ) (cause : Cause) → given ≡ now → MeansNone (IsTimeOf when given caller.zone) cause →
+            Prepares readings_tell inputs_tell caller mail file when before after contents (Err (stopped_by cause))
+        meant_stops_at given cause same none = meant_stops cause (subst (λ (of : ℤ). MeansNone (IsTimeOf when of caller.zone) cause) same none)
+
+        module _ (minute : ℕ) (meant : IsMeant when now caller.zone (Ok minute)) where
+          from_length : (found : Found) → found.now ≡ now → found.time ≡ Ok minute → first_refusal (submission_checks caller found)
+              ≡ first_refusal (length_check found ∷ [])
+          from_length found same same_time = from_time found same ∙ pass (time_check found) _ (rw same_time refl)
+
+          -- the commands could not be read
+          pub input_stops : (cause : Cause) → IsOfInput cause →
+              Prepares readings_tell inputs_tell caller mail file when before after contents (Err (stopped_by cause))
+          input_stops InputFault of_input_fault =
+              let found : Found = found_of now (Ok minute) [] None None in
+              record {
+                now = now;
+                time = Ok minute;
+                commands = [];
+                reached = of_input;
+                clock = told;
+                finds = record { time = λ beyond. meant; commands = λ tells beyond. absurd (no_true beyond) };
+                ends = record { order = rw (from_length found refl refl) tt; reach = refl; early = refl; comes = tt };
+              }
+          input_stops Memory of_input_fault = memory_stops
+          input_stops Done of_input_fault = absurd of_input_fault
+          input_stops (Refused refusal) of_input_fault = absurd of_input_fault
+          input_stops FileFault of_input_fault = absurd of_input_fault
+          input_stops OutputFault of_input_fault = absurd of_input_fault
+          input_stops Busy of_input_fault = absurd of_input_fault
+          input_stops (Damaged damage) of_input_fault = absurd of_input_fault
+          input_stops StillRunning of_input_fault = absurd of_input_fault
+
+          module _ (commands : List ℕ) (read : inputs_tell ≡ true → AreRead file contents commands) where
+            -- there are too many bytes of commands
+            long_stops : MAX_COMMANDS < length commands →
+                Prepares readings_tell inputs_tell caller mail file when before after contents (Err (stopped_by (Refused TooLong)))
+            long_stops long =
+                let found : Found = found_of now (Ok minute) commands None None in
+                record {
+                  now = now;
+                  time = Ok minute;
+                  commands = commands;
+                  reached = of_length;
+                  clock = told;
+                  finds = record { time = λ beyond. meant; commands = λ tells beyond. read tells };
+                  ends = record {
+                    order = refused (first_refusal (submission_checks caller found)) TooLong
+                        (from_length found refl refl ∙ stop (length_check found) _ TooLong (rw (lt-ltb MAX_COMMANDS (length commands) long) refl));
+                    reach = refl;
+                    early = refl;
+                    comes = tt;
+                  };
+                }
+
+            -- no job text was made
+            script_stops : (T : Type 0) (fault : ScriptFault) → IsFit caller.context → Written {T = T} caller.context commands (Err fault) →
+                Prepares readings_tell inputs_tell caller mail file when before after contents (Err (stopped_by (cause_of_script fault)))
+            script_stops T script.BadUser fit written = absurd (written fit.user)
+            script_stops T script.BadDirectory fit written = absurd (written.1 fit.directory)
+            script_stops T script.EnvironmentTooLarge fit written =
+                absurd (let few : lines_length caller.context.environment ≤ MAX_ENVIRONMENT = fit.few in
+                let many : MAX_ENVIRONMENT < lines_length caller.context.environment = written.2 in omega arith)
+            script_stops T script.TooLong fit written = long_stops written.1
+            script_stops T script.Memory fit written = memory_stops
+
+            pub script_stops_at : (T : Type 0) (shown : List ℕ) (fault : ScriptFault) → shown ≡ commands → IsFit caller.context →
+                Written {T = T} caller.context shown (Err fault) →
+                Prepares readings_tell inputs_tell caller mail file when before after contents (Err (stopped_by (cause_of_script fault)))
+            script_stops_at T shown fault same fit written =
+                script_stops T fault fit (subst (λ (of : List ℕ). Written {T = T} caller.context of (Err fault)) same written)
+
+            -- all checks passed
+            pub prepared : (submission : Submission) → length commands ≤ MAX_COMMANDS → submission.minute ≡ minute →
+                submission.script ≡ text_for caller.context mail commands →
+                Prepares readings_tell inputs_tell caller mail file when before after contents (Ok submission)
+            prepared submission few same_minute same_script =
+                let found : Found = found_of now (Ok minute) commands None None in
+                record {
+                  now = now;
+                  time = Ok minute;
+                  commands = commands;
+                  reached = of_lock;
+                  clock = told;
+                  finds = record { time = λ beyond. meant; commands = λ tells beyond. read tells };
+                  ends = record {
+                    none = from_length found refl refl ∙ pass (length_check found) _ (rw (le-ltb MAX_COMMANDS (length commands) few) refl);
+                    all = refl;
+                    minute_is = same_minute;
+                    script_is = same_script;
+                  };
+                }

@@ -1,0 +1,3 @@
+pub mod Preparing
+pub mod Reading
+pub mod Timing

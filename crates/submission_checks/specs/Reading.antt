@@ -1,0 +1,20 @@
+-- Why the commands of a submission could not be read (own).
+use Rattle.listing_text.specs.declared.cause.Cause.{Cause}
+use Rattle.listing_text.specs.declared.cause.Cause.TheVariants.{Done, Refused, FileFault, InputFault, OutputFault, Busy, Memory, Damaged, StillRunning}
+use Rattle.command_answers.specs.declared.stopped.Stopped.{Stopped}
+
+-- the inputs failed, or there was no memory
+abbrev pub IsOfInput : Cause → Type 0
+IsOfInput InputFault = Unit {0}
+IsOfInput Memory = Unit {0}
+IsOfInput Done = ⊥
+IsOfInput (Refused refusal) = ⊥
+IsOfInput FileFault = ⊥
+IsOfInput OutputFault = ⊥
+IsOfInput Busy = ⊥
+IsOfInput (Damaged damage) = ⊥
+IsOfInput StillRunning = ⊥
+
+-- the command was stopped by one of these
+abbrev pub ComesOfReading : Stopped → Type 0
+ComesOfReading stopped = IsOfInput stopped.cause

@@ -1,0 +1,42 @@
+-- What is answered for the time of a submission (own): the minute that it means, or the refusal of a time that means none.
+use Rattle.std.specs.Prelude.{◌≡◌, ◌⊎◌, ℕ, Result, Ok, Err}
+use Rattle.civil_minute.specs.declared.fault.DateFault.{DateFault}
+use Rattle.civil_minute.specs.declared.fault.DateFault.TheVariants as date
+use Rattle.listing_text.specs.declared.cause.Cause.{Cause}
+use Rattle.listing_text.specs.declared.cause.Cause.TheVariants.{Done, Refused, FileFault, InputFault, OutputFault, Busy, Memory, Damaged, StillRunning}
+use Rattle.listing_text.specs.declared.refusal.Refusal.{Refusal}
+use Rattle.listing_text.specs.declared.refusal.Refusal.TheVariants.{NoSuchDay, OutOfRange, Past}
+use Rattle.command_answers.specs.declared.stopped.Stopped.{Stopped}
+use Rattle.command_answers.specs.Causes.{stopped_by}
+use Rattle.command_answers.specs.Checks.{check_of, of_date, of_spelling}
+use Rattle.command_answers.specs.Times.{IsOnly}
+
+-- the one time is this refusal, which comes of its spelling or of its date
+pub record IsRefusedTime (IsTime : Result ℕ Refusal → Type 0) (refusal : Refusal) : Type 0 where
+  pub time : IsOnly IsTime (Err refusal)
+  pub comes : (check_of refusal ≡ of_spelling) ⊎ (check_of refusal ≡ of_date)
+
+-- and it may be for want of memory that there is no minute
+abbrev pub MeansNone : (Result ℕ Refusal → Type 0) → Cause → Type 0
+MeansNone IsTime (Refused refusal) = IsRefusedTime IsTime refusal
+MeansNone IsTime Memory = Unit {0}
+MeansNone IsTime Done = ⊥
+MeansNone IsTime FileFault = ⊥
+MeansNone IsTime InputFault = ⊥
+MeansNone IsTime OutputFault = ⊥
+MeansNone IsTime Busy = ⊥
+MeansNone IsTime (Damaged damage) = ⊥
+MeansNone IsTime StillRunning = ⊥
+
+-- the answer is the one time
+abbrev pub Means : (Result ℕ Refusal → Type 0) → Result ℕ Stopped → Type 0
+Means IsTime (Ok minute) = IsOnly IsTime (Ok minute)
+Means IsTime (Err stopped) = MeansNone IsTime stopped.cause
+
+-- a date's answer, as that of a command
+abbrev pub IsDatedAs : Result ℕ DateFault → Result ℕ Stopped → Type 0
+IsDatedAs (Ok minute) answer = answer ≡ Ok minute
+IsDatedAs (Err date.NoSuchDay) answer = answer ≡ Err (stopped_by (Refused NoSuchDay))
+IsDatedAs (Err date.OutOfRange) answer = answer ≡ Err (stopped_by (Refused OutOfRange))
+IsDatedAs (Err date.Past) answer = answer ≡ Err (stopped_by (Refused Past))
+IsDatedAs (Err date.Memory) answer = answer ≡ Err (stopped_by Memory)
