@@ -48,7 +48,8 @@ fn refusal_of_row(row: &Row, user: &UserName, removing: bool, number: u32) -> Op
     None
 }
 
-fn is_seen_by(row: &Row, user: &UserName) -> bool
+/// Whether the user may see the job.
+pub fn is_seen_by(row: &Row, user: &UserName) -> bool
     ensures { result ≡ may_see user.now row.now }
 {
     user.as_bytes() == b"root".as_slice() || row.user.as_bytes() == user.as_bytes()

@@ -8,5 +8,5 @@ mod lists;
 mod opening;
 
 pub use entering::enter;
-pub use jobs::refusal_of_jobs;
+pub use jobs::{is_seen_by, refusal_of_jobs};
 pub use opening::open;
