@@ -10,7 +10,8 @@ use Rattle.civil_minute.specs.Meant.{TimespecMeans, TouchMeans}
 use Rattle.listing_text.specs.declared.refusal.Refusal.{Refusal}
 use Rattle.listing_text.specs.declared.refusal.Refusal.TheVariants.{BadTimeArg, NoSuchDay, OutOfRange, Past, Timespec}
 use Rattle.timespec_grammar.specs.declared.timespec.Timespec.{Timespec as Spelled}
-use Rattle.timespec_grammar.specs.Grammar.{Spells, StopsAt, tokens_of}
+use Rattle.timespec_grammar.specs.Grammar.{Spells, tokens_of}
+use Rattle.timespec_grammar.specs.Viable.{StopsAt}
 use Rattle.timespec_lexer.specs.declared.placed.Placed.{Placed}
 use Rattle.timespec_lexer.specs.Tokens.{RefusedAt, Tokenizes}
 use Rattle.touch_time.specs.declared.touch.TouchTime.{TouchTime}

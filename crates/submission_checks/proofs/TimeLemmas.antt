@@ -1,8 +1,7 @@
 -- The one time of a submission.
-use Rattle.std.proofs.Common.{◌≡◌, ◌+◌, ◌<◌, ℕ, ℤ, List, length, take, drop, sym, ap, subst, ◌∙◌, refl, inl, inr, arith}
+use Rattle.std.proofs.Common.{◌≡◌, ◌+◌, ◌<◌, ℕ, ℤ, List, length, sym, ap, subst, ◌∙◌, refl, inl, inr, arith}
 use Rattle.std.specs.Prelude.{Option, Some, None, Result, Ok, Err}
 use Rattle.std.proofs.lemmas.Bool.{cases_order}
-use Rattle.std.proofs.lemmas.List.{take-append-drop}
 use Rattle.civil_minute.specs.declared.fault.DateFault.{DateFault}
 use Rattle.civil_minute.specs.declared.fault.DateFault.TheVariants as date
 use Rattle.civil_minute.specs.declared.zone.Zone.{Zone}
@@ -10,7 +9,9 @@ use Rattle.civil_minute.specs.Meant.{IsOnlyMeaning, IsOnlyTouchMeaning, Timespec
 use Rattle.listing_text.specs.declared.refusal.Refusal.{Refusal}
 use Rattle.listing_text.specs.declared.refusal.Refusal.TheVariants.{BadTimeArg, NoSuchDay, OutOfRange, Past, Timespec}
 use Rattle.timespec_grammar.specs.declared.timespec.Timespec.{Timespec as Spelled}
-use Rattle.timespec_grammar.specs.Grammar.{IsViable, Spells, StopsAt, tokens_of}
+use Rattle.timespec_grammar.specs.Grammar.{Spells, tokens_of}
+use Rattle.timespec_grammar.specs.Viable.{StopsAt}
+use Rattle.timespec_grammar.proofs.ParseLemmas.{spelled_front}
 use Rattle.timespec_lexer.specs.declared.placed.Placed.{Placed}
 use Rattle.timespec_lexer.specs.declared.token.Token.{Token}
 use Rattle.timespec_lexer.specs.Tokens.{IsOnlyReading, IsOnlyRefusal, RefusedAt, Tokenizes}
@@ -20,18 +21,10 @@ use Rattle.command_answers.specs.declared.stopped.Stopped.{Stopped}
 use Rattle.command_answers.specs.Times.{IsDated, IsOnly, IsSpecTime, IsTouchTime, no_timespec, no_tokens, no_touch, place_in, timespec, touch_time}
 use Rattle.submission_checks.specs.Timing.{IsDatedAs, Means}
 
--- a text of tokens that a timespec spells can go on at each of its fronts
-viable_front : (tokens : List Token) (spec : Spelled) (count : ℕ) → Spells tokens spec → IsViable (take count tokens)
-viable_front tokens spec count spells = record {
-  rest = drop count tokens;
-  whole = spec;
-  spelled = subst (λ (of : List Token). Spells of spec) (sym (take-append-drop count tokens)) spells;
-}
-
 -- tokens that stop spell nothing
 stops_spell_nothing : (tokens : List Token) (fault : ℕ) (spec : Spelled) → StopsAt tokens fault → Spells tokens spec → ⊥
 stops_spell_nothing tokens fault spec stops spells = elim stops.stops [
-  | inl inside ↦ inside.1 (viable_front tokens spec (fault + 1) spells)
+  | inl inside ↦ inside.1 (spelled_front tokens (fault + 1) spec spells)
   | inr end ↦ end.1 spec spells
 ]
 

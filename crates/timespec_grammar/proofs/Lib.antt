@@ -1,5 +1,5 @@
 mod AcceptLemmas
-mod ParseLemmas
+pub mod ParseLemmas
 mod RangeLemmas
 mod ReadLemmas
 mod ViableLemmas

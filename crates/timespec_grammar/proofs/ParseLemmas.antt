@@ -58,7 +58,7 @@ pub fronts_are_viable : FrontsAreViable
 fronts_are_viable tokens rest whole spelled = begins_viable tokens (record { rest = rest; whole = whole; spelled = spelled })
 
 -- what spells a timespec begins one with each of its fronts
-spelled_front : (tokens : List Token) (count : ℕ) (spec : Timespec) → Spells tokens spec → IsViable (take count tokens)
+pub spelled_front : (tokens : List Token) (count : ℕ) (spec : Timespec) → Spells tokens spec → IsViable (take count tokens)
 spelled_front tokens count spec spelled =
     fronts_are_viable (take count tokens) (drop count tokens) spec
     (subst (λ (all : List Token). Spells all spec) (sym (take-append-drop count tokens)) spelled)
