@@ -8,7 +8,7 @@ use std::alloc::Global;
 use whole_file::{content, temporary_name};
 
 // Adds the mark of a batch start, where a slot is free. Its host calls are `settle`, two that look for
-// a file that is being made and for the journal, two that read it, and the four of a replaced file.
+// a file that is being made and for the journal, two that read it, and the four of a slot that is filled.
 pub(crate) fn add_batch<H: Host>(
     alloc: Global,
     host: &mut H,
@@ -30,7 +30,7 @@ pub(crate) fn add_batch<H: Host>(
     }
 }
 
-// Compacts the journal. Its host calls are those of `add_batch`.
+// Compacts the journal. Its host calls are those of `add_batch`, but the last four: they replace the file.
 pub(crate) fn compact<H: Host>(alloc: Global, host: &mut H) -> Result<Option<Journal>, JournalFault>
     requires { IsInside (H.session host.old) }
     ensures { StaysInside (H.session host.old) (H.session host.new) }

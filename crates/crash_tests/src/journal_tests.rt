@@ -10,7 +10,8 @@ use start_journal::{Journal, Mark};
 use std::alloc::{AllocError, Global};
 use std::test::Fail;
 
-const PICKS: [u64; 4] = [0, 1, 255, u64::MAX];
+// With 203 the byte at 96, the gate of the free slot, becomes `+` where it is uncertain.
+const PICKS: [u64; 4] = [0, 1, 203, u64::MAX];
 
 // A journal of one job that was removed, another that was forgotten, two batch starts and a free slot.
 const JOURNAL: &[u8] =
@@ -34,7 +35,8 @@ fn spool(alloc: Global, fuse: Option<u64>) -> Result<MemoryHost, AllocError>
     MemoryHost::make(alloc, files, plan)
 }
 
-// The calls are enter, settle, names, three that read the journal, create, sync, rename and sync_names.
+// The calls are enter, settle, names, three that read the journal, and write and sync, of the slot behind its
+// gate and then of the gate.
 #[test]
 fn an_added_mark_stays(rt: HostRuntime) -> Result<(), Fail> {
     let alloc = rt.alloc();
@@ -54,7 +56,7 @@ fn an_added_mark_stays(rt: HostRuntime) -> Result<(), Fail> {
             host.reboot(alloc, pick, None)?;
             host.enter(alloc).ok().expect(&rt, "a session");
             let journal = Journal::recall(alloc, &mut host, 1)?;
-            let is_new = fuse == 10 || fuse == 9 && pick % 4 == 3;
+            let is_new = fuse == 10 || fuse == 9 && pick == 203;
             let marks = if is_new {
                 new.as_slice()
             } else {
@@ -67,6 +69,7 @@ fn an_added_mark_stays(rt: HostRuntime) -> Result<(), Fail> {
     Ok(())
 }
 
+// The last four calls are create, sync, rename and sync_names.
 #[test]
 fn a_compaction_drops_what_counts_no_more(rt: HostRuntime) -> Result<(), Fail> {
     let alloc = rt.alloc();

@@ -13,6 +13,8 @@ mod journal_tests;
 #[cfg(test)]
 mod recovery_tests;
 #[cfg(test)]
+mod slot_tests;
+#[cfg(test)]
 mod spools;
 #[cfg(test)]
 mod step_tests;

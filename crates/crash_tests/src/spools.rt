@@ -47,8 +47,18 @@ pub(crate) fn session(alloc: Global, files: Files) -> Result<MemoryHost, Fail>
 pub(crate) fn fused_session(alloc: Global, fuse: u64) -> Result<MemoryHost, Fail>
     ensures { IfOk result (λ host. IsInside (memory_session host)) }
 {
-    let plan = plan(alloc, Some(fuse), FailingList::new(alloc));
-    entered(alloc, Files::new(alloc), plan)
+    stopped_session(alloc, Files::new(alloc), fuse)
+}
+
+// A session on a folder of these files, where no call gets through from the fuse on.
+pub(crate) fn stopped_session(alloc: Global, files: Files, fuse: u64) -> Result<MemoryHost, Fail>
+    ensures { IfOk result (λ host. IsInside (memory_session host)) }
+{
+    entered(
+        alloc,
+        files,
+        plan(alloc, Some(fuse), FailingList::new(alloc)),
+    )
 }
 
 // A session on a folder without files, in which the call of this number fails.

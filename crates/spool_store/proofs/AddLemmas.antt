@@ -19,7 +19,7 @@ use Rattle.job_runs.specs.Current.{IsCurrent, IsSpoolName}
 use Rattle.spool_shows.specs.Shown.{Shows}
 use Rattle.spool_store.specs.inside.Marking.{AreSameOrKept, IsMarkOf, IsMarked, KeepsFiles, kept_with}
 use Rattle.spool_store.proofs.KeptMarks.{legal_when_kept}
-use Rattle.spool_store.proofs.ChangesJoined.{changes_end, changes_join, changes_weaker}
+use Rattle.whole_file.proofs.ChangesJoined.{changes_end, changes_join, changes_weaker}
 use Rattle.spool_store.proofs.MarkingCalls.{journal_is_spool, leaves_through, stepping_more, stepping_none, stepping_one, stepping_start}
 use Rattle.spool_store.proofs.MarkingLemmas.{IsShownWith, added_shown, same_shown}
 use Rattle.spool_store.proofs.RoomLemmas.{changing_start, decided_still, sequence_still, shown_with}

@@ -30,7 +30,7 @@ use Rattle.spool_shows.proofs.StepLaws.{by_name}
 use Rattle.spool_store.specs.inside.Marking.{HaveOneMore, IsDecisionOf, IsMarked, KeepsFiles, kept_with}
 use Rattle.spool_store.proofs.DecideLemmas.{IsItsFile, apart_from, decided_before_or_by_it, decided_by_it, decided_file, is_the_one, one_decided, only_one}
 use Rattle.spool_store.proofs.MarkingLemmas.{IsShownWith, reads_as}
-use Rattle.spool_store.proofs.ChangesJoined.{changes_end, changes_join}
+use Rattle.whole_file.proofs.ChangesJoined.{changes_end, changes_join}
 use Rattle.spool_store.proofs.MarkingCalls.{journal_is_spool, leaves_through, stepping_one, stepping_start}
 
 -- The mark of a decision was added in a first run, and in a second one the job's file is removed.

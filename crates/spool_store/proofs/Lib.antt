@@ -1,5 +1,4 @@
 pub mod AddLemmas
-pub mod ChangesJoined
 pub mod CountLemmas
 pub mod DecideLemmas
 pub mod DecidedFiles

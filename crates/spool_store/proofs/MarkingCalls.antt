@@ -10,7 +10,7 @@ use Rattle.whole_file.specs.Others.{IsEither, LeavesOthers}
 use Rattle.job_runs.specs.Calls.{IsSteppingOn}
 use Rattle.job_runs.specs.Current.{EachShows, IsSpoolName}
 use Rattle.spool_shows.specs.Shown.{Shows}
-use Rattle.spool_store.proofs.ChangesJoined.{left_alone}
+use Rattle.whole_file.proofs.ChangesJoined.{left_alone}
 
 -- Names of the spool.
 

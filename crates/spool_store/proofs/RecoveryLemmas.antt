@@ -33,7 +33,7 @@ use Rattle.host_calls.specs.Damages.{IfDamaged}
 use Rattle.spool_store.specs.Faults.{IsOfReading}
 use Rattle.spool_store.specs.inside.Survey.{IsSurvey, is_left_over}
 use Rattle.spool_store.specs.Recovering.{IsRecovered, Recovered}
-use Rattle.spool_store.proofs.ChangesJoined.{changes_join}
+use Rattle.whole_file.proofs.ChangesJoined.{changes_join}
 use Rattle.spool_store.proofs.RecoveryNames.{are_files, counting_stays, decided_left, journal_stays, left_among, left_is_spool, left_there, sequence_stays, stays_apart, temporary_left}
 
 -- Settling.

@@ -1,9 +1,9 @@
 -- A journal that is given room: the names are synced, then it is compacted. The same table is shown all along.
-use Rattle.std.proofs.Common.{◌≡◌, ℕ, List, [], ◌∷◌, sym, ap, subst, ◌∙◌, refl, inl, inr, Result, Ok, Err}
+use Rattle.std.proofs.Common.{◌≡◌, ℕ, List, [], sym, ap, subst, ◌∙◌, refl, inl, inr, Result, Ok, Err}
 use Rattle.std.specs.Prelude.{IfOk, OnOk, None}
 use Rattle.std.specs.FinMap as map
 use Rattle.host_calls.specs.declared.fault.HostFault.{HostFault}
-use Rattle.host_calls.specs.Folder.{Files, Folder, HasNamesSynced, IsImage, IsSyncedInPart, MayStand, Names, AreAfterSome, Change, names_after, names_of, reading_of, with_names_certain}
+use Rattle.host_calls.specs.Folder.{Files, Folder, HasNamesSynced, IsImage, IsSyncedInPart, MayStand, Names, names_of, reading_of, with_names_certain}
 use Rattle.host_calls.specs.World.{FileCall, IsWithin, World}
 use Rattle.host_calls.proofs.FolderLemmas.{reading_is_image}
 use Rattle.sequence_file.specs.Sequence.{sequence_file}
@@ -14,6 +14,7 @@ use Rattle.start_journal.specs.Changing.{Gives, HoldsJournal, IsChanged, IsChang
 use Rattle.start_journal.specs.Journals.{JournalRead, journal_file}
 use Rattle.start_journal.specs.Marks.{AreLegal, kept_marks}
 use Rattle.start_journal.proofs.MarkLemmas.{forgotten_was_decided}
+use Rattle.start_journal.proofs.OverwriteLemmas.{certain_names}
 use Rattle.whole_file.specs.Others.{ChangesFiles, IsEither, LeavesOthers}
 use Rattle.whole_file.proofs.OthersLemmas.{changes_none, changes_then, names_certain, none_stands, nothing_stands, reading_stands}
 use Rattle.job_runs.specs.Calls.{IsSteppingOn}
@@ -23,7 +24,7 @@ use Rattle.spool_shows.specs.Shown.{Shows}
 use Rattle.spool_shows.proofs.NameLemmas.{job_name_apart, journal_no_job, sequence_apart, temporary_no_job}
 use Rattle.spool_store.specs.inside.Marking.{KeepsFiles, kept_with}
 use Rattle.spool_store.proofs.KeptMarks.{kept_decided}
-use Rattle.spool_store.proofs.ChangesJoined.{changes_end, changes_join, left_alone}
+use Rattle.whole_file.proofs.ChangesJoined.{changes_end, changes_join, left_alone}
 use Rattle.spool_store.proofs.MarkingCalls.{journal_is_spool, leaves_through, stepping_none, stepping_start}
 use Rattle.spool_store.proofs.MarkingLemmas.{IsShownWith, compacted_shown, legal_there, same_shown}
 
@@ -61,12 +62,7 @@ pub sync_current : (kept : Kept) (old new : Folder) (table : JobTable) → IsCur
 sync_current kept old new table current synced =
     subst (λ (folder : Folder). IsCurrent kept folder table) (sym synced) (synced_current kept old table current)
 
--- where no change of names is pending, each choice of names is that of the reading
-certain_names : (pending : List Change) (certain names : Names) → pending ≡ [] → AreAfterSome pending certain names → names ≡ names_after pending certain
-certain_names [] certain names none is = is
-certain_names (change ∷ older) certain names none is = cc
-
--- so what the reading lacks, each image lacks
+-- where no change of names is pending, what the reading lacks each image lacks
 pub absent_there : (folder : Folder) (image : Files) (name : List ℕ) → folder.pending ≡ [] → IsImage folder image → map.get (reading_of folder) name ≡ None → map.get image name ≡ None
 absent_there folder image name certain is absent =
     let held : map.get (names_of folder) name ≡ None =

@@ -21,7 +21,7 @@ use Rattle.job_name.proofs.NamedJobs.{name_given}
 use Rattle.job_runs.specs.Calls.{IsSteppingOn, StoreCall}
 use Rattle.job_runs.specs.Current.{EachShows, Kept}
 use Rattle.spool_store.specs.Submitting.{IsNextOn, job_of_script, submission, with_job_if}
-use Rattle.spool_store.proofs.ChangesJoined.{changes_end, changes_on, changes_weaker, left_alone}
+use Rattle.whole_file.proofs.ChangesJoined.{changes_end, changes_on, changes_weaker, left_alone}
 use Rattle.spool_store.proofs.DrawnFolders.{IsAfterDraw, IsFileOfNext, drawing_steps, each_gives, placing_steps}
 use Rattle.spool_store.proofs.SubmittedFolders.{IsSubmitted, keeps_others, submitted_current}
 

@@ -1,23 +1,23 @@
 //! One mark more in the journal, and the file of a job that it decides.
-ghost use Rattle.std.specs.Prelude.{◌≡◌, ◌≤◌, [], ◌∷◌, IfOk, IsTrue, OnOk};
+ghost use Rattle.std.specs.Prelude.{◌≡◌, ◌≤◌, [], ◌∷◌, true, false, IfOk, IsTrue, OnOk};
 ghost use Rattle.host_calls.specs.Session.{CallsInside, IsInside};
 ghost use Rattle.spool_model.specs.declared.step.Step.{Step};
 ghost use Rattle.spool_model.specs.JobTable.{JobTable};
 ghost use Rattle.spool_model.specs.Steps.{after_step};
-ghost use Rattle.start_journal.specs.Changing.{added};
+ghost use Rattle.start_journal.specs.Changing.{added, compacted};
 ghost use Rattle.start_journal.specs.Marks.{AreLegal, IsLegalAfter};
 ghost use Rattle.start_journal.specs.Slots.{IsWritable};
 ghost use Rattle.whole_file.specs.Others.{ChangesFiles};
 ghost use Rattle.job_runs.specs.Calls.{IsSteppingOn, KeepsOthers};
 ghost use Rattle.job_runs.specs.Current.{IsCurrent};
-ghost use Rattle.spool_store.specs.inside.Marking.{AreSameOrKept, HaveOneMore, IsDecisionOf, IsMarkOf, IsMarked, KeepsFiles, kept_with};
+ghost use Rattle.spool_store.specs.inside.Marking.{AreSameOrKept, HaveOneMore, IsDecisionOf, IsMarkOf, IsMarked, KeepsFiles, kept_with, needs_room};
 
 use host_calls::{Host, HostFault, Name};
 use start_journal::{Journal, Mark};
-use std::alloc::Global;
+use std::alloc::{AllocError, Global};
 use whole_file::clear;
 
-// Adds the mark. Where no slot is free, it syncs the names and compacts the journal first.
+// Adds the mark. Where no slot is free, or the journal is worn, it syncs the names and compacts the journal first.
 pub(crate) fn add_mark<H: Host>(
     alloc: Global,
     host: &mut H,
@@ -32,7 +32,8 @@ pub(crate) fn add_mark<H: Host>(
     ensures inside { CallsInside HostFault.Failed (H.session host.old) (H.session host.new) result }
     ensures legal { AreLegal journal.marks }
     ensures marks { IfOk result (λ new. HaveOneMore journal.marks mark new.marks) }
-    ensures free { 1 ≤ journal.free → IfOk result (λ new. new ≡ added journal mark) }
+    ensures free { needs_room journal ≡ false → IfOk result (λ new. new ≡ added journal mark) }
+    ensures compacted { needs_room journal ≡ true → IfOk result (λ new. new ≡ added (compacted journal) mark) }
     ensures files { IsTrue H.tells → (table : JobTable) (step : Step)
         → IsMarkOf journal (H.world host.old).now.folder table step mark
         → ChangesFiles (IsSteppingOn table (step ∷ []) (H.world host.old).now.folder)
@@ -47,15 +48,26 @@ pub(crate) fn add_mark<H: Host>(
     journal.add(alloc, host, mark)
 }
 
-// A journal with a free slot.
+// Whether the journal is compacted before a mark is added.
+fn needs_room(alloc: Global, journal: &Journal) -> Result<bool, AllocError>
+    ensures { IfOk result (λ needs. needs ≡ needs_room journal.now) }
+{
+    if journal.free() == 0 {
+        return Ok(true);
+    }
+    journal.is_worn(alloc)
+}
+
+// A journal with a free slot, of which what counts is not less than half.
 fn make_room<H: Host>(alloc: Global, host: &mut H, journal: Journal) -> Result<Journal, HostFault>
     requires inside { IsInside (H.session host.old) }
     requires current { IsTrue H.tells → (table : JobTable)
         × IsCurrent (kept_with journal table) (H.world host.old).now.folder table }
     ensures inside { CallsInside HostFault.Failed (H.session host.old) (H.session host.new) result }
     ensures room { IfOk result (λ new. 1 ≤ new.free) }
-    ensures free { 1 ≤ journal.free → IfOk result (λ new. new ≡ journal) }
-    ensures untouched { 1 ≤ journal.free → host.new ≡ host.old }
+    ensures free { needs_room journal ≡ false → IfOk result (λ new. new ≡ journal) }
+    ensures untouched { needs_room journal ≡ false → host.new ≡ host.old }
+    ensures compacted { needs_room journal ≡ true → IfOk result (λ new. new ≡ compacted journal) }
     ensures legal { AreLegal journal.marks }
     ensures marks { IfOk result (λ new. AreSameOrKept journal.marks new.marks) }
     ensures files { IsTrue H.tells → (table : JobTable)
@@ -67,7 +79,7 @@ fn make_room<H: Host>(alloc: Global, host: &mut H, journal: Journal) -> Result<J
     ensures others { IsTrue H.tells
         → OnOk result (KeepsFiles (H.world host.old).now.folder (H.world host.new).now.folder) }
 {
-    if journal.free() > 0 {
+    if !needs_room(alloc, &journal)? {
         return Ok(journal);
     }
     // A compaction forgets which numbers are done with. So no crash may bring a file of theirs back.

@@ -6,9 +6,9 @@ use Rattle.host_calls.specs.declared.fault.HostFault.{HostFault}
 use Rattle.host_calls.specs.Folder.{Files, Folder, reading_of}
 use Rattle.host_calls.specs.World.{World}
 use Rattle.host_calls.proofs.FolderLemmas.{reading_is_image}
-use Rattle.host_calls.proofs.WorldLemmas.{leaves_weaker}
 use Rattle.whole_file.specs.Others.{ChangesFiles}
 use Rattle.whole_file.specs.Placing.{IsPlaced, IsPlacing}
+use Rattle.whole_file.proofs.ChangesJoined.{changes_weaker}
 use Rattle.start_journal.specs.declared.mark.Mark.{Mark}
 use Rattle.start_journal.specs.Changing.{Gives, HoldsJournal, IsChanged, IsChanging, IsReplacing}
 use Rattle.start_journal.specs.Journals.{JournalRead, SpellsJournal, are_sound, journal_file}
@@ -19,14 +19,6 @@ use Rattle.start_journal.proofs.ReadLemmas.{sound_legal}
 -- a journal that is written whole gives its marks
 pub text_gives : (text : List ℕ) (journal : JournalRead) → SpellsJournal text journal.marks journal.free → are_sound journal.marks ≡ true → Gives (Some text) journal
 text_gives text journal spelled sound = λ last drawn. journals_read_back last text journal.marks journal.free spelled (sound_legal journal.marks sound) drawn
-
--- a call with another done in its place
-changes_weaker : (P Q : Files → Type 0) (old new : World) → ((image : Files) → P image → Q image) → ChangesFiles P old new → ChangesFiles Q old new
-changes_weaker P Q old new weaker changes = record {
-  handed = changes.handed;
-  asked = changes.asked;
-  leaves = leaves_weaker _ _ old new (λ image handed is. (weaker image is.0, is.1)) changes.leaves;
-}
 
 -- while the text is placed
 placing_replaces : (text : List ℕ) (journal : JournalRead) (start : Folder) (image : Files) → Gives (Some text) journal → IsPlacing temporary_file journal_file text start image → IsReplacing journal start image

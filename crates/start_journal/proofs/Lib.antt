@@ -1,4 +1,5 @@
 pub mod ByteLemmas
+pub mod ByteRanges
 pub mod ChangeLemmas
 pub mod FirstFaults
 pub mod FrontLemmas
@@ -9,11 +10,17 @@ pub mod JournalReads
 pub mod KeepLemmas
 pub mod LifeLemmas
 pub mod MarkLemmas
+pub mod MarkWrites
+pub mod OverwriteLemmas
+pub mod OverwrittenBodies
 pub mod ReadLemmas
 pub mod RightLemmas
 pub mod SlotLemmas
+pub mod SlotChanges
+pub mod SlotWrites
 pub mod StageLemmas
 pub mod StandLemmas
 pub mod TextLemmas
+pub mod WearLemmas
 pub mod WholeLemmas
 pub mod WriteLemmas

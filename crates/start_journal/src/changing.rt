@@ -1,5 +1,5 @@
 //! Adding a mark, and compacting the journal.
-ghost use Rattle.std.specs.Prelude.{◌≡◌, ◌≤◌, [], IfOk, IsTrue, OnOk};
+ghost use Rattle.std.specs.Prelude.{◌≡◌, ◌≤◌, ◌+◌, ◌*◌, ◌^◌, [], IfOk, IsTrue, OnOk, length};
 ghost use Rattle.host_calls.specs.Folder.{IsInNoImage};
 ghost use Rattle.host_calls.specs.Session.{CallsInside, IsInside};
 ghost use Rattle.whole_file.specs.Others.{ChangesFiles};
@@ -10,8 +10,10 @@ ghost use Rattle.start_journal.specs.Slots.{IsWritable};
 
 use crate::keeping::kept_marks;
 use crate::names::journal_name;
+use crate::overwriting::overwrite;
+use crate::slot::SLOT;
 use crate::text::journal_text;
-use crate::{Journal, Mark};
+use crate::{Journal, Mark, mark_text};
 use host_calls::{Host, HostFault};
 use std::alloc::{AllocError, Global};
 use whole_file::{place, temporary_name};
@@ -35,8 +37,14 @@ impl Journal {
         ensures added { IsTrue H.tells → OnOk result (IsChanged (added self mark)
             (H.world host.old).now.folder (H.world host.new).now.folder) }
     {
+        let name = journal_name();
+        let offset = self.first_free();
         let journal = self.with_mark(mark)?;
-        journal.replace(alloc, host)?;
+        let slot = mark_text(&mark);
+        // While its gate is closed, a slot counts for nothing: a crash leaves it free, whatever its bytes are.
+        overwrite(alloc, host, &name, offset + 1, &slot[1..])?;
+        // The other bytes are certain now: a gate that opens over others could show a mark that nobody made.
+        overwrite(alloc, host, &name, offset, &slot[..1])?;
         Ok(journal)
     }
 
@@ -55,6 +63,14 @@ impl Journal {
         let journal = self.kept(alloc)?;
         journal.replace(alloc, host)?;
         Ok(journal)
+    }
+
+    // The offset of the first free slot.
+    fn first_free(&self) -> u64
+        ensures offset { result ≡ 32 * length self.now.marks }
+        ensures fits { result + 32 ≤ 2 ^ 64 }
+    {
+        SLOT as u64 * self.marks.as_slice().len() as u64
     }
 
     // This journal and the mark, in a slot that was free.

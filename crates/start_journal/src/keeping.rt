@@ -32,7 +32,7 @@ fn marks_of_kept(alloc: Global, marks: &[Mark]) -> Result<Vec<Mark>, AllocError>
 }
 
 // The numbers that the marks forget.
-fn forgotten(alloc: Global, marks: &[Mark]) -> Result<BTreeSet<u32>, AllocError>
+pub(crate) fn forgotten(alloc: Global, marks: &[Mark]) -> Result<BTreeSet<u32>, AllocError>
     ensures { IfOk result (AreForgotten marks.now) }
 {
     let mut gone = BTreeSet::new(alloc);

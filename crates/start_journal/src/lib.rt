@@ -12,11 +12,13 @@ mod keeping;
 mod laws;
 mod mark;
 mod names;
+mod overwriting;
 mod recalling;
 mod slot;
 mod stage;
 mod stages;
 mod text;
+mod wear;
 
 pub use damage::{gate_damage, queue_damage};
 pub use fault::JournalFault;
@@ -32,6 +34,7 @@ pub use mark::Mark;
 pub use names::journal_name;
 pub use slot::{SLOT, mark_text, read_mark};
 pub use stage::Stage;
+pub use wear::WORN_SLOTS;
 
 #[cfg(test)]
 mod tests;

@@ -1,3 +1,4 @@
+pub mod ChangesJoined
 pub mod ClearLemmas
 pub mod ContentLemmas
 pub mod OthersLemmas

@@ -1,5 +1,5 @@
 -- One mark more in the journal (own): when the store may add it, and what stands then.
-use Rattle.std.specs.Prelude.{◌≡◌, ◌⊎◌, ◌++◌, [], ◌∷◌, ℕ, List, true}
+use Rattle.std.specs.Prelude.{◌≡◌, ◌⊎◌, ◌==◌, ◌||◌, ◌++◌, [], ◌∷◌, ℕ, Bool, List, true}
 use Rattle.std.specs.FinMap as finite
 use Rattle.host_calls.specs.Folder.{Files, Folder, IsImage, reading_of}
 use Rattle.sequence_file.specs.Sequence.{sequence_file}
@@ -12,6 +12,7 @@ use Rattle.start_journal.specs.declared.mark.Mark.{Mark}
 use Rattle.start_journal.specs.Changing.{HoldsJournal}
 use Rattle.start_journal.specs.Journals.{JournalRead, journal_file}
 use Rattle.start_journal.specs.Marks.{decides, kept_marks}
+use Rattle.start_journal.specs.Wear.{is_worn}
 use Rattle.whole_file.specs.Others.{IsEither}
 use Rattle.job_runs.specs.Bare.{bare}
 use Rattle.job_runs.specs.Current.{EachShows, HasNoDecidedFile, IsCurrent, Kept}
@@ -20,6 +21,10 @@ use Rattle.spool_store.specs.Scripts.{IsFileOf}
 -- what is kept of a table: the table without scripts, and the journal
 abbrev pub kept_with : JournalRead → JobTable → Kept
 kept_with journal table = record { table = bare table; journal = journal }
+
+-- no slot is free, or the journal is worn: then it is compacted before a mark is added
+abbrev pub needs_room : JournalRead → Bool
+needs_room journal = journal.free == 0 || is_worn journal.marks
 
 -- the mark is that of a legal step on the table that the folder shows
 pub record IsMarkOf (journal : JournalRead) (folder : Folder) (table : JobTable) (step : Step) (mark : Mark) : Type 0 where

@@ -1,8 +1,9 @@
 -- The numbers that marks forget, as a set (own), and what is kept beside it.
-use Rattle.std.specs.Prelude.{◌≡◌, ℕ, Bool, false, not, List, Option, Some, None}
+use Rattle.std.specs.Prelude.{◌≡◌, ℕ, Bool, true, false, not, List, Option, Some, None}
 use Rattle.std.specs.BTreeSet.{BTreeSet, contains}
 use Rattle.std.specs.Ordering.{nat_cmp}
 use Rattle.start_journal.specs.declared.mark.Mark.{Mark}
+use Rattle.start_journal.specs.declared.mark.Mark.TheVariants.{Forgotten}
 use Rattle.start_journal.specs.Marks.{is_forgotten, number_of}
 
 -- the set has the number
@@ -21,3 +22,13 @@ is_other gone None = false
 -- the mark names a number that the set lacks
 abbrev pub is_kept_beside : BTreeSet ℕ → Mark → Bool
 is_kept_beside gone mark = is_other gone (number_of mark)
+
+-- there is a number, and the set has it
+abbrev pub is_among : BTreeSet ℕ → Option ℕ → Bool
+is_among gone (Some number) = has_number gone number
+is_among gone None = false
+
+-- the mark forgets a number
+abbrev pub forgets_one : Mark → Bool
+forgets_one (Forgotten number) = true
+forgets_one _ = false

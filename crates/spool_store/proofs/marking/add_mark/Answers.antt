@@ -1,6 +1,6 @@
 use Rattle.std.proofs.Common.{[], ◌∷◌}
 use Rattle.spool_store.proofs.AddLemmas.{add_marked, add_stepping, legal_still}
-use Rattle.spool_store.proofs.ChangesJoined.{changes_weaker}
+use Rattle.whole_file.proofs.ChangesJoined.{changes_weaker}
 use Rattle.spool_store.proofs.MarkingCalls.{stepping_more}
 use Rattle.spool_store.proofs.marking.add_mark.Goals as goal
 

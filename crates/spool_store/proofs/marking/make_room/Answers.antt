@@ -2,8 +2,11 @@ use Rattle.spool_store.proofs.KeptMarks.{sound_is_legal}
 use Rattle.spool_store.proofs.RoomLemmas.{compact_current, compact_stepping, sync_current, sync_stepping}
 use Rattle.spool_store.proofs.marking.make_room.Goals as goal
 
-pub returns-then-free-gt0-clause-legal : goal.returns-then-free-gt0-clause-legal
-returns-then-free-gt0-clause-legal g c = sound_is_legal _ c.args.journal c.journal.view_is c.journal.invariant
+pub returns-in_err-needs_room-clause-legal : goal.returns-in_err-needs_room-clause-legal
+returns-in_err-needs_room-clause-legal g c = sound_is_legal _ c.args.journal c.journal.view_is c.journal.invariant
+
+pub returns-then-not-branch-clause-legal : goal.returns-then-not-branch-clause-legal
+returns-then-not-branch-clause-legal g c = sound_is_legal _ c.args.journal c.journal.view_is c.journal.invariant
 
 pub returns-in_err-sync_names-clause-legal : goal.returns-in_err-sync_names-clause-legal
 returns-in_err-sync_names-clause-legal g c = sound_is_legal _ c.args.journal c.journal.view_is c.journal.invariant
