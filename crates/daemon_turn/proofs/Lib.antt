@@ -1,5 +1,7 @@
 pub mod ApartLemmas
 pub mod AskLemmas
+pub mod BareTurns
+pub mod DaemonLemmas
 pub mod DecideLemmas
 pub mod DecisionLemmas
 pub mod ForgetLemmas
@@ -13,3 +15,4 @@ pub mod PlanLemmas
 pub mod RowLemmas
 pub mod TurnedLemmas
 pub mod WaitLemmas
+pub mod WorkLemmas

@@ -131,13 +131,11 @@ module _ (tells : Bool) (before : Session) (old : World) (kept : Kept) (kids : L
         part = part;
         goes = decides.made.goes;
         answers = answers;
-        are = record {
-          order = order;
-          ordered = ordered;
+        are = inl (record {
           few = subst (λ (l : List Kid). length answers ≤ length l) kids_are decides.made.decided.few;
-          fewer = subst (λ (l : List Bool). length l ≤ length order) (sym decides.made.decided.flags) (omega arith);
-          front = inl (decides.made.decided.flags, (decides.made.decided.front.0, sym (decisions_are answers) ∙ decides.made.decided.front.1));
-        };
+          none = decides.made.decided.flags;
+          front = (decides.made.decided.front.0, sym (decisions_are answers) ∙ decides.made.decided.front.1);
+        });
         asked = asked_are answers part.questions decides.made.decided.asked;
         written = decides.made.written ∙ ap (λ (l : List TurnStep). l ++ part.steps) none;
         kids = decides.dropped ∙ ap (without_ended part.steps) kids_are ∙ kids_stay kept.table part.steps [] turn.kids (λ kid runs. refl)
@@ -222,19 +220,19 @@ module _ (tells : Bool) (before : Session) (old : World) (kept : Kept) (kids : L
             part = joined deciding starting;
             goes = subst (λ (of : Result Kept StoreFault). Goes tells before second old started_at kept (joined deciding starting) of) is_fault both_go;
             answers = told;
-            are = record {
+            are = inr (inl (record {
               order = order;
               ordered = ordered;
-              few = omega (arith, all_told);
-              fewer = subst (λ (l : List Bool). length l ≤ length order) (sym flags_are) launches.started.few;
-              front = inr (inl (all_told, (
+              asked = all_told;
+              few = subst (λ (l : List Bool). length l ≤ length order) (sym flags_are) launches.started.few;
+              front = (
                 launches.started.front.0,
                 ap (λ (l : List TurnStep). l ++ starts order turn.now (deciding.flags ++ starting.flags)) (sym deciding_are)
                     ∙ ap (λ (l : List Bool). deciding.steps ++ starts order turn.now l) flags_are
                     ∙ ap (λ (l : List TurnStep). deciding.steps ++ l) launches.started.front.1
                     ∙ regroup deciding.steps starting.steps starting.next launches.started.front.0,
-              )));
-            };
+              );
+            }));
             asked = asked_are told (deciding.questions ++ starting.questions) both_asked;
             written = both_written;
             kids = more_is ∙ ap (λ (l : List Kid). without_ended deciding.steps l ++ starting.added) kids_are
@@ -312,21 +310,15 @@ module _ (tells : Bool) (before : Session) (old : World) (kept : Kept) (kids : L
                 subst (AreTurnSteps turn kept.table told all.flags) (sym (ap (λ (l : List TurnStep). (deciding.steps ++ starting.steps) ++ l) forgot ∙ forgets_are all.flags flags_all)) (whole_steps all.flags flags_all)
 
             are_first : AreFirstSteps turn kept.table told all.flags (all.steps ++ all.next)
-            are_first = record {
-              order = order;
-              ordered = ordered;
-              few = omega (arith, all_told);
-              fewer = omega (arith, ap length flags_all, started_all.0);
-              front = inr (inr (
-                with_forgets kept.table (decisions kept.table turn.kids told ++ starts order turn.now all.flags),
-                whole_steps all.flags flags_all,
-                (
-                  forgotten.forgotten.front.0,
-                  sym (forgets_are all.flags flags_all) ∙ ap (λ (l : List TurnStep). (deciding.steps ++ starting.steps) ++ l) forgotten.forgotten.front.1
-                      ∙ regroup (deciding.steps ++ starting.steps) forgetting.steps forgetting.next forgotten.forgotten.front.0,
-                ),
-              ));
-            } where
+            are_first = inr (inr (
+              with_forgets kept.table (decisions kept.table turn.kids told ++ starts order turn.now all.flags),
+              whole_steps all.flags flags_all,
+              (
+                forgotten.forgotten.front.0,
+                sym (forgets_are all.flags flags_all) ∙ ap (λ (l : List TurnStep). (deciding.steps ++ starting.steps) ++ l) forgotten.forgotten.front.1
+                    ∙ regroup (deciding.steps ++ starting.steps) forgetting.steps forgetting.next forgotten.forgotten.front.0,
+              ),
+            )) where
               regroup : (a b c d : List TurnStep) → a ++ ((b ++ c) ++ d) ≡ ((a ++ b) ++ c) ++ d
               regroup a b c d = simp append_assoc
 

@@ -26,16 +26,25 @@ pub record AreTurnSteps (turn : Turn) (table : JobTable) (answers : List (Option
 abbrev pub IsFrontOf : List TurnStep → List TurnStep → Type 0
 IsFrontOf front steps = (behind : List TurnStep) × (steps ≡ front ++ behind)
 
--- The first steps of a turn, where it was stopped, by the answers that it had by then. No start stands before all kids
--- have answered, and nothing is forgotten before all starts have.
-pub record AreFirstSteps (turn : Turn) (table : JobTable) (answers : List (Option Ending)) (flags : List Bool)
+-- The first of the steps that are decided of running jobs, by the answers of the kids so far. No job was started.
+pub record AreFirstDecisions (turn : Turn) (table : JobTable) (answers : List (Option Ending)) (flags : List Bool)
+    (steps : List TurnStep) : Type 0 where
+  pub few : length answers ≤ length (asked_kids table turn.kids)
+  pub none : flags ≡ []
+  pub front : IsFrontOf steps (decisions table turn.kids answers)
+
+-- The first of the steps up to the next start, once all kids have answered.
+pub record AreFirstStarts (turn : Turn) (table : JobTable) (answers : List (Option Ending)) (flags : List Bool)
     (steps : List TurnStep) : Type 0 where
   pub order : List ℕ
   pub ordered : IsOrder turn table order
-  pub few : length answers ≤ length (asked_kids table turn.kids)
-  pub fewer : length flags ≤ length order
-  pub front :
-      ((flags ≡ []) × IsFrontOf steps (decisions table turn.kids answers))
-      ⊎ (((length answers ≡ length (asked_kids table turn.kids))
-      × IsFrontOf steps (decisions table turn.kids answers ++ starts order turn.now flags))
-      ⊎ ((all : List TurnStep) × AreTurnSteps turn table answers flags all × IsFrontOf steps all))
+  pub asked : length answers ≡ length (asked_kids table turn.kids)
+  pub few : length flags ≤ length order
+  pub front : IsFrontOf steps (decisions table turn.kids answers ++ starts order turn.now flags)
+
+-- the first steps of a turn, where it was stopped, by the answers that it had by then
+abbrev pub AreFirstSteps : Turn → JobTable → List (Option Ending) → List Bool → List TurnStep → Type 0
+AreFirstSteps turn table answers flags steps =
+    AreFirstDecisions turn table answers flags steps
+    ⊎ (AreFirstStarts turn table answers flags steps
+    ⊎ ((all : List TurnStep) × AreTurnSteps turn table answers flags all × IsFrontOf steps all))

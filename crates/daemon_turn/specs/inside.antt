@@ -9,3 +9,4 @@ pub mod Making
 pub mod Planning
 pub mod Turned
 pub mod Waiting
+pub mod Working

@@ -3,6 +3,7 @@
 #![tactic(auto)]
 
 mod asking;
+mod daemon;
 mod deciding;
 mod forgetting;
 mod handing;
@@ -16,7 +17,9 @@ mod report;
 mod starting;
 mod step;
 mod turning;
+mod working;
 
+pub use daemon::Daemon;
 pub use forgetting::MAX_DONE;
 pub use kid::Kid;
 pub use mode::Mode;

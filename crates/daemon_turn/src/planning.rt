@@ -37,7 +37,7 @@ pub(crate) fn make_plan(
     requires ordered { AreByNumber kids.now }
     requires second { IsClockSecond at.now }
     ensures { IfOk result
-        (IsPlan (turn_of (record { kids = kids.now; limit = limit; interval = interval }) at) store.now.table) }
+        (IsPlan (record { kids = kids.now; limit = limit; interval = interval }) at store.now.table) }
 {
     let lost = lost(alloc, store, kids)?;
     let order = order(alloc, store, limit, interval, at)?;

@@ -62,6 +62,13 @@ impl TurnSteps {
         }
     }
 
+    // These steps.
+    pub(crate) fn from(steps: Vec<TurnStep>) -> TurnSteps
+        ensures { result ≡ steps.items }
+    {
+        TurnSteps { steps }
+    }
+
     /// The steps.
     pub fn as_slice(&self) -> &[TurnStep]
         ensures { result.now ≡ self.now }

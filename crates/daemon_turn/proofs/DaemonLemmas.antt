@@ -1,0 +1,190 @@
+-- A turn of the daemon: a session, and the work within it.
+use Rattle.std.proofs.Common.{◌≡◌, ◌++◌, ℕ, ℤ, Bool, true, List, [], append-nil, map, sym, ap, subst, ◌∙◌, refl, arith, inl, inr}
+use Rattle.std.specs.Prelude.{Option, Result, Ok, Err}
+use Rattle.host_calls.specs.declared.child.Child.{Child}
+use Rattle.host_calls.specs.declared.child.Ending.{Ending}
+use Rattle.host_calls.specs.declared.child.Handed.{Handed}
+use Rattle.host_calls.specs.declared.fault.EnterFault.{EnterFault}
+use Rattle.host_calls.specs.Causes.{Rose}
+use Rattle.host_calls.specs.Session.{Enters, IsLeft, Session}
+use Rattle.host_calls.specs.World.{World}
+use Rattle.spool_model.specs.JobTable.{JobTable}
+use Rattle.whole_file.proofs.OthersLemmas.{changes_none}
+use Rattle.job_runs.specs.Attempts.{IsUnbegun}
+use Rattle.job_runs.specs.Calls.{ShowsAsBefore}
+use Rattle.job_runs.proofs.AttemptLemmas.{recoveries_begin_nothing}
+use Rattle.spool_store.specs.declared.fault.StoreFault.{StoreFault}
+use Rattle.spool_store.specs.declared.fault.StoreFault.TheVariants as fault
+use Rattle.daemon_turn.specs.declared.kid.Kid.{Kid}
+use Rattle.daemon_turn.specs.declared.mode.Mode.{Mode}
+use Rattle.daemon_turn.specs.declared.occasion.Occasion.{Occasion}
+use Rattle.daemon_turn.specs.declared.report.TurnEnd.{TurnEnd}
+use Rattle.daemon_turn.specs.declared.report.TurnEnd.TheVariants.{Done, Busy, FileFault, Damaged, Memory}
+use Rattle.daemon_turn.specs.declared.step.TurnStep.{TurnStep}
+use Rattle.daemon_turn.specs.Daemons.{Watch}
+use Rattle.daemon_turn.specs.Kids.{AreByNumber, AreChildren}
+use Rattle.daemon_turn.specs.Leaving.{Gave, IfUnread, IsIdle, IsNone, IsStopped, IsWhole, Standing, TurnLeaves, TurnsTo}
+use Rattle.daemon_turn.specs.Starting.{Turn, turn_of}
+use Rattle.daemon_turn.specs.inside.Working.{Works, end_after}
+use Rattle.daemon_turn.proofs.HandLemmas.{counts_on}
+
+abbrev stand : Session → World → Watch → Standing
+stand session world watch = record { session = session; world = world; watch = watch }
+
+-- where nothing changed, no step was begun
+unbegun_same : (old new : World) → new ≡ old → IsUnbegun old new
+unbegun_same old new same = subst (IsUnbegun old) (sym same) (recoveries_begin_nothing old old (changes_none (ShowsAsBefore old.now.folder) old))
+
+idle_same : (before after : Session) (old new : World) (watch : Watch) → new ≡ old → IsIdle [] (stand before old watch) (stand after new watch)
+idle_same before after old new watch same = record {
+  none = record { none = refl; kids = refl };
+  unbegun = unbegun_same old new same;
+  asked = ap (λ (world : World). world.asked) same;
+}
+
+-- a session that could not be entered
+module _ (tells alone : Bool) (at : Occasion) (before after : Session) (old new : World) (watch : Watch) (of : EnterFault) (enters : Enters {T = Unit {0}} before after (Err of))
+    (same : tells ≡ true → alone ≡ true → new ≡ old) (children : AreChildren before.children watch.kids) (ordered : AreByNumber watch.kids) where
+  not_entered : (end : TurnEnd) → (end ≡ Busy → Rose before.taken after.taken) → (end ≡ FileFault → Rose before.file_faults after.file_faults) →
+      (tells ≡ true → alone ≡ true → TurnLeaves (turn_of watch at) [] (stand before old watch) (stand after new watch) end) → IfUnread end (IsNone [] watch watch) →
+      TurnsTo tells alone at (stand before old watch) (stand after new watch) end []
+  not_entered end busy fault leaves unread = record {
+    outside = enters.inside;
+    counts = enters.counts;
+    kept = ([], enters.children ∙ sym (append-nil before.children));
+    children = subst (λ (l : List Child). AreChildren l watch.kids) (sym enters.children) children;
+    ordered = ordered;
+    limit = refl;
+    interval = refl;
+    busy = busy;
+    fault = fault;
+    unread = unread;
+    leaves = leaves;
+  }
+
+  pub turn_busy : Rose before.taken after.taken → (end : TurnEnd) (steps : List TurnStep) → end ≡ Busy → steps ≡ [] → TurnsTo tells alone at (stand before old watch) (stand after new watch) end steps
+  turn_busy rose end steps is none =
+      subst (λ (one : TurnEnd). TurnsTo tells alone at (stand before old watch) (stand after new watch) one steps) (sym is)
+      (subst (TurnsTo tells alone at (stand before old watch) (stand after new watch) Busy) (sym none)
+      (not_entered Busy (λ bad. rose) (λ bad. absurd (let impossible : Busy ≡ FileFault = bad in cc))
+      (λ told is_alone. (idle_same before after old new watch (same told is_alone), same told is_alone)) (record { none = refl; kids = refl })))
+
+  pub turn_failed : Rose before.file_faults after.file_faults → (end : TurnEnd) (steps : List TurnStep) → end ≡ FileFault → steps ≡ [] → TurnsTo tells alone at (stand before old watch) (stand after new watch) end steps
+  turn_failed rose end steps is none =
+      subst (λ (one : TurnEnd). TurnsTo tells alone at (stand before old watch) (stand after new watch) one steps) (sym is)
+      (subst (TurnsTo tells alone at (stand before old watch) (stand after new watch) FileFault) (sym none)
+      (not_entered FileFault (λ bad. absurd (let impossible : FileFault ≡ Busy = bad in cc)) (λ bad. rose)
+      (λ told is_alone. inl (idle_same before after old new watch (same told is_alone))) tt))
+
+  pub turn_wants : (end : TurnEnd) (steps : List TurnStep) → end ≡ Memory → steps ≡ [] → TurnsTo tells alone at (stand before old watch) (stand after new watch) end steps
+  turn_wants end steps is none =
+      subst (λ (one : TurnEnd). TurnsTo tells alone at (stand before old watch) (stand after new watch) one steps) (sym is)
+      (subst (TurnsTo tells alone at (stand before old watch) (stand after new watch) Memory) (sym none)
+      (not_entered Memory (λ bad. absurd (let impossible : Memory ≡ Busy = bad in cc)) (λ bad. absurd (let impossible : Memory ≡ FileFault = bad in cc))
+      (λ told is_alone. inl (idle_same before after old new watch (same told is_alone))) tt))
+
+-- What is left within the session is left by the turn.
+module _ (turn : Turn) (before between worked after : Session) (entered : between.children ≡ before.children) (left : after.children ≡ worked.children) (old new : World) (watch now : Watch) where
+  gave_at : (table : JobTable) (steps : List TurnStep) (given : List Handed) (answers : List (Option Ending)) →
+      Gave table steps given answers (stand between old watch) (stand worked new now) → Gave table steps given answers (stand before old watch) (stand after new now)
+  gave_at table steps given answers gave = record {
+    handed = gave.handed;
+    hands = gave.hands;
+    fronts = gave.fronts;
+    asked = gave.asked;
+    added = gave.added;
+    numbered = gave.numbered;
+    children = left ∙ gave.children ∙ ap (λ (l : List Child). l ++ map (λ (kid : Kid). kid.child) gave.added) entered;
+    kids = gave.kids;
+  }
+
+  whole_at : (steps : List TurnStep) → IsWhole turn steps (stand between old watch) (stand worked new now) → IsWhole turn steps (stand before old watch) (stand after new now)
+  whole_at steps whole = record {
+    table = whole.table;
+    given = whole.given;
+    answers = whole.answers;
+    are = whole.are;
+    achieved = whole.achieved;
+    gave = gave_at whole.table steps whole.given whole.answers whole.gave;
+  }
+
+  stopped_at : (steps : List TurnStep) → IsStopped turn steps (stand between old watch) (stand worked new now) → IsStopped turn steps (stand before old watch) (stand after new now)
+  stopped_at steps stopped = record {
+    table = stopped.table;
+    given = stopped.given;
+    answers = stopped.answers;
+    next = stopped.next;
+    few = stopped.few;
+    first = stopped.first;
+    begun = stopped.begun;
+    ends = stopped.ends;
+    gave = gave_at stopped.table steps stopped.given stopped.answers stopped.gave;
+  }
+
+  idle_at : (steps : List TurnStep) → IsIdle steps (stand between old watch) (stand worked new now) → IsIdle steps (stand before old watch) (stand after new now)
+  idle_at steps idle = record { none = idle.none; unbegun = idle.unbegun; asked = idle.asked }
+
+  pub leaves_at : (end : TurnEnd) (steps : List TurnStep) → TurnLeaves turn steps (stand between old watch) (stand worked new now) end → TurnLeaves turn steps (stand before old watch) (stand after new now) end
+  leaves_at Done steps leaves = whole_at steps leaves
+  leaves_at Busy steps leaves = (idle_at steps leaves.0, leaves.1)
+  leaves_at FileFault steps (inl idle) = inl (idle_at steps idle)
+  leaves_at FileFault steps (inr stopped) = inr (stopped_at steps stopped)
+  leaves_at (Damaged damage) steps leaves = (idle_at steps leaves.0, leaves.1, leaves.2)
+  leaves_at Memory steps (inl idle) = inl (idle_at steps idle)
+  leaves_at Memory steps (inr stopped) = inr (stopped_at steps stopped)
+
+-- by what came of the work
+
+not_busy : (result : Result (Unit {0}) StoreFault) → end_after result ≡ Busy → ⊥
+not_busy (Ok done) is = cc
+not_busy (Err fault.FileFault) is = cc
+not_busy (Err (fault.Damaged damage)) is = cc
+not_busy (Err fault.Memory) is = cc
+not_busy (Err fault.QueueFull) is = cc
+not_busy (Err fault.NumbersUsedUp) is = cc
+
+is_fault : (result : Result (Unit {0}) StoreFault) → end_after result ≡ FileFault → result ≡ Err fault.FileFault
+is_fault (Ok done) is = cc
+is_fault (Err fault.FileFault) is = refl
+is_fault (Err (fault.Damaged damage)) is = cc
+is_fault (Err fault.Memory) is = cc
+is_fault (Err fault.QueueFull) is = cc
+is_fault (Err fault.NumbersUsedUp) is = cc
+
+module _ (tells alone : Bool) (at : Occasion) (before between worked after : Session) (old entered stood new : World) (watch now : Watch) (limit : now.limit ≡ watch.limit) (interval : now.interval ≡ watch.interval)
+    (steps : List TurnStep) (result : Result (Unit {0}) StoreFault) (enters : Enters {T = Unit {0}} {E = EnterFault} before between (Ok tt)) (same : tells ≡ true → alone ≡ true → entered ≡ old)
+    (works : Works tells (turn_of watch at) (stand between entered watch) (stand worked stood now) steps result) (left : IsLeft worked after) (kept : tells ≡ true → alone ≡ true → new ≡ stood) where
+  unread_by : (of : Result (Unit {0}) StoreFault) → Works tells (turn_of watch at) (stand between entered watch) (stand worked stood now) steps of → IfUnread (end_after of) (IsNone steps watch now)
+  unread_by (Ok done) is = tt
+  unread_by (Err fault.FileFault) is = tt
+  unread_by (Err (fault.Damaged damage)) is = is.unread damage refl
+  unread_by (Err fault.Memory) is = tt
+  unread_by (Err fault.QueueFull) is = tt
+  unread_by (Err fault.NumbersUsedUp) is = tt
+
+  leaves_by : tells ≡ true → alone ≡ true → TurnLeaves (turn_of watch at) steps (stand before old watch) (stand after new now) (end_after result)
+  leaves_by told is_alone =
+      subst (λ (world : World). TurnLeaves (turn_of watch at) steps (stand before world watch) (stand after new now) (end_after result)) (same told is_alone)
+      (subst (λ (world : World). TurnLeaves (turn_of watch at) steps (stand before entered watch) (stand after world now) (end_after result)) (sym (kept told is_alone))
+      (leaves_at (turn_of watch at) before between worked after enters.children left.children entered stood watch now (end_after result) steps (works.leaves told)))
+
+  pub turn_worked : (end : TurnEnd) → end ≡ end_after result → TurnsTo tells alone at (stand before old watch) (stand after new now) end steps
+  turn_worked end is = subst (λ (one : TurnEnd). TurnsTo tells alone at (stand before old watch) (stand after new now) one steps) (sym is) (record {
+    outside = left.outside;
+    counts = counts_on before between after enters.counts (counts_on between worked after works.counts left.counts);
+    kept = (works.kept.0, left.children ∙ works.kept.1 ∙ ap (λ (l : List Child). l ++ works.kept.0) enters.children);
+    children = subst (λ (l : List Child). AreChildren l now.kids) (sym left.children) works.children;
+    ordered = works.ordered;
+    limit = limit;
+    interval = interval;
+    busy = λ bad. absurd (not_busy result bad);
+    fault = λ bad. omega (arith, enters.counts.file_faults, works.cause.rose (is_fault result bad), left.counts.file_faults);
+    unread = unread_by result works;
+    leaves = leaves_by;
+  })
+
+-- the second as it is written
+pub works_at : (tells : Bool) (watch : Watch) (written now : ℤ) (load : Option ℕ) (mode : Mode) (old new : Standing) (steps : List TurnStep) (result : Result (Unit {0}) StoreFault) → written ≡ now →
+    Works tells (turn_of watch (record { now = written; load = load; mode = mode })) old new steps result → Works tells (turn_of watch (record { now = now; load = load; mode = mode })) old new steps result
+works_at tells watch written now load mode old new steps result same works =
+    subst (λ (of : ℤ). Works tells (turn_of watch (record { now = of; load = load; mode = mode })) old new steps result) same works

@@ -1,0 +1,65 @@
+-- The work of a turn within its session (own).
+use Rattle.std.specs.Prelude.{◌≡◌, Bool, true, List, Option, Result, Ok, Err, IfErr}
+use Rattle.host_calls.specs.declared.child.Ending.{Ending}
+use Rattle.host_calls.specs.Causes.{HasCause}
+use Rattle.host_calls.specs.Damages.{IfDamaged}
+use Rattle.host_calls.specs.Session.{IsInside, KeepsCounts, Session}
+use Rattle.host_calls.specs.World.{World}
+use Rattle.job_runs.specs.Current.{Kept}
+use Rattle.spool_store.specs.declared.fault.StoreFault.{StoreFault}
+use Rattle.spool_store.specs.declared.fault.StoreFault.TheVariants as fault
+use Rattle.spool_store.specs.Faults.{IsOfReading}
+use Rattle.daemon_turn.specs.declared.kid.Kid.{Kid}
+use Rattle.daemon_turn.specs.declared.report.TurnEnd.{TurnEnd}
+use Rattle.daemon_turn.specs.declared.report.TurnEnd.TheVariants.{Done, Busy, FileFault, Damaged, Memory}
+use Rattle.daemon_turn.specs.declared.step.TurnStep.{TurnStep}
+use Rattle.daemon_turn.specs.Decisions.{asked_kids, questions}
+use Rattle.daemon_turn.specs.Kids.{AreByNumber, AreChildren, AreKidsAfter, KeepsChildren}
+use Rattle.daemon_turn.specs.Leaving.{IsNone, Standing, TurnLeaves}
+use Rattle.daemon_turn.specs.Starting.{Turn}
+use Rattle.daemon_turn.specs.inside.Going.{Goes, Part}
+use Rattle.daemon_turn.specs.inside.Turned.{AreStepsBy}
+
+-- an answer without what is kept
+abbrev pub unit_of : Result Kept StoreFault → Result (Unit {0}) StoreFault
+unit_of (Ok kept) = Ok tt
+unit_of (Err fault) = Err fault
+
+-- The steps of the turn were made on what is kept, or the first of them. The kids are those behind them, by number.
+pub record TurnsOn (tells : Bool) (before after : Session) (old new : World) (kept : Kept) (turn : Turn) (left : List Kid)
+    (report : List TurnStep) (result : Result (Unit {0}) StoreFault) : Type 0 where
+  pub outcome : Result Kept StoreFault
+  pub same : result ≡ unit_of outcome
+  pub part : Part
+  pub goes : Goes tells before after old new kept part outcome
+  pub answers : List (Option Ending)
+  pub are : AreStepsBy turn kept.table answers part outcome
+  pub asked : part.questions ≡ questions (asked_kids kept.table turn.kids) answers
+  pub written : report ≡ part.steps
+  pub kids : AreKidsAfter kept.table part.steps turn.kids part.added left
+  pub children : AreChildren after.children left
+
+-- the end of a turn by a fault
+abbrev pub end_by : StoreFault → TurnEnd
+end_by fault.FileFault = FileFault
+end_by (fault.Damaged damage) = Damaged damage
+end_by fault.Memory = Memory
+end_by fault.QueueFull = Memory
+end_by fault.NumbersUsedUp = Memory
+
+-- the end of a turn, by what came of its work
+abbrev pub end_after : Result (Unit {0}) StoreFault → TurnEnd
+end_after (Ok done) = Done
+end_after (Err fault) = end_by fault
+
+-- The work of a turn: a recovery, and the steps.
+pub record Works (tells : Bool) (turn : Turn) (old new : Standing) (steps : List TurnStep) (result : Result (Unit {0}) StoreFault) : Type 0 where
+  pub inside : IsInside new.session
+  pub counts : KeepsCounts old.session new.session
+  pub kept : KeepsChildren old.session.children new.session.children
+  pub cause : HasCause fault.FileFault old.session.file_faults new.session.file_faults result
+  pub faults : IfErr result IsOfReading
+  pub children : AreChildren new.session.children new.watch.kids
+  pub ordered : AreByNumber new.watch.kids
+  pub unread : IfDamaged fault.Damaged (λ damage. IsNone steps old.watch new.watch) result
+  pub leaves : tells ≡ true → TurnLeaves turn steps old new (end_after result)

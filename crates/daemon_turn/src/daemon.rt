@@ -1,0 +1,131 @@
+//! The daemon: it keeps the children that it started, and makes turns.
+ghost use Rattle.clock_range.specs.ClockRange.{IsClockSecond};
+ghost use Rattle.std.specs.Prelude.{◌≡◌, [], IfErr};
+ghost use Rattle.host_calls.specs.Session.{IsOutside};
+ghost use Rattle.spool_store.specs.Faults.{IsOfReading};
+ghost use Rattle.daemon_turn.specs.Kids.{AreByNumber, AreChildren};
+ghost use Rattle.daemon_turn.specs.Leaving.{TurnsTo};
+ghost use Rattle.daemon_turn.specs.inside.Working.{end_after};
+
+use crate::working::work;
+use crate::{Kid, Mode, Occasion, TurnEnd, TurnReport, TurnStep, TurnSteps};
+use host_calls::{EnterFault, Host};
+use spool_store::StoreFault;
+use std::alloc::Global;
+use std::marker::Model;
+
+/// A daemon: its kids, by number, the limit of the load in hundredths, and how many seconds lie between two starts in
+/// batch queues.
+#[derive(Drop)]
+pub struct Daemon {
+    kids: Vec<Kid>,
+    limit: u32,
+    interval: u32,
+}
+
+impl Model for Daemon {
+    ghost use Rattle.daemon_turn.specs.Daemons.{Watch, watch_code};
+    ghost use Rattle.daemon_turn.specs.Kids.{AreByNumber};
+
+    ghost Value = { Watch };
+
+    ghost coded = { watch_code };
+
+    ghost view = { λ daemon. record { kids = daemon.kids.items; limit = daemon.limit; interval = daemon.interval } };
+
+    ghost invariant = { λ daemon. AreByNumber daemon.kids.items };
+}
+
+impl Daemon {
+    /// A daemon without kids. It takes no memory.
+    pub fn new(alloc: Global, limit: u32, interval: u32) -> Daemon
+        ensures { result ≡ record { kids = []; limit = limit; interval = interval } }
+    {
+        Daemon {
+            kids: Vec::new(alloc),
+            limit,
+            interval,
+        }
+    }
+
+    /// The limit of the load in hundredths: at it or above it no batch job starts.
+    pub fn limit(&self) -> u32
+        ensures { result ≡ self.now.limit }
+    {
+        self.limit
+    }
+
+    /// How many seconds lie between two starts in batch queues.
+    pub fn interval(&self) -> u32
+        ensures { result ≡ self.now.interval }
+    {
+        self.interval
+    }
+
+    /// The kids, by number.
+    pub fn kids(&self) -> &[Kid]
+        ensures kids { result.now ≡ self.now.kids }
+        ensures ordered { AreByNumber result.now }
+    {
+        self.kids.as_slice()
+    }
+
+    /// Makes one turn: gives up the jobs that run and that no kid names, asks the kids and ends the jobs of those that
+    /// have ended, starts the jobs that are due, and forgets the lowest done numbers.
+    pub fn turn<H: Host>(
+        &mut self,
+        alloc: Global,
+        host: &mut H,
+        now: i64,
+        load: Option<u32>,
+        mode: Mode,
+    ) -> TurnReport
+        requires outside { IsOutside (H.session host.old) }
+        requires now { IsClockSecond now }
+        requires children { AreChildren (H.session host.old).children self.old.kids }
+        ensures { TurnsTo H.tells H.alone (record { now = now; load = load; mode = mode })
+            (record { session = H.session host.old; world = H.world host.old; watch = self.old })
+            (record { session = H.session host.new; world = H.world host.new; watch = self.new })
+            result.end result.steps }
+    {
+        let limit = self.limit;
+        let interval = self.interval;
+        let mut steps = Vec::new(alloc);
+        match host.enter(alloc) {
+            Ok(()) => {}
+            Err(EnterFault::Taken) => return report(TurnEnd::Busy, steps),
+            Err(EnterFault::Failed) => return report(TurnEnd::FileFault, steps),
+            Err(EnterFault::Memory) => return report(TurnEnd::Memory, steps),
+        }
+        let at = Occasion { now, load, mode };
+        let worked = work(alloc, host, &mut self.kids, limit, interval, at, &mut steps);
+        host.leave();
+        report(end_of(worked), steps)
+    }
+}
+
+// The report of a turn.
+fn report(end: TurnEnd, steps: Vec<TurnStep>) -> TurnReport
+    ensures end { result.end ≡ end }
+    ensures steps { result.steps ≡ steps.items }
+{
+    TurnReport {
+        end,
+        steps: TurnSteps::from(steps),
+    }
+}
+
+// The end of a turn, by what came of its work.
+fn end_of(worked: Result<(), StoreFault>) -> TurnEnd
+    requires { IfErr worked IsOfReading }
+    ensures { result ≡ end_after worked }
+{
+    match worked {
+        Ok(()) => TurnEnd::Done,
+        Err(StoreFault::FileFault) => TurnEnd::FileFault,
+        Err(StoreFault::Damaged(damage)) => TurnEnd::Damaged(damage),
+        Err(StoreFault::Memory) => TurnEnd::Memory,
+        Err(StoreFault::QueueFull) => unreachable!(),
+        Err(StoreFault::NumbersUsedUp) => unreachable!(),
+    }
+}
