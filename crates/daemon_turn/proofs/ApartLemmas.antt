@@ -164,8 +164,8 @@ module _ {X : Type 0} (key : X → ℕ) where
   found_by xs number (Err place) rise inside at =
       let parts = at (searchable_from_sorted nat_cmp_total key xs number (rise_sorted xs rise)) in
       sym (list_any_none (λ y. key y == number) xs (λ k d within. no_test (key (slice_index_or xs k d)) number
-          (other_by (nat_cmp (key (slice_index_or xs k d)) number) (key (slice_index_or xs k d)) number (ranks (key (slice_index_or xs k d)) number)
-          (elim (cases_lt k place) [ inl before ↦ inl (parts.0 k d (omega arith) before) | inr behind ↦ inr (parts.1 k d behind within) ]))))
+      (other_by (nat_cmp (key (slice_index_or xs k d)) number) (key (slice_index_or xs k d)) number (ranks (key (slice_index_or xs k d)) number)
+      (elim (cases_lt k place) [ inl before ↦ inl (parts.0 k d (omega arith) before) | inr behind ↦ inr (parts.1 k d behind within) ]))))
 
   -- what is sorted by the number, and has no number twice, rises
   pub sorted_rise : (xs ys : List X) → IsPermutation xs ys → Differ (map key xs) → IsNonDecreasingBy key ys → RiseBy ys

@@ -112,8 +112,11 @@ module _ (tells : Bool) (before : Session) (old : World) (kept : Kept) (kids : L
         decided = record {
           answers = [];
           few = omega arith;
-          front = (front.0 ++ [], ap (λ (l : List TurnStep). l ++ ends kids []) (sym lost_is) ∙ ap (λ (l : List TurnStep). lost ++ l) (ends_of_none kids) ∙ append-nil lost ∙ front.1
-              ∙ ap (λ (l : List TurnStep). (take makes.made lost ++ take 1 (drop makes.made lost)) ++ l) (sym (append-nil front.0)));
+          front = (
+            front.0 ++ [],
+            ap (λ (l : List TurnStep). l ++ ends kids []) (sym lost_is) ∙ ap (λ (l : List TurnStep). lost ++ l) (ends_of_none kids) ∙ append-nil lost ∙ front.1
+                ∙ ap (λ (l : List TurnStep). (take makes.made lost ++ take 1 (drop makes.made lost)) ++ l) (sym (append-nil front.0)),
+          );
           all = tt;
           asked = sym (questions_of_none kids);
           flags = refl;
@@ -147,8 +150,11 @@ module _ (tells : Bool) (before : Session) (old : World) (kept : Kept) (kids : L
       decided = record {
         answers = asks.answers;
         few = asks.few;
-        front = (ends kids asks.answers, ap (λ (l : List TurnStep). l ++ ends kids asks.answers) (sym lost_is ∙ sym given_all
-            ∙ sym (append-nil (take makes.made lost ++ []) ∙ append-nil (take makes.made lost))));
+        front = (
+          ends kids asks.answers,
+          ap (λ (l : List TurnStep). l ++ ends kids asks.answers) (sym lost_is ∙ sym given_all
+              ∙ sym (append-nil (take makes.made lost ++ []) ∙ append-nil (take makes.made lost))),
+        );
         all = tt;
         asked = refl;
         flags = refl;

@@ -73,8 +73,10 @@ may_decide tells before after old new kept kids left is ordered children stays r
       go = record { inside = stays.inside; current = λ told. ((recovered told).table, (recovered told).current) };
       run = each_all (λ kid. runs_in kept.table kid ≡ true) (asked_kids kept.table kids) (asked_run kept.table kids);
       ordered = rise_filter (λ (kid : Kid). kid.number) (runs_in kept.table) kids ordered;
-      children = record { each = λ kid has. subst (λ (l : List Child). Contains l kid.child) (sym stays.children)
-          (children.each kid (contained kids kid (filtered_has (runs_in kept.table) kids kid (has_contained (asked_kids kept.table kids) kid has)).0)) };
+      children = record {
+        each = λ kid has. subst (λ (l : List Child). Contains l kid.child) (sym stays.children)
+            (children.each kid (contained kids kid (filtered_has (runs_in kept.table) kids kid (has_contained (asked_kids kept.table kids) kid has)).0));
+      };
     })
 
 -- No memory for the plan of a turn.
@@ -117,10 +119,12 @@ ordered_kids tells before after old new kept turn left sorted report outcome res
   asked = makes.asked;
   written = makes.written;
   kids = record { same = subst (λ (l : List Kid). IsPermutation l sorted) makes.kids moved; ordered = ordered };
-  children = record { each = λ kid has.
-      All-contains (λ (one : Kid). Contains after.children one.child) sorted kid
-      (All-permutation (λ (one : Kid). Contains after.children one.child) left sorted moved
-      (each_all (λ (one : Kid). Contains after.children one.child) left (λ one there. makes.children.each one (contained left one there)))) has };
+  children = record {
+    each = λ kid has.
+        All-contains (λ (one : Kid). Contains after.children one.child) sorted kid
+        (All-permutation (λ (one : Kid). Contains after.children one.child) left sorted moved
+        (each_all (λ (one : Kid). Contains after.children one.child) left (λ one there. makes.children.each one (contained left one there)))) has;
+  };
 }
 
 -- A recovery that failed.

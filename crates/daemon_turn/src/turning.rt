@@ -45,6 +45,14 @@ pub(crate) fn make_turn<H: Host>(
 {
     let store = decide(alloc, host, store, plan.lost.as_slice(), told, kids, report)?;
     // Behind this no job starts that the table of the recovery did not have ready.
-    let store = start_all(alloc, host, store, plan.order.as_slice(), second, kids, report)?;
+    let store = start_all(
+        alloc,
+        host,
+        store,
+        plan.order.as_slice(),
+        second,
+        kids,
+        report,
+    )?;
     forget_all(alloc, host, store, report)
 }

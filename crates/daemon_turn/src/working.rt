@@ -36,10 +36,16 @@ pub(crate) fn work<H: Host>(
     requires none { report.old.items ≡ [] }
     requires no_step { vec_len report.old ≡ 0 }
     ensures { Works H.tells (turn_of (record { kids = kids.old.items; limit = limit; interval = interval }) at)
-        (record { session = H.session host.old; world = H.world host.old;
-        watch = record { kids = kids.old.items; limit = limit; interval = interval } })
-        (record { session = H.session host.new; world = H.world host.new;
-        watch = record { kids = kids.new.items; limit = limit; interval = interval } })
+        (record {
+          session = H.session host.old;
+          world = H.world host.old;
+          watch = record { kids = kids.old.items; limit = limit; interval = interval };
+        })
+        (record {
+          session = H.session host.new;
+          world = H.world host.new;
+          watch = record { kids = kids.new.items; limit = limit; interval = interval };
+        })
         report.new.items result }
 {
     let store = Store::recover(alloc, host)?;
