@@ -1,11 +1,11 @@
 -- Lists of which no two elements have the same number.
-use Rattle.std.proofs.Common.{◌≡◌, ◌≢◌, ◌⊎◌, ◌<◌, ◌≤◌, ◌+◌, ◌==◌, ◌||◌, ◌++◌, ℕ, zero, suc, Bool, true, false, not, cond, nat_eq, List, [], ◌∷◌, length, map, filter, take, inl, inr, sym, ap, subst, ◌∙◌, refl, arith}
+use Rattle.std.proofs.Common.{◌≡◌, ◌≢◌, ◌⊎◌, ◌<◌, ◌≤◌, ◌+◌, ◌==◌, ◌||◌, ◌++◌, ℕ, zero, suc, Bool, true, false, cond, nat_eq, List, [], ◌∷◌, length, map, filter, inl, inr, sym, ap, subst, ◌∙◌, refl, arith}
 use Rattle.std.specs.Prelude.{AllPairs, All, Contains, IsPermutation, Result, Ok, Err, is_ok}
 use Rattle.std.specs.Bool.{Decides}
 use Rattle.std.specs.Cmp.{nat_cmp_total, ranks}
 use Rattle.std.specs.List.{list_any, slice_index_or}
 use Rattle.std.specs.List.Sorted.{IsBinarySearchResult, IsNonDecreasingBy, IsSearchInRange, IsSortedBy}
-use Rattle.std.specs.Ordering.{MatchOrdering, is_lt, nat_cmp, ordering_index}
+use Rattle.std.specs.Ordering.{MatchOrdering, is_lt, nat_cmp}
 use Rattle.std.specs.declared.cmp.Ordering.{Ordering}
 use Rattle.std.specs.declared.cmp.Ordering.TheVariants.{Less, Equal, Greater}
 use Rattle.std.proofs.lemmas.Bool.{cases_lt}
@@ -16,7 +16,7 @@ use Rattle.std.proofs.lemmas.List.Sorted.{IsPermutation-map, searchable_from_sor
 use Rattle.std.proofs.lemmas.Map.Keys.{IsDistinct-IsPermutation}
 use Rattle.std.proofs.lemmas.Map.Made.{AllPairs-from_IsDistinct, IsDistinct-from_AllPairs}
 use Rattle.queue_rules.specs.Order.{Differ}
-use Rattle.spool_shows.proofs.Membership.{Has, any_passes, contained, filtered_has, has_contained, has_either, has_filtered, has_left, has_made, has_right, made_has}
+use Rattle.spool_shows.proofs.Membership.{Has, any_passes, contained, filtered_has, has_contained, has_either, has_left, has_made, has_right, made_has}
 
 -- an item of a list is the same by any default
 same_default : {X : Type 0} (items : List X) (count : ℕ) (one other : X) → count < length items → slice_index_or items count one ≡ slice_index_or items count other

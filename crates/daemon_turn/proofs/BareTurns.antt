@@ -1,13 +1,13 @@
 -- A turn on a table without its scripts is that turn on the table.
 use Rattle.std.proofs.Common.{◌≡◌, ◌++◌, ◌&&◌, ℕ, ℤ, Bool, true, false, not, List, [], ◌∷◌, filter, length, map, sym, ap, subst, ◌∙◌, refl, inl, inr}
-use Rattle.std.specs.Prelude.{IsPermutation, Option, Some, None, Result, Ok, Err, option_map}
+use Rattle.std.specs.Prelude.{IsPermutation, Option, Some, None, option_map}
 use Rattle.std.specs.List.{list_any}
 use Rattle.host_calls.specs.declared.child.Ending.{Ending}
 use Rattle.spool_model.specs.declared.entry.Entry.TheVariants.{Live, Done}
 use Rattle.spool_model.specs.declared.row.Row.{Row}
 use Rattle.spool_model.specs.declared.step.Step.{Step}
 use Rattle.spool_model.specs.JobTable.{JobEntry, JobTable, entry_at}
-use Rattle.spool_model.specs.Lists.{done_numbers, live_rows}
+use Rattle.spool_model.specs.Lists.{live_rows}
 use Rattle.spool_model.specs.Steps.{after_steps}
 use Rattle.job_runs.specs.Bare.{bare, bare_entry, bare_step}
 use Rattle.job_runs.proofs.BareLemmas.{entries_are_bare, lists_step_as_on_the_table}
@@ -21,9 +21,9 @@ use Rattle.daemon_turn.specs.declared.step.TurnStep.{TurnStep}
 use Rattle.daemon_turn.specs.declared.step.TurnStep.TheVariants.{Interrupted}
 use Rattle.daemon_turn.specs.Decisions.{asked_kids, decisions, ends, interrupts, is_left, is_running_entry, runs_in}
 use Rattle.daemon_turn.specs.Kids.{AreKidsAfter, kept_kids, tells_end_of}
-use Rattle.daemon_turn.specs.Starting.{IsBatchOrderWhere, IsFullOrder, IsOrder, IsOrderIn, Turn, forgets, has_batch_turn, starts}
+use Rattle.daemon_turn.specs.Starting.{IsBatchOrderWhere, IsOrder, IsOrderIn, Turn, forgets, has_batch_turn, starts}
 use Rattle.daemon_turn.specs.StepsOf.{step_of, steps_of}
-use Rattle.daemon_turn.specs.Turning.{AreFirstDecisions, AreFirstStarts, AreFirstSteps, AreTurnSteps, with_forgets}
+use Rattle.daemon_turn.specs.Turning.{AreFirstSteps, AreTurnSteps, with_forgets}
 use Rattle.daemon_turn.proofs.ApartLemmas.{filter_alike}
 use Rattle.daemon_turn.proofs.MakeLemmas.{bare_is}
 

@@ -1,12 +1,11 @@
 -- What is decided of running jobs, part by part.
-use Rattle.std.proofs.Common.{◌≡◌, ◌≤◌, ◌<◌, ◌+◌, ◌-◌, ◌++◌, ◌||◌, ◌==◌, ℕ, zero, suc, Bool, true, false, not, List, [], ◌∷◌, append_assoc, append-nil, drop, filter, length, length-drop, map, min, take, sym, ap, subst, ◌∙◌, refl, arith, inl, inr}
-use Rattle.std.specs.Prelude.{All, AllPairs, IfOk, IsErrAnd, Option, Some, None, Result, Ok, Err}
+use Rattle.std.proofs.Common.{◌≡◌, ◌≤◌, ◌<◌, ◌-◌, ◌++◌, ◌||◌, ℕ, zero, suc, Bool, true, false, not, List, [], ◌∷◌, append_assoc, append-nil, drop, filter, length, length-drop, map, min, take, sym, ap, subst, ◌∙◌, refl, arith, inl, inr}
+use Rattle.std.specs.Prelude.{AllPairs, IfOk, IsErrAnd, Option, Some, None, Result, Ok, Err}
 use Rattle.std.specs.List.{list_any}
 use Rattle.std.proofs.Math.Seq.{take-length}
 use Rattle.std.proofs.lemmas.Bool.{cases_lt}
 use Rattle.std.proofs.lemmas.List.{take-append-drop}
 use Rattle.std.proofs.lemmas.List.Folds.{list_any-append, list_any_none}
-use Rattle.host_calls.specs.declared.child.Asked.{Asked}
 use Rattle.host_calls.specs.declared.child.Ending.{Ending}
 use Rattle.host_calls.specs.Session.{IsInside, Session, StaysInside}
 use Rattle.host_calls.specs.World.{World}
@@ -20,17 +19,17 @@ use Rattle.job_runs.specs.Current.{IsCurrent, Kept}
 use Rattle.job_runs.specs.Hands.{StartNothing}
 use Rattle.spool_store.specs.declared.fault.StoreFault.{StoreFault}
 use Rattle.spool_store.specs.declared.fault.StoreFault.TheVariants.{Memory}
-use Rattle.spool_shows.proofs.Membership.{Has, contained, has_left, made_has}
+use Rattle.spool_shows.proofs.Membership.{Has, has_left, made_has}
 use Rattle.daemon_turn.specs.declared.kid.Kid.{Kid}
 use Rattle.daemon_turn.specs.declared.step.TurnStep.{TurnStep}
-use Rattle.daemon_turn.specs.declared.step.TurnStep.TheVariants.{HandedOver, Ended, Interrupted, Forgotten}
-use Rattle.daemon_turn.specs.Decisions.{end_of, ends, interrupts, is_left, questions, runs_in}
+use Rattle.daemon_turn.specs.declared.step.TurnStep.TheVariants.{Ended, Interrupted}
+use Rattle.daemon_turn.specs.Decisions.{ends, interrupts, is_left, questions, runs_in}
 use Rattle.daemon_turn.specs.Kids.{AreByNumber, AreChildren, tells_end_of}
 use Rattle.daemon_turn.specs.StepsOf.{number_of, steps_of}
 use Rattle.daemon_turn.specs.inside.Asking.{AsksAll}
-use Rattle.daemon_turn.specs.inside.Deciding.{AreDecided, Decides, MakesDecisions, MayDecide}
+use Rattle.daemon_turn.specs.inside.Deciding.{AreDecided, MakesDecisions, MayDecide}
 use Rattle.daemon_turn.specs.inside.Ended.{AreEndsByNumber, is_end, without_ended}
-use Rattle.daemon_turn.specs.inside.Going.{Goes, MayGo, Part, joined}
+use Rattle.daemon_turn.specs.inside.Going.{Goes, Part, joined}
 use Rattle.daemon_turn.specs.inside.Making.{MakesAll, MayMake}
 use Rattle.daemon_turn.proofs.ApartLemmas.{Apart, all_each, each_all, filter_alike, pairs_cons, pairs_head, pairs_nil, pairs_tail, rise_apart}
 use Rattle.daemon_turn.proofs.AskLemmas.{ends_of_none, questions_of_none}

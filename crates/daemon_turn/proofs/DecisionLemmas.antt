@@ -1,7 +1,6 @@
 -- What is decided of running jobs is legal: whose numbers the steps have.
-use Rattle.std.proofs.Common.{◌≡◌, ◌==◌, ◌&&◌, ◌++◌, ℕ, ℤ, Bool, true, false, not, cond, List, [], ◌∷◌, map, filter, inl, inr, sym, ap, subst, ◌∙◌, refl}
+use Rattle.std.proofs.Common.{◌≡◌, ◌==◌, ◌++◌, ℕ, ℤ, Bool, true, false, not, List, [], ◌∷◌, map, filter, inl, inr, sym, ap, subst, ◌∙◌, refl}
 use Rattle.std.specs.Prelude.{Option, Some, None}
-use Rattle.std.specs.List.{list_any}
 use Rattle.std.proofs.lemmas.Bool.{and_parts}
 use Rattle.std.proofs.lemmas.Bool.Decides.{eqb_tells}
 use Rattle.std.proofs.lemmas.List.{map-append}
@@ -9,17 +8,15 @@ use Rattle.host_calls.specs.declared.child.Ending.{Ending}
 use Rattle.spool_model.specs.declared.entry.Entry.TheVariants.{Live, Done}
 use Rattle.spool_model.specs.declared.job.Job.{Job}
 use Rattle.spool_model.specs.declared.row.Row.{Row}
-use Rattle.spool_model.specs.declared.state.State.{State}
 use Rattle.spool_model.specs.declared.state.State.TheVariants.{Pending, Running}
 use Rattle.spool_model.specs.JobTable.{IsRunning, JobEntry, JobTable, entry_at}
 use Rattle.spool_model.specs.Lists.{live_rows}
 use Rattle.spool_model.specs.Steps.{AreLegal, IsLegal}
-use Rattle.queue_rules.specs.Order.{row_numbers}
 use Rattle.spool_shows.proofs.Membership.{Has, any_passes, filtered_has, has_either, has_made, made_has}
 use Rattle.daemon_turn.specs.declared.kid.Kid.{Kid}
 use Rattle.daemon_turn.specs.declared.step.TurnStep.{TurnStep}
 use Rattle.daemon_turn.specs.declared.step.TurnStep.TheVariants.{Ended, Interrupted}
-use Rattle.daemon_turn.specs.Decisions.{end_of, ends, has_kid, interrupts, is_left, is_running, is_running_entry, runs_in}
+use Rattle.daemon_turn.specs.Decisions.{ends, has_kid, interrupts, is_left, is_running, is_running_entry, runs_in}
 use Rattle.daemon_turn.specs.StepsOf.{number_of, step_of, steps_of}
 use Rattle.daemon_turn.proofs.ApartLemmas.{Apart, apart_append, apart_filter}
 use Rattle.daemon_turn.proofs.LegalLemmas.{legal_apart}

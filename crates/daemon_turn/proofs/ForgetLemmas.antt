@@ -1,8 +1,8 @@
 -- What is forgotten, by the list of what is done.
-use Rattle.std.proofs.Common.{◌≡◌, ◌-◌, ◌++◌, ℕ, Bool, List, [], ◌∷◌, append-nil, length, map, take, zero, suc, sym, ap, subst, ◌∙◌, refl, arith}
+use Rattle.std.proofs.Common.{◌≡◌, ◌-◌, ◌++◌, ℕ, Bool, List, [], ◌∷◌, append-nil, length, map, take, zero, suc, sym, ap, subst, ◌∙◌, refl}
 use Rattle.std.specs.Prelude.{IfOk, IsErrAnd, Result, Ok, Err}
 use Rattle.std.proofs.Math.Seq.{take-length}
-use Rattle.host_calls.specs.Session.{IsInside, Session, StaysInside}
+use Rattle.host_calls.specs.Session.{IsInside, Session}
 use Rattle.host_calls.specs.World.{World}
 use Rattle.spool_model.specs.Steps.{AreLegal, IsLegal}
 use Rattle.job_runs.specs.Current.{Kept}

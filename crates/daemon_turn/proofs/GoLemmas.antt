@@ -10,10 +10,8 @@ use Rattle.host_calls.specs.declared.child.Handed.{Handed}
 use Rattle.host_calls.specs.Session.{IsInside, KeepsCounts, Session, StaysInside}
 use Rattle.host_calls.specs.World.{World}
 use Rattle.spool_model.specs.declared.step.Step.{Step}
-use Rattle.spool_model.specs.declared.step.Step.TheVariants.{Start}
 use Rattle.spool_model.specs.JobTable.{JobTable}
-use Rattle.spool_model.specs.Steps.{IsLegal, after_step, after_steps}
-use Rattle.job_runs.specs.Bare.{bare_step}
+use Rattle.spool_model.specs.Steps.{IsLegal, after_steps}
 use Rattle.job_runs.specs.Calls.{StoreCall}
 use Rattle.job_runs.specs.Current.{IsCurrent, Kept}
 use Rattle.job_runs.specs.Hands.{StartNothing}
@@ -30,8 +28,8 @@ use Rattle.daemon_turn.specs.declared.step.TurnStep.TheVariants.{HandedOver}
 use Rattle.daemon_turn.specs.Kids.{started_numbers}
 use Rattle.daemon_turn.specs.StepsOf.{step_of, steps_of}
 use Rattle.daemon_turn.specs.inside.Going.{Gives, Goes, Part, PartEnds, joined}
-use Rattle.daemon_turn.specs.inside.Handing.{HandingEnds, HandsJobOver}
-use Rattle.daemon_turn.specs.inside.Making.{MakesAll, MakingEnds}
+use Rattle.daemon_turn.specs.inside.Handing.{HandsJobOver}
+use Rattle.daemon_turn.specs.inside.Making.{MakesAll}
 use Rattle.daemon_turn.proofs.HandLemmas.{counts_on}
 use Rattle.daemon_turn.proofs.MakeLemmas.{bare_is}
 

@@ -1,16 +1,15 @@
 -- Which kids stay, and that no two have one number.
-use Rattle.std.proofs.Common.{◌≡◌, ◌++◌, ◌||◌, ◌&&◌, ◌==◌, ℕ, ℤ, Bool, true, false, not, cond, List, [], ◌∷◌, filter, map, sym, ap, subst, ◌∙◌, refl, inl, inr}
-use Rattle.std.specs.Prelude.{Option, Some}
+use Rattle.std.proofs.Common.{◌≡◌, ◌++◌, ◌||◌, ◌&&◌, ◌==◌, ℕ, Bool, true, false, not, cond, List, [], ◌∷◌, filter, map, sym, ap, subst, ◌∙◌, refl, inl, inr}
+use Rattle.std.specs.Prelude.{Some}
 use Rattle.std.specs.List.{list_any}
 use Rattle.std.proofs.lemmas.Bool.{eqb-true}
-use Rattle.std.proofs.lemmas.Bool.Decides.{eqb_tells}
-use Rattle.std.proofs.lemmas.List.Folds.{list_any-append, list_any_none}
+use Rattle.std.proofs.lemmas.List.Folds.{list_any-append}
 use Rattle.spool_model.specs.declared.entry.Entry.TheVariants.{Live}
 use Rattle.spool_model.specs.declared.job.Job.{Job}
 use Rattle.spool_model.specs.declared.row.Row.{Row}
-use Rattle.spool_model.specs.JobTable.{IsPending, IsRunning, JobEntry, JobTable, entry_at}
+use Rattle.spool_model.specs.JobTable.{JobTable, entry_at}
 use Rattle.spool_model.specs.Lists.{live_rows}
-use Rattle.spool_shows.proofs.Membership.{Has, any_passes, filtered_has, has_filtered, has_made, made_has, one_passes}
+use Rattle.spool_shows.proofs.Membership.{Has, filtered_has, has_made, one_passes}
 use Rattle.daemon_turn.specs.declared.kid.Kid.{Kid}
 use Rattle.daemon_turn.specs.declared.step.TurnStep.{TurnStep}
 use Rattle.daemon_turn.specs.declared.step.TurnStep.TheVariants.{HandedOver, Ended, Interrupted, Forgotten}
@@ -19,7 +18,7 @@ use Rattle.daemon_turn.specs.Kids.{kept_kids, tells_end_of}
 use Rattle.daemon_turn.specs.StepsOf.{number_of}
 use Rattle.daemon_turn.specs.inside.Ended.{without_ended}
 use Rattle.daemon_turn.specs.inside.Waiting.{started_of}
-use Rattle.daemon_turn.proofs.ApartLemmas.{Apart, all_each, each_all, filter_alike}
+use Rattle.daemon_turn.proofs.ApartLemmas.{Apart, filter_alike}
 use Rattle.daemon_turn.proofs.RowLemmas.{row_held}
 
 -- what passes two tests

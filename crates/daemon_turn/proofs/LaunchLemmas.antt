@@ -1,32 +1,30 @@
 -- Jobs that are started one behind another.
 use Rattle.std.proofs.Common.{◌≡◌, ◌≤◌, ◌<◌, ◌+◌, ◌++◌, ℕ, ℤ, Bool, true, false, List, [], ◌∷◌, append_assoc, append-nil, add-one, drop, get_or, length, length-append, map, take, sym, ap, subst, ◌∙◌, refl, arith, inl, inr}
-use Rattle.std.specs.Prelude.{All, IfOk, IsErrAnd, IsSome, Option, Some, None, Result, Ok, Err, is_some}
+use Rattle.std.specs.Prelude.{IsErrAnd, Some, None, Result, Ok, Err}
 use Rattle.std.proofs.Math.Seq.{take-length, take-suc}
 use Rattle.std.proofs.lemmas.List.{drop_more, map-append, take-append-drop}
 use Rattle.host_calls.specs.declared.child.Child.{Child}
 use Rattle.host_calls.specs.declared.child.Ending.TheVariants.{NotStarted}
 use Rattle.host_calls.specs.Session.{IsInside, Session}
 use Rattle.host_calls.specs.World.{World}
-use Rattle.spool_model.specs.declared.entry.Entry.TheVariants.{Live}
-use Rattle.spool_model.specs.declared.state.State.TheVariants.{Running}
 use Rattle.spool_model.specs.declared.step.Step.TheVariants.{End, Start}
-use Rattle.spool_model.specs.JobTable.{IsPending, IsRunning, JobEntry, JobTable, entry_at}
+use Rattle.spool_model.specs.JobTable.{IsPending, IsRunning, JobTable}
 use Rattle.spool_model.specs.Steps.{IsLegal, after_step, after_steps}
 use Rattle.job_runs.specs.Current.{IsCurrent, Kept}
 use Rattle.spool_store.specs.declared.fault.StoreFault.{StoreFault}
 use Rattle.spool_store.specs.Stepping.{MayStep}
-use Rattle.spool_shows.proofs.Membership.{Has, has_either}
+use Rattle.spool_shows.proofs.Membership.{Has}
 use Rattle.daemon_turn.specs.declared.kid.Kid.{Kid}
 use Rattle.daemon_turn.specs.declared.step.TurnStep.{TurnStep}
 use Rattle.daemon_turn.specs.declared.step.TurnStep.TheVariants.{HandedOver, Ended}
 use Rattle.daemon_turn.specs.Starting.{start_steps, starts}
 use Rattle.daemon_turn.specs.StepsOf.{number_of, steps_of}
-use Rattle.daemon_turn.specs.inside.Going.{Gives, Goes, MayGo, Part, joined}
+use Rattle.daemon_turn.specs.inside.Going.{Gives, Goes, Part, joined}
 use Rattle.daemon_turn.specs.inside.Handing.{HandsJobOver}
 use Rattle.daemon_turn.specs.inside.Launching.{AreStarted, EndsUnstarted, Launches, written_by}
 use Rattle.daemon_turn.specs.inside.Waiting.{AreWaiting, started_of}
 use Rattle.daemon_turn.proofs.ApartLemmas.{Apart, all_each, apart_differ, differ_apart, each_all}
-use Rattle.daemon_turn.proofs.GoLemmas.{goes_none, goes_then, handed_part, hands_go, kept_by, kid_of, no_part, step_goes, step_part}
+use Rattle.daemon_turn.proofs.GoLemmas.{goes_none, goes_then, handed_part, hands_go, no_part, step_goes, step_part}
 use Rattle.daemon_turn.proofs.HandLemmas.{started_entry}
 use Rattle.daemon_turn.proofs.WaitLemmas.{waiting_behind}
 

@@ -1,11 +1,10 @@
 -- Steps of different jobs don't disturb each other.
-use Rattle.std.proofs.Common.{◌≡◌, ◌++◌, ℕ, List, [], ◌∷◌, map, inl, inr, sym, ap, subst, ◌∙◌, refl}
+use Rattle.std.proofs.Common.{◌≡◌, ℕ, List, [], ◌∷◌, map, inl, inr, sym, subst, ◌∙◌, refl}
 use Rattle.std.specs.Prelude.{Option, Some, None}
 use Rattle.std.specs.FinMap as finite
 use Rattle.spool_model.specs.declared.entry.Entry.TheVariants.{Done}
 use Rattle.spool_model.specs.declared.fate.Fate.TheVariants as fate
 use Rattle.spool_model.specs.declared.state.State.TheVariants.{Running}
-use Rattle.spool_model.specs.declared.step.Step.{Step}
 use Rattle.spool_model.specs.JobTable.{JobEntry, JobTable, entry_at}
 use Rattle.spool_model.specs.Steps.{AreLegal, IsLegal, after_step, after_steps, in_state, with_state}
 use Rattle.spool_model.proofs.TableLemmas.{get-put_other, get-taken_other}

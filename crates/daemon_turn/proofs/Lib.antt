@@ -4,11 +4,13 @@ pub mod BareTurns
 pub mod DaemonLemmas
 pub mod DecideLemmas
 pub mod DecisionLemmas
+pub mod Examples
 pub mod ForgetLemmas
 pub mod GoLemmas
 pub mod HandLemmas
 pub mod KidLemmas
 pub mod LaunchLemmas
+pub mod LawLemmas
 pub mod LegalLemmas
 pub mod MakeLemmas
 pub mod PlanLemmas

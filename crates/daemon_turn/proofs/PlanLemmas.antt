@@ -1,16 +1,14 @@
 -- What a turn will do, by the rows of the store.
 use Rattle.clock_range.specs.ClockRange.{IsClockSecond}
 use Rattle.std.proofs.lemmas.Int.{ints, to_z-of_z}
-use Rattle.std.proofs.Common.{◌≡◌, ◌++◌, ℕ, ℤ, Bool, true, false, FitsSigned, List, [], ◌∷◌, append-nil, arith, of_z, to_z, w64, filter, map, sym, ap, subst, ◌∙◌, refl, inl, inr}
+use Rattle.std.proofs.Common.{◌≡◌, ◌++◌, ℕ, ℤ, Bool, true, FitsSigned, List, [], arith, of_z, to_z, w64, filter, map, sym, ap, subst, refl, inl, inr}
 use Rattle.std.specs.Prelude.{IfNone, IfSome, Option, Some, None, option_to_list}
 use Rattle.spool_model.specs.declared.row.Row.{Row}
 use Rattle.spool_model.specs.JobTable.{JobTable}
-use Rattle.spool_model.specs.Lists.{live_rows}
 use Rattle.queue_rules.specs.Order.{AreInDueOrder, IsFirstBatch, is_ready_batch, places_of}
 use Rattle.spool_store.specs.Listed.{ListsLive}
 use Rattle.spool_store.proofs.CountLemmas.{rows_listed}
 use Rattle.daemon_turn.specs.declared.kid.Kid.{Kid}
-use Rattle.daemon_turn.specs.declared.step.TurnStep.{TurnStep}
 use Rattle.daemon_turn.specs.declared.step.TurnStep.TheVariants.{Interrupted}
 use Rattle.daemon_turn.specs.Decisions.{interrupts, is_left}
 use Rattle.daemon_turn.specs.Starting.{IsBatchOrderWhere, IsFullOrder, Turn, has_batch_turn}

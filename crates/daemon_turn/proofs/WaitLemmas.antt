@@ -1,6 +1,6 @@
 -- The jobs that a turn starts wait until they are started.
 use Rattle.std.proofs.Common.{◌≡◌, ◌≢◌, ◌++◌, ℕ, ℤ, Bool, true, false, not, List, [], ◌∷◌, map, inl, inr, sym, ap, subst, ◌∙◌, refl}
-use Rattle.std.specs.Prelude.{All, Contains, IsTrue, Option, Some}
+use Rattle.std.specs.Prelude.{Option, Some}
 use Rattle.std.proofs.lemmas.Bool.{and_parts}
 use Rattle.spool_model.specs.declared.entry.Entry.TheVariants.{Live}
 use Rattle.spool_model.specs.declared.job.Job.{Job}
@@ -10,7 +10,7 @@ use Rattle.spool_model.specs.declared.state.State.TheVariants.{Pending, Running}
 use Rattle.spool_model.specs.JobTable.{IsPending, IsRunning, JobEntry, JobTable, entry_at, is_batch_queue}
 use Rattle.spool_model.specs.Lists.{live_rows}
 use Rattle.spool_model.specs.Steps.{after_steps}
-use Rattle.queue_rules.specs.Order.{AreInDueOrder, Differ, IsFirstBatch, IsNumberOf, is_pending, is_ready, is_ready_batch, is_ready_job, row_numbers}
+use Rattle.queue_rules.specs.Order.{AreInDueOrder, IsNumberOf, is_pending, is_ready, is_ready_job, row_numbers}
 use Rattle.queue_rules.specs.Queues.{is_due}
 use Rattle.queue_rules.proofs.StartLemmas.{batch_is_apart, batch_number, due_numbers, due_numbers_differ}
 use Rattle.spool_shows.proofs.Membership.{Has, has_contained, has_either}

@@ -1,5 +1,5 @@
 -- The work of a turn: a recovery, and the steps of the turn.
-use Rattle.std.proofs.Common.{◌≡◌, ◌≤◌, ◌<◌, ◌++◌, ℕ, ℤ, Bool, true, false, not, cond, List, [], ◌∷◌, append-nil, filter, length, map, sym, ap, subst, ◌∙◌, refl, arith, inl, inr}
+use Rattle.std.proofs.Common.{◌≡◌, ◌++◌, ℕ, Bool, true, not, cond, List, [], ◌∷◌, append-nil, filter, map, sym, ap, subst, ◌∙◌, refl, arith, inl, inr}
 use Rattle.std.specs.Prelude.{All, Contains, IfOk, IfSome, IfNone, IsErrAnd, IsPermutation, Option, Some, None, Result, Ok, Err}
 use Rattle.std.specs.List.{list_any}
 use Rattle.std.proofs.lemmas.List.{length-map}
@@ -10,46 +10,40 @@ use Rattle.host_calls.specs.declared.child.Ending.{Ending}
 use Rattle.host_calls.specs.declared.child.Handed.{Handed}
 use Rattle.host_calls.specs.declared.damage.Damage.{Damage}
 use Rattle.host_calls.specs.Damages.{IfDamaged}
-use Rattle.host_calls.specs.Folder.{Files, Folder, IsImage}
-use Rattle.host_calls.specs.Session.{CallsInside, IsInside, Session, StaysInside}
+use Rattle.host_calls.specs.Session.{CallsInside, Session, StaysInside}
 use Rattle.host_calls.specs.World.{World, reading}
-use Rattle.spool_model.specs.declared.entry.Entry.TheVariants.{Live, Done}
-use Rattle.spool_model.specs.declared.row.Row.{Row}
-use Rattle.spool_model.specs.JobTable.{JobEntry, JobTable, entry_at}
+use Rattle.spool_model.specs.JobTable.{JobTable}
 use Rattle.spool_model.specs.Steps.{after_steps}
-use Rattle.spool_shows.specs.Shown.{Shows, shown_by}
+use Rattle.spool_shows.specs.Shown.{Shows}
 use Rattle.spool_shows.proofs.Membership.{Has, contained, filtered_has, has_contained}
 use Rattle.whole_file.specs.Others.{ChangesFiles}
-use Rattle.job_runs.specs.Attempts.{IsAchieved, IsBegun}
+use Rattle.job_runs.specs.Attempts.{IsBegun}
 use Rattle.job_runs.specs.Bare.{bare}
 use Rattle.job_runs.specs.Calls.{ShowsAsBefore}
-use Rattle.job_runs.specs.Current.{IsCurrent, Kept}
+use Rattle.job_runs.specs.Current.{Kept}
 use Rattle.job_runs.specs.Made.{AreMade, AreStopped, HandsFronts, flags_of}
 use Rattle.job_runs.proofs.AttemptLemmas.{recoveries_begin_nothing}
 use Rattle.job_runs.proofs.MadeLemmas.{fronts_changed, fronts_then, made_steps_are_achieved, no_steps_are_made, stopped_steps_are_begun}
 use Rattle.spool_store.specs.declared.fault.StoreFault.{StoreFault}
 use Rattle.spool_store.specs.declared.fault.StoreFault.TheVariants as fault
 use Rattle.spool_store.specs.Faults.{IsOfReading, IsOfStep}
-use Rattle.spool_store.specs.Listed.{IsLive, IsRowOf}
 use Rattle.spool_store.specs.Recovering.{IsRecovered, Recovered}
 use Rattle.daemon_turn.specs.declared.kid.Kid.{Kid}
-use Rattle.daemon_turn.specs.declared.report.TurnEnd.{TurnEnd}
 use Rattle.daemon_turn.specs.declared.step.TurnStep.{TurnStep}
-use Rattle.daemon_turn.specs.Daemons.{Watch}
 use Rattle.daemon_turn.specs.Decisions.{asked_kids, is_running, is_running_entry, questions, runs_in}
 use Rattle.daemon_turn.specs.Kids.{AreByNumber, AreChildren, AreKidsAfter, KeepsChildren, kept_kids, tells_end_of}
-use Rattle.daemon_turn.specs.Leaving.{Gave, IsIdle, IsNone, IsStopped, IsWhole, Standing, TurnLeaves}
+use Rattle.daemon_turn.specs.Leaving.{Gave, IsIdle, IsStopped, IsWhole, Standing, TurnLeaves}
 use Rattle.daemon_turn.specs.Starting.{Turn}
 use Rattle.daemon_turn.specs.StepsOf.{steps_of}
 use Rattle.daemon_turn.specs.inside.Deciding.{MayDecide}
 use Rattle.daemon_turn.specs.inside.Ended.{without_ended}
-use Rattle.daemon_turn.specs.inside.Going.{Gives, Goes, MayGo, Part}
+use Rattle.daemon_turn.specs.inside.Going.{Gives, Goes, Part}
 use Rattle.daemon_turn.specs.inside.Turned.{MakesTurn}
 use Rattle.daemon_turn.specs.inside.Working.{TurnsOn, Works, end_after, unit_of}
 use Rattle.daemon_turn.proofs.ApartLemmas.{all_each, each_all, rise_filter}
 use Rattle.daemon_turn.proofs.AskLemmas.{questions_of_none}
 use Rattle.daemon_turn.proofs.BareTurns.{asked_alike, first_alike, kids_after_alike, turn_alike}
-use Rattle.daemon_turn.proofs.DecisionLemmas.{EachRuns, asked_run}
+use Rattle.daemon_turn.proofs.DecisionLemmas.{asked_run}
 use Rattle.daemon_turn.proofs.GoLemmas.{asked_part, memory_goes, stays_inside, steps_join}
 use Rattle.daemon_turn.proofs.HandLemmas.{counts_on}
 use Rattle.daemon_turn.proofs.KidLemmas.{kids_stay}

@@ -1,8 +1,10 @@
 pub mod Daemons
 pub mod Decisions
 pub mod Kids
+pub mod Laws
 pub mod Leaving
 pub mod Starting
 pub mod StepsOf
 pub mod Turning
+pub mod Twice
 pub mod inside

@@ -11,7 +11,7 @@ use Rattle.spool_store.specs.declared.fault.StoreFault.TheVariants as fault
 use Rattle.spool_store.specs.Faults.{IsOfReading}
 use Rattle.daemon_turn.specs.declared.kid.Kid.{Kid}
 use Rattle.daemon_turn.specs.declared.report.TurnEnd.{TurnEnd}
-use Rattle.daemon_turn.specs.declared.report.TurnEnd.TheVariants.{Done, Busy, FileFault, Damaged, Memory}
+use Rattle.daemon_turn.specs.declared.report.TurnEnd.TheVariants.{Done, FileFault, Damaged, Memory}
 use Rattle.daemon_turn.specs.declared.step.TurnStep.{TurnStep}
 use Rattle.daemon_turn.specs.Decisions.{asked_kids, questions}
 use Rattle.daemon_turn.specs.Kids.{AreByNumber, AreChildren, AreKidsAfter, KeepsChildren}
@@ -53,7 +53,8 @@ end_after (Ok done) = Done
 end_after (Err fault) = end_by fault
 
 -- The work of a turn: a recovery, and the steps.
-pub record Works (tells : Bool) (turn : Turn) (old new : Standing) (steps : List TurnStep) (result : Result (Unit {0}) StoreFault) : Type 0 where
+pub record Works (tells : Bool) (turn : Turn) (old new : Standing) (steps : List TurnStep)
+    (result : Result (Unit {0}) StoreFault) : Type 0 where
   pub inside : IsInside new.session
   pub counts : KeepsCounts old.session new.session
   pub kept : KeepsChildren old.session.children new.session.children

@@ -1,6 +1,4 @@
-use Rattle.std.proofs.Common.{◌≡◌, [], ◌++◌, List, ap, arith, ◌∙◌}
-use Rattle.std.specs.Prelude.{Ok}
-use Rattle.daemon_turn.specs.declared.step.TurnStep.{TurnStep}
+use Rattle.std.proofs.Common.{arith, ◌∙◌}
 use Rattle.daemon_turn.proofs.DecideLemmas.{asked_as, children_stay, ended_all, given_up_table, may_end_all, may_give_up, now_current, asked_slice, stopped_asking, stopped_giving_up}
 use Rattle.daemon_turn.proofs.deciding.make_decisions.Goals as goal
 

@@ -1,4 +1,4 @@
-use Rattle.std.proofs.Common.{◌≡◌, ◌∙◌, List, subst, sym}
+use Rattle.std.proofs.Common.{◌∙◌, List, subst, sym}
 use Rattle.daemon_turn.specs.declared.step.TurnStep.{TurnStep}
 use Rattle.daemon_turn.specs.inside.Forgetting.{Forgets}
 use Rattle.daemon_turn.proofs.ForgetLemmas.{forgot_all, forgot_nothing, may_forget}

@@ -1,4 +1,4 @@
-use Rattle.std.proofs.Common.{None, Some, w64, refl}
+use Rattle.std.proofs.Common.{None, Some, w64}
 use Rattle.std.proofs.lemmas.Int.{to_z-of_z}
 use Rattle.daemon_turn.proofs.HandLemmas.{handed_at, unhanded_at}
 use Rattle.daemon_turn.proofs.LaunchLemmas.{launched, launched_none, launched_not, may_end, report_at}

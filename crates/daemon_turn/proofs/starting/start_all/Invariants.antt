@@ -1,4 +1,4 @@
-use Rattle.std.proofs.Common.{◌≡◌, ◌+◌, ◌*◌, ◌≤◌, length, vec_capacity, vec_len}
+use Rattle.std.proofs.Common.{◌+◌, ◌*◌, ◌≤◌, length, vec_capacity, vec_len}
 use Rattle.daemon_turn.proofs.LaunchLemmas.{HasLaunched}
 use Rattle.daemon_turn.proofs.starting.start_all.Given as goal
 

@@ -1,4 +1,4 @@
-use Rattle.std.proofs.Common.{ap, sym, subst, ◌∙◌, refl, w64}
+use Rattle.std.proofs.Common.{ap, sym, subst, ◌∙◌, of_z, refl, to_z, w64}
 use Rattle.std.proofs.lemmas.Int.{to_z-of_z}
 use Rattle.std.specs.Prelude.{Err}
 use Rattle.host_calls.specs.declared.fault.EnterFault.{EnterFault}
@@ -40,5 +40,7 @@ returns g c =
     (g.H.Host.session c.args.host.now) (g.H.Host.session c.enter.new.self) (g.H.Host.session c.work-worked.new.host) (g.H.Host.session c.leave.new.self)
     (g.H.Host.world c.args.host.now) (g.H.Host.world c.enter.new.self) (g.H.Host.world c.work-worked.new.host) (g.H.Host.world c.leave.new.self)
     watch now refl refl c.work-worked.new.report.items c.work-worked.result c.in-Ok.ensures.enters c.in-Ok.ensures.alone
-    (works_at g.H.Host.tells watch _ c.args.now c.args.load c.args.mode _ _ c.work-worked.new.report.items c.work-worked.result (to_z-of_z w64 c.args.now c.ranges.now) c.work-worked.ensures) c.leave.ensures.left c.leave.ensures.alone
+    (works_at g.H.Host.tells watch (to_z w64 (of_z w64 c.args.now)) c.args.now c.args.load c.args.mode
+    (record { session = g.H.Host.session c.enter.new.self; world = g.H.Host.world c.enter.new.self; watch = watch })
+    (record { session = g.H.Host.session c.work-worked.new.host; world = g.H.Host.world c.work-worked.new.host; watch = now }) c.work-worked.new.report.items c.work-worked.result (to_z-of_z w64 c.args.now c.ranges.now) c.work-worked.ensures) c.leave.ensures.left c.leave.ensures.alone
     c.report-2.result.end (c.report-2.ensures.end ∙ c.end_of.ensures)))

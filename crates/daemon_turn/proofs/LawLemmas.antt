@@ -1,0 +1,60 @@
+-- What follows of every turn.
+use Rattle.std.proofs.Common.{◌≡◌, List, sym, ◌∙◌, refl, inl, inr}
+use Rattle.std.specs.Prelude.{Result, Ok, Err}
+use Rattle.host_calls.specs.declared.child.Handed.{Handed}
+use Rattle.host_calls.specs.declared.damage.Damage.{Damage}
+use Rattle.host_calls.specs.Folder.{Files, IsImage}
+use Rattle.host_calls.specs.World.{LeavesOnly, World, reading}
+use Rattle.host_calls.proofs.WorldLemmas.{at_end, leaves_weaker}
+use Rattle.spool_model.specs.declared.step.Step.{Step}
+use Rattle.spool_model.specs.JobTable.{JobTable}
+use Rattle.spool_model.specs.Steps.{after_steps}
+use Rattle.spool_shows.specs.Shown.{shown_by}
+use Rattle.job_runs.specs.Attempts.{IsAsBefore, IsBegun, IsOnTheWay, IsUnbegun}
+use Rattle.daemon_turn.specs.declared.report.TurnEnd.{TurnEnd}
+use Rattle.daemon_turn.specs.declared.report.TurnEnd.TheVariants.{Done, Busy, FileFault, Damaged, Memory}
+use Rattle.daemon_turn.specs.declared.step.TurnStep.{TurnStep}
+use Rattle.daemon_turn.specs.Laws.{GoodFoldersStayGood, IsGood, TurnsAreDone}
+use Rattle.daemon_turn.specs.Leaving.{Standing, TurnLeaves}
+use Rattle.daemon_turn.specs.Starting.{Turn, turn_of}
+
+no_damage : (table : JobTable) (damage : Damage) (shown : Result JobTable Damage) → shown ≡ Ok table → shown ≡ Err damage → ⊥
+no_damage table damage shown is bad = let impossible : ◌≡◌ {A = Result JobTable Damage} (Ok table) (Err damage) = sym is ∙ bad in cc
+
+pub turns_are_done : TurnsAreDone
+turns_are_done tells alone at old new Done steps turn told is_alone table shown no_taken no_fault = tt
+turns_are_done tells alone at old new Memory steps turn told is_alone table shown no_taken no_fault = tt
+turns_are_done tells alone at old new Busy steps turn told is_alone table shown no_taken no_fault = no_taken (turn.busy refl)
+turns_are_done tells alone at old new FileFault steps turn told is_alone table shown no_taken no_fault = no_fault (turn.fault refl)
+turns_are_done tells alone at old new (Damaged damage) steps turn told is_alone table shown no_taken no_fault =
+    no_damage table damage (shown_by (reading old.world)) shown (turn.leaves told is_alone).1
+
+-- an image as before is good
+module _ (old new : World) (good : (image : Files) → IsImage old.now.folder image → IsGood image) where
+  good_before : (image : Files) (handed : List Handed) → IsAsBefore old.now image handed → IsGood image
+  good_before image handed is = (let from : IsGood is.0.from = good is.0.from is.0.was in (from.0, is.0.same ∙ from.1))
+
+  good_on_the_way : (table : JobTable) (steps : List Step) (image : Files) (handed : List Handed) → IsOnTheWay table steps old.now image handed → IsGood image
+  good_on_the_way table steps image handed (inl before) = good_before image handed before
+  good_on_the_way table steps image handed (inr along) = (after_steps table along.stepping.front, along.stepping.shows)
+
+  good_unbegun : IsUnbegun old new → LeavesOnly (λ image handed. IsGood image) old new
+  good_unbegun unbegun = leaves_weaker (IsAsBefore old.now) (λ image handed. IsGood image) old new good_before unbegun.leaves
+
+  good_begun : (table : JobTable) (steps : List Step) → IsBegun table steps old new → LeavesOnly (λ image handed. IsGood image) old new
+  good_begun table steps begun = leaves_weaker (IsOnTheWay table steps old.now) (λ image handed. IsGood image) old new (good_on_the_way table steps) begun.leaves
+
+good_by : (turn : Turn) (steps : List TurnStep) (old new : Standing) (end : TurnEnd) → TurnLeaves turn steps old new end → ((image : Files) → IsImage old.world.now.folder image → IsGood image) →
+    LeavesOnly (λ image handed. IsGood image) old.world new.world
+good_by turn steps old new Done whole good = good_begun old.world new.world good whole.table _ whole.achieved.begun
+good_by turn steps old new Busy idle good = good_unbegun old.world new.world good idle.0.unbegun
+good_by turn steps old new FileFault (inl idle) good = good_unbegun old.world new.world good idle.unbegun
+good_by turn steps old new FileFault (inr stopped) good = good_begun old.world new.world good stopped.table _ stopped.begun
+good_by turn steps old new (Damaged damage) idle good = good_unbegun old.world new.world good idle.0.unbegun
+good_by turn steps old new Memory (inl idle) good = good_unbegun old.world new.world good idle.unbegun
+good_by turn steps old new Memory (inr stopped) good = good_begun old.world new.world good stopped.table _ stopped.begun
+
+pub good_folders_stay_good : GoodFoldersStayGood
+good_folders_stay_good tells alone at old new end steps turn told is_alone good =
+    let leaves : LeavesOnly (λ image handed. IsGood image) old.world new.world = good_by (turn_of old.watch at) steps old new end (turn.leaves told is_alone) good in
+    record { leaves = leaves; now = at_end (λ image handed. IsGood image) old.world new.world leaves good }

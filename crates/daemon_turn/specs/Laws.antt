@@ -1,0 +1,42 @@
+-- What follows of every turn: why it ends as it does, and that a folder that shows a table comes to show no damage (own).
+use Rattle.std.specs.Prelude.{◌≡◌, Bool, true, List, Ok}
+use Rattle.host_calls.specs.Causes.{Rose}
+use Rattle.host_calls.specs.Folder.{Files, IsImage}
+use Rattle.host_calls.specs.World.{HasEachImage, LeavesOnly, reading}
+use Rattle.spool_model.specs.JobTable.{JobTable}
+use Rattle.spool_shows.specs.Shown.{Shows, shown_by}
+use Rattle.daemon_turn.specs.declared.occasion.Occasion.{Occasion}
+use Rattle.daemon_turn.specs.declared.report.TurnEnd.{TurnEnd}
+use Rattle.daemon_turn.specs.declared.report.TurnEnd.TheVariants.{Done, Busy, FileFault, Damaged, Memory}
+use Rattle.daemon_turn.specs.declared.step.TurnStep.{TurnStep}
+use Rattle.daemon_turn.specs.Leaving.{Standing, TurnsTo}
+
+-- all steps were made, or memory was wanting
+abbrev pub IsDoneOrMemory : TurnEnd → Type 0
+IsDoneOrMemory Done = Unit {0}
+IsDoneOrMemory Memory = Unit {0}
+IsDoneOrMemory Busy = ⊥
+IsDoneOrMemory FileFault = ⊥
+IsDoneOrMemory (Damaged damage) = ⊥
+
+-- where the reading shows a table, and no count of files or of taken locks rose, the turn is done or wants memory
+abbrev pub TurnsAreDone : Type 0
+TurnsAreDone = (tells alone : Bool) (at : Occasion) (old new : Standing) (end : TurnEnd) (steps : List TurnStep) →
+    TurnsTo tells alone at old new end steps → tells ≡ true → alone ≡ true →
+    (table : JobTable) → shown_by (reading old.world) ≡ Ok table →
+    ¬ (Rose old.session.taken new.session.taken) → ¬ (Rose old.session.file_faults new.session.file_faults) → IsDoneOrMemory end
+
+-- the image shows a table
+abbrev pub IsGood : Files → Type 0
+IsGood image = (table : JobTable) × Shows image table
+
+-- each image of each moment shows a table, and so does each that the end leaves
+pub record StaysGood (old new : Standing) : Type 0 where
+  pub leaves : LeavesOnly (λ image handed. IsGood image) old.world new.world
+  pub now : HasEachImage (λ image handed. IsGood image) new.world.now
+
+-- where each image shows a table, each that a turn leaves shows one
+abbrev pub GoodFoldersStayGood : Type 0
+GoodFoldersStayGood = (tells alone : Bool) (at : Occasion) (old new : Standing) (end : TurnEnd) (steps : List TurnStep) →
+    TurnsTo tells alone at old new end steps → tells ≡ true → alone ≡ true →
+    ((image : Files) → IsImage old.world.now.folder image → IsGood image) → StaysGood old new
