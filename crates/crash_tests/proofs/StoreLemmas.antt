@@ -1,12 +1,9 @@
 -- What the lists of a store tell of one number, and that a store stays current.
-use Rattle.std.proofs.Common.{◌≡◌, ◌<◌, ℕ, List, length, sym, ap, subst, ◌∙◌}
-use Rattle.std.specs.Prelude.{Some, Contains, IfOk, Result, Ok, Err, slice_index_or}
+use Rattle.std.proofs.Common.{◌≡◌, ◌<◌, ℕ, List, length, sym, ap, ◌∙◌}
+use Rattle.std.specs.Prelude.{IfOk, Result, Ok, Err, slice_index_or}
 use Rattle.std.proofs.lemmas.List.Elements.{Contains-get_or}
 use Rattle.host_calls.specs.World.{World}
 use Rattle.spool_model.specs.declared.decided.Decided.{Decided}
-use Rattle.spool_model.specs.declared.entry.Entry.TheVariants.{Live}
-use Rattle.spool_model.specs.declared.job.Job.{Job}
-use Rattle.spool_model.specs.declared.row.Row.{Row}
 use Rattle.spool_model.specs.declared.step.Step.{Step}
 use Rattle.spool_model.specs.JobTable.{IsDone, JobTable, entry_at}
 use Rattle.job_runs.specs.Calls.{StoreCall}

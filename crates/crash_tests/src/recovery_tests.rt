@@ -1,7 +1,8 @@
 //! Recovery of small folders, of what was left over, and of a long journal.
 use crate::spools::{ENDED, JOB, NEW_YEAR, SCRIPT, STARTED, files, name, session};
 use crate::store_calls::has;
-use host_calls::Ending;
+use daemon_turn::{Daemon, Mode, TurnEnd, TurnStep};
+use host_calls::{Ending, Host};
 use spool_model::{Decided, Fate, State};
 use spool_store::Store;
 use std::alloc::Global;
@@ -124,5 +125,22 @@ fn ten_thousand_and_one_numbers_are_done(rt: HostRuntime) -> Result<(), Fail> {
     let store = Store::recover(alloc, &mut host)?;
     assert_eq!(rt; (store.last(), store.rows().len()), (10_001, 0));
     assert_eq!(rt; store.decided().len(), 10_001);
+    Ok(())
+}
+
+#[test]
+fn a_turn_forgets_the_lowest_of_them(rt: HostRuntime) -> Result<(), Fail> {
+    let alloc = rt.alloc();
+    let marks = removals(alloc, 10_001)?;
+    let given = files(alloc, &[(".SEQ", b"02711\n"), (".JRN", marks.as_bytes())])?;
+    let mut host = session(alloc, given)?;
+    host.leave();
+    let mut daemon = Daemon::new(alloc, 150, 60);
+    let report = daemon.turn(alloc, &mut host, NEW_YEAR, None, Mode::Full);
+    assert!(rt; matches!(report.end, TurnEnd::Done));
+    assert_eq!(rt;
+        report.steps.as_slice(),
+        [TurnStep::Forgotten(1)].as_slice()
+    );
     Ok(())
 }

@@ -1,5 +1,6 @@
 pub mod inside
 pub mod Children
+pub mod Counted
 pub mod Endings
 pub mod UnixHost
 pub mod Unsynced

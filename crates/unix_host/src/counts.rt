@@ -1,5 +1,5 @@
 //! How often the outside failed.
-ghost use Rattle.std.specs.Prelude.{◌≡◌, ◌≤◌, IsErrOf};
+ghost use Rattle.std.specs.Prelude.{◌≡◌, ◌≢◌, ◌≤◌, IsErrOf};
 ghost use Rattle.host_calls.specs.Causes.{HasCause, Rose};
 
 use host_calls::{EnterFault, HostFault, StartFault};
@@ -17,6 +17,7 @@ impl Counts {
     pub fn file_call<T>(&mut self, answer: Result<T, HostFault>) -> Result<T, HostFault>
         ensures same { result ≡ answer }
         ensures cause { HasCause HostFault.Failed self.old.files self.new.files result }
+        ensures quiet { ¬ (IsErrOf result HostFault.Failed) → self.new.files ≡ self.old.files }
         ensures starts { self.new.starts ≡ self.old.starts }
         ensures taken { self.new.taken ≡ self.old.taken }
     {
@@ -30,6 +31,7 @@ impl Counts {
     pub fn start_call<T>(&mut self, answer: Result<T, StartFault>) -> Result<T, StartFault>
         ensures same { result ≡ answer }
         ensures cause { HasCause StartFault.Failed self.old.starts self.new.starts result }
+        ensures quiet { ¬ (IsErrOf result StartFault.Failed) → self.new.starts ≡ self.old.starts }
         ensures files { self.new.files ≡ self.old.files }
         ensures taken { self.new.taken ≡ self.old.taken }
     {
@@ -45,6 +47,8 @@ impl Counts {
         ensures failed { fault ≡ EnterFault.Failed → Rose self.old.files self.new.files }
         ensures more_taken { self.old.taken ≤ self.new.taken }
         ensures more_files { self.old.files ≤ self.new.files }
+        ensures no_taken { fault ≢ EnterFault.Taken → self.new.taken ≡ self.old.taken }
+        ensures no_failed { fault ≢ EnterFault.Failed → self.new.files ≡ self.old.files }
         ensures starts { self.new.starts ≡ self.old.starts }
     {
         match fault {

@@ -1,5 +1,6 @@
 //! Standard error.
-ghost use Rattle.std.specs.Prelude.{◌≡◌, [], false};
+ghost use Rattle.std.specs.Prelude.{◌≡◌, [], false, IsErrOf};
+ghost use Rattle.host_calls.specs.Causes.{HasCause};
 ghost use Rattle.unix_host.specs.Untold.{untold_content};
 
 use host_calls::{Sink, SinkFault};
@@ -29,7 +30,10 @@ impl<R: Eprint + Drop> Sink for UnixErr<R> {
 
     ghost outlet = { λ own. record { made_as = []; sink_faults = own.sink_faults } };
 
-    fn put(&mut self, alloc: Global, bytes: &[u8]) -> Result<(), SinkFault> {
+    fn put(&mut self, alloc: Global, bytes: &[u8]) -> Result<(), SinkFault>
+        ensures cause { HasCause SinkFault.Failed self.old.sink_faults self.new.sink_faults result }
+        ensures counts { ¬ (IsErrOf result SinkFault.Failed) → self.new.sink_faults ≡ self.old.sink_faults }
+    {
         let _ = alloc;
         if let Ok(text) = std::str::from_utf8(bytes) {
             if self.rt.eprint(text).is_ok() {

@@ -1,13 +1,15 @@
 //! A spool folder on a disk.
-ghost use Rattle.std.specs.Prelude.{◌≡◌, ◌≢◌, [], true, false, Contains, IsErrOf, IsSome, IsSorted, IfOk, IfSome, OnErr, OnOk, Ok, Some, slice_get};
+ghost use Rattle.std.specs.Prelude.{◌≡◌, ◌≢◌, ◌≤◌, [], false, Contains, IsErrOf, IsSome, IsSorted, IfOk, IfSome, OnOk, Ok, Some, slice_get, vec_len};
 ghost use Rattle.host_calls.specs.Causes.{HasCause, Rose};
 ghost use Rattle.host_calls.specs.Folder.{name_cmp};
-ghost use Rattle.host_calls.specs.Session.{IsInside, IsOutside, CallsInside, Enters, Starts, StaysInside};
+ghost use Rattle.host_calls.specs.Session.{IsInside, IsLeft, IsOutside, CallsInside, Enters, Starts, StaysInside};
+ghost use Rattle.unix_host.specs.Counted.{CountsEnters, CountsFiles, CountsNothing, CountsStarts};
 ghost use Rattle.unix_host.specs.declared.unsynced.Unsynced.{Unsynced};
 ghost use Rattle.unix_host.specs.UnixHost.{ending_in, starts_of, session_of, told_of, torn_file, unsynced_of};
 ghost use Rattle.unix_host.specs.Untold.{untold_world};
 
 use crate::counts::Counts;
+use crate::finish::finish;
 use crate::job::{JobStart, Kid, ending_of};
 use crate::locked::LockedFolder;
 use crate::{files, job};
@@ -49,25 +51,6 @@ impl<R: Runtime<File = File> + Processes> UnixHost<R> {
     }
 }
 
-// After a call on the files.
-fn finish<T>(
-    folder: &mut LockedFolder,
-    counts: &mut Counts,
-    answer: Result<T, HostFault>,
-) -> Result<T, HostFault>
-    ensures same { result ≡ answer }
-    ensures cause { HasCause HostFault.Failed counts.old.files counts.new.files result }
-    ensures starts { counts.new.starts ≡ counts.old.starts }
-    ensures taken { counts.new.taken ≡ counts.old.taken }
-    ensures ok { OnOk answer (folder.new.changes ≡ folder.old.changes) }
-    ensures failed { OnErr answer (folder.new.changes ≡ record folder.old.changes { has_failed = true }) }
-{
-    if answer.is_err() {
-        folder.fail();
-    }
-    counts.file_call(answer)
-}
-
 impl<R: Runtime<File = File> + Processes> Host for UnixHost<R> {
     ghost tells = { false };
 
@@ -84,6 +67,7 @@ impl<R: Runtime<File = File> + Processes> Host for UnixHost<R> {
             → Rose (session_of self.old).taken (session_of self.new).taken }
         ensures failed { IsErrOf result EnterFault.Failed
             → Rose (session_of self.old).file_faults (session_of self.new).file_faults }
+        ensures counts { CountsEnters (session_of self.old) (session_of self.new) result }
         ensures told { OnOk result (unsynced_of self.new ≡ told_of self.new) }
     {
         match LockedFolder::enter(&self.rt, alloc, self.spool.as_str()) {
@@ -98,7 +82,11 @@ impl<R: Runtime<File = File> + Processes> Host for UnixHost<R> {
         }
     }
 
-    fn leave(&mut self) {
+    fn leave(&mut self)
+        requires { IsInside (session_of self.old) }
+        ensures left { IsLeft (session_of self.old) (session_of self.new) }
+        ensures counts { CountsNothing (session_of self.old) (session_of self.new) }
+    {
         if let Some(folder) = self.folder.take() {
             folder.leave();
         }
@@ -107,6 +95,7 @@ impl<R: Runtime<File = File> + Processes> Host for UnixHost<R> {
     fn names(&mut self, alloc: Global) -> Result<Vec<Name>, HostFault>
         requires { IsInside (session_of self.old) }
         ensures inside { CallsInside HostFault.Failed (session_of self.old) (session_of self.new) result }
+        ensures counts { CountsFiles (session_of self.old) (session_of self.new) result }
         ensures order { IfOk result (λ names. IsSorted name_cmp names.items) }
     {
         let Some(folder) = &mut self.folder else {
@@ -116,7 +105,11 @@ impl<R: Runtime<File = File> + Processes> Host for UnixHost<R> {
         finish(folder, &mut self.counts, answer)
     }
 
-    fn length(&mut self, alloc: Global, name: &Name) -> Result<u64, HostFault> {
+    fn length(&mut self, alloc: Global, name: &Name) -> Result<u64, HostFault>
+        requires { IsInside (session_of self.old) }
+        ensures inside { CallsInside HostFault.Failed (session_of self.old) (session_of self.new) result }
+        ensures counts { CountsFiles (session_of self.old) (session_of self.new) result }
+    {
         let Some(folder) = &mut self.folder else {
             unreachable!()
         };
@@ -131,7 +124,12 @@ impl<R: Runtime<File = File> + Processes> Host for UnixHost<R> {
         name: &Name,
         offset: u64,
         most: usize,
-    ) -> Result<Vec<u8>, HostFault> {
+    ) -> Result<Vec<u8>, HostFault>
+        requires { IsInside (session_of self.old) }
+        ensures inside { CallsInside HostFault.Failed (session_of self.old) (session_of self.new) result }
+        ensures counts { CountsFiles (session_of self.old) (session_of self.new) result }
+        ensures few { IfOk result (λ bytes. vec_len bytes ≤ most) }
+    {
         let Some(folder) = &mut self.folder else {
             unreachable!()
         };
@@ -143,6 +141,7 @@ impl<R: Runtime<File = File> + Processes> Host for UnixHost<R> {
     fn create(&mut self, alloc: Global, name: &Name, bytes: &[u8]) -> Result<(), HostFault>
         requires { IsInside (session_of self.old) }
         ensures inside { CallsInside HostFault.Failed (session_of self.old) (session_of self.new) result }
+        ensures counts { CountsFiles (session_of self.old) (session_of self.new) result }
         ensures unsynced { OnOk result (unsynced_of self.new ≡ Some Unsynced.Anything) }
         ensures torn { OnOk result (unsynced_of self.old ≢ Some Unsynced.Anything
             → torn_file self.new ≡ Some name.now) }
@@ -163,6 +162,7 @@ impl<R: Runtime<File = File> + Processes> Host for UnixHost<R> {
     ) -> Result<(), HostFault>
         requires { IsInside (session_of self.old) }
         ensures inside { CallsInside HostFault.Failed (session_of self.old) (session_of self.new) result }
+        ensures counts { CountsFiles (session_of self.old) (session_of self.new) result }
         ensures unsynced { OnOk result (unsynced_of self.new ≡ Some Unsynced.Anything) }
         ensures torn { OnOk result (unsynced_of self.old ≢ Some Unsynced.Anything
             → torn_file self.new ≡ Some name.now) }
@@ -177,6 +177,7 @@ impl<R: Runtime<File = File> + Processes> Host for UnixHost<R> {
     fn sync(&mut self, alloc: Global, name: &Name) -> Result<(), HostFault>
         requires { IsInside (session_of self.old) }
         ensures inside { CallsInside HostFault.Failed (session_of self.old) (session_of self.new) result }
+        ensures counts { CountsFiles (session_of self.old) (session_of self.new) result }
         ensures synced { OnOk result (torn_file self.old ≡ Some name.now
             → unsynced_of self.new ≢ Some Unsynced.Anything) }
     {
@@ -190,6 +191,7 @@ impl<R: Runtime<File = File> + Processes> Host for UnixHost<R> {
     fn sync_names(&mut self, alloc: Global) -> Result<(), HostFault>
         requires { IsInside (session_of self.old) }
         ensures inside { CallsInside HostFault.Failed (session_of self.old) (session_of self.new) result }
+        ensures counts { CountsFiles (session_of self.old) (session_of self.new) result }
         ensures synced { OnOk result (unsynced_of self.new ≢ Some Unsynced.Names) }
     {
         let _ = alloc;
@@ -203,6 +205,7 @@ impl<R: Runtime<File = File> + Processes> Host for UnixHost<R> {
     fn settle(&mut self, alloc: Global) -> Result<(), HostFault>
         requires { IsInside (session_of self.old) }
         ensures inside { CallsInside HostFault.Failed (session_of self.old) (session_of self.new) result }
+        ensures counts { CountsFiles (session_of self.old) (session_of self.new) result }
         ensures settled { OnOk result (unsynced_of self.new ≡ Some Unsynced.Nothing) }
     {
         let Some(folder) = &mut self.folder else {
@@ -215,6 +218,7 @@ impl<R: Runtime<File = File> + Processes> Host for UnixHost<R> {
     fn rename(&mut self, alloc: Global, from: &Name, to: &Name) -> Result<(), HostFault>
         requires { IsInside (session_of self.old) }
         ensures inside { CallsInside HostFault.Failed (session_of self.old) (session_of self.new) result }
+        ensures counts { CountsFiles (session_of self.old) (session_of self.new) result }
         ensures unsynced { OnOk result (unsynced_of self.new ≢ Some Unsynced.Nothing) }
     {
         let Some(folder) = &mut self.folder else {
@@ -227,6 +231,7 @@ impl<R: Runtime<File = File> + Processes> Host for UnixHost<R> {
     fn remove(&mut self, alloc: Global, name: &Name) -> Result<(), HostFault>
         requires { IsInside (session_of self.old) }
         ensures inside { CallsInside HostFault.Failed (session_of self.old) (session_of self.new) result }
+        ensures counts { CountsFiles (session_of self.old) (session_of self.new) result }
         ensures unsynced { OnOk result (unsynced_of self.new ≢ Some Unsynced.Nothing) }
     {
         let Some(folder) = &mut self.folder else {
@@ -247,6 +252,7 @@ impl<R: Runtime<File = File> + Processes> Host for UnixHost<R> {
         ensures starts { Starts (session_of self.old) (session_of self.new) result }
         ensures cause { HasCause StartFault.Failed
             (session_of self.old).start_faults (session_of self.new).start_faults result }
+        ensures counts { CountsStarts (session_of self.old) (session_of self.new) result }
         ensures started_as { IfOk result (λ child.
             slice_get (starts_of self.new) child.id ≡ Some (record { name = name.now; nice = nice })) }
     {
@@ -273,6 +279,7 @@ impl<R: Runtime<File = File> + Processes> Host for UnixHost<R> {
         requires inside { IsInside (session_of self.old) }
         requires started { Contains (session_of self.old).children child.now }
         ensures inside { StaysInside (session_of self.old) (session_of self.new) }
+        ensures counts { CountsNothing (session_of self.old) (session_of self.new) }
         ensures was_started { result ≢ Ok (Some Ending.NotStarted) }
         ensures told { IfOk result (λ told. IsSome told → told ≡ ending_in self.new child.now.id) }
         ensures again { IfSome (ending_in self.old child.now.id) (λ ending. result ≡ Ok (Some ending)) }

@@ -1,5 +1,5 @@
 //! Standard input, and files by their paths.
-ghost use Rattle.std.specs.Prelude.{◌≡◌, [], false};
+ghost use Rattle.std.specs.Prelude.{◌≡◌, ◌≤◌, [], false, IfOk, IsErrOf, length};
 ghost use Rattle.host_calls.specs.Causes.{HasCause};
 ghost use Rattle.unix_host.specs.Untold.{untold_contents};
 
@@ -34,12 +34,20 @@ impl<R: Files<File = File> + Input + Drop> Inputs for UnixInputs<R> {
 
     ghost sources = { λ own. record { made_as = []; input_faults = own.input_faults } };
 
-    fn standard(&mut self, alloc: Global, most: usize) -> Result<Bytes, InputFault> {
+    fn standard(&mut self, alloc: Global, most: usize) -> Result<Bytes, InputFault>
+        ensures few { IfOk result (λ bytes. length bytes ≤ most) }
+        ensures cause { HasCause InputFault.Failed self.old.input_faults self.new.input_faults result }
+        ensures counts { ¬ (IsErrOf result InputFault.Failed) → self.new.input_faults ≡ self.old.input_faults }
+    {
         let answer = front(alloc, &mut self.rt.reader(), most);
         counted(&mut self.input_faults, answer)
     }
 
-    fn file(&mut self, alloc: Global, path: &str, most: usize) -> Result<Bytes, InputFault> {
+    fn file(&mut self, alloc: Global, path: &str, most: usize) -> Result<Bytes, InputFault>
+        ensures few { IfOk result (λ bytes. length bytes ≤ most) }
+        ensures cause { HasCause InputFault.Failed self.old.input_faults self.new.input_faults result }
+        ensures counts { ¬ (IsErrOf result InputFault.Failed) → self.new.input_faults ≡ self.old.input_faults }
+    {
         let answer = match File::open(&self.rt, path) {
             Ok(mut file) => front(alloc, &mut file, most),
             Err(_) => Err(InputFault::Failed),
@@ -51,6 +59,7 @@ impl<R: Files<File = File> + Input + Drop> Inputs for UnixInputs<R> {
 fn counted(faults: &mut u64, answer: Result<Bytes, InputFault>) -> Result<Bytes, InputFault>
     ensures same { result ≡ answer }
     ensures cause { HasCause InputFault.Failed faults.old faults.new result }
+    ensures quiet { ¬ (IsErrOf result InputFault.Failed) → faults.new ≡ faults.old }
 {
     if let Err(InputFault::Failed) = &answer {
         *faults = faults.saturating_add(1);

@@ -6,6 +6,7 @@ mod changes;
 mod counts;
 mod err;
 mod files;
+mod finish;
 mod front;
 mod host;
 mod inputs;

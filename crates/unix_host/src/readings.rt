@@ -1,6 +1,7 @@
 //! The clock and the load of the machine.
-ghost use Rattle.std.specs.Prelude.{◌≡◌, [], false};
+ghost use Rattle.std.specs.Prelude.{◌≡◌, ◌≤◌, [], false, IsSome, None};
 ghost use Rattle.std.specs.Result.{result_ok};
+ghost use Rattle.host_calls.specs.Causes.{Rose};
 ghost use Rattle.unix_host.specs.inside.Seconds.{second_in};
 ghost use Rattle.unix_host.specs.Untold.{untold_answers};
 
@@ -38,7 +39,11 @@ impl<R: Files<File = File> + Clock + Drop> Readings for UnixReadings<R> {
         second_of(self.rt.since_1970())
     }
 
-    fn load(&mut self) -> Option<u32> {
+    fn load(&mut self) -> Option<u32>
+        ensures later { self.old.load_faults ≤ self.new.load_faults }
+        ensures cause { result ≡ None → Rose self.old.load_faults self.new.load_faults }
+        ensures counts { IsSome result → self.new.load_faults ≡ self.old.load_faults }
+    {
         let load = load_of(&self.rt);
         if load.is_none() {
             self.load_faults = self.load_faults.saturating_add(1);

@@ -1,5 +1,6 @@
-use Rattle.std.proofs.Common.{◌≡◌, ◌∙◌, ◌<◌, Ok, Some, ap, arith, length, refl, subst, sym, vec_len}
+use Rattle.std.proofs.Common.{◌≡◌, ◌∙◌, ◌<◌, Err, Ok, Result, Some, ap, arith, length, refl, subst, sym, vec_len}
 use Rattle.std.specs.Prelude.{IfOk}
+use Rattle.host_calls.specs.declared.fault.StartFault.TheVariants.{Failed}
 use Rattle.unix_host.proofs.ChildLemmas.{below_count, one_more, last_mapped}
 use Rattle.unix_host.proofs.host.UnixHostHost.start.Goals as goal
 
@@ -25,3 +26,15 @@ returns-clause-started_as g c =
     c.push_reserved.ensures.items (ap length c.as_slice.ensures.value)
     ∙ ap Some (subst (λ answer. IfOk answer (λ kid. kid.started_as ≡ record { name = c.args.name.now; nice = c.args.nice })) is
     c.start-started.ensures.started_as)
+
+-- what succeeded has no fault
+no_fault : {T E : Type 0} (result : Result T E) (value : T) (fault : E) → result ≡ Ok value → ¬ (result ≡ Err fault)
+no_fault result value fault is failed = let both : ◌≡◌ {A = Result _ _} (Ok value) (Err fault) = sym is ∙ failed in cc
+
+pub returns-clause-counts : goal.returns-clause-counts
+returns-clause-counts g c =
+    record {
+      files = c.start_call.ensures.files;
+      starts = λ _. c.start_call.ensures.quiet (no_fault c.start_call.result c.in_ok-kid.kid Failed c.in_ok-kid.was);
+      taken = c.start_call.ensures.taken;
+    }

@@ -1,0 +1,27 @@
+//! The end of a call on the files.
+ghost use Rattle.std.specs.Prelude.{◌≡◌, true, IsErrOf, OnErr, OnOk};
+ghost use Rattle.host_calls.specs.Causes.{HasCause};
+
+use crate::counts::Counts;
+use crate::locked::LockedFolder;
+use host_calls::HostFault;
+
+/// After a call on the files: where it failed, that is kept account of and counted.
+pub fn finish<T>(
+    folder: &mut LockedFolder,
+    counts: &mut Counts,
+    answer: Result<T, HostFault>,
+) -> Result<T, HostFault>
+    ensures same { result ≡ answer }
+    ensures cause { HasCause HostFault.Failed counts.old.files counts.new.files result }
+    ensures starts { counts.new.starts ≡ counts.old.starts }
+    ensures taken { counts.new.taken ≡ counts.old.taken }
+    ensures quiet { ¬ (IsErrOf result HostFault.Failed) → counts.new.files ≡ counts.old.files }
+    ensures ok { OnOk answer (folder.new.changes ≡ folder.old.changes) }
+    ensures failed { OnErr answer (folder.new.changes ≡ record folder.old.changes { has_failed = true }) }
+{
+    if answer.is_err() {
+        folder.fail();
+    }
+    counts.file_call(answer)
+}
