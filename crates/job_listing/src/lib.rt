@@ -4,5 +4,7 @@
 mod lines;
 mod listed;
 mod rows;
+mod scripts;
 
 pub use listed::listing;
+pub use scripts::put_scripts;

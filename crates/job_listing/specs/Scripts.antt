@@ -1,0 +1,43 @@
+-- What is put of scripts (own).
+use Rattle.std.specs.Prelude.{◌≡◌, ◌≤◌, ℕ, Bool, true, List, Result, Ok, Err, IfErr, IsErrOf}
+use Rattle.host_calls.specs.Causes.{Rose}
+use Rattle.host_calls.specs.World.{World}
+use Rattle.job_runs.specs.Current.{IsCurrent, Kept}
+use Rattle.listing_text.specs.declared.cause.Cause.{Cause}
+use Rattle.listing_text.specs.declared.cause.Cause.TheVariants.{Done, Refused, FileFault, InputFault, OutputFault, Busy, Memory, Damaged, StillRunning}
+use Rattle.spool_model.specs.JobTable.{JobTable}
+use Rattle.command_answers.specs.declared.stopped.Stopped.{Stopped}
+use Rattle.command_answers.specs.Causes.{stopped_by}
+use Rattle.command_answers.specs.Requested.{scripts_of}
+use Rattle.command_answers.specs.Sinks.{IsPut, IsPutInPart, SinkAt}
+
+-- a script could not be read or put, or there was no memory
+abbrev pub IsOfShowing : Cause → Type 0
+IsOfShowing FileFault = Unit {0}
+IsOfShowing OutputFault = Unit {0}
+IsOfShowing Memory = Unit {0}
+IsOfShowing Done = ⊥
+IsOfShowing (Refused refusal) = ⊥
+IsOfShowing InputFault = ⊥
+IsOfShowing Busy = ⊥
+IsOfShowing (Damaged damage) = ⊥
+IsOfShowing StillRunning = ⊥
+
+-- the call was stopped by one of these
+abbrev pub ComesOfShowing : Stopped → Type 0
+ComesOfShowing stopped = IsOfShowing stopped.cause
+
+-- the text was put, whole where the call succeeded, else a front of it
+abbrev pub PutsBy : List ℕ → SinkAt → SinkAt → Result (Unit {0}) Stopped → Type 0
+PutsBy text old new (Ok done) = IsPut text old new
+PutsBy text old new (Err stopped) = IsPutInPart text old new
+
+-- The scripts of the live jobs of these numbers were put, one behind another, or a front of them; the spool is left alone.
+pub record PutsScripts (files output : Bool) (kept : Kept) (numbers : List ℕ) (old new : World) (was is : SinkAt)
+    (result : Result (Unit {0}) Stopped) : Type 0 where
+  pub looks : files ≡ true → new ≡ old
+  pub comes : IfErr result ComesOfShowing
+  pub failed : IsErrOf result (stopped_by OutputFault) → Rose was.faults is.faults
+  pub later : was.faults ≤ is.faults
+  pub puts : files ≡ true → output ≡ true → (table : JobTable) → IsCurrent kept old.now.folder table →
+      PutsBy (scripts_of table numbers) was is result

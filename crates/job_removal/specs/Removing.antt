@@ -1,0 +1,28 @@
+-- The steps of a removal, and why it may stop (own).
+use Rattle.std.specs.Prelude.{◌≡◌, ℕ, List}
+use Rattle.listing_text.specs.declared.cause.Cause.{Cause}
+use Rattle.listing_text.specs.declared.cause.Cause.TheVariants.{Done, Refused, FileFault, InputFault, OutputFault, Busy, Memory, Damaged, StillRunning}
+use Rattle.spool_model.specs.declared.step.Step.{Step}
+use Rattle.spool_model.specs.JobTable.{JobTable}
+use Rattle.command_answers.specs.declared.stopped.Stopped.{Stopped}
+use Rattle.command_answers.specs.Requested.{removal}
+
+-- the steps are those of a removal of these numbers
+abbrev pub AreRemoval : List ℕ → JobTable → List Step → Type 0
+AreRemoval numbers table steps = steps ≡ removal table numbers
+
+-- a fault of a file, or want of memory
+abbrev pub IsOfWork : Cause → Type 0
+IsOfWork FileFault = Unit {0}
+IsOfWork Memory = Unit {0}
+IsOfWork Done = ⊥
+IsOfWork (Refused refusal) = ⊥
+IsOfWork InputFault = ⊥
+IsOfWork OutputFault = ⊥
+IsOfWork Busy = ⊥
+IsOfWork (Damaged damage) = ⊥
+IsOfWork StillRunning = ⊥
+
+-- the command was stopped by one of these
+abbrev pub ComesOfRemoving : Stopped → Type 0
+ComesOfRemoving stopped = IsOfWork stopped.cause
