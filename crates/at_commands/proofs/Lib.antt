@@ -1,7 +1,11 @@
+pub mod AnswerLemmas
+pub mod CarryLemmas
 pub mod CommandLemmas
-pub mod RoomLemmas
-pub mod SaysLemmas
-pub mod StoringLemmas
-pub mod TextLemmas
-pub mod VerdictLemmas
-pub mod WordLemmas
+pub mod EndsLemmas
+pub mod ForLemmas
+pub mod JobsLemmas
+pub mod KeptLemmas
+pub mod LateLemmas
+pub mod SessionLemmas
+pub mod SubmitLemmas
+pub mod UserLemmas

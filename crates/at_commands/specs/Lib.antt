@@ -1,6 +1,2 @@
-pub mod Command
-pub mod JobText
-pub mod Texts
-pub mod Verdict
-pub mod Words
+pub mod Tools
 pub mod inside

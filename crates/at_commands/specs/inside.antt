@@ -1,1 +1,7 @@
+pub mod Answering
+pub mod Printing
+pub mod Saying
+pub mod Session
+pub mod Sessions
 pub mod Storing
+pub mod Wording

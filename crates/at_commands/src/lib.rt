@@ -1,16 +1,13 @@
-//! The tools themselves. As yet there is one form of words, `at now`.
+//! The tools themselves: what the words of `at`, `batch`, `atq` and `atrm` ask for, done.
 #![tactic(auto)]
 
-mod caller;
-mod checks;
-mod job_text;
-mod say;
-mod session;
-mod submission;
-mod tools;
-mod words;
+mod answering;
+mod ended;
+mod listing;
+mod removing;
+mod saying;
+mod showing;
+mod submitting;
 
-pub use caller::Caller;
-pub use job_script::MAX_COMMANDS;
-pub use tools::command;
-pub use words::Tool;
+pub use answering::command;
+pub use command_answers::Caller;

@@ -1,6 +1,5 @@
 //! The caller for whom this tool works as yet.
-ghost use Rattle.std.specs.Prelude.{IfOk};
-ghost use Rattle.spool_model.specs.Users.{IsUserName};
+ghost use Rattle.std.specs.Prelude.{◌<◌, IfOk};
 
 use at_commands::Caller;
 use civil_minute::Zone;
@@ -10,7 +9,7 @@ use std::alloc::{AllocError, Global};
 
 /// The user `ann` at home.
 pub fn ann(alloc: Global) -> Result<Caller, AllocError>
-    ensures { IfOk result (λ caller. IsUserName caller.context.user) }
+    ensures { IfOk result (λ caller. caller.context.umask < 512) }
 {
     let mut environment = Variables::new(alloc);
     environment.push(alloc, "HOME", "/home/ann")?;

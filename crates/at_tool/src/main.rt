@@ -1,5 +1,4 @@
-//! `at` over a spool in memory that lasts as long as the program. As yet it takes `at now` alone, for
-//! the user `ann` on the first second of 2025.
+//! The tools over a spool in memory that lasts as long as the program, for the user `ann` on the first second of 2025.
 #![tactic(auto)]
 
 mod ann;

@@ -1,0 +1,448 @@
+-- The answer of each request, by how its session ended.
+use Rattle.std.proofs.Common.{◌≡◌, ◌≢◌, Bool, true, false, ℕ, ℤ, pos, List, [], ◌∷◌, sym, ap, subst, ◌∙◌, refl, inl, inr, arith, nat_lt}
+use Rattle.std.specs.Prelude.{Option, Some, None, Result, Ok, Err, IfErr, IfOk, IsSome, if◌then◌else◌}
+use Rattle.std.proofs.lemmas.Bool.Decides.{nat_tests}
+use Rattle.std.proofs.lemmas.List.{append-nil}
+use Rattle.at_words.specs.declared.filter.Filter.{Filter}
+use Rattle.at_words.specs.declared.tool_request.ToolRequest.{ToolRequest}
+use Rattle.at_words.specs.declared.tool_request.ToolRequest.TheVariants as request
+use Rattle.at_words.specs.declared.when.When.{When}
+use Rattle.civil_minute.specs.declared.zone.Zone.{Zone}
+use Rattle.civil_minute.specs.Zone.{IsReadable}
+use Rattle.host_calls.specs.Clock.{with_now}
+use Rattle.host_calls.specs.World.{World}
+use Rattle.job_listing.specs.Scripts.{ComesOfShowing, PutsBy}
+use Rattle.job_runs.specs.Attempts.{Achieves}
+use Rattle.job_runs.specs.Current.{IsCurrent, Kept}
+use Rattle.job_script.specs.HeaderIn.{header_in}
+use Rattle.listing_text.specs.declared.cause.Cause.{Cause}
+use Rattle.listing_text.specs.declared.cause.Cause.TheVariants.{Done, Refused, FileFault, InputFault, OutputFault, Busy, Memory, Damaged, StillRunning}
+use Rattle.listing_text.specs.declared.refusal.Refusal.{Refusal}
+use Rattle.listing_text.specs.declared.refusal.Refusal.TheVariants.{BadUser, BadZone}
+use Rattle.listing_text.specs.Listing.{IsListing}
+use Rattle.spool_model.specs.JobTable.{JobTable}
+use Rattle.spool_model.specs.Users.{IsUserName}
+use Rattle.command_answers.specs.declared.caller.Caller.{Caller}
+use Rattle.command_answers.specs.declared.stopped.Stopped.{Stopped}
+use Rattle.command_answers.specs.Causes.{cause_in, stopped_by}
+use Rattle.command_answers.specs.Checks.{Check, check_of, is_before, of_input, of_lock, of_variables, of_zone, place_of}
+use Rattle.command_answers.specs.Ends.{Ends, Holding, KeepsOrder, Telling, holding, telling}
+use Rattle.command_answers.specs.Found.{Finds, FindsInput, Found, answers_read, found_of}
+use Rattle.command_answers.specs.inside.Carrying.{AreSessionSteps, Carries, Finding, IsSessionLine, IsSessionText}
+use Rattle.command_answers.specs.Requested.{IsAcceptedLine, Prints, Says, next_number, passes_of, scripts_of}
+use Rattle.command_answers.specs.Sessions.{IsNotOpened, IsOpened}
+use Rattle.command_answers.specs.Sinks.{IsPut, IsSilent, NotesBy, PrintsBy, SinkAt}
+use Rattle.command_answers.specs.Times.{minute_in}
+use Rattle.command_answers.specs.Verdict.{clock_check, directory_check, early_verdict, filter_check, first_refusal, is_unreadable, jobs_check, length_check, spool_verdict, time_check, user_check, variables_check, zone_check}
+use Rattle.spool_session.specs.Entering.{IsOfEntry}
+use Rattle.submission_checks.specs.declared.submission.Submission.{Submission}
+use Rattle.submission_checks.specs.Preparing.{IsOfPreparing, IsPrepared, IsStoppedEarly, Prepares}
+use Rattle.at_commands.specs.inside.Answering.{EndsPrinting, EndsRemoving, Held, Submits, Tells}
+use Rattle.at_commands.specs.inside.Printing.{PutsWhole}
+use Rattle.at_commands.specs.inside.Saying.{Accepts}
+use Rattle.at_commands.specs.inside.Session.{IsNoOutput, IsOfSpool}
+use Rattle.at_commands.specs.inside.Sessions.{Lists, Shows, lists_alone}
+use Rattle.at_commands.specs.inside.Storing.{AnswersJob, IsJobOf, Stores, StoresAndSays}
+use Rattle.at_commands.proofs.CarryLemmas.{KeepsLists, carries_no_memory, carries_unsaid, done_allowed, no_true}
+use Rattle.at_commands.proofs.EndsLemmas.{IsEarly, ends_carried, ends_early, silent}
+use Rattle.at_commands.proofs.ForLemmas.{carries_unentered, carries_unopened, keeps_lists, listing_lacks, listing_made, showing_done, showing_stopped}
+use Rattle.at_commands.proofs.SessionLemmas.{entry_of_spool, not_opened_of_spool}
+use Rattle.at_commands.proofs.SubmitLemmas.{has_header}
+use Rattle.at_commands.proofs.UserLemmas.{alone_is, first_passed, user_fails, user_passed, user_passes, zone_fails, zone_passed, zone_passes}
+
+-- The bytes of a user's name.
+
+pub named_user : (bytes name : List ℕ) → bytes ≡ name → IsUserName bytes → IsUserName name
+named_user bytes name same is = subst (λ (of : List ℕ). IsUserName of) same is
+
+pub unnamed_user : (bytes name : List ℕ) → bytes ≡ name → (IsUserName bytes → false ≡ true) → IsUserName name → ⊥
+unnamed_user bytes name same none is = no_true (none (subst (λ (of : List ℕ). IsUserName of) (sym same) is))
+
+-- Nothing is put.
+
+none_put : (at : SinkAt) → IsPut [] at at
+none_put at = record { content = sym (append-nil at.content); later = omega arith }
+
+-- where the spool stopped the session
+spool_prints : (cause : Cause) (IsText : List ℕ → Type 0) (at : SinkAt) → IsOfSpool cause → PrintsBy cause IsText at at
+spool_prints Done IsText at is = absurd is
+spool_prints (Refused refusal) IsText at is = silent at
+spool_prints FileFault IsText at is = inl (silent at)
+spool_prints InputFault IsText at is = absurd is
+spool_prints OutputFault IsText at is = absurd is
+spool_prints Busy IsText at is = silent at
+spool_prints Memory IsText at is = inl (silent at)
+spool_prints (Damaged damage) IsText at is = silent at
+spool_prints StillRunning IsText at is = absurd is
+
+spool_notes : (cause : Cause) (IsLine : List ℕ → Type 0) (at : SinkAt) → IsOfSpool cause → NotesBy cause IsLine at at
+spool_notes Done IsLine at is = absurd is
+spool_notes (Refused refusal) IsLine at is = silent at
+spool_notes FileFault IsLine at is = silent at
+spool_notes InputFault IsLine at is = absurd is
+spool_notes OutputFault IsLine at is = absurd is
+spool_notes Busy IsLine at is = silent at
+spool_notes Memory IsLine at is = inl (silent at)
+spool_notes (Damaged damage) IsLine at is = silent at
+spool_notes StillRunning IsLine at is = absurd is
+
+-- by requests that print nothing, and by those that say nothing
+module _ (tells alone : Bool) (asked : ToolRequest) (caller : Caller) (finding : Finding) (old new : World) where
+  prints_nothing : (cause : Cause) (carries : Carries tells alone asked caller finding old new cause) → ((table : JobTable) → Prints asked caller table []) → (at : SinkAt) →
+      tells ≡ true → alone ≡ true → PrintsBy cause (IsSessionText asked caller (finding carries.allow carries.deny) carries.shown) at at
+  prints_nothing Done carries none at told is_alone =
+      let ends : Achieves (AreSessionSteps asked caller (finding carries.allow carries.deny)) old new = carries.spool told is_alone in (
+        [],
+        (
+          ends.0,
+          (carries.folder told is_alone).table ∙ ends.3.begun.shown,
+          done_allowed (spool_verdict asked caller (finding carries.allow carries.deny) carries.shown) carries.order,
+          none ends.0,
+        ),
+        none_put at,
+      )
+  prints_nothing (Refused refusal) carries none at told is_alone = silent at
+  prints_nothing FileFault carries none at told is_alone = inl (silent at)
+  prints_nothing InputFault carries none at told is_alone = silent at
+  prints_nothing OutputFault carries none at told is_alone = inl (silent at)
+  prints_nothing Busy carries none at told is_alone = silent at
+  prints_nothing Memory carries none at told is_alone = inl (silent at)
+  prints_nothing (Damaged damage) carries none at told is_alone = silent at
+  prints_nothing StillRunning carries none at told is_alone = absurd carries.reach
+
+  notes_nothing : (cause : Cause) (carries : Carries tells alone asked caller finding old new cause) → ((zone : Zone) (found : Found) (number : ℕ) → Says asked zone found number []) →
+      (at : SinkAt) → NotesBy cause (IsSessionLine asked caller (finding carries.allow carries.deny) carries.shown) at at
+  notes_nothing Done carries none at = (
+    [],
+    (
+      done_allowed (spool_verdict asked caller (finding carries.allow carries.deny) carries.shown) carries.order,
+      none caller.zone (finding carries.allow carries.deny) (next_number carries.shown),
+    ),
+    none_put at,
+  )
+  notes_nothing (Refused refusal) carries none at = silent at
+  notes_nothing FileFault carries none at = silent at
+  notes_nothing InputFault carries none at = silent at
+  notes_nothing OutputFault carries none at = inl (silent at)
+  notes_nothing Busy carries none at = silent at
+  notes_nothing Memory carries none at = inl (silent at)
+  notes_nothing (Damaged damage) carries none at = silent at
+  notes_nothing StillRunning carries none at = absurd carries.reach
+
+-- Sessions of requests that were not opened.
+
+pub listing_unentered : (tells alone : Bool) (asked : ToolRequest) (caller : Caller) (old new : World) (cause : Cause) → IsOfEntry cause →
+    (tells ≡ true → alone ≡ true → new ≡ old) → Lists tells alone asked caller old new (Err (stopped_by cause))
+listing_unentered tells alone asked caller old new cause entry same = record { carries = carries_unentered tells alone asked caller old new cause entry same; text = tt }
+
+pub listing_unopened : (tells alone : Bool) (asked : ToolRequest) (caller : Caller) (old new : World) (user : List ℕ) (cause : Cause) → caller.context.user ≡ user →
+    IsNotOpened tells user old new cause → Lists tells alone asked caller old new (Err (stopped_by cause))
+listing_unopened tells alone asked caller old new user cause same is =
+    record { carries = carries_unopened tells alone asked caller old new user cause same is; text = tt }
+
+pub listing_of : (tells : Bool) (which : Filter) (caller : Caller) (user : List ℕ) (zone : Zone) (same : caller.context.user ≡ user) (same_zone : caller.zone ≡ zone)
+    (old middle new : World) (kept : Kept) (is_open : IsOpened tells user old middle kept) → None ≡ filter_check user kept.table which → (tells ≡ true → new ≡ middle) →
+    (result : Result (List ℕ) Stopped) → IfOk result (IsListing zone kept.table user (passes_of which)) → IfErr result (λ stopped. stopped ≡ stopped_by Memory) →
+    Lists tells true (request.List which) caller old new result
+listing_of tells which caller user zone same same_zone old middle new kept is_open none still (Ok text) is lacks =
+    listing_made tells which caller user zone same same_zone old middle new kept is_open text none still is
+listing_of tells which caller user zone same same_zone old middle new kept is_open none still (Err stopped) is lacks =
+    subst (λ (of : Stopped). Lists tells true (request.List which) caller old new (Err of)) (sym lacks)
+    (listing_lacks tells which caller user zone same same_zone old middle new kept is_open still)
+
+pub showing_unentered : (tells alone output : Bool) (asked : ToolRequest) (caller : Caller) (old new : World) (at : SinkAt) (cause : Cause) → IsOfEntry cause →
+    (tells ≡ true → alone ≡ true → new ≡ old) → Shows tells alone output asked caller old new at at (Err (stopped_by cause))
+showing_unentered tells alone output asked caller old new at cause entry same =
+    let carries : Carries tells alone asked caller lists_alone old new cause = carries_unentered tells alone asked caller old new cause entry same in
+    record {
+      carries = carries;
+      prints = λ told is_alone tells_output. spool_prints cause (IsSessionText asked caller (lists_alone carries.allow carries.deny) carries.shown) at (entry_of_spool cause entry);
+    }
+
+pub showing_unopened : (tells alone output : Bool) (asked : ToolRequest) (caller : Caller) (old new : World) (at : SinkAt) (user : List ℕ) (cause : Cause) →
+    caller.context.user ≡ user → IsNotOpened tells user old new cause → Shows tells alone output asked caller old new at at (Err (stopped_by cause))
+showing_unopened tells alone output asked caller old new at user cause same is =
+    let carries : Carries tells alone asked caller lists_alone old new cause = carries_unopened tells alone asked caller old new user cause same is in
+    record {
+      carries = carries;
+      prints = λ told is_alone tells_output.
+          spool_prints cause (IsSessionText asked caller (lists_alone carries.allow carries.deny) carries.shown) at (not_opened_of_spool tells user old new cause is);
+    }
+
+-- the scripts were put, or a front of them
+pub showing_of : (tells output : Bool) (numbers : List ℕ) (caller : Caller) (user : List ℕ) (same : caller.context.user ≡ user)
+    (old middle new : World) (was is : SinkAt) (kept : Kept) (is_open : IsOpened tells user old middle kept) → None ≡ jobs_check user false kept.table numbers →
+    (tells ≡ true → new ≡ middle) → (result : Result (Unit {0}) Stopped) → IfErr result ComesOfShowing →
+    (tells ≡ true → output ≡ true → (table : JobTable) → IsCurrent kept middle.now.folder table → PutsBy (scripts_of table numbers) was is result) →
+    Shows tells true output (request.Show numbers) caller old new was is result
+showing_of tells output numbers caller user same old middle new was is kept is_open none still (Ok value) comes puts =
+    showing_done tells output numbers caller user same old middle new was is kept is_open none still puts
+showing_of tells output numbers caller user same old middle new was is kept is_open none still (Err stopped) comes puts =
+    showing_stopped tells output numbers caller user same old middle new was is kept is_open none still stopped.cause comes puts
+
+-- a text that is put at once fails at its output alone, or finds no memory
+pub puts_no_file_fault : (tells : Bool) (text : List ℕ) (old new : SinkAt) (cause : Cause) → PutsWhole tells text old new cause → cause ≢ FileFault
+puts_no_file_fault tells text old new cause puts same = subst (λ (of : Cause). PutsWhole tells text old new of) same puts
+
+pub puts_no_busy : (tells : Bool) (text : List ℕ) (old new : SinkAt) (cause : Cause) → PutsWhole tells text old new cause → cause ≢ Busy
+puts_no_busy tells text old new cause puts same = subst (λ (of : Cause). PutsWhole tells text old new of) same puts
+
+pub puts_no_input_fault : (tells : Bool) (text : List ℕ) (old new : SinkAt) (cause : Cause) → PutsWhole tells text old new cause → cause ≢ InputFault
+puts_no_input_fault tells text old new cause puts same = subst (λ (of : Cause). PutsWhole tells text old new of) same puts
+
+-- Requests that a check refuses of what the caller has.
+
+-- a request that is no submission finds nothing but the lists
+module _ (asked : ToolRequest) (caller : Caller) (tells : Telling) (at : Holding)
+    (clock : (reached : Check) → answers_read (Ok asked) reached (pos 0) at.answers ≡ at.answers)
+    (finds : (reached : Check) (found : Found) → Finds tells.input (Ok asked) caller.zone at.contents reached found) where
+  refused_early : (refusal : Refusal) → ((found : Found) → early_verdict asked caller found ≡ Some refusal) → is_before (check_of refusal) of_lock ≡ true →
+      Ends NotesBy (Ok asked) caller tells at at (Refused refusal)
+  refused_early refusal verdict ahead =
+      ends_early asked caller tells at at lists_alone keeps_lists (Refused refusal) (check_of refusal)
+      (λ allow deny. subst (λ (of : Option Refusal). KeepsOrder of (Refused refusal)) (sym (verdict (lists_alone allow deny))) (inl refl)) tt refl ahead
+      (λ allow deny told. sym (clock (check_of refusal))) (λ allow deny. finds (check_of refusal) (lists_alone allow deny)) refl (silent at.output) (silent at.errors)
+
+first_refused : (refusal : Refusal) (later : List (Option Refusal)) (check : Option Refusal) → check ≡ Some refusal → first_refusal (check ∷ later) ≡ Some refusal
+first_refused refusal later check is = ap (λ (of : Option Refusal). first_refusal (of ∷ later)) is
+
+first_passes : (later : List (Option Refusal)) (check : Option Refusal) → check ≡ None → first_refusal (check ∷ later) ≡ first_refusal later
+first_passes later check is = ap (λ (of : Option Refusal). first_refusal (of ∷ later)) is
+
+pub removal_unnamed : (files alone : Bool) (numbers : List ℕ) (caller : Caller) (at : World) → (IsUserName caller.context.user → ⊥) →
+    EndsRemoving files alone (request.Remove numbers) caller at at (Refused BadUser)
+removal_unnamed files alone numbers caller at none = λ output printed clock input errors answers contents said.
+    refused_early (request.Remove numbers) caller (telling files alone clock input output errors) (holding at answers contents printed said)
+    (λ reached. refl) (λ reached found. tt) BadUser
+    (λ found. first_refused BadUser [] (user_check caller.context) (user_fails caller.context none)) refl
+
+pub showing_unnamed : (files alone output : Bool) (numbers : List ℕ) (caller : Caller) (at : World) (printed : SinkAt) → (IsUserName caller.context.user → ⊥) →
+    EndsPrinting files alone output (request.Show numbers) caller at at printed printed (Refused BadUser)
+showing_unnamed files alone output numbers caller at printed none = λ clock input errors answers contents said.
+    refused_early (request.Show numbers) caller (telling files alone clock input output errors) (holding at answers contents printed said)
+    (λ reached. refl) (λ reached found. tt) BadUser
+    (λ found. first_refused BadUser [] (user_check caller.context) (user_fails caller.context none)) refl
+
+pub listing_unnamed : (files alone output : Bool) (which : Filter) (caller : Caller) (at : World) (printed : SinkAt) → (IsUserName caller.context.user → ⊥) →
+    EndsPrinting files alone output (request.List which) caller at at printed printed (Refused BadUser)
+listing_unnamed files alone output which caller at printed none = λ clock input errors answers contents said.
+    refused_early (request.List which) caller (telling files alone clock input output errors) (holding at answers contents printed said)
+    (λ reached. refl) (λ reached found. tt) BadUser
+    (λ found. first_refused BadUser (zone_check caller.zone ∷ []) (user_check caller.context) (user_fails caller.context none)) refl
+
+pub listing_unzoned : (files alone output : Bool) (which : Filter) (caller : Caller) (at : World) (printed : SinkAt) → IsUserName caller.context.user →
+    is_unreadable caller.zone ≡ true → EndsPrinting files alone output (request.List which) caller at at printed printed (Refused BadZone)
+listing_unzoned files alone output which caller at printed named unreadable = λ clock input errors answers contents said.
+    refused_early (request.List which) caller (telling files alone clock input output errors) (holding at answers contents printed said)
+    (λ reached. refl) (λ reached found. tt) BadZone
+    (λ found. first_passes (zone_check caller.zone ∷ []) (user_check caller.context) (user_passes caller.context named)
+    ∙ first_refused BadZone [] (zone_check caller.zone) (zone_fails caller.zone unreadable)) refl
+
+-- Removals.
+
+pub removal_ends : (files alone : Bool) (numbers : List ℕ) (caller : Caller) (old new : World) (cause : Cause) → IsUserName caller.context.user →
+    Carries files alone (request.Remove numbers) caller lists_alone old new cause → EndsRemoving files alone (request.Remove numbers) caller old new cause
+removal_ends files alone numbers caller old new cause named carries = λ output printed clock input errors answers contents said.
+    ends_carried (request.Remove numbers) caller (telling files alone clock input output errors) (holding old answers contents printed said)
+    (holding new answers contents printed said) lists_alone cause carries
+    (alone_is (user_check caller.context) ∙ user_passes caller.context named) (λ told. refl) tt
+    (λ told is_alone tells_output.
+    prints_nothing files alone (request.Remove numbers) caller lists_alone old new cause carries (λ table. refl) printed told is_alone)
+    (λ told. notes_nothing files alone (request.Remove numbers) caller lists_alone old new cause carries (λ zone found number. refl) said)
+
+-- Showings.
+
+pub showing_ends : (files alone output : Bool) (numbers : List ℕ) (caller : Caller) (old new : World) (was is : SinkAt) (result : Result (Unit {0}) Stopped) →
+    IsUserName caller.context.user → Shows files alone output (request.Show numbers) caller old new was is result →
+    EndsPrinting files alone output (request.Show numbers) caller old new was is (cause_in result)
+showing_ends files alone output numbers caller old new was is result named shows = λ clock input errors answers contents said.
+    ends_carried (request.Show numbers) caller (telling files alone clock input output errors) (holding old answers contents was said)
+    (holding new answers contents is said) lists_alone (cause_in result) shows.carries
+    (alone_is (user_check caller.context) ∙ user_passes caller.context named) (λ told. refl) tt
+    shows.prints
+    (λ told. notes_nothing files alone (request.Show numbers) caller lists_alone old new (cause_in result) shows.carries (λ zone found number. refl) said)
+
+-- Listings.
+
+module _ (files alone output : Bool) (which : Filter) (caller : Caller) (old new : World) (named : IsUserName caller.context.user)
+    (readable : is_unreadable caller.zone ≡ false) where
+  passed : first_refusal (user_check caller.context ∷ zone_check caller.zone ∷ []) ≡ None
+  passed =
+      first_passes (zone_check caller.zone ∷ []) (user_check caller.context) (user_passes caller.context named)
+      ∙ alone_is (zone_check caller.zone) ∙ zone_passes caller.zone readable
+
+  -- no text was made
+  pub listing_stopped : (stopped : Stopped) (at : SinkAt) → IsNoOutput stopped → Lists files alone (request.List which) caller old new (Err stopped) →
+      EndsPrinting files alone output (request.List which) caller old new at at stopped.cause
+  listing_stopped stopped at of_spool lists = λ clock input errors answers contents said.
+      ends_carried (request.List which) caller (telling files alone clock input output errors) (holding old answers contents at said)
+      (holding new answers contents at said) lists_alone stopped.cause lists.carries passed (λ told. refl) tt
+      (λ told is_alone tells_output.
+      spool_prints stopped.cause (IsSessionText (request.List which) caller (lists_alone lists.carries.allow lists.carries.deny) lists.carries.shown) at of_spool)
+      (λ told. spool_notes stopped.cause (IsSessionLine (request.List which) caller (lists_alone lists.carries.allow lists.carries.deny) lists.carries.shown) said of_spool)
+
+  -- the text was put, or not
+  listing_by : (cause : Cause) (carries : Carries files alone (request.List which) caller lists_alone old new cause) (was is : SinkAt) →
+      (files ≡ true → alone ≡ true → output ≡ true →
+      PrintsBy cause (IsSessionText (request.List which) caller (lists_alone carries.allow carries.deny) carries.shown) was is) →
+      EndsPrinting files alone output (request.List which) caller old new was is cause
+  listing_by cause carries was is prints = λ clock input errors answers contents said.
+      ends_carried (request.List which) caller (telling files alone clock input output errors) (holding old answers contents was said)
+      (holding new answers contents is said) lists_alone cause carries passed (λ told. refl) tt prints
+      (λ told. notes_nothing files alone (request.List which) caller lists_alone old new cause carries (λ zone found number. refl) said)
+
+  pub listing_put : (cause : Cause) (text : List ℕ) (was is : SinkAt) → Lists files alone (request.List which) caller old new (Ok text) →
+      PutsWhole output text was is cause → EndsPrinting files alone output (request.List which) caller old new was is cause
+  listing_put Done text was is lists puts =
+      listing_by Done lists.carries was is (λ told is_alone tells_output. (text, lists.text, puts tells_output))
+  listing_put OutputFault text was is lists puts =
+      listing_by OutputFault (carries_unsaid files alone (request.List which) caller lists_alone old new lists.carries) was is
+      (λ told is_alone tells_output. inr (text, lists.text, puts tells_output))
+  listing_put Memory text was is lists puts =
+      listing_by Memory (carries_no_memory files alone (request.List which) caller lists_alone old new lists.carries) was is
+      (λ told is_alone tells_output. inl (puts tells_output))
+  listing_put (Refused refusal) text was is lists puts = absurd puts
+  listing_put FileFault text was is lists puts = absurd puts
+  listing_put InputFault text was is lists puts = absurd puts
+  listing_put Busy text was is lists puts = absurd puts
+  listing_put (Damaged damage) text was is lists puts = absurd puts
+  listing_put StillRunning text was is lists puts = absurd puts
+
+-- Submissions.
+
+-- the job was stored, and then said, or not
+module _ (tells alone errors : Bool) (caller : Caller) (queue minute : ℕ) (script : List ℕ) (mail : Bool) (file : Option (List ℕ)) (when : When) (now : ℤ)
+    (time : Result ℕ Refusal) (commands : List ℕ) (same_minute : minute ≡ minute_in time) (old new : World) where
+  abbrev asked : ToolRequest
+  asked = request.Submit queue mail file when
+
+  abbrev finding : Finding
+  finding = found_of now time commands
+
+  pub not_stored : (stopped : Stopped) (at : SinkAt) → IsNoOutput stopped → Stores tells alone asked caller finding old new (Err stopped) →
+      StoresAndSays tells alone errors asked caller finding old new at at stopped.cause
+  not_stored stopped at of_spool stores = record {
+    carries = stores.carries;
+    notes = λ told. spool_notes stopped.cause (IsSessionLine asked caller (finding stores.carries.allow stores.carries.deny) stores.carries.shown) at of_spool;
+  }
+
+  module _ (number : ℕ) (stores : Stores tells alone asked caller finding old new (Ok number)) where
+    line_is : (line : List ℕ) → IsAcceptedLine number minute caller.zone line →
+        IsSessionLine asked caller (finding stores.carries.allow stores.carries.deny) stores.carries.shown line
+    line_is line is = (
+      done_allowed (spool_verdict asked caller (finding stores.carries.allow stores.carries.deny) stores.carries.shown) stores.carries.order,
+      subst (λ (of : ℕ). IsAcceptedLine of (minute_in time) caller.zone line) stores.number
+          (subst (λ (of : ℕ). IsAcceptedLine number of caller.zone line) same_minute is),
+    )
+
+    pub stored_and_said : (cause : Cause) (was is : SinkAt) → Accepts errors (IsAcceptedLine number minute caller.zone) was is cause →
+        StoresAndSays tells alone errors asked caller finding old new was is cause
+    stored_and_said Done was is says = record {
+      carries = stores.carries;
+      notes = λ told. (let put = says told in (put.0, line_is put.0 put.1, put.2));
+    }
+    stored_and_said OutputFault was is says = record {
+      carries = carries_unsaid tells alone asked caller finding old new stores.carries;
+      notes = λ told. (let put = says told in inr (put.0, line_is put.0 put.1, put.2));
+    }
+    stored_and_said Memory was is says = record {
+      carries = carries_no_memory tells alone asked caller finding old new stores.carries;
+      notes = λ told. inl (says told);
+    }
+    stored_and_said (Refused refusal) was is says = absurd says
+    stored_and_said FileFault was is says = absurd says
+    stored_and_said InputFault was is says = absurd says
+    stored_and_said Busy was is says = absurd says
+    stored_and_said (Damaged damage) was is says = absurd says
+    stored_and_said StillRunning was is says = absurd says
+
+early_of : (cause : Cause) → IsOfPreparing cause → IsEarly cause
+early_of Done is = absurd is
+early_of (Refused refusal) is = tt
+early_of FileFault is = absurd is
+early_of InputFault is = tt
+early_of OutputFault is = absurd is
+early_of Busy is = absurd is
+early_of Memory is = tt
+early_of (Damaged damage) is = absurd is
+early_of StillRunning is = absurd is
+
+-- what stands behind the lock stands behind the clock
+late_place : (place : ℕ) → nat_lt place 11 ≡ false → nat_lt 4 place ≡ true
+late_place place is = grind (arith, nat_tests)
+
+finding_keeps : (now : ℤ) (time : Result ℕ Refusal) (commands : List ℕ) → KeepsLists (found_of now time commands)
+finding_keeps now time commands = record { allow_is = λ allow deny. refl; deny_is = λ allow deny. refl }
+
+module _ (tells : Tells) (queue : ℕ) (mail : Bool) (file : Option (List ℕ)) (when : When) (caller : Caller) (before after : Held) where
+  -- a check refuses before the spool is entered, the inputs failed, or there was no memory
+  pub submission_stopped : (stopped : Stopped) → Prepares tells.clock tells.input caller mail file when before.answers after.answers before.contents (Err stopped) →
+      after.spool ≡ before.spool → IsSilent before.sink after.sink → Submits tells (request.Submit queue mail file when) caller before after stopped.cause
+  submission_stopped stopped prepares same quiet = λ output printed.
+      let ends : IsStoppedEarly caller (found_of prepares.now prepares.time prepares.commands None None) prepares.reached stopped.cause = prepares.ends in
+      ends_early (request.Submit queue mail file when) caller (telling tells.files tells.alone tells.clock tells.input output tells.sink)
+      (holding before.spool before.answers before.contents printed before.sink) (holding after.spool after.answers after.contents printed after.sink)
+      (found_of prepares.now prepares.time prepares.commands) (finding_keeps prepares.now prepares.time prepares.commands) stopped.cause prepares.reached
+      (λ allow deny. ends.order) (early_of stopped.cause ends.comes) ends.reach ends.early (λ allow deny. prepares.clock)
+      (λ allow deny. record { time = prepares.finds.time; commands = prepares.finds.commands }) same (silent printed) quiet
+
+  module _ (submission : Submission)
+      (prepares : Prepares tells.clock tells.input caller mail file when before.answers after.answers before.contents (Ok submission)) where
+    abbrev here : Found
+    here = found_of prepares.now prepares.time prepares.commands None None
+
+    prepared : IsPrepared caller mail here prepares.reached submission
+    prepared = prepares.ends
+
+    -- its user and its zone are good
+    pub prepared_named : IsUserName caller.context.user
+    prepared_named = user_passed caller.context (first_passed _ _ prepared.none).0
+
+    pub prepared_zoned : IsReadable caller.zone
+    prepared_zoned =
+        let front = first_passed (user_check caller.context) (directory_check caller.context ∷ variables_check caller.context ∷ clock_check here
+        ∷ zone_check caller.zone ∷ time_check here ∷ length_check here ∷ []) prepared.none in
+        let second = first_passed (directory_check caller.context) (variables_check caller.context ∷ clock_check here
+        ∷ zone_check caller.zone ∷ time_check here ∷ length_check here ∷ []) front.1 in
+        let third = first_passed (variables_check caller.context) (clock_check here
+        ∷ zone_check caller.zone ∷ time_check here ∷ length_check here ∷ []) second.1 in
+        let fourth = first_passed (clock_check here) (zone_check caller.zone ∷ time_check here ∷ length_check here ∷ []) third.1 in
+        zone_passed caller.zone (first_passed (zone_check caller.zone) (time_check here ∷ length_check here ∷ []) fourth.1).0
+
+    pub prepared_job : IsJobOf caller mail prepares.commands submission.script
+    prepared_job = record { user = prepared_named; text = prepared.script_is }
+
+    pub prepared_header : IsSome (header_in submission.script)
+    prepared_header = has_header caller mail prepares.commands submission.script prepared_job
+
+    -- the clock was read, the time found and the commands read
+    clock_at : (reached : Check) → is_before reached of_lock ≡ false → tells.clock ≡ true →
+        after.answers ≡ answers_read (Ok (request.Submit queue mail file when)) reached prepares.now before.answers
+    clock_at reached entered told =
+        let beyond : is_before of_variables prepares.reached ≡ true = ap (λ (of : Check). is_before of_variables of) prepared.all in
+        prepares.clock told
+        ∙ ap (λ (read : Bool). if read then with_now prepares.now before.answers else before.answers) (beyond ∙ sym (late_place (place_of reached) entered))
+
+    finds_at : (reached : Check) (allow deny : Option (List ℕ)) →
+        FindsInput tells.input file when caller.zone before.contents reached (found_of prepares.now prepares.time prepares.commands allow deny)
+    finds_at reached allow deny = record {
+      time = λ beyond. prepares.finds.time (ap (λ (of : Check). is_before of_zone of) prepared.all);
+      commands = λ told beyond. prepares.finds.commands told (ap (λ (of : Check). is_before of_input of) prepared.all);
+    }
+
+    -- its session
+    pub submission_answered : (cause : Cause) →
+        AnswersJob tells.files tells.alone tells.sink caller queue submission.minute submission.script before.spool after.spool before.sink after.sink cause →
+        Submits tells (request.Submit queue mail file when) caller before after cause
+    submission_answered cause answers_job = λ output printed.
+        let answered : StoresAndSays tells.files tells.alone tells.sink (request.Submit queue mail file when) caller
+        (found_of prepares.now prepares.time prepares.commands) before.spool after.spool before.sink after.sink cause =
+        answers_job mail file when prepares.now prepares.time prepares.commands prepared_job prepared.minute_is in
+        ends_carried (request.Submit queue mail file when) caller (telling tells.files tells.alone tells.clock tells.input output tells.sink)
+        (holding before.spool before.answers before.contents printed before.sink) (holding after.spool after.answers after.contents printed after.sink)
+        (found_of prepares.now prepares.time prepares.commands) cause answered.carries prepared.none
+        (clock_at answered.carries.reached answered.carries.entered)
+        (finds_at answered.carries.reached answered.carries.allow answered.carries.deny)
+        (λ told is_alone tells_output. prints_nothing tells.files tells.alone (request.Submit queue mail file when) caller
+        (found_of prepares.now prepares.time prepares.commands) before.spool after.spool cause answered.carries (λ table. refl) printed told is_alone)
+        answered.notes

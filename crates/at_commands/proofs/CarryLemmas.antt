@@ -1,0 +1,308 @@
+-- A session of a command, put together from its parts.
+use Rattle.std.proofs.Common.{◌≡◌, Bool, true, false, ℕ, List, sym, subst, ◌∙◌, refl, inl, inr, arith, nat_lt}
+use Rattle.std.proofs.lemmas.Bool.Decides.{nat_tests}
+use Rattle.std.proofs.lemmas.Option.{same_Some}
+use Rattle.std.specs.Prelude.{Option, Some, None, Ok, Err}
+use Rattle.std.specs.FinMap as finite
+use Rattle.at_words.specs.declared.tool_request.ToolRequest.{ToolRequest}
+use Rattle.host_calls.specs.World.{World, reading}
+use Rattle.job_runs.specs.Current.{Kept}
+use Rattle.listing_text.specs.declared.cause.Cause.{Cause}
+use Rattle.listing_text.specs.declared.cause.Cause.TheVariants.{Done, Refused, FileFault, InputFault, OutputFault, Busy, Memory, Damaged, StillRunning}
+use Rattle.listing_text.specs.declared.refusal.Refusal.{Refusal}
+use Rattle.listing_text.specs.declared.refusal.Refusal.TheVariants.{NotAllowed}
+use Rattle.spool_model.specs.declared.step.Step.{Step}
+use Rattle.spool_model.specs.JobTable.{JobTable}
+use Rattle.spool_shows.specs.Shown.{shown_by}
+use Rattle.command_answers.specs.declared.caller.Caller.{Caller}
+use Rattle.command_answers.specs.Checks.{Check, check_of, is_before, of_access, of_folder, of_lock, of_output, of_steps, place_of}
+use Rattle.command_answers.specs.Ends.{KeepsOrder, Reaches}
+use Rattle.command_answers.specs.Found.{AreInFolder, Found, allow_file, deny_file}
+use Rattle.command_answers.specs.inside.Carrying.{AreSessionSteps, AreWorkSteps, Carries, Finding}
+use Rattle.command_answers.specs.Sessions.{IsNotOpened, IsOpened, Works, faults, is_damaged, lacks_memory, refuses}
+use Rattle.command_answers.specs.Spool.{SpoolEnds}
+use Rattle.command_answers.specs.Verdict.{spool_verdict, table_verdict}
+use Rattle.command_answers.proofs.SessionLemmas.{works_end}
+use Rattle.command_answers.proofs.SpoolLemmas.{attempt_of, unbegun_same}
+use Rattle.spool_session.specs.Entering.{IsOfEntry}
+use Rattle.at_commands.proofs.KeptLemmas.{kept_decides}
+use Rattle.at_commands.proofs.LateLemmas.{OnTable, any_memory, late_busy, late_file_fault, not_permitted, permitted, spool_late, table_on}
+
+pub no_true : false ≡ true → ⊥
+no_true is = cc
+
+-- what one list of steps leaves, another does that has them all
+pub ends_map : (A B : JobTable → List Step → Type 0) → ((table : JobTable) (steps : List Step) → A table steps → B table steps) →
+    (old new : World) (cause : Cause) → SpoolEnds A old new cause → SpoolEnds B old new cause
+ends_map A B all old new Done ends = (ends.0, ends.1, all ends.0 ends.1 ends.2, ends.3)
+ends_map A B all old new OutputFault ends = (ends.0, ends.1, all ends.0 ends.1 ends.2, ends.3)
+ends_map A B all old new FileFault ends = elim ends [
+  | inl unbegun ↦ inl unbegun
+  | inr begun ↦ inr (begun.0, begun.1, elim begun.2 [ inl are ↦ inl (all begun.0 begun.1 are) | inr none ↦ inr none ], begun.3)
+]
+ends_map A B all old new Memory ends = elim ends [
+  | inl unbegun ↦ inl unbegun
+  | inr begun ↦ inr (begun.0, begun.1, elim begun.2 [ inl are ↦ inl (all begun.0 begun.1 are) | inr none ↦ inr none ], begun.3)
+]
+ends_map A B all old new (Refused refusal) ends = ends
+ends_map A B all old new (Damaged damage) ends = ends
+ends_map A B all old new InputFault ends = ends
+ends_map A B all old new Busy ends = ends
+ends_map A B all old new StillRunning ends = ends
+
+module _ (tells alone : Bool) (asked : ToolRequest) (caller : Caller) (finding : Finding) (old new : World) where
+  -- what the folder holds
+  abbrev held : Found
+  held = finding (finite.get (reading old) allow_file) (finite.get (reading old) deny_file)
+
+  -- the spool is as it was
+  untouched : (cause : Cause) → Reaches cause of_lock → KeepsOrder (spool_verdict asked caller held (shown_by (reading old))) cause →
+      (lists : (tells ≡ true → alone ≡ true → AreInFolder (reading old) held (shown_by (reading old)))) →
+      (tells ≡ true → alone ≡ true → new ≡ old) →
+      (tells ≡ true → alone ≡ true → SpoolEnds (AreSessionSteps asked caller held) old new cause) →
+      Carries tells alone asked caller finding old new cause
+  untouched cause reach order lists same spool = record {
+    allow = finite.get (reading old) allow_file;
+    deny = finite.get (reading old) deny_file;
+    shown = shown_by (reading old);
+    reached = of_lock;
+    entered = refl;
+    reach = reach;
+    order = order;
+    folder = lists;
+    apart = λ told is_alone early. same told is_alone;
+    spool = spool;
+  }
+
+-- A finding keeps the lists that it is given.
+pub record KeepsLists (finding : Finding) : Type 0 where
+  pub allow_is : (allow deny : Option (List ℕ)) → (finding allow deny).allow ≡ allow
+  pub deny_is : (allow deny : Option (List ℕ)) → (finding allow deny).deny ≡ deny
+
+module _ (tells alone : Bool) (asked : ToolRequest) (caller : Caller) (finding : Finding) (keeps : KeepsLists finding) (old new : World) where
+  abbrev here : Found
+  here = finding (finite.get (reading old) allow_file) (finite.get (reading old) deny_file)
+
+  in_folder : tells ≡ true → alone ≡ true →
+      AreInFolder (reading old) (finding (finite.get (reading old) allow_file) (finite.get (reading old) deny_file)) (shown_by (reading old))
+  in_folder told is_alone = record { allow = keeps.allow_is _ _; deny = keeps.deny_is _ _; table = refl }
+
+  -- the spool could not be entered
+  pub not_entered : (cause : Cause) → IsOfEntry cause → (tells ≡ true → alone ≡ true → new ≡ old) → Carries tells alone asked caller finding old new cause
+  not_entered Busy entry same =
+      untouched tells alone asked caller finding old new Busy refl (late_busy _ (spool_late asked caller here (shown_by (reading old)))) in_folder same same
+  not_entered FileFault entry same =
+      untouched tells alone asked caller finding old new FileFault (refl, refl) (late_file_fault _ (spool_late asked caller here (shown_by (reading old)))) in_folder same
+      (λ told is_alone. inl (unbegun_same old new (same told is_alone)))
+  not_entered Memory entry same =
+      untouched tells alone asked caller finding old new Memory tt (any_memory _) in_folder same
+      (λ told is_alone. inl (unbegun_same old new (same told is_alone)))
+  not_entered Done entry same = absurd entry
+  not_entered (Refused refusal) entry same = absurd entry
+  not_entered InputFault entry same = absurd entry
+  not_entered OutputFault entry same = absurd entry
+  not_entered (Damaged damage) entry same = absurd entry
+  not_entered StillRunning entry same = absurd entry
+
+  -- no store was had: a file fault or want of memory
+  stopped_at_folder : (cause : Cause) → Reaches cause of_folder →
+      KeepsOrder (spool_verdict asked caller (finding (finite.get (reading old) allow_file) (finite.get (reading old) deny_file)) (shown_by (reading old))) cause →
+      (tells ≡ true → alone ≡ true →
+      SpoolEnds (AreSessionSteps asked caller (finding (finite.get (reading old) allow_file) (finite.get (reading old) deny_file))) old new cause) →
+      Carries tells alone asked caller finding old new cause
+  stopped_at_folder cause reach order spool = record {
+    allow = finite.get (reading old) allow_file;
+    deny = finite.get (reading old) deny_file;
+    shown = shown_by (reading old);
+    reached = of_folder;
+    entered = refl;
+    reach = reach;
+    order = order;
+    folder = in_folder;
+    apart = λ told is_alone early. absurd (no_true early);
+    spool = spool;
+  }
+
+  -- why no store was had
+  pub not_opened : (user : List ℕ) (cause : Cause) → caller.context.user ≡ user → IsNotOpened tells user old new cause →
+      Carries tells alone asked caller finding old new cause
+  not_opened user cause same (faults unbegun) =
+      stopped_at_folder FileFault (refl, refl) (late_file_fault _ (spool_late asked caller here (shown_by (reading old)))) (λ told is_alone. inl (unbegun told))
+  not_opened user cause same (lacks_memory unbegun) =
+      stopped_at_folder Memory tt (any_memory _) (λ told is_alone. inl (unbegun told))
+  not_opened user cause same (refuses allow deny refused lists kept) = record {
+    allow = allow;
+    deny = deny;
+    shown = shown_by (reading old);
+    reached = of_access;
+    entered = refl;
+    reach = refl;
+    order = subst (λ (of : Option Refusal). KeepsOrder of (Refused NotAllowed)) (sym (not_permitted asked caller (finding allow deny) (shown_by (reading old)) (rw (keeps.allow_is allow deny, keeps.deny_is allow deny, same) refused))) (inl refl);
+    folder = λ told is_alone. record {
+      allow = keeps.allow_is allow deny ∙ (lists told).allow_is;
+      deny = keeps.deny_is allow deny ∙ (lists told).deny_is;
+      table = refl;
+    };
+    apart = λ told is_alone early. kept told;
+    spool = λ told is_alone. kept told;
+  }
+  not_opened user cause same (is_damaged damage allow deny permits lists shows) = record {
+    allow = allow;
+    deny = deny;
+    shown = Err damage;
+    reached = of_folder;
+    entered = refl;
+    reach = refl;
+    order = subst (λ (of : Option Refusal). KeepsOrder of (Damaged damage))
+        (sym (permitted asked caller (finding allow deny) (Err damage) (rw (keeps.allow_is allow deny, keeps.deny_is allow deny, same) permits))) tt;
+    folder = λ told is_alone. record {
+      allow = keeps.allow_is allow deny ∙ (lists told).allow_is;
+      deny = keeps.deny_is allow deny ∙ (lists told).deny_is;
+      table = sym (shows told).shown;
+    };
+    apart = λ told is_alone early. absurd (no_true early);
+    spool = λ told is_alone. shows told;
+  }
+
+-- What a store keeps decides as the table does.
+
+module _ (tells alone : Bool) (asked : ToolRequest) (caller : Caller) (finding : Finding) (keeps : KeepsLists finding) (old middle new : World)
+    (kept : Kept) (opened : IsOpened tells caller.context.user old middle kept) where
+  -- what was found
+  abbrev found : Found
+  found = finding opened.allow opened.deny
+
+  pub decides : spool_verdict asked caller found (Ok opened.table) ≡ table_verdict asked caller (Ok kept.table)
+  decides =
+      permitted asked caller found (Ok opened.table) (rw (keeps.allow_is opened.allow opened.deny, keeps.deny_is opened.allow opened.deny) opened.permits)
+      ∙ sym (kept_decides asked caller kept.table opened.table opened.keeps)
+
+  decides_table : (table : JobTable) → spool_verdict asked caller found (Ok table) ≡ table_verdict asked caller (Ok table)
+  decides_table table =
+      permitted asked caller found (Ok table) (rw (keeps.allow_is opened.allow opened.deny, keeps.deny_is opened.allow opened.deny) opened.permits)
+
+  pub work_to_session : (table : JobTable) (steps : List Step) → AreWorkSteps asked caller found table steps → AreSessionSteps asked caller found table steps
+  work_to_session table steps are = record { none = decides_table table ∙ are.none; steps_are = are.steps_are }
+
+  -- the work behind the store that was opened
+  abbrev worked_at : (cause : Cause) (reached : Check) → is_before reached of_lock ≡ false → is_before reached of_folder ≡ false → Reaches cause reached →
+      KeepsOrder (table_verdict asked caller (Ok kept.table)) cause →
+      (tells ≡ true → Works (AreWorkSteps asked caller found) opened.table middle new cause) →
+      Carries tells alone asked caller finding old new cause
+  worked_at cause reached entered behind reach order works = record {
+    allow = opened.allow;
+    deny = opened.deny;
+    shown = Ok opened.table;
+    reached = reached;
+    entered = entered;
+    reach = reach;
+    order = subst (λ (of : Option Refusal). KeepsOrder of cause) (sym decides) order;
+    folder = λ told is_alone. record {
+      allow = keeps.allow_is opened.allow opened.deny ∙ (opened.lists told).allow_is;
+      deny = keeps.deny_is opened.allow opened.deny ∙ (opened.lists told).deny_is;
+      table = sym (opened.recovered told).shown;
+    };
+    apart = λ told is_alone early. absurd (no_true (sym behind ∙ early));
+    spool = λ told is_alone. ends_map (AreWorkSteps asked caller found) (AreSessionSteps asked caller found) work_to_session old new cause
+        (works_end (AreWorkSteps asked caller found) old middle new opened.table kept (opened.recovered told) cause (works told));
+  }
+
+  -- a refusal keeps the order where it is that of the table
+  on_table : (verdict : Option Refusal) (refusal : Refusal) → OnTable verdict → verdict ≡ Some refusal → is_before of_folder (check_of refusal) ≡ true
+  on_table None refusal on is = cc
+  on_table (Some other) refusal on is =
+      let same : other ≡ refusal = same_Some other refusal is in subst (λ of. is_before of_folder (check_of of) ≡ true) same on.1
+
+  behind : (place : ℕ) → nat_lt 14 place ≡ true → (nat_lt place 11 ≡ false) × (nat_lt place 14 ≡ false)
+  behind place is = (grind (arith, nat_tests), grind (arith, nat_tests))
+
+  -- the table refuses
+  pub work_refused : (refusal : Refusal) → table_verdict asked caller (Ok kept.table) ≡ Some refusal → (tells ≡ true → new ≡ middle) →
+      Carries tells alone asked caller finding old new (Refused refusal)
+  work_refused refusal is same =
+      let late : is_before of_folder (check_of refusal) ≡ true =
+      on_table (table_verdict asked caller (Ok kept.table)) refusal (table_on asked caller (Ok kept.table)) is in
+      let far : (nat_lt (place_of (check_of refusal)) 11 ≡ false) × (nat_lt (place_of (check_of refusal)) 14 ≡ false) = behind (place_of (check_of refusal)) late in
+      worked_at (Refused refusal) (check_of refusal) far.0 far.1 refl
+      (subst (λ (of : Option Refusal). KeepsOrder of (Refused refusal)) (sym is) (inl refl)) (λ told. (late, same told))
+
+  -- the table doesn't refuse: the work was done, or a fault of a file or want of memory came
+  abbrev pub work_done : table_verdict asked caller (Ok kept.table) ≡ None → (tells ≡ true → Works (AreWorkSteps asked caller found) opened.table middle new Done) →
+      Carries tells alone asked caller finding old new Done
+  work_done is works = worked_at Done of_output refl refl refl (subst (λ (of : Option Refusal). KeepsOrder of Done) (sym is) tt) works
+
+  abbrev pub work_unsaid : table_verdict asked caller (Ok kept.table) ≡ None →
+      (tells ≡ true → Works (AreWorkSteps asked caller found) opened.table middle new OutputFault) →
+      Carries tells alone asked caller finding old new OutputFault
+  work_unsaid is works = worked_at OutputFault of_output refl refl refl (subst (λ (of : Option Refusal). KeepsOrder of OutputFault) (sym is) tt) works
+
+  abbrev pub work_fails : table_verdict asked caller (Ok kept.table) ≡ None →
+      (tells ≡ true → Works (AreWorkSteps asked caller found) opened.table middle new FileFault) →
+      Carries tells alone asked caller finding old new FileFault
+  work_fails is works =
+      worked_at FileFault of_steps refl refl (refl, refl) (subst (λ (of : Option Refusal). KeepsOrder of FileFault) (sym is) tt) works
+
+  abbrev pub work_lacks_memory : (tells ≡ true → Works (AreWorkSteps asked caller found) opened.table middle new Memory) →
+      Carries tells alone asked caller finding old new Memory
+  work_lacks_memory works = worked_at Memory of_steps refl refl tt (any_memory (table_verdict asked caller (Ok kept.table))) works
+
+-- A session stands as it was between entering and leaving, where nobody else changes the folder.
+abbrev pub carries_within : (tells alone : Bool) (asked : ToolRequest) (caller : Caller) (finding : Finding) (before entered left after : World) (cause : Cause) →
+    (tells ≡ true → alone ≡ true → entered ≡ before) → (tells ≡ true → alone ≡ true → after ≡ left) →
+    Carries tells true asked caller finding entered left cause → Carries tells alone asked caller finding before after cause
+carries_within tells alone asked caller finding before entered left after cause enters leaves carries = record {
+  allow = carries.allow;
+  deny = carries.deny;
+  shown = carries.shown;
+  reached = carries.reached;
+  entered = carries.entered;
+  reach = carries.reach;
+  order = carries.order;
+  folder = λ told is_alone.
+      subst (λ (of : World). AreInFolder (reading of) (finding carries.allow carries.deny) carries.shown) (enters told is_alone) (carries.folder told refl);
+  apart = λ told is_alone early. leaves told is_alone ∙ carries.apart told refl early ∙ enters told is_alone;
+  spool = λ told is_alone.
+      subst (λ (of : World). SpoolEnds (AreSessionSteps asked caller (finding carries.allow carries.deny)) of after cause) (enters told is_alone)
+      (subst (λ (of : World). SpoolEnds (AreSessionSteps asked caller (finding carries.allow carries.deny)) entered of cause) (sym (leaves told is_alone))
+      (carries.spool told refl));
+}
+
+-- the verdict of a session that is done is none
+pub done_allowed : (verdict : Option Refusal) → KeepsOrder verdict Done → verdict ≡ None
+done_allowed None order = refl
+done_allowed (Some refusal) order = elim order [
+  | inl is ↦ absurd (let no : Done ≡ Refused refusal = is in cc)
+  | inr (inl is) ↦ absurd (let no : Done ≡ Memory = is in cc)
+  | inr (inr before) ↦ absurd before
+]
+
+-- Where a session was done and its output fails, or finds no memory, the spool is left so.
+module _ (tells alone : Bool) (asked : ToolRequest) (caller : Caller) (finding : Finding) (old new : World)
+    (carries : Carries tells alone asked caller finding old new Done) where
+  abbrev pub carries_unsaid : Carries tells alone asked caller finding old new OutputFault
+  carries_unsaid = record {
+    allow = carries.allow;
+    deny = carries.deny;
+    shown = carries.shown;
+    reached = of_output;
+    entered = refl;
+    reach = refl;
+    order = subst (λ (of : Option Refusal). KeepsOrder of OutputFault) (sym (done_allowed _ carries.order)) tt;
+    folder = carries.folder;
+    apart = λ told is_alone early. absurd (no_true early);
+    spool = carries.spool;
+  }
+
+  abbrev pub carries_no_memory : Carries tells alone asked caller finding old new Memory
+  carries_no_memory = record {
+    allow = carries.allow;
+    deny = carries.deny;
+    shown = carries.shown;
+    reached = of_output;
+    entered = refl;
+    reach = tt;
+    order = any_memory _;
+    folder = carries.folder;
+    apart = λ told is_alone early. absurd (no_true early);
+    spool = λ told is_alone. attempt_of (AreSessionSteps asked caller (finding carries.allow carries.deny)) old new Done (carries.spool told is_alone);
+  }

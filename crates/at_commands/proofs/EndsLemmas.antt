@@ -1,0 +1,363 @@
+-- How a command ends, put together from its parts.
+use Rattle.std.proofs.Common.{◌≡◌, ◌++◌, Bool, true, false, ℕ, ℤ, pos, List, [], ◌∷◌, length, sym, ap, subst, ◌∙◌, refl, inl, inr, arith, nat_lt}
+use Rattle.std.proofs.lemmas.Bool.Decides.{nat_tests}
+use Rattle.std.specs.Prelude.{Option, Some, None, Result, Ok, Err, MatchBool}
+use Rattle.std.specs.FinMap as finite
+use Rattle.std.proofs.Math.Seq.{take-length}
+use Rattle.std.proofs.lemmas.List.{append-nil}
+use Rattle.at_words.specs.declared.tool_request.ToolRequest.{ToolRequest}
+use Rattle.at_words.specs.declared.tool_request.ToolRequest.TheVariants as request
+use Rattle.civil_minute.specs.declared.zone.Zone.{Zone}
+use Rattle.host_calls.specs.Clock.{Answers}
+use Rattle.host_calls.specs.Inputs.{Contents}
+use Rattle.host_calls.specs.declared.damage.Damage.{Damage}
+use Rattle.host_calls.specs.World.{World, reading}
+use Rattle.listing_text.specs.declared.cause.Cause.{Cause}
+use Rattle.listing_text.specs.declared.cause.Cause.TheVariants.{Done, Refused, FileFault, InputFault, OutputFault, Busy, Memory, Damaged, StillRunning}
+use Rattle.listing_text.specs.declared.refusal.Refusal.{Refusal}
+use Rattle.listing_text.specs.Cause.{cause_line_of}
+use Rattle.spool_model.specs.declared.step.Step.{Step}
+use Rattle.spool_model.specs.JobTable.{JobTable}
+use Rattle.spool_shows.specs.Shown.{shown_by}
+use Rattle.job_runs.specs.Attempts.{Achieves}
+use Rattle.command_answers.specs.declared.caller.Caller.{Caller}
+use Rattle.command_answers.specs.Checks.{Check, check_of, is_before, of_lock, of_words, place_of}
+use Rattle.command_answers.specs.Ends.{Ends, Holding, IsNoRefusal, KeepsOrder, Reaches, Telling}
+use Rattle.command_answers.specs.Found.{Asked, Finds, Found, allow_file, answers_read, deny_file, found_of}
+use Rattle.command_answers.specs.inside.Carrying.{AreSessionSteps, Carries, Finding, IsSessionLine, IsSessionText}
+use Rattle.command_answers.specs.Requested.{AreAskedSteps, AreNoSteps, IsAskedLine, IsAskedText}
+use Rattle.command_answers.specs.Sinks.{EndsLine, IsPutInPart, IsPutOrCut, IsSilent, NotesBy, PrintsBy, PutsCut, PutsPart, SaysBy, SinkAt}
+use Rattle.command_answers.specs.Spool.{SpoolEnds}
+use Rattle.command_answers.specs.Verdict.{early_verdict, first_refusal, spool_verdict, verdict_of}
+use Rattle.command_answers.proofs.SpoolLemmas.{attempt_of, unbegun_same}
+use Rattle.at_commands.specs.inside.Saying.{IsSaid, IsUndone, SaysLine}
+use Rattle.at_commands.proofs.CarryLemmas.{KeepsLists, ends_map}
+use Rattle.at_commands.proofs.LateLemmas.{any_memory, late_input, spool_late}
+
+-- Texts of one kind that are texts of another.
+module _ (A B : List ℕ → Type 0) (all : (text : List ℕ) → A text → B text) (old new : SinkAt) where
+  part_map : PutsPart A old new → PutsPart B old new
+  part_map puts = elim puts [ inl silent ↦ inl silent | inr part ↦ inr (part.0, all part.0 part.1, part.2) ]
+
+  cut_map : PutsCut A old new → PutsCut B old new
+  cut_map puts = elim puts [ inl silent ↦ inl silent | inr cut ↦ inr (cut.0, all cut.0 cut.1, cut.2) ]
+
+  pub prints_map : (cause : Cause) → PrintsBy cause A old new → PrintsBy cause B old new
+  prints_map Done prints = (prints.0, all prints.0 prints.1, prints.2)
+  prints_map FileFault prints = part_map prints
+  prints_map OutputFault prints = part_map prints
+  prints_map Memory prints = part_map prints
+  prints_map (Refused refusal) prints = prints
+  prints_map InputFault prints = prints
+  prints_map Busy prints = prints
+  prints_map (Damaged damage) prints = prints
+  prints_map StillRunning prints = prints
+
+  pub notes_map : (cause : Cause) → NotesBy cause A old new → NotesBy cause B old new
+  notes_map Done notes = (notes.0, all notes.0 notes.1, notes.2)
+  notes_map OutputFault notes = cut_map notes
+  notes_map Memory notes = cut_map notes
+  notes_map FileFault notes = notes
+  notes_map (Refused refusal) notes = notes
+  notes_map InputFault notes = notes
+  notes_map Busy notes = notes
+  notes_map (Damaged damage) notes = notes
+  notes_map StillRunning notes = notes
+
+-- the verdict of a request whose early checks pass is that of its session
+alone : (verdict : Option Refusal) → first_refusal (verdict ∷ []) ≡ verdict
+alone None = refl
+alone (Some refusal) = refl
+
+verdict_late : (asked : ToolRequest) (caller : Caller) (found : Found) (shown : Result JobTable Damage) → early_verdict asked caller found ≡ None →
+    verdict_of (Ok asked) caller found shown ≡ spool_verdict asked caller found shown
+verdict_late asked caller found shown none =
+    ap (λ (early : Option Refusal). first_refusal (early ∷ spool_verdict asked caller found shown ∷ [])) none ∙ alone (spool_verdict asked caller found shown)
+
+-- a session whose early checks passed
+module _ (asked : ToolRequest) (caller : Caller) (tells : Telling) (before after : Holding) (finding : Finding) (cause : Cause)
+    (carries : Carries tells.files tells.alone asked caller finding before.spool after.spool cause) where
+  abbrev found : Found
+  found = finding carries.allow carries.deny
+
+  pub ends_carried : early_verdict asked caller found ≡ None →
+      (tells.clock ≡ true → after.answers ≡ answers_read (Ok asked) carries.reached found.now before.answers) →
+      Finds tells.input (Ok asked) caller.zone before.contents carries.reached found →
+      (tells.files ≡ true → tells.alone ≡ true → tells.output ≡ true →
+      PrintsBy cause (IsSessionText asked caller found carries.shown) before.output after.output) →
+      (tells.errors ≡ true → NotesBy cause (IsSessionLine asked caller found carries.shown) before.errors after.errors) →
+      Ends NotesBy (Ok asked) caller tells before after cause
+  ends_carried none clock finds prints notes = record {
+    found = found;
+    shown = carries.shown;
+    reached = carries.reached;
+    reach = carries.reach;
+    order = subst (λ (of : Option Refusal). KeepsOrder of cause) (sym (verdict_late asked caller found carries.shown none)) carries.order;
+    clock = clock;
+    finds = finds;
+    folder = carries.folder;
+    apart = carries.apart;
+    spool = λ told is_alone. ends_map (AreSessionSteps asked caller found) (AreAskedSteps (Ok asked) caller found)
+        (λ table steps are. record { none = verdict_late asked caller found (Ok table) none ∙ are.none; steps_are = are.steps_are })
+        before.spool after.spool cause (carries.spool told is_alone);
+    prints = λ told is_alone tells_output. prints_map (IsSessionText asked caller found carries.shown) (IsAskedText (Ok asked) caller found carries.shown)
+        (λ text is. (is.0, is.1, verdict_late asked caller found carries.shown none ∙ is.2, is.3)) before.output after.output cause
+        (prints told is_alone tells_output);
+    notes = λ tells_errors. notes_map (IsSessionLine asked caller found carries.shown) (IsAskedLine (Ok asked) caller found carries.shown)
+        (λ line is. (verdict_late asked caller found carries.shown none ∙ is.0, is.1)) before.errors after.errors cause (notes tells_errors);
+  }
+
+-- the outside was not touched but for the clock and the commands
+abbrev pub IsEarly : Cause → Type 0
+IsEarly (Refused refusal) = Unit {0}
+IsEarly InputFault = Unit {0}
+IsEarly Memory = Unit {0}
+IsEarly Done = ⊥
+IsEarly FileFault = ⊥
+IsEarly OutputFault = ⊥
+IsEarly Busy = ⊥
+IsEarly (Damaged damage) = ⊥
+IsEarly StillRunning = ⊥
+
+-- a cause that keeps the order of the early checks keeps that of all
+keeps_early : (early : Option Refusal) (asked : ToolRequest) (caller : Caller) (found : Found) (shown : Result JobTable Damage) (cause : Cause) →
+    IsEarly cause → KeepsOrder early cause → KeepsOrder (first_refusal (early ∷ spool_verdict asked caller found shown ∷ [])) cause
+keeps_early (Some refusal) asked caller found shown cause is order = order
+keeps_early None asked caller found shown cause is order =
+    subst (λ (of : Option Refusal). KeepsOrder of cause) (sym (alone (spool_verdict asked caller found shown))) (by_cause cause is order) where
+      by_cause : (of : Cause) → IsEarly of → IsNoRefusal of → KeepsOrder (spool_verdict asked caller found shown) of
+      by_cause InputFault early none = late_input (spool_verdict asked caller found shown) (spool_late asked caller found shown)
+      by_cause Memory early none = any_memory (spool_verdict asked caller found shown)
+      by_cause (Refused refusal) early none = absurd none
+      by_cause Done early none = absurd early
+      by_cause FileFault early none = absurd early
+      by_cause OutputFault early none = absurd early
+      by_cause Busy early none = absurd early
+      by_cause (Damaged damage) early none = absurd early
+      by_cause StillRunning early none = absurd early
+
+no_true : false ≡ true → ⊥
+no_true is = cc
+
+-- a check before the lock is not behind the folder
+before_folder : (place : ℕ) → nat_lt place 11 ≡ true → nat_lt 14 place ≡ false
+before_folder place is = grind (arith, nat_tests)
+
+-- a command that stopped before the spool was entered leaves it as it was
+untouched : (AreSteps : JobTable → List Step → Type 0) (old new : World) (cause : Cause) (reached : Check) → IsEarly cause → Reaches cause reached →
+    is_before reached of_lock ≡ true → new ≡ old → SpoolEnds AreSteps old new cause
+untouched AreSteps old new (Refused refusal) reached early reach before same =
+    subst (λ (behind : Bool). MatchBool behind (Achieves AreNoSteps old new) (new ≡ old))
+    (sym (before_folder (place_of (check_of refusal)) (subst (λ (of : Check). is_before of of_lock ≡ true) reach before))) same
+untouched AreSteps old new InputFault reached early reach before same = same
+untouched AreSteps old new Memory reached early reach before same = inl (unbegun_same old new same)
+untouched AreSteps old new Done reached early reach before same = absurd early
+untouched AreSteps old new FileFault reached early reach before same = absurd early
+untouched AreSteps old new OutputFault reached early reach before same = absurd early
+untouched AreSteps old new Busy reached early reach before same = absurd early
+untouched AreSteps old new (Damaged damage) reached early reach before same = absurd early
+untouched AreSteps old new StillRunning reached early reach before same = absurd early
+
+-- nothing was put where nothing changed
+silent_prints : (cause : Cause) (IsText : List ℕ → Type 0) (old new : SinkAt) → IsEarly cause → IsSilent old new → PrintsBy cause IsText old new
+silent_prints (Refused refusal) IsText old new early silent = silent
+silent_prints InputFault IsText old new early silent = silent
+silent_prints Memory IsText old new early silent = inl silent
+silent_prints Done IsText old new early silent = absurd early
+silent_prints FileFault IsText old new early silent = absurd early
+silent_prints OutputFault IsText old new early silent = absurd early
+silent_prints Busy IsText old new early silent = absurd early
+silent_prints (Damaged damage) IsText old new early silent = absurd early
+silent_prints StillRunning IsText old new early silent = absurd early
+
+silent_notes : (cause : Cause) (IsLine : List ℕ → Type 0) (old new : SinkAt) → IsEarly cause → IsSilent old new → NotesBy cause IsLine old new
+silent_notes (Refused refusal) IsLine old new early silent = silent
+silent_notes InputFault IsLine old new early silent = silent
+silent_notes Memory IsLine old new early silent = inl silent
+silent_notes Done IsLine old new early silent = absurd early
+silent_notes FileFault IsLine old new early silent = absurd early
+silent_notes OutputFault IsLine old new early silent = absurd early
+silent_notes Busy IsLine old new early silent = absurd early
+silent_notes (Damaged damage) IsLine old new early silent = absurd early
+silent_notes StillRunning IsLine old new early silent = absurd early
+
+-- a command that stopped before the spool was entered, its words read
+pub ends_early : (asked : ToolRequest) (caller : Caller) (tells : Telling) (before after : Holding) (finding : Finding) (keeps : KeepsLists finding)
+    (cause : Cause) (reached : Check) →
+    ((allow deny : Option (List ℕ)) → KeepsOrder (early_verdict asked caller (finding allow deny)) cause) → IsEarly cause → Reaches cause reached →
+    is_before reached of_lock ≡ true →
+    ((allow deny : Option (List ℕ)) → tells.clock ≡ true → after.answers ≡ answers_read (Ok asked) reached (finding allow deny).now before.answers) →
+    ((allow deny : Option (List ℕ)) → Finds tells.input (Ok asked) caller.zone before.contents reached (finding allow deny)) →
+    after.spool ≡ before.spool → IsSilent before.output after.output → IsSilent before.errors after.errors →
+    Ends NotesBy (Ok asked) caller tells before after cause
+ends_early asked caller tells before after finding keeps cause reached order early reach ahead clock finds same silent quiet =
+    let allow : Option (List ℕ) = finite.get (reading before.spool) allow_file in
+    let deny : Option (List ℕ) = finite.get (reading before.spool) deny_file in
+    let shown : Result JobTable Damage = shown_by (reading before.spool) in
+    record {
+      found = finding allow deny;
+      shown = shown;
+      reached = reached;
+      reach = reach;
+      order = keeps_early (early_verdict asked caller (finding allow deny)) asked caller (finding allow deny) shown cause early (order allow deny);
+      clock = clock allow deny;
+      finds = finds allow deny;
+      folder = λ told is_alone. record { allow = keeps.allow_is allow deny; deny = keeps.deny_is allow deny; table = refl };
+      apart = λ told is_alone is. same;
+      spool = λ told is_alone. untouched (AreAskedSteps (Ok asked) caller (finding allow deny)) before.spool after.spool cause reached early reach ahead same;
+      prints = λ told is_alone tells_output. silent_prints cause (IsAskedText (Ok asked) caller (finding allow deny) shown) before.output after.output early silent;
+      notes = λ tells_errors. silent_notes cause (IsAskedLine (Ok asked) caller (finding allow deny) shown) before.errors after.errors early quiet;
+    }
+
+-- The line of a cause.
+
+-- nothing of a line is a part of it
+none_in_part : (line : List ℕ) (old new : SinkAt) → IsSilent old new → IsPutInPart line old new
+none_in_part line old new quiet = record { count = 0; content = quiet.content ∙ sym (append-nil old.content); later = quiet.later }
+
+-- a line that was put, or cut, was put in part
+in_part : (line : List ℕ) (old new : SinkAt) → IsPutOrCut line old new → IsPutInPart line old new
+in_part line old new put = elim put [
+  | inl whole ↦ record { count = length line; content = whole.content ∙ ap (λ rest. old.content ++ rest) (sym (take-length line)); later = whole.later }
+  | inr cut ↦ record { count = cut.count; content = cut.content; later = cut.later }
+]
+
+module _ (tool : List ℕ) (IsLine : List ℕ → Type 0) (old between new : SinkAt) where
+  -- the line that was found
+  line_said : (cause : Cause) → SaysLine tool cause between new → EndsLine tool cause between new
+  line_said Done says = says
+  line_said Memory says = in_part (cause_line_of tool Memory) between new says
+  line_said (Refused refusal) says = says
+  line_said FileFault says = says
+  line_said InputFault says = says
+  line_said OutputFault says = says
+  line_said Busy says = says
+  line_said (Damaged damage) says = says
+  line_said StillRunning says = says
+
+  -- what was said before a line that finds no memory
+  notes_no_memory : (cause : Cause) → IsUndone cause → NotesBy cause IsLine old between → NotesBy Memory IsLine old between
+  notes_no_memory OutputFault undone notes = notes
+  notes_no_memory Memory undone notes = notes
+  notes_no_memory FileFault undone notes = inl notes
+  notes_no_memory (Refused refusal) undone notes = inl notes
+  notes_no_memory InputFault undone notes = inl notes
+  notes_no_memory Busy undone notes = inl notes
+  notes_no_memory (Damaged damage) undone notes = inl notes
+  notes_no_memory StillRunning undone notes = absurd notes
+  notes_no_memory Done undone notes = absurd undone
+
+  says_line : (cause : Cause) → NotesBy cause IsLine old between → SaysLine tool cause between new → SaysBy tool cause IsLine old new
+  says_line cause notes says = record { between = between; notice = notes; line = line_said cause says }
+
+  says_none : (cause : Cause) → IsUndone cause → NotesBy cause IsLine old between → IsSilent between new → SaysBy tool Memory IsLine old new
+  says_none cause undone notes quiet =
+      record { between = between; notice = notes_no_memory cause undone notes; line = none_in_part (cause_line_of tool Memory) between new quiet }
+
+-- what is printed before a line that finds no memory
+prints_no_memory : (cause : Cause) (IsText : List ℕ → Type 0) (old new : SinkAt) → IsUndone cause → PrintsBy cause IsText old new → PrintsBy Memory IsText old new
+prints_no_memory OutputFault IsText old new undone prints = prints
+prints_no_memory Memory IsText old new undone prints = prints
+prints_no_memory FileFault IsText old new undone prints = prints
+prints_no_memory (Refused refusal) IsText old new undone prints = inl prints
+prints_no_memory InputFault IsText old new undone prints = inl prints
+prints_no_memory Busy IsText old new undone prints = inl prints
+prints_no_memory (Damaged damage) IsText old new undone prints = inl prints
+prints_no_memory StillRunning IsText old new undone prints = absurd prints
+prints_no_memory Done IsText old new undone prints = absurd undone
+
+-- the holding with another sink for errors
+abbrev pub with_errors : Holding → SinkAt → Holding
+with_errors at errors = record { spool = at.spool; answers = at.answers; contents = at.contents; output = at.output; errors = errors }
+
+-- A command whose cause was said, or found no memory.
+module _ (tool : List ℕ) (asked : Asked) (caller : Caller) (tells : Telling) (before after : Holding) (between : SinkAt) (cause : Cause)
+    (ends : Ends NotesBy asked caller tells before (with_errors after between) cause) where
+  ends_as_is : (tells.errors ≡ true → SaysLine tool cause between after.errors) → Ends (SaysBy tool) asked caller tells before after cause
+  ends_as_is says = record {
+    found = ends.found;
+    shown = ends.shown;
+    reached = ends.reached;
+    reach = ends.reach;
+    order = ends.order;
+    clock = ends.clock;
+    finds = ends.finds;
+    folder = ends.folder;
+    apart = ends.apart;
+    spool = ends.spool;
+    prints = ends.prints;
+    notes = λ told. says_line tool (IsAskedLine asked caller ends.found ends.shown) before.errors between after.errors cause (ends.notes told) (says told);
+  }
+
+  ends_no_memory : IsUndone cause → (tells.errors ≡ true → IsSilent between after.errors) → Ends (SaysBy tool) asked caller tells before after Memory
+  ends_no_memory undone quiet = record {
+    found = ends.found;
+    shown = ends.shown;
+    reached = ends.reached;
+    reach = tt;
+    order = any_memory _;
+    clock = ends.clock;
+    finds = ends.finds;
+    folder = ends.folder;
+    apart = ends.apart;
+    spool = λ told is_alone. attempt_of (AreAskedSteps asked caller ends.found) before.spool after.spool cause (ends.spool told is_alone);
+    prints = λ told is_alone tells_output.
+        prints_no_memory cause (IsAskedText asked caller ends.found ends.shown) before.output after.output undone (ends.prints told is_alone tells_output);
+    notes = λ told. says_none tool (IsAskedLine asked caller ends.found ends.shown) before.errors between after.errors cause undone (ends.notes told)
+        (quiet told);
+  }
+
+  pub ends_said : (final : Cause) → IsSaid tool tells.errors cause between after.errors final → Ends (SaysBy tool) asked caller tells before after final
+  ends_said final said = elim said [
+    | inl as_is ↦ subst (λ (of : Cause). Ends (SaysBy tool) asked caller tells before after of) (sym as_is.0) (ends_as_is as_is.1)
+    | inr lacks ↦ subst (λ (of : Cause). Ends (SaysBy tool) asked caller tells before after of) (sym lacks.1) (ends_no_memory lacks.0 lacks.2)
+  ]
+
+-- A command that stopped at its words.
+
+-- nothing was read yet
+answers_unread : (asked : Asked) (now : ℤ) (answers : Answers) → answers_read asked of_words now answers ≡ answers
+answers_unread (Ok (request.Submit queue mail file when)) now answers = refl
+answers_unread (Ok (request.List filter)) now answers = refl
+answers_unread (Ok (request.Remove numbers)) now answers = refl
+answers_unread (Ok (request.Show numbers)) now answers = refl
+answers_unread (Ok (request.Daemon limit interval once turns)) now answers = refl
+answers_unread (Ok (request.Make count)) now answers = refl
+answers_unread (Err fault) now answers = refl
+
+finds_unread : (tells : Bool) (asked : Asked) (zone : Zone) (contents : Contents) (found : Found) → Finds tells asked zone contents of_words found
+finds_unread tells (Ok (request.Submit queue mail file when)) zone contents found =
+    record { time = λ beyond. absurd (no_true beyond); commands = λ told beyond. absurd (no_true beyond) }
+finds_unread tells (Ok (request.List filter)) zone contents found = tt
+finds_unread tells (Ok (request.Remove numbers)) zone contents found = tt
+finds_unread tells (Ok (request.Show numbers)) zone contents found = tt
+finds_unread tells (Ok (request.Daemon limit interval once turns)) zone contents found = tt
+finds_unread tells (Ok (request.Make count)) zone contents found = tt
+finds_unread tells (Err fault) zone contents found = tt
+
+-- nothing is put between a moment and itself
+pub silent : (at : SinkAt) → IsSilent at at
+silent at = record { content = refl; later = omega arith }
+
+pub ends_at_words : (asked : Asked) (caller : Caller) (tells : Telling) (at : Holding) (cause : Cause) → IsEarly cause → Reaches cause of_words →
+    ((found : Found) (shown : Result JobTable Damage) → KeepsOrder (verdict_of asked caller found shown) cause) →
+    Ends NotesBy asked caller tells at at cause
+ends_at_words asked caller tells at cause early reach order =
+    let allow : Option (List ℕ) = finite.get (reading at.spool) allow_file in
+    let deny : Option (List ℕ) = finite.get (reading at.spool) deny_file in
+    let found : Found = found_of (pos 0) (Ok 0) [] allow deny in
+    let shown : Result JobTable Damage = shown_by (reading at.spool) in
+    record {
+      found = found;
+      shown = shown;
+      reached = of_words;
+      reach = reach;
+      order = order found shown;
+      clock = λ told. sym (answers_unread asked (pos 0) at.answers);
+      finds = finds_unread tells.input asked caller.zone at.contents found;
+      folder = λ told is_alone. record { allow = refl; deny = refl; table = refl };
+      apart = λ told is_alone is. refl;
+      spool = λ told is_alone. untouched (AreAskedSteps asked caller found) at.spool at.spool cause of_words early reach refl refl;
+      prints = λ told is_alone tells_output. silent_prints cause (IsAskedText asked caller found shown) at.output at.output early (silent at.output);
+      notes = λ tells_errors. silent_notes cause (IsAskedLine asked caller found shown) at.errors at.errors early (silent at.errors);
+    }

@@ -1,0 +1,169 @@
+-- Why a session ended, by its parts.
+use Rattle.std.proofs.Common.{◌≡◌, ◌≢◌, Bool, List, ℕ, ap, sym, subst}
+use Rattle.std.specs.Prelude.{Result, Ok, Err, IfErr, IsErrOf}
+use Rattle.host_calls.specs.World.{World}
+use Rattle.listing_text.specs.declared.cause.Cause.{Cause}
+use Rattle.listing_text.specs.declared.cause.Cause.TheVariants.{Done, Refused, FileFault, InputFault, OutputFault, Busy, Memory, Damaged, StillRunning}
+use Rattle.spool_store.specs.declared.fault.StoreFault.{StoreFault}
+use Rattle.spool_store.specs.declared.fault.StoreFault.TheVariants as store
+use Rattle.command_answers.specs.declared.stopped.Stopped.{Stopped}
+use Rattle.command_answers.specs.Causes.{cause_in, cause_of, stopped_by}
+use Rattle.command_answers.specs.Sessions.{IsNotOpened, faults, is_damaged, lacks_memory, refuses}
+use Rattle.job_listing.specs.Scripts.{ComesOfShowing, IsOfShowing}
+use Rattle.job_removal.specs.Removing.{ComesOfRemoving, IsOfWork}
+use Rattle.spool_session.specs.Entering.{ComesOfEntering, IsOfEntry}
+use Rattle.at_commands.specs.inside.Session.{ComesOfSession, IsNoOutput, IsOfSession, IsOfSpool}
+
+-- no store was had
+pub not_opened_comes : (tells : Bool) (user : List ℕ) (old new : World) (cause : Cause) → IsNotOpened tells user old new cause → IsOfSession cause
+not_opened_comes tells user old new cause (faults unbegun) = tt
+not_opened_comes tells user old new cause (lacks_memory unbegun) = tt
+not_opened_comes tells user old new cause (refuses allow deny refused lists same) = tt
+not_opened_comes tells user old new cause (is_damaged damage allow deny permits lists shows) = tt
+
+-- the store stopped
+pub store_comes : (fault : StoreFault) → IsOfSession (cause_of fault)
+store_comes store.FileFault = tt
+store_comes (store.Damaged damage) = tt
+store_comes store.QueueFull = tt
+store_comes store.NumbersUsedUp = tt
+store_comes store.Memory = tt
+
+-- within a session the lock is not taken
+pub not_busy : {T : Type 0} (result : Result T Stopped) → IfErr result ComesOfSession → IsErrOf result (stopped_by Busy) → ⊥
+not_busy (Ok value) comes is = let no : ◌≡◌ {A = Result _ Stopped} (Ok value) (Err (stopped_by Busy)) = is in cc
+not_busy (Err stopped) comes is =
+    let same : stopped ≡ stopped_by Busy = cc in subst (λ (of : Stopped). IsOfSession of.cause) same comes
+
+-- nor does the output fail where none is put
+pub not_opened_of_spool : (tells : Bool) (user : List ℕ) (old new : World) (cause : Cause) → IsNotOpened tells user old new cause → IsOfSpool cause
+not_opened_of_spool tells user old new cause (faults unbegun) = tt
+not_opened_of_spool tells user old new cause (lacks_memory unbegun) = tt
+not_opened_of_spool tells user old new cause (refuses allow deny refused lists same) = tt
+not_opened_of_spool tells user old new cause (is_damaged damage allow deny permits lists shows) = tt
+
+pub store_of_spool : (fault : StoreFault) → IsOfSpool (cause_of fault)
+store_of_spool store.FileFault = tt
+store_of_spool (store.Damaged damage) = tt
+store_of_spool store.QueueFull = tt
+store_of_spool store.NumbersUsedUp = tt
+store_of_spool store.Memory = tt
+
+pub entry_of_spool : (cause : Cause) → IsOfEntry cause → IsOfSpool cause
+entry_of_spool Done is = absurd is
+entry_of_spool (Refused refusal) is = absurd is
+entry_of_spool FileFault is = tt
+entry_of_spool InputFault is = absurd is
+entry_of_spool OutputFault is = absurd is
+entry_of_spool Busy is = tt
+entry_of_spool Memory is = tt
+entry_of_spool (Damaged damage) is = absurd is
+entry_of_spool StillRunning is = absurd is
+
+pub work_of_spool : (cause : Cause) → IsOfWork cause → IsOfSpool cause
+work_of_spool Done is = absurd is
+work_of_spool (Refused refusal) is = absurd is
+work_of_spool FileFault is = tt
+work_of_spool InputFault is = absurd is
+work_of_spool OutputFault is = absurd is
+work_of_spool Busy is = absurd is
+work_of_spool Memory is = tt
+work_of_spool (Damaged damage) is = absurd is
+work_of_spool StillRunning is = absurd is
+
+pub work_of_session : (cause : Cause) → IsOfWork cause → IsOfSession cause
+work_of_session Done is = absurd is
+work_of_session (Refused refusal) is = absurd is
+work_of_session FileFault is = tt
+work_of_session InputFault is = absurd is
+work_of_session OutputFault is = absurd is
+work_of_session Busy is = absurd is
+work_of_session Memory is = tt
+work_of_session (Damaged damage) is = absurd is
+work_of_session StillRunning is = absurd is
+
+pub showing_of_session : (cause : Cause) → IsOfShowing cause → IsOfSession cause
+showing_of_session Done is = absurd is
+showing_of_session (Refused refusal) is = absurd is
+showing_of_session FileFault is = tt
+showing_of_session InputFault is = absurd is
+showing_of_session OutputFault is = tt
+showing_of_session Busy is = absurd is
+showing_of_session Memory is = tt
+showing_of_session (Damaged damage) is = absurd is
+showing_of_session StillRunning is = absurd is
+
+-- so neither the inputs nor the output
+pub no_input_of_spool : (stopped : Stopped) → IsNoOutput stopped → stopped.cause ≢ InputFault
+no_input_of_spool stopped is same = subst IsOfSpool same is
+
+pub no_output_of_spool : (stopped : Stopped) → IsNoOutput stopped → stopped.cause ≢ OutputFault
+no_output_of_spool stopped is same = subst IsOfSpool same is
+
+pub no_input_of_session : {T : Type 0} (result : Result T Stopped) → IfErr result ComesOfSession → IsErrOf result (stopped_by InputFault) → ⊥
+no_input_of_session (Ok value) comes is = let no : ◌≡◌ {A = Result _ Stopped} (Ok value) (Err (stopped_by InputFault)) = is in cc
+no_input_of_session (Err stopped) comes is =
+    let same : stopped ≡ stopped_by InputFault = cc in subst (λ (of : Stopped). IsOfSession of.cause) same comes
+
+pub removing_comes : (result : Result (Unit {0}) Stopped) → IfErr result ComesOfRemoving → IfErr result ComesOfSession
+removing_comes (Ok value) comes = tt
+removing_comes (Err stopped) comes = work_of_session stopped.cause comes
+
+pub removing_no_output : (result : Result (Unit {0}) Stopped) → IfErr result ComesOfRemoving → IfErr result IsNoOutput
+removing_no_output (Ok value) comes = tt
+removing_no_output (Err stopped) comes = work_of_spool stopped.cause comes
+
+pub showing_comes : (result : Result (Unit {0}) Stopped) → IfErr result ComesOfShowing → IfErr result ComesOfSession
+showing_comes (Ok value) comes = tt
+showing_comes (Err stopped) comes = showing_of_session stopped.cause comes
+
+-- the cause of an answer, where it is that of a fault of the outside
+pub cause_busy : {T : Type 0} (result : Result T Stopped) → cause_in result ≡ Busy → IsErrOf result (stopped_by Busy)
+cause_busy (Ok value) is = let no : Done ≡ Busy = is in cc
+cause_busy (Err stopped) is = ap (λ (of : Cause). Err (stopped_by of)) is
+
+pub cause_file_fault : {T : Type 0} (result : Result T Stopped) → cause_in result ≡ FileFault → IsErrOf result (stopped_by FileFault)
+cause_file_fault (Ok value) is = let no : Done ≡ FileFault = is in cc
+cause_file_fault (Err stopped) is = ap (λ (of : Cause). Err (stopped_by of)) is
+
+pub cause_output_fault : {T : Type 0} (result : Result T Stopped) → cause_in result ≡ OutputFault → IsErrOf result (stopped_by OutputFault)
+cause_output_fault (Ok value) is = let no : Done ≡ OutputFault = is in cc
+cause_output_fault (Err stopped) is = ap (λ (of : Cause). Err (stopped_by of)) is
+
+pub cause_input_fault : {T : Type 0} (result : Result T Stopped) → cause_in result ≡ InputFault → IsErrOf result (stopped_by InputFault)
+cause_input_fault (Ok value) is = let no : Done ≡ InputFault = is in cc
+cause_input_fault (Err stopped) is = ap (λ (of : Cause). Err (stopped_by of)) is
+
+-- where no output comes of the spool
+pub no_input_in : {T : Type 0} (result : Result T Stopped) → IfErr result IsNoOutput → cause_in result ≢ InputFault
+no_input_in (Ok value) is same = let no : Done ≡ InputFault = same in cc
+no_input_in (Err stopped) is same = no_input_of_spool stopped is same
+
+pub no_output_in : {T : Type 0} (result : Result T Stopped) → IfErr result IsNoOutput → cause_in result ≢ OutputFault
+no_output_in (Ok value) is same = let no : Done ≡ OutputFault = same in cc
+no_output_in (Err stopped) is same = no_output_of_spool stopped is same
+
+-- want of memory comes of the spool
+pub memory_comes : {T : Type 0} (result : Result T Stopped) → IfErr result (λ stopped. stopped ≡ stopped_by Memory) → IfErr result ComesOfSession
+memory_comes (Ok value) lacks = tt
+memory_comes (Err stopped) lacks = subst (λ (of : Stopped). IsOfSession of.cause) (sym lacks) tt
+
+pub memory_no_output : {T : Type 0} (result : Result T Stopped) → IfErr result (λ stopped. stopped ≡ stopped_by Memory) → IfErr result IsNoOutput
+memory_no_output (Ok value) lacks = tt
+memory_no_output (Err stopped) lacks = subst (λ (of : Stopped). IsOfSpool of.cause) (sym lacks) tt
+
+-- where the spool stopped the session, its output did not fail
+pub no_output_error : {T : Type 0} (result : Result T Stopped) → IfErr result IsNoOutput → IsErrOf result (stopped_by OutputFault) → ⊥
+no_output_error (Ok value) comes is = let no : ◌≡◌ {A = Result _ Stopped} (Ok value) (Err (stopped_by OutputFault)) = is in cc
+no_output_error (Err stopped) comes is =
+    let same : stopped ≡ stopped_by OutputFault = cc in subst (λ (of : Stopped). IsOfSpool of.cause) same comes
+
+pub no_output_of_stopped : (stopped : Stopped) → IsNoOutput stopped → ◌≡◌ {A = Result (Unit {0}) Stopped} (Err stopped) (Err (stopped_by OutputFault)) → ⊥
+no_output_of_stopped stopped of_spool is = no_output_error (Err stopped) of_spool is
+
+pub entry_no_output : (stopped : Stopped) → ComesOfEntering stopped → ◌≡◌ {A = Result (Unit {0}) Stopped} (Err stopped) (Err (stopped_by OutputFault)) → ⊥
+entry_no_output stopped comes is = no_output_error (Err stopped) (entry_of_spool stopped.cause comes) is
+
+pub entry_no_input : (stopped : Stopped) → ComesOfEntering stopped → ◌≡◌ {A = Result (Unit {0}) Stopped} (Err stopped) (Err (stopped_by InputFault)) → ⊥
+entry_no_input stopped comes is =
+    let same : stopped ≡ stopped_by InputFault = cc in subst (λ (of : Stopped). IsOfEntry of.cause) same comes

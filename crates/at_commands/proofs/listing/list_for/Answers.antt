@@ -1,0 +1,51 @@
+use Rattle.std.proofs.Common.{◌∙◌, List, refl, subst, sym, ℕ}
+use Rattle.command_answers.specs.Sinks.{sink_at}
+use Rattle.command_answers.proofs.SpoolLemmas.{goes_on_none}
+use Rattle.at_commands.specs.inside.Printing.{PutsWhole}
+use Rattle.at_commands.proofs.AnswerLemmas.{listing_put, listing_stopped, listing_unzoned, puts_no_busy, puts_no_file_fault, puts_no_input_fault}
+use Rattle.at_commands.proofs.SessionLemmas.{no_input_of_spool, no_output_of_spool}
+use Rattle.at_commands.proofs.UserLemmas.{zone_readable}
+use Rattle.at_commands.proofs.listing.list_for.Goals as goal
+
+pub returns-then-is_unreadable-clause-quiet : goal.returns-then-is_unreadable-clause-quiet
+returns-then-is_unreadable-clause-quiet g c = λ told. goes_on_none _ _ refl
+
+pub returns-then-is_unreadable-clause-ends : goal.returns-then-is_unreadable-clause-ends
+returns-then-is_unreadable-clause-ends g c =
+    listing_unzoned g.H.Host.tells g.H.Host.alone g.O.Sink.tells c.args.which.now c.args.caller.now (g.H.Host.world c.args.host.now)
+    (sink_at (g.O.Sink.content c.args.out.now) (g.O.Sink.outlet c.args.out.now)) c.requires.named
+    (sym c.is_unreadable.ensures ∙ c.if-is_unreadable.true)
+
+pub list_in_session-requires-clause-zone : goal.list_in_session-requires-clause-zone
+list_in_session-requires-clause-zone g c = zone_readable c.args.caller.now.zone (sym c.is_unreadable.ensures ∙ c.if-is_unreadable.false)
+
+pub returns-in-Err-clause-no_input : goal.returns-in-Err-clause-no_input
+returns-in-Err-clause-no_input g c = no_input_of_spool c.in-Err.stopped c.in-Err.ensures.no_output
+
+pub returns-in-Err-clause-output_fault : goal.returns-in-Err-clause-output_fault
+returns-in-Err-clause-output_fault g c = λ same. absurd (no_output_of_spool c.in-Err.stopped c.in-Err.ensures.no_output same)
+
+pub returns-in-Err-clause-ends : goal.returns-in-Err-clause-ends
+returns-in-Err-clause-ends g c =
+    listing_stopped g.H.Host.tells g.H.Host.alone g.O.Sink.tells c.args.which.now c.args.caller.now (g.H.Host.world c.args.host.now)
+    (g.H.Host.world c.list_in_session.new.host) c.requires.named (sym c.is_unreadable.ensures ∙ c.if-is_unreadable.false)
+    c.in-Err.stopped (sink_at (g.O.Sink.content c.args.out.now) (g.O.Sink.outlet c.args.out.now)) c.in-Err.ensures.no_output (c.in-Err.ensures.lists c.args.caller.now c.requires.user refl)
+
+pub returns-in-Ok-clause-file_fault : goal.returns-in-Ok-clause-file_fault
+returns-in-Ok-clause-file_fault g c = λ same. absurd (puts_no_file_fault _ _ _ _ c.put_whole.result c.put_whole.ensures.puts same)
+
+pub returns-in-Ok-clause-busy : goal.returns-in-Ok-clause-busy
+returns-in-Ok-clause-busy g c = λ same. absurd (puts_no_busy _ _ _ _ c.put_whole.result c.put_whole.ensures.puts same)
+
+pub returns-in-Ok-clause-no_input : goal.returns-in-Ok-clause-no_input
+returns-in-Ok-clause-no_input g c = puts_no_input_fault _ _ _ _ c.put_whole.result c.put_whole.ensures.puts
+
+pub returns-in-Ok-clause-ends : goal.returns-in-Ok-clause-ends
+returns-in-Ok-clause-ends g c =
+    listing_put g.H.Host.tells g.H.Host.alone g.O.Sink.tells c.args.which.now c.args.caller.now (g.H.Host.world c.args.host.now)
+    (g.H.Host.world c.list_in_session.new.host) c.requires.named (sym c.is_unreadable.ensures ∙ c.if-is_unreadable.false)
+    c.put_whole.result c.in-Ok.text (sink_at (g.O.Sink.content c.args.out.now) (g.O.Sink.outlet c.args.out.now))
+    (sink_at (g.O.Sink.content c.put_whole.new.out) (g.O.Sink.outlet c.put_whole.new.out))
+    (c.in-Ok.ensures.lists c.args.caller.now c.requires.user refl)
+    (subst (λ (of : List ℕ). PutsWhole g.O.Sink.tells of (sink_at (g.O.Sink.content c.args.out.now) (g.O.Sink.outlet c.args.out.now))
+    (sink_at (g.O.Sink.content c.put_whole.new.out) (g.O.Sink.outlet c.put_whole.new.out)) c.put_whole.result) c.as_slice.ensures c.put_whole.ensures.puts)

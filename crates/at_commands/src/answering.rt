@@ -1,0 +1,200 @@
+//! The command: what its words ask for, done.
+ghost use Rattle.std.specs.Prelude.{◌≡◌, ◌≢◌, ◌<◌, IsTrue, Ok, map, string_bytes};
+ghost use Rattle.at_words.specs.Queues.{HasQueueLetter};
+ghost use Rattle.at_words.specs.Requests.{request_of};
+ghost use Rattle.host_calls.specs.Causes.{Rose};
+ghost use Rattle.host_calls.specs.Session.{IsLeft, IsOutside};
+ghost use Rattle.host_calls.specs.World.{GoesOn};
+ghost use Rattle.listing_text.specs.Cause.{status_of};
+ghost use Rattle.command_answers.specs.Ends.{Ends, FailsToPrint, holding, telling};
+ghost use Rattle.command_answers.specs.Sinks.{NotesBy, SaysBy, sink_at};
+ghost use Rattle.at_commands.specs.Tools.{name_of, tool_name_of};
+ghost use Rattle.at_commands.specs.inside.Wording.{words_cause};
+
+use crate::listing::list;
+use crate::removing::remove;
+use crate::saying::say_cause;
+use crate::showing::show;
+use crate::submitting::submit;
+use at_words::{Tool, ToolRequest, WordsFault, request, tool_of};
+use command_answers::Caller;
+use host_calls::{Host, Inputs, Readings, Sink};
+use listing_text::{Cause, Refusal, Status};
+use std::alloc::Global;
+
+/// Does what the words of `at`, `batch`, `atq` and `atrm` ask for. What words of other tools ask for is refused.
+pub fn command<H: Host, R: Readings, I: Inputs, O: Sink, E: Sink>(
+    alloc: Global,
+    words: &[String],
+    caller: &Caller,
+    host: &mut H,
+    readings: &mut R,
+    inputs: &mut I,
+    out: &mut O,
+    err: &mut E,
+) -> Status
+    requires outside { IsOutside (H.session host.old) }
+    requires umask { caller.now.context.umask < 512 }
+
+    ensures code { result ≡ status_of result.cause }
+    ensures left { IsLeft (H.session host.old) (H.session host.new) }
+    ensures quiet { IsTrue H.tells → GoesOn (H.world host.old) (H.world host.new) }
+
+    // Each fault comes only where its count rose.
+    ensures file_fault { result.cause ≡ Cause.FileFault
+        → Rose (H.session host.old).file_faults (H.session host.new).file_faults }
+    ensures busy { result.cause ≡ Cause.Busy → Rose (H.session host.old).taken (H.session host.new).taken }
+    ensures input_fault { result.cause ≡ Cause.InputFault
+        → Rose (I.sources inputs.old).input_faults (I.sources inputs.new).input_faults }
+    ensures output_fault { result.cause ≡ Cause.OutputFault
+        → FailsToPrint (request_of (map string_bytes words.now))
+        (O.outlet out.old) (O.outlet out.new) (E.outlet err.old) (E.outlet err.new) }
+    ensures not_running { result.cause ≢ Cause.StillRunning }
+
+    // The verdict and its order, what each crash on the way and each image of the end show, and what is printed and said.
+    ensures ends { Ends (SaysBy (tool_name_of (map string_bytes words.now)))
+        (request_of (map string_bytes words.now)) caller.now
+        (telling H.tells H.alone R.tells I.tells O.tells E.tells)
+        (holding (H.world host.old) (R.answers readings.old) (I.contents inputs.old)
+        (sink_at (O.content out.old) (O.outlet out.old)) (sink_at (E.content err.old) (E.outlet err.old)))
+        (holding (H.world host.new) (R.answers readings.new) (I.contents inputs.new)
+        (sink_at (O.content out.new) (O.outlet out.new)) (sink_at (E.content err.new) (E.outlet err.new))) result.cause }
+
+    // What the others were made as stays.
+    ensures readers { R.readers readings.new ≡ R.readers readings.old }
+    ensures contents { I.contents inputs.new ≡ I.contents inputs.old }
+    ensures input_made { (I.sources inputs.new).made_as ≡ (I.sources inputs.old).made_as }
+    ensures out_made { (O.outlet out.new).made_as ≡ (O.outlet out.old).made_as }
+    ensures errors_made { (E.outlet err.new).made_as ≡ (E.outlet err.old).made_as }
+{
+    let cause = answer(alloc, words, caller, host, readings, inputs, out, err);
+    Status::of(say_cause(alloc, tool_name(words), cause, err))
+}
+
+// Does what the words ask for. The line of the cause is still to be said.
+fn answer<H: Host, R: Readings, I: Inputs, O: Sink, E: Sink>(
+    alloc: Global,
+    words: &[String],
+    caller: &Caller,
+    host: &mut H,
+    readings: &mut R,
+    inputs: &mut I,
+    out: &mut O,
+    err: &mut E,
+) -> Cause
+    requires outside { IsOutside (H.session host.old) }
+    requires umask { caller.now.context.umask < 512 }
+    ensures left { IsLeft (H.session host.old) (H.session host.new) }
+    ensures quiet { IsTrue H.tells → GoesOn (H.world host.old) (H.world host.new) }
+    ensures file_fault { result ≡ Cause.FileFault
+        → Rose (H.session host.old).file_faults (H.session host.new).file_faults }
+    ensures busy { result ≡ Cause.Busy → Rose (H.session host.old).taken (H.session host.new).taken }
+    ensures input_fault { result ≡ Cause.InputFault
+        → Rose (I.sources inputs.old).input_faults (I.sources inputs.new).input_faults }
+    ensures output_fault { result ≡ Cause.OutputFault
+        → FailsToPrint (request_of (map string_bytes words.now))
+        (O.outlet out.old) (O.outlet out.new) (E.outlet err.old) (E.outlet err.new) }
+    ensures ends { Ends NotesBy (request_of (map string_bytes words.now)) caller.now
+        (telling H.tells H.alone R.tells I.tells O.tells E.tells)
+        (holding (H.world host.old) (R.answers readings.old) (I.contents inputs.old)
+        (sink_at (O.content out.old) (O.outlet out.old)) (sink_at (E.content err.old) (E.outlet err.old)))
+        (holding (H.world host.new) (R.answers readings.new) (I.contents inputs.new)
+        (sink_at (O.content out.new) (O.outlet out.new)) (sink_at (E.content err.new) (E.outlet err.new))) result }
+    ensures readers { R.readers readings.new ≡ R.readers readings.old }
+    ensures contents { I.contents inputs.new ≡ I.contents inputs.old }
+    ensures input_made { (I.sources inputs.new).made_as ≡ (I.sources inputs.old).made_as }
+    ensures out_made { (O.outlet out.new).made_as ≡ (O.outlet out.old).made_as }
+    ensures errors_made { (E.outlet err.new).made_as ≡ (E.outlet err.old).made_as }
+{
+    match request(alloc, words) {
+        Ok(asked) => carry_out(alloc, asked, caller, host, readings, inputs, out, err),
+        Err(fault) => cause_of_words(fault),
+    }
+}
+
+// The cause of words that ask for nothing.
+fn cause_of_words(fault: WordsFault) -> Cause
+    ensures { result ≡ words_cause fault }
+{
+    match fault {
+        WordsFault::Usage => Cause::Refused(Refusal::Usage),
+        WordsFault::BadQueue => Cause::Refused(Refusal::BadQueue),
+        WordsFault::Memory => Cause::Memory,
+    }
+}
+
+// Does what is asked for.
+fn carry_out<H: Host, R: Readings, I: Inputs, O: Sink, E: Sink>(
+    alloc: Global,
+    asked: ToolRequest,
+    caller: &Caller,
+    host: &mut H,
+    readings: &mut R,
+    inputs: &mut I,
+    out: &mut O,
+    err: &mut E,
+) -> Cause
+    requires outside { IsOutside (H.session host.old) }
+    requires umask { caller.now.context.umask < 512 }
+    requires letter { HasQueueLetter asked }
+    ensures left { IsLeft (H.session host.old) (H.session host.new) }
+    ensures quiet { IsTrue H.tells → GoesOn (H.world host.old) (H.world host.new) }
+    ensures file_fault { result ≡ Cause.FileFault
+        → Rose (H.session host.old).file_faults (H.session host.new).file_faults }
+    ensures busy { result ≡ Cause.Busy → Rose (H.session host.old).taken (H.session host.new).taken }
+    ensures input_fault { result ≡ Cause.InputFault
+        → Rose (I.sources inputs.old).input_faults (I.sources inputs.new).input_faults }
+    ensures output_fault { result ≡ Cause.OutputFault
+        → FailsToPrint (Ok asked) (O.outlet out.old) (O.outlet out.new) (E.outlet err.old) (E.outlet err.new) }
+    ensures ends { Ends NotesBy (Ok asked) caller.now
+        (telling H.tells H.alone R.tells I.tells O.tells E.tells)
+        (holding (H.world host.old) (R.answers readings.old) (I.contents inputs.old)
+        (sink_at (O.content out.old) (O.outlet out.old)) (sink_at (E.content err.old) (E.outlet err.old)))
+        (holding (H.world host.new) (R.answers readings.new) (I.contents inputs.new)
+        (sink_at (O.content out.new) (O.outlet out.new)) (sink_at (E.content err.new) (E.outlet err.new))) result }
+    ensures readers { R.readers readings.new ≡ R.readers readings.old }
+    ensures contents { I.contents inputs.new ≡ I.contents inputs.old }
+    ensures input_made { (I.sources inputs.new).made_as ≡ (I.sources inputs.old).made_as }
+    ensures out_made { (O.outlet out.new).made_as ≡ (O.outlet out.old).made_as }
+    ensures errors_made { (E.outlet err.new).made_as ≡ (E.outlet err.old).made_as }
+{
+    match asked {
+        ToolRequest::Submit {
+            queue,
+            mail,
+            file,
+            when,
+        } => submit(
+            alloc, queue, mail, &file, &when, caller, host, readings, inputs, err,
+        ),
+        ToolRequest::List(which) => list(alloc, &which, caller, host, out),
+        ToolRequest::Remove(numbers) => remove(alloc, &numbers, caller, host),
+        ToolRequest::Show(numbers) => show(alloc, &numbers, caller, host, out),
+        ToolRequest::Daemon { .. } => Cause::Refused(Refusal::Usage),
+        ToolRequest::Make(_) => Cause::Refused(Refusal::Usage),
+    }
+}
+
+// The name of the tool that the words name, or of `at`.
+fn tool_name(words: &[String]) -> &'static str
+    ensures { result.now ≡ tool_name_of (map string_bytes words.now) }
+{
+    match tool_of(words) {
+        Some((tool, _)) => name(tool),
+        None => "at",
+    }
+}
+
+// The name by which a tool is called, as it begins its lines.
+fn name(tool: Tool) -> &'static str
+    ensures { result.now ≡ name_of tool }
+{
+    match tool {
+        Tool::At => "at",
+        Tool::Batch => "batch",
+        Tool::Atq => "atq",
+        Tool::Atrm => "atrm",
+        Tool::Atd => "atd",
+        Tool::Atday => "atday",
+    }
+}
