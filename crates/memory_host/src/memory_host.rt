@@ -40,7 +40,9 @@ pub struct MemoryHost {
 
 impl MemoryHost {
     ghost use Rattle.std.specs.Prelude.{IfOk, OnOk, OnErr};
+    ghost use Rattle.std.specs.FinMap as map;
     ghost use Rattle.std.specs.Option.{option_copied};
+    ghost use Rattle.host_calls.specs.World.{reading};
     ghost use Rattle.memory_host.specs.Host.{IsNew, IsRebooted, IsUnchanged, calls_of, memory_world, reading_at};
 
     /// A host with these files, all of them certain, before its first call.
@@ -88,6 +90,13 @@ impl MemoryHost {
         ensures { option_copied result ≡ reading_at self.now name.now }
     {
         self.past.reading(name)
+    }
+
+    /// The names of the files as they read now, in byte order.
+    pub fn names_now(&self, alloc: Global) -> Result<Vec<Name>, AllocError>
+        ensures { IfOk result (λ names. names.items ≡ map.keys (reading (memory_world self.now))) }
+    {
+        self.past.names(alloc)
     }
 
     /// All scripts that were handed over.

@@ -1,0 +1,30 @@
+-- What HaveChildren says of kids, as what a turn asks for and gives.
+use Rattle.std.proofs.Common.{◌≡◌, ◌==◌, ℕ, Bool, true, List, ap}
+use Rattle.std.specs.Prelude.{Contains}
+use Rattle.std.specs.Cmp.{IsEquivalence}
+use Rattle.std.proofs.lemmas.Bool.{eqb-true}
+use Rattle.std.proofs.lemmas.Cmp.{nat_eq_equiv}
+use Rattle.std.proofs.lemmas.Map.Views.{Contains-from_any, list_any-from_Contains}
+use Rattle.host_calls.specs.declared.child.Child.{Child}
+use Rattle.daemon_turn.specs.declared.kid.Kid.{Kid}
+use Rattle.daemon_turn.specs.Kids.{AreChildren}
+use Rattle.scenarios.specs.Machine.{HaveChildren}
+
+abbrev is_same : Child → Child → Bool
+is_same one other = one.id == other.id
+
+same : (one other : Child) → is_same one other ≡ true → one ≡ other
+same one other is = ap (λ (id : ℕ). record { id = id }) (eqb-true one.id other.id is)
+
+tells : IsEquivalence is_same
+tells = record {
+  refl = λ one. nat_eq_equiv.refl one.id;
+  symm = λ one other. nat_eq_equiv.symm one.id other.id;
+  congr = λ one other third. nat_eq_equiv.congr one.id other.id third.id;
+}
+
+pub are_children : (children : List Child) (kids : List Kid) → HaveChildren children kids → AreChildren children kids
+are_children children kids have = record { each = λ kid has. Contains-from_any same kid.child children (have.each kid has) }
+
+pub have_children : (children : List Child) (kids : List Kid) → AreChildren children kids → HaveChildren children kids
+have_children children kids are = record { each = λ kid has. list_any-from_Contains tells kid.child children (are.each kid has) }

@@ -1,0 +1,76 @@
+//! Runs scenarios: cases of the tools and of the daemon as text, over a spool in memory.
+#![tactic(auto)]
+
+mod event;
+mod machine;
+mod opening;
+mod scene;
+mod settings;
+mod transcript;
+mod values;
+mod why;
+mod words;
+
+use crate::scene::Scenes;
+use crate::transcript::Transcript;
+use crate::why::Why;
+use anyhow::{Result, bail};
+use std::io::Write;
+use std::process::ExitCode;
+use std::{env, fs, io};
+
+/// How the names of scenario files end.
+const ENDING: &str = ".scenarios";
+
+fn main(rt: HostRuntime) -> ExitCode {
+    match run(&rt) {
+        Ok(()) => ExitCode::from(0),
+        Err(error) => {
+            let _ = eprintln!(rt; "{error}");
+            ExitCode::from(1)
+        }
+    }
+}
+
+// Runs the files that the arguments name, or all that stand here.
+fn run(rt: &HostRuntime) -> Result<()> {
+    let mut paths = env::args(rt)?.skip(1).collect::<Vec<String>>(rt.alloc())?;
+    if paths.is_empty() {
+        paths = scenario_files(rt)?;
+    }
+    for path in &paths {
+        run_file(rt, path.as_str())?;
+    }
+    Ok(())
+}
+
+// The names of the scenario files that stand here, in their order.
+fn scenario_files(rt: &HostRuntime) -> Result<Vec<String>> {
+    let mut names = Vec::new(rt.alloc());
+    for entry in fs::read_dir(rt, ".")? {
+        let entry = entry?;
+        let name = entry.file_name();
+        if name.ends_with(ENDING) {
+            names.push(String::from_str(rt.alloc(), name)?)?;
+        }
+    }
+    names.sort()?;
+    Ok(names)
+}
+
+// Runs the scenarios of a file, and prints what happens in each.
+fn run_file(rt: &HostRuntime, path: &str) -> Result<()> {
+    let text = fs::read(rt, path)?;
+    let mut scenes = Scenes::new();
+    for (index, line) in text.split(|byte| *byte == b'\n').enumerate() {
+        let mut transcript = Transcript::new(rt.alloc());
+        let taken = scenes.take(rt.alloc(), line, &mut transcript);
+        io::writer(rt).write_all(transcript.as_bytes())?;
+        match taken {
+            Ok(()) => {}
+            Err(Why::Memory) => bail!("out of memory"),
+            Err(why) => bail!("line {}: {why}", index + 1),
+        }
+    }
+    Ok(())
+}

@@ -1,0 +1,117 @@
+//! The folder and the plan with which a scenario begins.
+ghost use Rattle.std.specs.Prelude.{IfOk};
+ghost use Rattle.host_calls.specs.Session.{IsOutside};
+ghost use Rattle.memory_host.specs.Host.{memory_session};
+
+use crate::Why;
+use crate::values::{name, number, one, two};
+use host_calls::{Ending, Name};
+use memory_host::{
+    CallList, ChildPlan, ChildPlans, Failing, FailingList, Files, MemoryHost, Part, Plan,
+};
+use std::alloc::{AllocError, Global};
+use std::collections::BTreeMap;
+
+/// The files at first, and what is planned to fail.
+#[derive(Drop)]
+pub struct Opening {
+    files: BTreeMap<Name, Vec<u8>>,
+    plan: Plan,
+}
+
+/// Whether a line that begins with this word is one of the opening.
+pub fn is_opening_word(word: &[u8]) -> bool {
+    matches!(
+        word,
+        b"file"
+            | b"absent"
+            | b"child"
+            | b"failing-call"
+            | b"taken-call"
+            | b"failing-start"
+            | b"fuse"
+    )
+}
+
+impl Opening {
+    /// An empty list of users who may not use `at`, and no plan.
+    pub fn new(alloc: Global) -> Result<Opening, Why> {
+        let mut files = BTreeMap::new(alloc);
+        files
+            .insert(name(b"at.deny")?, Vec::new(alloc))
+            .map_err(|_| Why::Memory)?;
+        Ok(Opening {
+            files,
+            plan: Plan {
+                failing: FailingList::new(alloc),
+                taken: CallList::new(alloc),
+                failing_starts: CallList::new(alloc),
+                fuse: None,
+                children: ChildPlans::new(alloc),
+            },
+        })
+    }
+
+    /// Takes a line that begins with a word of the opening.
+    pub fn take(&mut self, alloc: Global, word: &[u8], rest: &[Vec<u8>]) -> Result<(), Why> {
+        match word {
+            b"file" => self.put_file(alloc, rest)?,
+            b"absent" => {
+                let _ = self.files.remove(&name(one(rest)?)?);
+            }
+            b"child" => self.add_child(alloc, rest)?,
+            b"failing-call" => self.add_failing(alloc, rest)?,
+            b"taken-call" => self.plan.taken.push(alloc, number(one(rest)?)?)?,
+            b"failing-start" => self.plan.failing_starts.push(alloc, number(one(rest)?)?)?,
+            b"fuse" => self.plan.fuse = Some(number(one(rest)?)?),
+            _ => return Err(Why::NoSuchLine),
+        }
+        Ok(())
+    }
+
+    fn put_file(&mut self, alloc: Global, rest: &[Vec<u8>]) -> Result<(), Why> {
+        let (called, text) = two(rest)?;
+        let bytes = Vec::from_slice(alloc, text)?;
+        match self.files.insert(name(called)?, bytes) {
+            Ok(_) => Ok(()),
+            Err(_) => Err(Why::Memory),
+        }
+    }
+
+    fn add_child(&mut self, alloc: Global, rest: &[Vec<u8>]) -> Result<(), Why> {
+        let [asks, how, code] = rest else {
+            return Err(Why::Count);
+        };
+        let asks = number(asks)?;
+        let code = number(code)?;
+        let ending = match how.as_slice() {
+            b"exit" => Ending::Exit(code),
+            b"signal" => Ending::Signal(code),
+            _ => return Err(Why::NoSuchLine),
+        };
+        Ok(self.plan.children.push(alloc, ChildPlan { asks, ending })?)
+    }
+
+    fn add_failing(&mut self, alloc: Global, rest: &[Vec<u8>]) -> Result<(), Why> {
+        let (call, part) = two(rest)?;
+        let part = match part {
+            b"nothing" => Part::Nothing,
+            b"all" => Part::All,
+            _ => return Err(Why::NoSuchLine),
+        };
+        let call = number(call)?;
+        Ok(self.plan.failing.push(alloc, Failing { call, part })?)
+    }
+
+    /// The host that begins so.
+    pub fn host(self, alloc: Global) -> Result<MemoryHost, AllocError>
+        ensures { IfOk result (λ host. IsOutside (memory_session host)) }
+    {
+        let mut files = Files::new(alloc);
+        for (name, bytes) in self.files.iter() {
+            files.put(alloc, *name, bytes)?;
+        }
+        let Opening { files: _, plan } = self;
+        MemoryHost::make(alloc, files, plan)
+    }
+}

@@ -1,0 +1,107 @@
+//! Scenarios as far as they were read.
+use crate::Why;
+use crate::event::{Event, event_of};
+use crate::machine::Machine;
+use crate::opening::{Opening, is_opening_word};
+use crate::settings::Settings;
+use crate::transcript::Transcript;
+use crate::values::{one, text};
+use crate::words::words_of;
+use std::alloc::Global;
+use std::mem;
+
+/// A scenario as far as it was read.
+#[derive(Drop)]
+struct Scene {
+    settings: Settings,
+    opening: Opening,
+    /// What the events happen on, from the first one on.
+    machine: Option<Machine>,
+}
+
+/// The scenarios of a file, up to the line that is read next.
+#[derive(Drop)]
+pub struct Scenes {
+    last: Option<Scene>,
+}
+
+impl Scenes {
+    /// No scenario has begun.
+    pub fn new() -> Scenes {
+        Scenes { last: None }
+    }
+
+    /// Does what a line says, and prints what happens.
+    pub fn take(
+        &mut self,
+        alloc: Global,
+        line: &[u8],
+        transcript: &mut Transcript,
+    ) -> Result<(), Why> {
+        if line.is_empty() || line[0] == b'#' {
+            return Ok(());
+        }
+        let words = words_of(alloc, line)?;
+        match words.as_slice() {
+            [] => Ok(()),
+            [first, rest @ ..] if first.as_slice() == b"scenario".as_slice() => {
+                self.begin(alloc, text(one(rest)?)?, transcript)
+            }
+            [first, rest @ ..] => match &mut self.last {
+                Some(scene) => scene.take(alloc, first, rest, transcript),
+                None => Err(Why::NoScenario),
+            },
+        }
+    }
+
+    // Begins a scenario of this name.
+    fn begin(&mut self, alloc: Global, name: &str, transcript: &mut Transcript) -> Result<(), Why> {
+        self.last = Some(Scene {
+            settings: Settings::new(alloc)?,
+            opening: Opening::new(alloc)?,
+            machine: None,
+        });
+        let line = format!(in alloc; "scenario {name}")?;
+        Ok(transcript.line(line.as_str())?)
+    }
+}
+
+impl Scene {
+    // Does what a line within a scenario says.
+    fn take(
+        &mut self,
+        alloc: Global,
+        word: &[u8],
+        rest: &[Vec<u8>],
+        transcript: &mut Transcript,
+    ) -> Result<(), Why> {
+        if self.settings.take(alloc, word, rest)? {
+            return Ok(());
+        }
+        if !is_opening_word(word) {
+            let event = event_of(alloc, word, rest)?;
+            return self.make(alloc, event, transcript);
+        }
+        if self.machine.is_some() {
+            return Err(Why::Begun);
+        }
+        self.opening.take(alloc, word, rest)
+    }
+
+    // Makes an event, the first one on the machine that the opening says.
+    fn make(
+        &mut self,
+        alloc: Global,
+        event: Event,
+        transcript: &mut Transcript,
+    ) -> Result<(), Why> {
+        if self.machine.is_none() {
+            let opening = mem::replace(&mut self.opening, Opening::new(alloc)?);
+            self.machine = Some(Machine::new(alloc, opening.host(alloc)?));
+        }
+        match &mut self.machine {
+            Some(machine) => machine.make(alloc, event, &self.settings, transcript),
+            None => unreachable!(),
+        }
+    }
+}
