@@ -1,6 +1,5 @@
 -- What HaveChildren says of kids, as what a turn asks for and gives.
 use Rattle.std.proofs.Common.{◌≡◌, ◌==◌, ℕ, Bool, true, List, ap}
-use Rattle.std.specs.Prelude.{Contains}
 use Rattle.std.specs.Cmp.{IsEquivalence}
 use Rattle.std.proofs.lemmas.Bool.{eqb-true}
 use Rattle.std.proofs.lemmas.Cmp.{nat_eq_equiv}
