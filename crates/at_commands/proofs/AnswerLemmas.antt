@@ -1,20 +1,15 @@
 -- The answer of each request, by how its session ended.
-use Rattle.std.proofs.Common.{◌≡◌, ◌≢◌, Bool, true, false, ℕ, ℤ, pos, List, [], ◌∷◌, sym, ap, subst, ◌∙◌, refl, inl, inr, arith, nat_lt}
-use Rattle.std.specs.Prelude.{Option, Some, None, Result, Ok, Err, IfErr, IfOk, IsSome, if◌then◌else◌}
-use Rattle.std.proofs.lemmas.Bool.Decides.{nat_tests}
+use Rattle.std.proofs.Common.{◌≡◌, ◌≢◌, Bool, true, false, ℕ, pos, List, [], ◌∷◌, sym, ap, subst, ◌∙◌, refl, inl, inr, arith}
+use Rattle.std.specs.Prelude.{Option, Some, None, Result, Ok, Err, IfErr, IfOk}
 use Rattle.std.proofs.lemmas.List.{append-nil}
 use Rattle.at_words.specs.declared.filter.Filter.{Filter}
 use Rattle.at_words.specs.declared.tool_request.ToolRequest.{ToolRequest}
 use Rattle.at_words.specs.declared.tool_request.ToolRequest.TheVariants as request
-use Rattle.at_words.specs.declared.when.When.{When}
 use Rattle.civil_minute.specs.declared.zone.Zone.{Zone}
-use Rattle.civil_minute.specs.Zone.{IsReadable}
-use Rattle.host_calls.specs.Clock.{with_now}
 use Rattle.host_calls.specs.World.{World}
 use Rattle.job_listing.specs.Scripts.{ComesOfShowing, PutsBy}
 use Rattle.job_runs.specs.Attempts.{Achieves}
 use Rattle.job_runs.specs.Current.{IsCurrent, Kept}
-use Rattle.job_script.specs.HeaderIn.{header_in}
 use Rattle.listing_text.specs.declared.cause.Cause.{Cause}
 use Rattle.listing_text.specs.declared.cause.Cause.TheVariants.{Done, Refused, FileFault, InputFault, OutputFault, Busy, Memory, Damaged, StillRunning}
 use Rattle.listing_text.specs.declared.refusal.Refusal.{Refusal}
@@ -25,30 +20,24 @@ use Rattle.spool_model.specs.Users.{IsUserName}
 use Rattle.command_answers.specs.declared.caller.Caller.{Caller}
 use Rattle.command_answers.specs.declared.stopped.Stopped.{Stopped}
 use Rattle.command_answers.specs.Causes.{cause_in, stopped_by}
-use Rattle.command_answers.specs.Checks.{Check, check_of, is_before, of_input, of_lock, of_variables, of_zone, place_of}
+use Rattle.command_answers.specs.Checks.{Check, check_of, is_before, of_lock}
 use Rattle.command_answers.specs.Ends.{Ends, Holding, KeepsOrder, Telling, holding, telling}
-use Rattle.command_answers.specs.Found.{Finds, FindsInput, Found, answers_read, found_of}
+use Rattle.command_answers.specs.Found.{Finds, Found, answers_read}
 use Rattle.command_answers.specs.inside.Carrying.{AreSessionSteps, Carries, Finding, IsSessionLine, IsSessionText}
-use Rattle.command_answers.specs.Requested.{IsAcceptedLine, Prints, Says, next_number, passes_of, scripts_of}
+use Rattle.command_answers.specs.Requested.{Prints, Says, next_number, passes_of, scripts_of}
 use Rattle.command_answers.specs.Sessions.{IsNotOpened, IsOpened}
-use Rattle.command_answers.specs.Sinks.{IsPut, IsSilent, NotesBy, PrintsBy, SinkAt}
-use Rattle.command_answers.specs.Times.{minute_in}
-use Rattle.command_answers.specs.Verdict.{clock_check, directory_check, early_verdict, filter_check, first_refusal, is_unreadable, jobs_check, length_check, spool_verdict, time_check, user_check, variables_check, zone_check}
+use Rattle.command_answers.specs.Sinks.{IsPut, NotesBy, PrintsBy, SinkAt}
+use Rattle.command_answers.specs.Verdict.{early_verdict, filter_check, first_refusal, is_unreadable, jobs_check, spool_verdict, user_check, zone_check}
 use Rattle.spool_session.specs.Entering.{IsOfEntry}
-use Rattle.submission_checks.specs.declared.submission.Submission.{Submission}
-use Rattle.submission_checks.specs.Preparing.{IsOfPreparing, IsPrepared, IsStoppedEarly, Prepares}
-use Rattle.at_commands.specs.inside.Answering.{EndsPrinting, EndsRemoving, Held, Submits, Tells}
+use Rattle.at_commands.specs.inside.Answering.{EndsPrinting, EndsRemoving}
 use Rattle.at_commands.specs.inside.Printing.{PutsWhole}
-use Rattle.at_commands.specs.inside.Saying.{Accepts}
 use Rattle.at_commands.specs.inside.Session.{IsNoOutput, IsOfSpool}
 use Rattle.at_commands.specs.inside.Sessions.{Lists, Shows, lists_alone}
-use Rattle.at_commands.specs.inside.Storing.{AnswersJob, IsJobOf, Stores, StoresAndSays}
-use Rattle.at_commands.proofs.CarryLemmas.{KeepsLists, carries_no_memory, carries_unsaid, done_allowed, no_true}
-use Rattle.at_commands.proofs.EndsLemmas.{IsEarly, ends_carried, ends_early, silent}
+use Rattle.at_commands.proofs.CarryLemmas.{carries_no_memory, carries_unsaid, done_allowed, no_true}
+use Rattle.at_commands.proofs.EndsLemmas.{ends_carried, ends_early, silent}
 use Rattle.at_commands.proofs.ForLemmas.{carries_unentered, carries_unopened, keeps_lists, listing_lacks, listing_made, showing_done, showing_stopped}
 use Rattle.at_commands.proofs.SessionLemmas.{entry_of_spool, not_opened_of_spool}
-use Rattle.at_commands.proofs.SubmitLemmas.{has_header}
-use Rattle.at_commands.proofs.UserLemmas.{alone_is, first_passed, user_fails, user_passed, user_passes, zone_fails, zone_passed, zone_passes}
+use Rattle.at_commands.proofs.UserLemmas.{alone_is, user_fails, user_passes, zone_fails, zone_passes}
 
 -- The bytes of a user's name.
 
@@ -75,7 +64,7 @@ spool_prints Memory IsText at is = inl (silent at)
 spool_prints (Damaged damage) IsText at is = silent at
 spool_prints StillRunning IsText at is = absurd is
 
-spool_notes : (cause : Cause) (IsLine : List ℕ → Type 0) (at : SinkAt) → IsOfSpool cause → NotesBy cause IsLine at at
+pub spool_notes : (cause : Cause) (IsLine : List ℕ → Type 0) (at : SinkAt) → IsOfSpool cause → NotesBy cause IsLine at at
 spool_notes Done IsLine at is = absurd is
 spool_notes (Refused refusal) IsLine at is = silent at
 spool_notes FileFault IsLine at is = silent at
@@ -88,7 +77,7 @@ spool_notes StillRunning IsLine at is = absurd is
 
 -- by requests that print nothing, and by those that say nothing
 module _ (tells alone : Bool) (asked : ToolRequest) (caller : Caller) (finding : Finding) (old new : World) where
-  prints_nothing : (cause : Cause) (carries : Carries tells alone asked caller finding old new cause) → ((table : JobTable) → Prints asked caller table []) → (at : SinkAt) →
+  pub prints_nothing : (cause : Cause) (carries : Carries tells alone asked caller finding old new cause) → ((table : JobTable) → Prints asked caller table []) → (at : SinkAt) →
       tells ≡ true → alone ≡ true → PrintsBy cause (IsSessionText asked caller (finding carries.allow carries.deny) carries.shown) at at
   prints_nothing Done carries none at told is_alone =
       let ends : Achieves (AreSessionSteps asked caller (finding carries.allow carries.deny)) old new = carries.spool told is_alone in (
@@ -307,142 +296,3 @@ module _ (files alone output : Bool) (which : Filter) (caller : Caller) (old new
   listing_put Busy text was is lists puts = absurd puts
   listing_put (Damaged damage) text was is lists puts = absurd puts
   listing_put StillRunning text was is lists puts = absurd puts
-
--- Submissions.
-
--- the job was stored, and then said, or not
-module _ (tells alone errors : Bool) (caller : Caller) (queue minute : ℕ) (script : List ℕ) (mail : Bool) (file : Option (List ℕ)) (when : When) (now : ℤ)
-    (time : Result ℕ Refusal) (commands : List ℕ) (same_minute : minute ≡ minute_in time) (old new : World) where
-  abbrev asked : ToolRequest
-  asked = request.Submit queue mail file when
-
-  abbrev finding : Finding
-  finding = found_of now time commands
-
-  pub not_stored : (stopped : Stopped) (at : SinkAt) → IsNoOutput stopped → Stores tells alone asked caller finding old new (Err stopped) →
-      StoresAndSays tells alone errors asked caller finding old new at at stopped.cause
-  not_stored stopped at of_spool stores = record {
-    carries = stores.carries;
-    notes = λ told. spool_notes stopped.cause (IsSessionLine asked caller (finding stores.carries.allow stores.carries.deny) stores.carries.shown) at of_spool;
-  }
-
-  module _ (number : ℕ) (stores : Stores tells alone asked caller finding old new (Ok number)) where
-    line_is : (line : List ℕ) → IsAcceptedLine number minute caller.zone line →
-        IsSessionLine asked caller (finding stores.carries.allow stores.carries.deny) stores.carries.shown line
-    line_is line is = (
-      done_allowed (spool_verdict asked caller (finding stores.carries.allow stores.carries.deny) stores.carries.shown) stores.carries.order,
-      subst (λ (of : ℕ). IsAcceptedLine of (minute_in time) caller.zone line) stores.number
-          (subst (λ (of : ℕ). IsAcceptedLine number of caller.zone line) same_minute is),
-    )
-
-    pub stored_and_said : (cause : Cause) (was is : SinkAt) → Accepts errors (IsAcceptedLine number minute caller.zone) was is cause →
-        StoresAndSays tells alone errors asked caller finding old new was is cause
-    stored_and_said Done was is says = record {
-      carries = stores.carries;
-      notes = λ told. (let put = says told in (put.0, line_is put.0 put.1, put.2));
-    }
-    stored_and_said OutputFault was is says = record {
-      carries = carries_unsaid tells alone asked caller finding old new stores.carries;
-      notes = λ told. (let put = says told in inr (put.0, line_is put.0 put.1, put.2));
-    }
-    stored_and_said Memory was is says = record {
-      carries = carries_no_memory tells alone asked caller finding old new stores.carries;
-      notes = λ told. inl (says told);
-    }
-    stored_and_said (Refused refusal) was is says = absurd says
-    stored_and_said FileFault was is says = absurd says
-    stored_and_said InputFault was is says = absurd says
-    stored_and_said Busy was is says = absurd says
-    stored_and_said (Damaged damage) was is says = absurd says
-    stored_and_said StillRunning was is says = absurd says
-
-early_of : (cause : Cause) → IsOfPreparing cause → IsEarly cause
-early_of Done is = absurd is
-early_of (Refused refusal) is = tt
-early_of FileFault is = absurd is
-early_of InputFault is = tt
-early_of OutputFault is = absurd is
-early_of Busy is = absurd is
-early_of Memory is = tt
-early_of (Damaged damage) is = absurd is
-early_of StillRunning is = absurd is
-
--- what stands behind the lock stands behind the clock
-late_place : (place : ℕ) → nat_lt place 11 ≡ false → nat_lt 4 place ≡ true
-late_place place is = grind (arith, nat_tests)
-
-finding_keeps : (now : ℤ) (time : Result ℕ Refusal) (commands : List ℕ) → KeepsLists (found_of now time commands)
-finding_keeps now time commands = record { allow_is = λ allow deny. refl; deny_is = λ allow deny. refl }
-
-module _ (tells : Tells) (queue : ℕ) (mail : Bool) (file : Option (List ℕ)) (when : When) (caller : Caller) (before after : Held) where
-  -- a check refuses before the spool is entered, the inputs failed, or there was no memory
-  pub submission_stopped : (stopped : Stopped) → Prepares tells.clock tells.input caller mail file when before.answers after.answers before.contents (Err stopped) →
-      after.spool ≡ before.spool → IsSilent before.sink after.sink → Submits tells (request.Submit queue mail file when) caller before after stopped.cause
-  submission_stopped stopped prepares same quiet = λ output printed.
-      let ends : IsStoppedEarly caller (found_of prepares.now prepares.time prepares.commands None None) prepares.reached stopped.cause = prepares.ends in
-      ends_early (request.Submit queue mail file when) caller (telling tells.files tells.alone tells.clock tells.input output tells.sink)
-      (holding before.spool before.answers before.contents printed before.sink) (holding after.spool after.answers after.contents printed after.sink)
-      (found_of prepares.now prepares.time prepares.commands) (finding_keeps prepares.now prepares.time prepares.commands) stopped.cause prepares.reached
-      (λ allow deny. ends.order) (early_of stopped.cause ends.comes) ends.reach ends.early (λ allow deny. prepares.clock)
-      (λ allow deny. record { time = prepares.finds.time; commands = prepares.finds.commands }) same (silent printed) quiet
-
-  module _ (submission : Submission)
-      (prepares : Prepares tells.clock tells.input caller mail file when before.answers after.answers before.contents (Ok submission)) where
-    abbrev here : Found
-    here = found_of prepares.now prepares.time prepares.commands None None
-
-    prepared : IsPrepared caller mail here prepares.reached submission
-    prepared = prepares.ends
-
-    -- its user and its zone are good
-    pub prepared_named : IsUserName caller.context.user
-    prepared_named = user_passed caller.context (first_passed _ _ prepared.none).0
-
-    pub prepared_zoned : IsReadable caller.zone
-    prepared_zoned =
-        let front = first_passed (user_check caller.context) (directory_check caller.context ∷ variables_check caller.context ∷ clock_check here
-        ∷ zone_check caller.zone ∷ time_check here ∷ length_check here ∷ []) prepared.none in
-        let second = first_passed (directory_check caller.context) (variables_check caller.context ∷ clock_check here
-        ∷ zone_check caller.zone ∷ time_check here ∷ length_check here ∷ []) front.1 in
-        let third = first_passed (variables_check caller.context) (clock_check here
-        ∷ zone_check caller.zone ∷ time_check here ∷ length_check here ∷ []) second.1 in
-        let fourth = first_passed (clock_check here) (zone_check caller.zone ∷ time_check here ∷ length_check here ∷ []) third.1 in
-        zone_passed caller.zone (first_passed (zone_check caller.zone) (time_check here ∷ length_check here ∷ []) fourth.1).0
-
-    pub prepared_job : IsJobOf caller mail prepares.commands submission.script
-    prepared_job = record { user = prepared_named; text = prepared.script_is }
-
-    pub prepared_header : IsSome (header_in submission.script)
-    prepared_header = has_header caller mail prepares.commands submission.script prepared_job
-
-    -- the clock was read, the time found and the commands read
-    clock_at : (reached : Check) → is_before reached of_lock ≡ false → tells.clock ≡ true →
-        after.answers ≡ answers_read (Ok (request.Submit queue mail file when)) reached prepares.now before.answers
-    clock_at reached entered told =
-        let beyond : is_before of_variables prepares.reached ≡ true = ap (λ (of : Check). is_before of_variables of) prepared.all in
-        prepares.clock told
-        ∙ ap (λ (read : Bool). if read then with_now prepares.now before.answers else before.answers) (beyond ∙ sym (late_place (place_of reached) entered))
-
-    finds_at : (reached : Check) (allow deny : Option (List ℕ)) →
-        FindsInput tells.input file when caller.zone before.contents reached (found_of prepares.now prepares.time prepares.commands allow deny)
-    finds_at reached allow deny = record {
-      time = λ beyond. prepares.finds.time (ap (λ (of : Check). is_before of_zone of) prepared.all);
-      commands = λ told beyond. prepares.finds.commands told (ap (λ (of : Check). is_before of_input of) prepared.all);
-    }
-
-    -- its session
-    pub submission_answered : (cause : Cause) →
-        AnswersJob tells.files tells.alone tells.sink caller queue submission.minute submission.script before.spool after.spool before.sink after.sink cause →
-        Submits tells (request.Submit queue mail file when) caller before after cause
-    submission_answered cause answers_job = λ output printed.
-        let answered : StoresAndSays tells.files tells.alone tells.sink (request.Submit queue mail file when) caller
-        (found_of prepares.now prepares.time prepares.commands) before.spool after.spool before.sink after.sink cause =
-        answers_job mail file when prepares.now prepares.time prepares.commands prepared_job prepared.minute_is in
-        ends_carried (request.Submit queue mail file when) caller (telling tells.files tells.alone tells.clock tells.input output tells.sink)
-        (holding before.spool before.answers before.contents printed before.sink) (holding after.spool after.answers after.contents printed after.sink)
-        (found_of prepares.now prepares.time prepares.commands) cause answered.carries prepared.none
-        (clock_at answered.carries.reached answered.carries.entered)
-        (finds_at answered.carries.reached answered.carries.allow answered.carries.deny)
-        (λ told is_alone tells_output. prints_nothing tells.files tells.alone (request.Submit queue mail file when) caller
-        (found_of prepares.now prepares.time prepares.commands) before.spool after.spool cause answered.carries (λ table. refl) printed told is_alone)
-        answered.notes

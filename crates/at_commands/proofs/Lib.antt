@@ -6,6 +6,7 @@ pub mod ForLemmas
 pub mod JobsLemmas
 pub mod KeptLemmas
 pub mod LateLemmas
+pub mod PreparedLemmas
 pub mod SessionLemmas
 pub mod SubmitLemmas
 pub mod UserLemmas

@@ -1,4 +1,4 @@
-use Rattle.at_commands.proofs.AnswerLemmas.{not_stored, stored_and_said}
+use Rattle.at_commands.proofs.PreparedLemmas.{not_stored, stored_and_said}
 use Rattle.at_commands.proofs.SessionLemmas.{no_input_of_spool, no_output_of_spool}
 use Rattle.at_commands.proofs.submitting.store_and_say.Goals as goal
 
