@@ -5,7 +5,7 @@ use Rattle.std.specs.List.{list_any}
 use Rattle.std.proofs.lemmas.List.Elements.{All-cons, All-nil}
 use Rattle.std.proofs.lemmas.Bool.{and_parts, eq-eqb}
 use Rattle.at_words.specs.Numbers.{are_distinct}
-use Rattle.daemon_turn.specs.Decisions.{is_running}
+use Rattle.spool_model.specs.Lists.{is_running}
 use Rattle.listing_text.specs.declared.refusal.Refusal.{Refusal}
 use Rattle.listing_text.specs.declared.refusal.Refusal.TheVariants.{NotYours, RunningJob}
 use Rattle.listing_text.specs.Listing.{may_see}

@@ -5,7 +5,7 @@ use Rattle.access_lists.specs.Access.{may_use}
 use Rattle.at_words.specs.declared.filter.Filter.TheVariants as filter
 use Rattle.at_words.specs.declared.tool_request.ToolRequest.{ToolRequest}
 use Rattle.at_words.specs.declared.tool_request.ToolRequest.TheVariants as request
-use Rattle.daemon_turn.specs.Decisions.{is_running}
+use Rattle.spool_model.specs.Lists.{is_running}
 use Rattle.host_calls.specs.declared.damage.Damage.{Damage}
 use Rattle.listing_text.specs.declared.cause.Cause.TheVariants.{Busy, FileFault, InputFault, Memory}
 use Rattle.listing_text.specs.declared.refusal.Refusal.{Refusal}

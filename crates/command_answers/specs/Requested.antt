@@ -8,7 +8,6 @@ use Rattle.at_words.specs.declared.tool_request.ToolRequest.TheVariants as reque
 use Rattle.civil_minute.specs.declared.civil.CivilMinute.{CivilMinute}
 use Rattle.civil_minute.specs.declared.zone.Zone.{Zone}
 use Rattle.civil_minute.specs.Civil.{IsCivilTime}
-use Rattle.daemon_turn.specs.declared.forgetting.TheConstants.{MAX_DONE}
 use Rattle.host_calls.specs.declared.damage.Damage.{Damage}
 use Rattle.job_script.specs.declared.context.Context.{Context}
 use Rattle.job_script.specs.JobText.{text_for}
@@ -21,7 +20,7 @@ use Rattle.spool_model.specs.declared.row.Row.{Row}
 use Rattle.spool_model.specs.declared.step.Step.{Step}
 use Rattle.spool_model.specs.declared.step.Step.TheVariants as step
 use Rattle.spool_model.specs.JobTable.{JobEntry, JobTable, entry_at}
-use Rattle.spool_model.specs.Lists.{done_numbers}
+use Rattle.spool_model.specs.Lists.{surplus}
 use Rattle.spool_model.specs.Steps.{after_steps}
 use Rattle.spool_store.specs.Submitting.{submission}
 use Rattle.command_answers.specs.declared.caller.Caller.{Caller}
@@ -33,10 +32,6 @@ use Rattle.command_answers.specs.Verdict.{verdict_of}
 abbrev pub job_for : Context → ℕ → Bool → ℕ → List ℕ → Job
 job_for context queue mail minute commands =
     record { queue = queue; minute = minute; user = context.user; script = text_for context mail commands }
-
--- the lowest done numbers, as many as are more than a table may keep
-abbrev pub surplus : JobTable → List ℕ
-surplus table = take (length (done_numbers table) - MAX_DONE) (done_numbers table)
 
 -- the numbers are removed, in order
 abbrev pub removes : List ℕ → List Step

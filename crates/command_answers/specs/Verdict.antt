@@ -10,7 +10,7 @@ use Rattle.at_words.specs.declared.tool_request.ToolRequest.TheVariants as reque
 use Rattle.civil_minute.specs.declared.zone.Zone.{Zone}
 use Rattle.civil_minute.specs.declared.zone.Zone.TheVariants.{Utc, Rules, Unreadable}
 use Rattle.clock_range.specs.ClockRange.{is_clock_second}
-use Rattle.daemon_turn.specs.Decisions.{is_running}
+use Rattle.spool_model.specs.Lists.{is_running}
 use Rattle.host_calls.specs.declared.damage.Damage.{Damage}
 use Rattle.job_script.specs.Check.{has_room, is_directory, is_user_name}
 use Rattle.job_script.specs.declared.context.Context.{Context}

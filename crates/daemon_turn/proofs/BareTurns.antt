@@ -24,7 +24,7 @@ use Rattle.daemon_turn.specs.Kids.{AreKidsAfter, kept_kids, tells_end_of}
 use Rattle.daemon_turn.specs.Starting.{IsBatchOrderWhere, IsOrder, IsOrderIn, Turn, forgets, has_batch_turn, starts}
 use Rattle.daemon_turn.specs.StepsOf.{step_of, steps_of}
 use Rattle.daemon_turn.specs.Turning.{AreFirstSteps, AreTurnSteps, with_forgets}
-use Rattle.daemon_turn.proofs.ApartLemmas.{filter_alike}
+use Rattle.job_runs.proofs.ApartLemmas.{filter_alike}
 use Rattle.daemon_turn.proofs.MakeLemmas.{bare_is}
 
 -- a job runs with and without its script

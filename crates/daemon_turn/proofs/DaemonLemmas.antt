@@ -23,12 +23,12 @@ use Rattle.daemon_turn.specs.declared.report.TurnEnd.TheVariants.{Done, Busy, Fi
 use Rattle.daemon_turn.specs.declared.step.TurnStep.{TurnStep}
 use Rattle.daemon_turn.specs.Daemons.{Watch}
 use Rattle.daemon_turn.specs.Kids.{AreByNumber, AreChildren}
-use Rattle.daemon_turn.specs.Leaving.{Gave, IfUnread, IsIdle, IsNone, IsStopped, IsWhole, Standing, TurnLeaves, TurnsTo}
+use Rattle.daemon_turn.specs.Leaving.{Gave, IfUnread, IsIdle, IsNone, IsStopped, IsWhole, DaemonAt, TurnLeaves, TurnsTo}
 use Rattle.daemon_turn.specs.Starting.{Turn, turn_of}
 use Rattle.daemon_turn.specs.inside.Working.{Works, end_after}
 use Rattle.daemon_turn.proofs.HandLemmas.{counts_on}
 
-abbrev stand : Session → World → Watch → Standing
+abbrev stand : Session → World → Watch → DaemonAt
 stand session world watch = record { session = session; world = world; watch = watch }
 
 -- where nothing changed, no step was begun
@@ -184,7 +184,7 @@ module _ (tells alone : Bool) (at : Occasion) (before between worked after : Ses
   })
 
 -- the second as it is written
-pub works_at : (tells : Bool) (watch : Watch) (written now : ℤ) (load : Option ℕ) (mode : Mode) (old new : Standing) (steps : List TurnStep) (result : Result (Unit {0}) StoreFault) → written ≡ now →
+pub works_at : (tells : Bool) (watch : Watch) (written now : ℤ) (load : Option ℕ) (mode : Mode) (old new : DaemonAt) (steps : List TurnStep) (result : Result (Unit {0}) StoreFault) → written ≡ now →
     Works tells (turn_of watch (record { now = written; load = load; mode = mode })) old new steps result → Works tells (turn_of watch (record { now = now; load = load; mode = mode })) old new steps result
 works_at tells watch written now load mode old new steps result same works =
     subst (λ (of : ℤ). Works tells (turn_of watch (record { now = of; load = load; mode = mode })) old new steps result) same works

@@ -31,7 +31,7 @@ use Rattle.daemon_turn.specs.inside.Deciding.{AreDecided, MakesDecisions, MayDec
 use Rattle.daemon_turn.specs.inside.Ended.{AreEndsByNumber, is_end, without_ended}
 use Rattle.daemon_turn.specs.inside.Going.{Goes, Part, joined}
 use Rattle.daemon_turn.specs.inside.Making.{MakesAll, MayMake}
-use Rattle.daemon_turn.proofs.ApartLemmas.{Apart, all_each, each_all, filter_alike, pairs_cons, pairs_head, pairs_nil, pairs_tail, rise_apart}
+use Rattle.job_runs.proofs.ApartLemmas.{Apart, all_each, each_all, filter_alike, pairs_cons, pairs_head, pairs_nil, pairs_tail, rise_apart}
 use Rattle.daemon_turn.proofs.AskLemmas.{ends_of_none, questions_of_none}
 use Rattle.daemon_turn.proofs.DecisionLemmas.{EachRuns, decisions_legal, end_of_kid}
 use Rattle.daemon_turn.proofs.GoLemmas.{asked_part, asks_go, goes_then, made_part, makes_go, memory_goes, steps_join}

@@ -16,11 +16,12 @@ use Rattle.spool_shows.proofs.Membership.{Has, any_passes, filtered_has, has_eit
 use Rattle.daemon_turn.specs.declared.kid.Kid.{Kid}
 use Rattle.daemon_turn.specs.declared.step.TurnStep.{TurnStep}
 use Rattle.daemon_turn.specs.declared.step.TurnStep.TheVariants.{Ended, Interrupted}
-use Rattle.daemon_turn.specs.Decisions.{ends, has_kid, interrupts, is_left, is_running, is_running_entry, runs_in}
+use Rattle.spool_model.specs.Lists.{is_running}
+use Rattle.daemon_turn.specs.Decisions.{ends, has_kid, interrupts, is_left, is_running_entry, runs_in}
 use Rattle.daemon_turn.specs.StepsOf.{number_of, step_of, steps_of}
-use Rattle.daemon_turn.proofs.ApartLemmas.{Apart, apart_append, apart_filter}
+use Rattle.job_runs.proofs.ApartLemmas.{Apart, apart_append, apart_filter}
 use Rattle.daemon_turn.proofs.LegalLemmas.{legal_apart}
-use Rattle.daemon_turn.proofs.RowLemmas.{row_held, rows_apart}
+use Rattle.job_runs.proofs.RowLemmas.{row_held, rows_apart}
 
 -- a job that runs by its entry
 running_entry : (found : Option JobEntry) → is_running_entry found ≡ true → (job : Job) × (second : ℤ) × (found ≡ Some (Live job (Running second)))

@@ -16,7 +16,7 @@ use Rattle.spool_model.specs.JobTable.{JobTable}
 use Rattle.spool_model.specs.Lists.{done_numbers}
 use Rattle.spool_store.specs.Listed.{ListsDecided}
 use Rattle.spool_store.proofs.CountLemmas.{decided_listed}
-use Rattle.daemon_turn.specs.declared.forgetting.TheConstants.{MAX_DONE}
+use Rattle.spool_model.specs.declared.decided.TheConstants.{MAX_DONE}
 use Rattle.daemon_turn.specs.declared.step.TurnStep.{TurnStep}
 use Rattle.daemon_turn.specs.declared.step.TurnStep.TheVariants.{Forgotten}
 use Rattle.daemon_turn.specs.Starting.{forgets}
@@ -24,11 +24,11 @@ use Rattle.daemon_turn.specs.StepsOf.{number_of, step_of, steps_of}
 use Rattle.daemon_turn.specs.inside.Forgetting.{Forgets}
 use Rattle.daemon_turn.specs.inside.Going.{MayGo}
 use Rattle.daemon_turn.specs.inside.Making.{MakesAll, MayMake}
-use Rattle.daemon_turn.proofs.ApartLemmas.{Apart}
+use Rattle.job_runs.proofs.ApartLemmas.{Apart}
 use Rattle.daemon_turn.proofs.DecideLemmas.{made_front}
 use Rattle.daemon_turn.proofs.GoLemmas.{asked_part, made_part, makes_go, memory_goes, stays_inside}
 use Rattle.daemon_turn.proofs.LegalLemmas.{legal_apart}
-use Rattle.daemon_turn.proofs.RowLemmas.{done_apart, done_held, take_apart, take_has}
+use Rattle.job_runs.proofs.RowLemmas.{done_apart, done_held, take_apart, take_has}
 
 -- as many numbers as are done
 length_numbers : (decided : List Decided) → length (map (λ (done : Decided). done.number) decided) ≡ length decided

@@ -13,13 +13,14 @@ use Rattle.spool_shows.proofs.Membership.{Has, filtered_has, has_made, one_passe
 use Rattle.daemon_turn.specs.declared.kid.Kid.{Kid}
 use Rattle.daemon_turn.specs.declared.step.TurnStep.{TurnStep}
 use Rattle.daemon_turn.specs.declared.step.TurnStep.TheVariants.{HandedOver, Ended, Interrupted, Forgotten}
-use Rattle.daemon_turn.specs.Decisions.{asked_kids, has_kid, interrupts, is_left, is_running, is_running_entry, runs_in}
+use Rattle.spool_model.specs.Lists.{is_running}
+use Rattle.daemon_turn.specs.Decisions.{asked_kids, has_kid, interrupts, is_left, is_running_entry, runs_in}
 use Rattle.daemon_turn.specs.Kids.{kept_kids, tells_end_of}
 use Rattle.daemon_turn.specs.StepsOf.{number_of}
 use Rattle.daemon_turn.specs.inside.Ended.{without_ended}
 use Rattle.daemon_turn.specs.inside.Waiting.{started_of}
-use Rattle.daemon_turn.proofs.ApartLemmas.{Apart, filter_alike}
-use Rattle.daemon_turn.proofs.RowLemmas.{row_held}
+use Rattle.job_runs.proofs.ApartLemmas.{Apart, filter_alike}
+use Rattle.job_runs.proofs.RowLemmas.{row_held}
 
 -- what passes two tests
 filter_both : {X : Type 0} (one other : X → Bool) (xs : List X) → filter (λ x. one x && other x) xs ≡ filter other (filter one xs)

@@ -23,7 +23,7 @@ use Rattle.daemon_turn.specs.inside.Going.{Gives, Goes, Part, joined}
 use Rattle.daemon_turn.specs.inside.Handing.{HandsJobOver}
 use Rattle.daemon_turn.specs.inside.Launching.{AreStarted, EndsUnstarted, Launches, written_by}
 use Rattle.daemon_turn.specs.inside.Waiting.{AreWaiting, started_of}
-use Rattle.daemon_turn.proofs.ApartLemmas.{Apart, all_each, apart_differ, differ_apart, each_all}
+use Rattle.job_runs.proofs.ApartLemmas.{Apart, all_each, apart_differ, differ_apart, each_all}
 use Rattle.daemon_turn.proofs.GoLemmas.{goes_none, goes_then, handed_part, hands_go, no_part, step_goes, step_part}
 use Rattle.daemon_turn.proofs.HandLemmas.{started_entry}
 use Rattle.daemon_turn.proofs.WaitLemmas.{waiting_behind}

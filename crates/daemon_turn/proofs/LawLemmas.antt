@@ -15,7 +15,7 @@ use Rattle.daemon_turn.specs.declared.report.TurnEnd.{TurnEnd}
 use Rattle.daemon_turn.specs.declared.report.TurnEnd.TheVariants.{Done, Busy, FileFault, Damaged, Memory}
 use Rattle.daemon_turn.specs.declared.step.TurnStep.{TurnStep}
 use Rattle.daemon_turn.specs.Laws.{GoodFoldersStayGood, IsGood, TurnsAreDone}
-use Rattle.daemon_turn.specs.Leaving.{Standing, TurnLeaves}
+use Rattle.daemon_turn.specs.Leaving.{DaemonAt, TurnLeaves}
 use Rattle.daemon_turn.specs.Starting.{Turn, turn_of}
 
 no_damage : (table : JobTable) (damage : Damage) (shown : Result JobTable Damage) → shown ≡ Ok table → shown ≡ Err damage → ⊥
@@ -44,7 +44,7 @@ module _ (old new : World) (good : (image : Files) → IsImage old.now.folder im
   good_begun : (table : JobTable) (steps : List Step) → IsBegun table steps old new → LeavesOnly (λ image handed. IsGood image) old new
   good_begun table steps begun = leaves_weaker (IsOnTheWay table steps old.now) (λ image handed. IsGood image) old new (good_on_the_way table steps) begun.leaves
 
-good_by : (turn : Turn) (steps : List TurnStep) (old new : Standing) (end : TurnEnd) → TurnLeaves turn steps old new end → ((image : Files) → IsImage old.world.now.folder image → IsGood image) →
+good_by : (turn : Turn) (steps : List TurnStep) (old new : DaemonAt) (end : TurnEnd) → TurnLeaves turn steps old new end → ((image : Files) → IsImage old.world.now.folder image → IsGood image) →
     LeavesOnly (λ image handed. IsGood image) old.world new.world
 good_by turn steps old new Done whole good = good_begun old.world new.world good whole.table _ whole.achieved.begun
 good_by turn steps old new Busy idle good = good_unbegun old.world new.world good idle.0.unbegun

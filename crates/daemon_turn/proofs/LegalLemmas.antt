@@ -12,7 +12,7 @@ use Rattle.spool_shows.proofs.Membership.{Has, has_made}
 use Rattle.daemon_turn.specs.declared.step.TurnStep.{TurnStep}
 use Rattle.daemon_turn.specs.declared.step.TurnStep.TheVariants.{HandedOver, Ended, Interrupted, Forgotten}
 use Rattle.daemon_turn.specs.StepsOf.{number_of, step_of, steps_of}
-use Rattle.daemon_turn.proofs.ApartLemmas.{Apart}
+use Rattle.job_runs.proofs.ApartLemmas.{Apart}
 
 -- what another step leaves
 pub entry_stays : (table : JobTable) (step : TurnStep) (number : ℕ) → (number ≡ number_of step → ⊥) →

@@ -1,4 +1,3 @@
-pub mod ApartLemmas
 pub mod AskLemmas
 pub mod BareTurns
 pub mod DaemonLemmas
@@ -14,7 +13,6 @@ pub mod LawLemmas
 pub mod LegalLemmas
 pub mod MakeLemmas
 pub mod PlanLemmas
-pub mod RowLemmas
 pub mod TurnedLemmas
 pub mod WaitLemmas
 pub mod WorkLemmas

@@ -29,7 +29,7 @@ use Rattle.daemon_turn.specs.inside.Going.{Gives, Goes, MayGo, Part, joined}
 use Rattle.daemon_turn.specs.inside.Launching.{Launches}
 use Rattle.daemon_turn.specs.inside.Turned.{AreStepsBy, MakesTurn}
 use Rattle.daemon_turn.specs.inside.Waiting.{AreWaiting, started_of}
-use Rattle.daemon_turn.proofs.ApartLemmas.{Apart, all_each, apart_append, apart_differ, apart_filter, differ_apart, rise_apart}
+use Rattle.job_runs.proofs.ApartLemmas.{Apart, all_each, apart_append, apart_differ, apart_filter, differ_apart, rise_apart}
 use Rattle.daemon_turn.proofs.DecisionLemmas.{EachRuns, decided_run, kid_runs}
 use Rattle.daemon_turn.proofs.GoLemmas.{goes_then}
 use Rattle.daemon_turn.proofs.KidLemmas.{interrupts_asked, kids_stay, no_end_of, started_apart, started_has}

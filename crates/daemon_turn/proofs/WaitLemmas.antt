@@ -20,9 +20,9 @@ use Rattle.daemon_turn.specs.declared.step.TurnStep.{TurnStep}
 use Rattle.daemon_turn.specs.Starting.{IsBatchOrderWhere, IsFullOrder, IsOrder, IsOrderIn, Turn, has_batch_turn}
 use Rattle.daemon_turn.specs.StepsOf.{number_of, steps_of}
 use Rattle.daemon_turn.specs.inside.Waiting.{AreWaiting}
-use Rattle.daemon_turn.proofs.ApartLemmas.{Apart, all_each, apart_append, apart_differ, differ_apart, each_all}
+use Rattle.job_runs.proofs.ApartLemmas.{Apart, all_each, apart_append, apart_differ, differ_apart, each_all}
 use Rattle.daemon_turn.proofs.LegalLemmas.{entries_stay}
-use Rattle.daemon_turn.proofs.RowLemmas.{row_held, rows_apart}
+use Rattle.job_runs.proofs.RowLemmas.{row_held, rows_apart}
 
 -- a job that waits by its state
 waits : (state : State) → is_pending state ≡ true → state ≡ Pending

@@ -30,9 +30,10 @@ use Rattle.spool_store.specs.Faults.{IsOfReading, IsOfStep}
 use Rattle.spool_store.specs.Recovering.{IsRecovered, Recovered}
 use Rattle.daemon_turn.specs.declared.kid.Kid.{Kid}
 use Rattle.daemon_turn.specs.declared.step.TurnStep.{TurnStep}
-use Rattle.daemon_turn.specs.Decisions.{asked_kids, is_running, is_running_entry, questions, runs_in}
+use Rattle.spool_model.specs.Lists.{is_running}
+use Rattle.daemon_turn.specs.Decisions.{asked_kids, is_running_entry, questions, runs_in}
 use Rattle.daemon_turn.specs.Kids.{AreByNumber, AreChildren, AreKidsAfter, KeepsChildren, kept_kids, tells_end_of}
-use Rattle.daemon_turn.specs.Leaving.{Gave, IsIdle, IsStopped, IsWhole, Standing, TurnLeaves}
+use Rattle.daemon_turn.specs.Leaving.{Gave, IsIdle, IsStopped, IsWhole, DaemonAt, TurnLeaves}
 use Rattle.daemon_turn.specs.Starting.{Turn}
 use Rattle.daemon_turn.specs.StepsOf.{steps_of}
 use Rattle.daemon_turn.specs.inside.Deciding.{MayDecide}
@@ -40,7 +41,7 @@ use Rattle.daemon_turn.specs.inside.Ended.{without_ended}
 use Rattle.daemon_turn.specs.inside.Going.{Gives, Goes, Part}
 use Rattle.daemon_turn.specs.inside.Turned.{MakesTurn}
 use Rattle.daemon_turn.specs.inside.Working.{TurnsOn, Works, end_after, unit_of}
-use Rattle.daemon_turn.proofs.ApartLemmas.{all_each, each_all, rise_filter}
+use Rattle.job_runs.proofs.ApartLemmas.{all_each, each_all, rise_filter}
 use Rattle.daemon_turn.proofs.AskLemmas.{questions_of_none}
 use Rattle.daemon_turn.proofs.BareTurns.{asked_alike, first_alike, kids_after_alike, turn_alike}
 use Rattle.daemon_turn.proofs.DecisionLemmas.{asked_run}
@@ -123,7 +124,7 @@ ordered_kids tells before after old new kept turn left sorted report outcome res
 
 -- A recovery that failed.
 
-abbrev standing : Session → World → List Kid → ℕ → ℕ → Standing
+abbrev standing : Session → World → List Kid → ℕ → ℕ → DaemonAt
 standing session world kids limit interval = record { session = session; world = world; watch = record { kids = kids; limit = limit; interval = interval } }
 
 no_children : (session : Session) → KeepsChildren session.children session.children
@@ -177,10 +178,10 @@ step_reads fault.NumbersUsedUp is = absurd is
 
 module _ (tells : Bool) (turn : Turn) (before between after : Session) (old middle new : World) (kept : Kept) (left : List Kid) (limit interval : ℕ) (report : List TurnStep) (stays : CallsInside {T = Kept} fault.FileFault before between (Ok kept))
     (changes : tells ≡ true → ChangesFiles (ShowsAsBefore old.now.folder) old middle) (recovered : tells ≡ true → IsRecovered old.now.folder middle.now.folder kept) where
-  abbrev at_first : Standing
+  abbrev at_first : DaemonAt
   at_first = standing before old turn.kids limit interval
 
-  abbrev at_last : Standing
+  abbrev at_last : DaemonAt
   at_last = standing after new left limit interval
 
   module _ (told : tells ≡ true) (part : Part) (answers : List (Option Ending)) (asked : part.questions ≡ questions (asked_kids kept.table turn.kids) answers) (written : report ≡ part.steps)

@@ -13,11 +13,6 @@ use Rattle.daemon_turn.specs.declared.kid.Kid.{Kid}
 use Rattle.daemon_turn.specs.declared.step.TurnStep.{TurnStep}
 use Rattle.daemon_turn.specs.declared.step.TurnStep.TheVariants.{Ended, Interrupted}
 
--- the state is that of a job that runs
-abbrev pub is_running : State → Bool
-is_running Pending = false
-is_running (Running second) = true
-
 -- the entry is that of a job that runs
 abbrev pub is_running_entry : Option JobEntry → Bool
 is_running_entry (Some (Live job state)) = is_running state

@@ -9,7 +9,7 @@ use Rattle.daemon_turn.specs.declared.occasion.Occasion.{Occasion}
 use Rattle.daemon_turn.specs.declared.report.TurnEnd.{TurnEnd}
 use Rattle.daemon_turn.specs.declared.report.TurnEnd.TheVariants.{Done, Busy, FileFault, Damaged, Memory}
 use Rattle.daemon_turn.specs.declared.step.TurnStep.{TurnStep}
-use Rattle.daemon_turn.specs.Leaving.{Standing, TurnsTo}
+use Rattle.daemon_turn.specs.Leaving.{DaemonAt, TurnsTo}
 
 -- all steps were made, or memory was wanting
 abbrev pub IsDoneOrMemory : TurnEnd → Type 0
@@ -21,7 +21,7 @@ IsDoneOrMemory (Damaged damage) = ⊥
 
 -- where the reading shows a table, and no count of files or of taken locks rose, the turn is done or wants memory
 abbrev pub TurnsAreDone : Type 0
-TurnsAreDone = (tells alone : Bool) (at : Occasion) (old new : Standing) (end : TurnEnd) (steps : List TurnStep) →
+TurnsAreDone = (tells alone : Bool) (at : Occasion) (old new : DaemonAt) (end : TurnEnd) (steps : List TurnStep) →
     TurnsTo tells alone at old new end steps → tells ≡ true → alone ≡ true →
     (table : JobTable) → shown_by (reading old.world) ≡ Ok table →
     ¬ (Rose old.session.taken new.session.taken) → ¬ (Rose old.session.file_faults new.session.file_faults) → IsDoneOrMemory end
@@ -31,12 +31,12 @@ abbrev pub IsGood : Files → Type 0
 IsGood image = (table : JobTable) × Shows image table
 
 -- each image of each moment shows a table, and so does each that the end leaves
-pub record StaysGood (old new : Standing) : Type 0 where
+pub record StaysGood (old new : DaemonAt) : Type 0 where
   pub leaves : LeavesOnly (λ image handed. IsGood image) old.world new.world
   pub now : HasEachImage (λ image handed. IsGood image) new.world.now
 
 -- where each image shows a table, each that a turn leaves shows one
 abbrev pub GoodFoldersStayGood : Type 0
-GoodFoldersStayGood = (tells alone : Bool) (at : Occasion) (old new : Standing) (end : TurnEnd) (steps : List TurnStep) →
+GoodFoldersStayGood = (tells alone : Bool) (at : Occasion) (old new : DaemonAt) (end : TurnEnd) (steps : List TurnStep) →
     TurnsTo tells alone at old new end steps → tells ≡ true → alone ≡ true →
     ((image : Files) → IsImage old.world.now.folder image → IsGood image) → StaysGood old new

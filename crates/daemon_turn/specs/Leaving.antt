@@ -25,7 +25,7 @@ use Rattle.daemon_turn.specs.StepsOf.{steps_of}
 use Rattle.daemon_turn.specs.Turning.{AreFirstSteps, AreTurnSteps}
 
 -- a host at one moment, and what the daemon that works on it keeps
-pub record Standing : Type 0 where
+pub record DaemonAt : Type 0 where
   pub session : Session
   pub world : World
   pub watch : Watch
@@ -33,7 +33,7 @@ pub record Standing : Type 0 where
 -- What the turn handed over and asked, whose steps on the table were these. The kids are those that stay, and the
 -- children of the starts, each under its number.
 pub record Gave (table : JobTable) (steps : List TurnStep) (given : List Handed) (answers : List (Option Ending))
-    (old new : Standing) : Type 0 where
+    (old new : DaemonAt) : Type 0 where
   pub handed : new.world.now.handed ≡ old.world.now.handed ++ given
   pub hands : Hands table (steps_of steps) given
   pub fronts : HandsFronts old.world new.world
@@ -44,7 +44,7 @@ pub record Gave (table : JobTable) (steps : List TurnStep) (given : List Handed)
   pub kids : AreKidsAfter table steps old.watch.kids added new.watch.kids
 
 -- The turn was made to its end: its steps are all those of a turn on the table that the reading showed, and they stand.
-pub record IsWhole (turn : Turn) (steps : List TurnStep) (old new : Standing) : Type 0 where
+pub record IsWhole (turn : Turn) (steps : List TurnStep) (old new : DaemonAt) : Type 0 where
   pub table : JobTable
   pub given : List Handed
   pub answers : List (Option Ending)
@@ -53,7 +53,7 @@ pub record IsWhole (turn : Turn) (steps : List TurnStep) (old new : Standing) : 
   pub gave : Gave table steps given answers old new
 
 -- The turn was stopped behind a recovery: these are the first of its steps, and the next one may stand too.
-pub record IsStopped (turn : Turn) (steps : List TurnStep) (old new : Standing) : Type 0 where
+pub record IsStopped (turn : Turn) (steps : List TurnStep) (old new : DaemonAt) : Type 0 where
   pub table : JobTable
   pub given : List Handed
   pub answers : List (Option Ending)
@@ -71,13 +71,13 @@ pub record IsNone (steps : List TurnStep) (old new : Watch) : Type 0 where
   pub kids : new.kids ≡ old.kids
 
 -- The turn was stopped before a recovery succeeded: no step was begun, and the kids are as before.
-pub record IsIdle (steps : List TurnStep) (old new : Standing) : Type 0 where
+pub record IsIdle (steps : List TurnStep) (old new : DaemonAt) : Type 0 where
   pub none : IsNone steps old.watch new.watch
   pub unbegun : IsUnbegun old.world new.world
   pub asked : new.world.asked ≡ old.world.asked
 
 -- what a turn leaves, by its end
-abbrev pub TurnLeaves : Turn → List TurnStep → Standing → Standing → TurnEnd → Type 0
+abbrev pub TurnLeaves : Turn → List TurnStep → DaemonAt → DaemonAt → TurnEnd → Type 0
 TurnLeaves turn steps old new Done = IsWhole turn steps old new
 TurnLeaves turn steps old new Busy = IsIdle steps old new × (new.world ≡ old.world)
 TurnLeaves turn steps old new FileFault = IsIdle steps old new ⊎ IsStopped turn steps old new
@@ -95,7 +95,7 @@ IfUnread Memory none = Unit {0}
 
 -- A turn. Of every host: its session is over, its children stay and the kids are some of them, by number; the limit and
 -- the interval stay; why it ended so. Of a host that tells its files and is alone: what it leaves.
-pub record TurnsTo (tells alone : Bool) (at : Occasion) (old new : Standing) (end : TurnEnd) (steps : List TurnStep) : Type 0 where
+pub record TurnsTo (tells alone : Bool) (at : Occasion) (old new : DaemonAt) (end : TurnEnd) (steps : List TurnStep) : Type 0 where
   pub outside : IsOutside new.session
   pub counts : KeepsCounts old.session new.session
   pub kept : KeepsChildren old.session.children new.session.children

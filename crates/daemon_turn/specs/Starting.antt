@@ -4,11 +4,10 @@ use Rattle.host_calls.specs.declared.child.Ending.TheVariants.{NotStarted}
 use Rattle.queue_rules.specs.Order.{AreInDueOrder, IsFirstBatch, is_ready_batch, places_of}
 use Rattle.queue_rules.specs.Queues.{may_start_batch}
 use Rattle.spool_model.specs.JobTable.{JobTable}
-use Rattle.spool_model.specs.Lists.{done_numbers, live_rows}
+use Rattle.spool_model.specs.Lists.{live_rows, surplus}
 use Rattle.daemon_turn.specs.declared.kid.Kid.{Kid}
 use Rattle.daemon_turn.specs.declared.mode.Mode.{Mode}
 use Rattle.daemon_turn.specs.declared.mode.Mode.TheVariants.{Full, EndsOnly}
-use Rattle.daemon_turn.specs.declared.forgetting.TheConstants.{MAX_DONE}
 use Rattle.daemon_turn.specs.declared.occasion.Occasion.{Occasion}
 use Rattle.daemon_turn.specs.declared.step.TurnStep.{TurnStep}
 use Rattle.daemon_turn.specs.declared.step.TurnStep.TheVariants.{HandedOver, Ended, Forgotten}
@@ -81,4 +80,4 @@ starts (number ∷ numbers) second (flag ∷ flags) = start_steps number second 
 
 -- the lowest done numbers are forgotten, as many as are too many
 abbrev pub forgets : JobTable → List TurnStep
-forgets table = map Forgotten (take (length (done_numbers table) - MAX_DONE) (done_numbers table))
+forgets table = map Forgotten (surplus table)

@@ -2,10 +2,10 @@
 use Rattle.std.specs.Prelude.{Bool}
 use Rattle.daemon_turn.specs.declared.occasion.Occasion.{Occasion}
 use Rattle.daemon_turn.specs.declared.report.TurnReport.{TurnReport}
-use Rattle.daemon_turn.specs.Leaving.{Standing, TurnsTo}
+use Rattle.daemon_turn.specs.Leaving.{DaemonAt, TurnsTo}
 
 -- The second turn begins where the first one ended: with its kids, and on what it left.
-pub record TurnsTwice (tells alone : Bool) (one other : Occasion) (old new : Standing) (first second : TurnReport) : Type 0 where
-  pub between : Standing
+pub record TurnsTwice (tells alone : Bool) (one other : Occasion) (old new : DaemonAt) (first second : TurnReport) : Type 0 where
+  pub between : DaemonAt
   pub begins : TurnsTo tells alone one old between first.end first.steps
   pub ends : TurnsTo tells alone other between new second.end second.steps

@@ -8,12 +8,9 @@ ghost use Rattle.daemon_turn.specs.inside.Going.{MayGo};
 use crate::TurnStep;
 use crate::making::make_all;
 use host_calls::Host;
-use spool_model::Decided;
+use spool_model::{Decided, MAX_DONE};
 use spool_store::{Store, StoreFault};
 use std::alloc::{AllocError, Global};
-
-/// How many done jobs are remembered at the end of a turn.
-pub const MAX_DONE: usize = 10_000;
 
 // Forgets the lowest of the done jobs, as many as are too many, and writes each down.
 pub(crate) fn forget_all<H: Host>(

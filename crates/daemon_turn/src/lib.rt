@@ -22,7 +22,6 @@ mod twice;
 mod working;
 
 pub use daemon::Daemon;
-pub use forgetting::MAX_DONE;
 pub use kid::Kid;
 pub use laws::turns_end_well;
 pub use mode::Mode;

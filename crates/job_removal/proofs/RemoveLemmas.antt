@@ -18,9 +18,10 @@ use Rattle.job_runs.proofs.ListLemmas.{lists_as_on_the_table}
 use Rattle.job_runs.proofs.MadeLemmas.{legal_then, steps_are_made_behind}
 use Rattle.job_runs.proofs.RunLemmas.{fronts_run_as_the_steps, runs_go_on}
 use Rattle.listing_text.specs.declared.cause.Cause.TheVariants.{Done, Memory}
-use Rattle.daemon_turn.specs.declared.forgetting.TheConstants.{MAX_DONE}
+use Rattle.spool_model.specs.declared.decided.TheConstants.{MAX_DONE}
 use Rattle.command_answers.specs.Causes.{cause_of}
-use Rattle.command_answers.specs.Requested.{forgets, removal, removes, surplus}
+use Rattle.command_answers.specs.Requested.{forgets, removal, removes}
+use Rattle.spool_model.specs.Lists.{surplus}
 use Rattle.command_answers.specs.Sessions.{IsWorkedOn, Works}
 use Rattle.job_removal.specs.Removing.{AreRemoval}
 use Rattle.job_removal.proofs.LegalLemmas.{forgets_legal}

@@ -7,14 +7,14 @@ ghost use Rattle.spool_model.specs.JobTable.{JobTable};
 ghost use Rattle.spool_model.specs.Steps.{AreLegal};
 ghost use Rattle.job_runs.specs.Current.{IsCurrent};
 ghost use Rattle.command_answers.specs.Causes.{cause_in, stopped_by};
-ghost use Rattle.command_answers.specs.Requested.{removes, surplus};
+ghost use Rattle.command_answers.specs.Requested.{removes};
+ghost use Rattle.spool_model.specs.Lists.{surplus};
 ghost use Rattle.command_answers.specs.Sessions.{Works};
 ghost use Rattle.job_removal.specs.Removing.{AreRemoval, ComesOfRemoving};
 
 use crate::Deed;
 use crate::changing::change_each;
 use command_answers::Stopped;
-use daemon_turn::MAX_DONE;
 use host_calls::Host;
 use spool_model::Decided;
 use spool_store::Store;

@@ -1,3 +1,4 @@
+pub mod ApartLemmas
 pub mod AttemptLemmas
 pub mod BareLemmas
 pub mod HandsLemmas
@@ -6,3 +7,4 @@ pub mod RunLemmas
 pub mod StartedLemmas
 pub mod TurnLemmas
 pub mod ListLemmas
+pub mod RowLemmas

@@ -1,15 +1,23 @@
 -- The live jobs and the done numbers of a job table as lists, by number (own).
-use Rattle.std.specs.Prelude.{ℕ, Bool, true, false, List, Option, Some, None, length}
+use Rattle.std.specs.Prelude.{◌-◌, ℕ, Bool, true, false, List, Option, Some, None, length, take}
 use Rattle.std.specs.FinMap.{entries}
 use Rattle.std.specs.List.{filter, filter_map}
 use Rattle.spool_model.specs.declared.entry.Entry.TheVariants.{Live, Done}
+use Rattle.spool_model.specs.declared.decided.TheConstants.{MAX_DONE}
 use Rattle.spool_model.specs.declared.row.Row.{Row}
+use Rattle.spool_model.specs.declared.state.State.{State}
+use Rattle.spool_model.specs.declared.state.State.TheVariants.{Pending, Running}
 use Rattle.spool_model.specs.JobTable.{JobEntry, JobTable}
 
 -- the job lives
 abbrev pub is_live : JobEntry → Bool
 is_live (Live job state) = true
 is_live (Done fate) = false
+
+-- the state is that of a job that runs
+abbrev pub is_running : State → Bool
+is_running Pending = false
+is_running (Running second) = true
 
 -- how many jobs live
 abbrev pub live_count : JobTable → ℕ
@@ -42,3 +50,7 @@ done_under number (Done fate) = Some number
 -- the numbers of the jobs that are done, in order
 abbrev pub done_numbers : JobTable → List ℕ
 done_numbers table = filter_map (λ entry. done_under entry.0 entry.1) (entries table.entries)
+
+-- the lowest done numbers, as many as are more than a table may keep
+abbrev pub surplus : JobTable → List ℕ
+surplus table = take (length (done_numbers table) - MAX_DONE) (done_numbers table)

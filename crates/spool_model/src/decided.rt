@@ -1,6 +1,9 @@
 //! A job that is done.
 use crate::Fate;
 
+/// How many done jobs are remembered behind a removal and behind a turn.
+pub const MAX_DONE: usize = 10_000;
+
 /// A job that is done, by its number.
 #[derive(Clone, Copy, Debug, PartialEq, Eq)]
 pub struct Decided {

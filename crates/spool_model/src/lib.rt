@@ -17,7 +17,7 @@ mod step;
 mod table;
 mod user_name;
 
-pub use decided::Decided;
+pub use decided::{Decided, MAX_DONE};
 pub use entry::Entry;
 pub use fate::Fate;
 pub use job::Job;

@@ -1,6 +1,6 @@
 //! Which jobs the user may ask for.
 ghost use Rattle.std.specs.Prelude.{◌≡◌};
-ghost use Rattle.daemon_turn.specs.Decisions.{is_running};
+ghost use Rattle.spool_model.specs.Lists.{is_running};
 ghost use Rattle.listing_text.specs.Listing.{may_see};
 ghost use Rattle.command_answers.specs.Verdict.{jobs_check, row_at, row_check};
 

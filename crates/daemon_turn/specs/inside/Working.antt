@@ -15,7 +15,7 @@ use Rattle.daemon_turn.specs.declared.report.TurnEnd.TheVariants.{Done, FileFaul
 use Rattle.daemon_turn.specs.declared.step.TurnStep.{TurnStep}
 use Rattle.daemon_turn.specs.Decisions.{asked_kids, questions}
 use Rattle.daemon_turn.specs.Kids.{AreByNumber, AreChildren, AreKidsAfter, KeepsChildren}
-use Rattle.daemon_turn.specs.Leaving.{IsNone, Standing, TurnLeaves}
+use Rattle.daemon_turn.specs.Leaving.{IsNone, DaemonAt, TurnLeaves}
 use Rattle.daemon_turn.specs.Starting.{Turn}
 use Rattle.daemon_turn.specs.inside.Going.{Goes, Part}
 use Rattle.daemon_turn.specs.inside.Turned.{AreStepsBy}
@@ -53,7 +53,7 @@ end_after (Ok done) = Done
 end_after (Err fault) = end_by fault
 
 -- The work of a turn: a recovery, and the steps.
-pub record Works (tells : Bool) (turn : Turn) (old new : Standing) (steps : List TurnStep)
+pub record Works (tells : Bool) (turn : Turn) (old new : DaemonAt) (steps : List TurnStep)
     (result : Result (Unit {0}) StoreFault) : Type 0 where
   pub inside : IsInside new.session
   pub counts : KeepsCounts old.session new.session

@@ -1,7 +1,7 @@
 use Rattle.std.proofs.Common.{◌≡◌, ℕ, List, arith, map, subst, take}
 use Rattle.std.specs.Prelude.{IfOk}
 use Rattle.spool_model.specs.declared.decided.Decided.{Decided}
-use Rattle.command_answers.specs.Requested.{surplus}
+use Rattle.spool_model.specs.Lists.{surplus}
 use Rattle.job_removal.proofs.RemoveLemmas.{surplus_listed}
 use Rattle.job_removal.proofs.removing.surplus.Goals as goal
 

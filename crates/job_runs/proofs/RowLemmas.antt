@@ -15,7 +15,7 @@ use Rattle.spool_model.specs.Lists.{done_numbers, done_under, live_rows, row_und
 use Rattle.queue_rules.specs.Order.{row_numbers}
 use Rattle.spool_shows.proofs.EntryLists.{below, has_key, left, right}
 use Rattle.spool_shows.proofs.Membership.{Has, given_has, made_has}
-use Rattle.daemon_turn.proofs.ApartLemmas.{Apart}
+use Rattle.job_runs.proofs.ApartLemmas.{Apart}
 
 -- the numbers of entries in order differ
 entries_apart : (list : List (ℕ × JobEntry)) → T (is_sorted nat_cmp list) → Apart (map (λ entry. entry.0) list)
