@@ -8,15 +8,15 @@ ghost use Rattle.spool_model.specs.Steps.{AreLegal};
 ghost use Rattle.job_runs.specs.Current.{IsCurrent};
 ghost use Rattle.command_answers.specs.Causes.{cause_in, stopped_by};
 ghost use Rattle.command_answers.specs.Requested.{removes};
-ghost use Rattle.spool_model.specs.Lists.{surplus};
 ghost use Rattle.command_answers.specs.Sessions.{Works};
 ghost use Rattle.job_removal.specs.Removing.{AreRemoval, ComesOfRemoving};
+ghost use Rattle.spool_model.specs.Lists.{surplus};
 
 use crate::Deed;
 use crate::changing::change_each;
 use command_answers::Stopped;
 use host_calls::Host;
-use spool_model::Decided;
+use spool_model::{Decided, MAX_DONE};
 use spool_store::Store;
 use std::alloc::{AllocError, Global};
 
