@@ -1,0 +1,40 @@
+#!/bin/sh
+# Makes a Debian package of the proved program: packaging/build-deb.sh FOLDER puts coefhird_VERSION_amd64.deb into FOLDER.
+# BINARY is as for install.sh. It needs dpkg-deb and no other tool of packages.
+set -eu
+here=$(cd "$(dirname "$0")/.." && pwd)
+into=${1:?a folder for the package}
+version=${VERSION:-0.1}
+work=$(mktemp -d)
+trap 'rm -rf "$work"' EXIT
+root=$work/root
+mkdir -p "$root/DEBIAN"
+chmod 755 "$root" "$root/DEBIAN"
+
+DESTDIR=$root PREFIX=/usr "$here/packaging/install.sh"
+
+# What a package of Debian's has besides.
+doc=$root/usr/share/doc/coefhird
+strip --remove-section=.comment --remove-section=.note "$root/usr/bin/at" 2>/dev/null || true
+mkdir -p "$doc" "$root/etc/default"
+cp "$here/packaging/debian/copyright" "$doc/copyright"
+gzip -9nc "$here/packaging/debian/changelog" >"$doc/changelog.gz"
+cp "$here/packaging/debian/default" "$root/etc/default/coefhird"
+find "$root/usr/share/man" -type f -exec gzip -9n {} +
+for link in $(find "$root/usr/share/man" -type l); do
+    ln -sf "$(readlink "$link").gz" "$link.gz"
+    rm "$link"
+done
+echo /etc/default/coefhird >"$root/DEBIAN/conffiles"
+for script in postinst prerm postrm; do
+    install -m 755 "$here/packaging/debian/$script" "$root/DEBIAN/$script"
+done
+size=$(du -sk "$root" | cut -f 1)
+sed -e "s/@VERSION@/$version/" -e "s/@SIZE@/$size/" "$here/packaging/debian/control" >"$root/DEBIAN/control"
+(cd "$root" && find . -type f ! -path './DEBIAN/*' -printf '%P\0' | sort -z | xargs -0 md5sum) >"$root/DEBIAN/md5sums"
+find "$root" -type d -exec chmod 755 {} +
+chmod 644 "$doc"/* "$root/etc/default/coefhird" "$root/DEBIAN/control" "$root/DEBIAN/conffiles" "$root/DEBIAN/md5sums"
+
+mkdir -p "$into"
+dpkg-deb --root-owner-group --build "$root" "$into/coefhird_${version}_amd64.deb" >/dev/null
+echo "$into/coefhird_${version}_amd64.deb"

@@ -1,0 +1,77 @@
+# Completions of at, batch, atq, atrm, atd and atday for bash.
+
+_coefhird_jobs() { atq 2>/dev/null | cut -f 1; }
+
+_coefhird_words() {
+    printf '%s\n' now noon midnight teatime today tomorrow next utc am pm \
+        minutes hours days weeks months years \
+        monday tuesday wednesday thursday friday saturday sunday \
+        january february march april may june july august september october november december
+}
+
+_coefhird_queues() { printf '%s\n' {a..z} {A..Z}; }
+
+_coefhird_at() {
+    local current=${COMP_WORDS[COMP_CWORD]} before=${COMP_WORDS[COMP_CWORD-1]} word jobs=
+    COMPREPLY=()
+    case $before in
+        -f) compopt -o filenames; mapfile -t COMPREPLY < <(compgen -f -- "$current"); return ;;
+        -q) mapfile -t COMPREPLY < <(compgen -W "$(_coefhird_queues) =" -- "$current"); return ;;
+        -t) return ;;
+    esac
+    for word in "${COMP_WORDS[@]:1:COMP_CWORD-1}"; do
+        case $word in -c | -l | -r) jobs=1 ;; esac
+    done
+    if [[ $current == -* ]]; then
+        mapfile -t COMPREPLY < <(compgen -W '-c -f -l -m -q -r -t' -- "$current")
+    elif [[ $jobs ]]; then
+        mapfile -t COMPREPLY < <(compgen -W "$(_coefhird_jobs)" -- "$current")
+    else
+        mapfile -t COMPREPLY < <(compgen -W "$(_coefhird_words)" -- "$current")
+    fi
+}
+
+_coefhird_batch() {
+    local current=${COMP_WORDS[COMP_CWORD]}
+    COMPREPLY=()
+    case ${COMP_WORDS[COMP_CWORD-1]} in
+        -f) compopt -o filenames; mapfile -t COMPREPLY < <(compgen -f -- "$current") ;;
+        *) mapfile -t COMPREPLY < <(compgen -W '-f' -- "$current") ;;
+    esac
+}
+
+_coefhird_atq() {
+    local current=${COMP_WORDS[COMP_CWORD]}
+    COMPREPLY=()
+    case ${COMP_WORDS[COMP_CWORD-1]} in
+        -q) mapfile -t COMPREPLY < <(compgen -W "$(_coefhird_queues) =" -- "$current") ;;
+        *) mapfile -t COMPREPLY < <(compgen -W '-q' -- "$current") ;;
+    esac
+}
+
+_coefhird_atrm() {
+    mapfile -t COMPREPLY < <(compgen -W "$(_coefhird_jobs)" -- "${COMP_WORDS[COMP_CWORD]}")
+}
+
+_coefhird_atd() {
+    COMPREPLY=()
+    case ${COMP_WORDS[COMP_CWORD-1]} in
+        -b | -l | --turns) ;;
+        *) mapfile -t COMPREPLY < <(compgen -W '-b -l -s --turns' -- "${COMP_WORDS[COMP_CWORD]}") ;;
+    esac
+}
+
+_coefhird_atday() {
+    COMPREPLY=()
+    case ${COMP_WORDS[COMP_CWORD-1]} in
+        --make) ;;
+        *) mapfile -t COMPREPLY < <(compgen -W '--make' -- "${COMP_WORDS[COMP_CWORD]}") ;;
+    esac
+}
+
+complete -F _coefhird_at at
+complete -F _coefhird_batch batch
+complete -F _coefhird_atq atq
+complete -F _coefhird_atrm atrm
+complete -F _coefhird_atd atd
+complete -F _coefhird_atday atday

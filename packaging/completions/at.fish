@@ -1,0 +1,44 @@
+# Completions of at, batch, atq, atrm, atd and atday for fish.
+
+function __coefhird_jobs
+    atq 2>/dev/null
+end
+
+function __coefhird_queues
+    printf '%s\n' = a b c d e f g h i j k l m n o p q r s t u v w x y z \
+        A B C D E F G H I J K L M N O P Q R S T U V W X Y Z
+end
+
+set -l of_jobs '__fish_contains_opt -s c -s l -s r'
+set -l words now noon midnight teatime today tomorrow next utc am pm \
+    minutes hours days weeks months years \
+    monday tuesday wednesday thursday friday saturday sunday \
+    january february march april may june july august september october november december
+
+complete -c at -f
+complete -c at -s c -d 'put the scripts of jobs on standard output'
+complete -c at -s f -r -F -d 'read the commands from a file'
+complete -c at -s l -d 'list jobs'
+complete -c at -s m -d 'ask for mail at the end'
+complete -c at -s q -x -a '(__coefhird_queues)' -d 'the queue'
+complete -c at -s r -d 'take jobs back'
+complete -c at -s t -x -d 'the time, as CCYYMMDDhhmm.SS'
+complete -c at -n "$of_jobs" -a '(__coefhird_jobs)'
+complete -c at -n "not $of_jobs" -a "$words"
+
+complete -c batch -f
+complete -c batch -s f -r -F -d 'read the commands from a file'
+
+complete -c atq -f
+complete -c atq -s q -x -a '(__coefhird_queues)' -d 'show this queue alone'
+
+complete -c atrm -f -a '(__coefhird_jobs)'
+
+complete -c atd -f
+complete -c atd -s b -x -d 'seconds between two starts in batch queues'
+complete -c atd -s l -x -d 'the load from which on no batch job starts'
+complete -c atd -s s -d 'make one turn, and end when the children have ended'
+complete -c atd -l turns -x -d 'make so many turns and end'
+
+complete -c atday -f
+complete -c atday -l make -x -d 'make so many events'
