@@ -87,7 +87,7 @@ after_alike table steps = sym (lists_step_as_on_the_table table (steps_of steps)
 forgets_alike : (table : JobTable) (steps : List TurnStep) → with_forgets (bare table) steps ≡ with_forgets table steps
 forgets_alike table steps =
     ap (λ (after : JobTable). steps ++ forgets after) (after_alike table steps)
-    ∙ ap (λ (done : List ℕ). steps ++ map Rattle.daemon_turn.specs.declared.step.TurnStep.TheVariants.Forgotten (Rattle.std.proofs.Common.take (Rattle.std.proofs.Common.◌-◌ (length done) Rattle.daemon_turn.specs.declared.forgetting.TheConstants.MAX_DONE) done)) (lists_as_on_the_table (after_steps table (steps_of steps))).done
+    ∙ ap (λ (done : List ℕ). steps ++ map Rattle.daemon_turn.specs.declared.step.TurnStep.TheVariants.Forgotten (Rattle.std.proofs.Common.take (Rattle.std.proofs.Common.◌-◌ (length done) Rattle.spool_model.specs.declared.decided.TheConstants.MAX_DONE) done)) (lists_as_on_the_table (after_steps table (steps_of steps))).done
 
 module _ (turn : Turn) (table : JobTable) (answers : List (Option Ending)) where
   asked_all : length answers ≡ length (asked_kids (bare table) turn.kids) → length answers ≡ length (asked_kids table turn.kids)

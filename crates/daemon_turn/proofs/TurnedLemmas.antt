@@ -293,7 +293,7 @@ module _ (tells : Bool) (before : Session) (old : World) (kept : Kept) (kids : L
             all_no_end : (kid : Kid) → runs_in kept.table kid ≡ true → list_any (tells_end_of kid.number) (starting.steps ++ forgetting.steps) ≡ false
             all_no_end kid runs = none_any (tells_end_of kid.number) (starting.steps ++ forgetting.steps) (λ step has. elim (has_either starting.steps forgetting.steps step has) [
               | inl one ↦ of_none (tells_end_of kid.number) starting.steps (starts_no_end kid runs) step one
-              | inr other ↦ forgets_no_end (Rattle.std.proofs.Common.take (Rattle.std.proofs.Common.◌-◌ (length (Rattle.spool_model.specs.Lists.done_numbers last.table)) Rattle.daemon_turn.specs.declared.forgetting.TheConstants.MAX_DONE) (Rattle.spool_model.specs.Lists.done_numbers last.table)) kid.number step
+              | inr other ↦ forgets_no_end (Rattle.std.proofs.Common.take (Rattle.std.proofs.Common.◌-◌ (length (Rattle.spool_model.specs.Lists.done_numbers last.table)) Rattle.spool_model.specs.declared.decided.TheConstants.MAX_DONE) (Rattle.spool_model.specs.Lists.done_numbers last.table)) kid.number step
                   (subst (λ (l : List TurnStep). Has l step) (sym forgotten.forgotten.front.1)
                   (has_left (forgetting.steps ++ forgetting.next) forgotten.forgotten.front.0 step (has_left forgetting.steps forgetting.next step other)))
             ]) where
