@@ -1,0 +1,7 @@
+pub mod StartedNumbers
+pub mod GoodTables
+pub mod GoodSteps
+pub mod GoodMoments
+pub mod TableAfterLemmas
+pub mod StandingLemmas
+pub mod HeadlineLemmas

@@ -1,0 +1,102 @@
+-- Where the host stands, over the events.
+use Rattle.std.proofs.Common.{◌≡◌, ◌++◌, List, [], ◌∷◌, ap, subst, sym, ◌∙◌, refl}
+use Rattle.std.specs.Prelude.{Ok}
+use Rattle.host_calls.specs.Folder.{Files, Folder, IsImage}
+use Rattle.host_calls.specs.World.{World, reading}
+use Rattle.host_calls.proofs.FolderLemmas.{reading_is_image}
+use Rattle.host_calls.proofs.WorldLemmas.{leaves_none}
+use Rattle.spool_model.specs.declared.step.Step.{Step}
+use Rattle.spool_model.specs.JobTable.{JobTable}
+use Rattle.spool_model.specs.Steps.{IsFront, after_steps}
+use Rattle.spool_shows.specs.Shown.{Shows, shown_by}
+use Rattle.job_runs.specs.Attempts.{IsAsBefore}
+use Rattle.job_runs.specs.Calls.{ShowsAsBefore}
+use Rattle.job_runs.specs.Current.{EachShows}
+use Rattle.day_runs.specs.Laws.{EventsPassOn, LaterEventsLeave, SettledFoldersShowTheirTable, StandingHostsReadTables, StillWorldsAreUnbegun}
+use Rattle.day_runs.specs.Moves.{Achieved, Begun, Crashed, IsMoved, Move, PassFrom, Passed, Unbegun}
+use Rattle.day_runs.specs.Standings.{ArrivesAt, MayShow, Standing, StandsAt, StandsThrough, settled_at}
+use Rattle.day_runs.proofs.TableAfterLemmas.{one_table}
+
+-- each image shows the table: the folder stands there, with no steps
+pub settled_stands : (folder : Folder) (table : JobTable) → EachShows folder table → StandsAt folder (settled_at table)
+settled_stands folder table shows image is = ([], ([], refl), shows image is)
+
+-- the only front of no steps is none
+front_of_none : (table : JobTable) (front : List Step) → IsFront front [] → after_steps table front ≡ table
+front_of_none table [] is = refl
+front_of_none table (step ∷ later) is = let impossible : ◌≡◌ {A = List Step} [] (step ∷ later ++ is.0) = is.1 in cc
+
+pub settled_folders_show_their_table : SettledFoldersShowTheirTable
+settled_folders_show_their_table folder table = (
+  λ stands image is. let front : (front : List Step) × IsFront front [] × Shows image (after_steps table front) = stands image is in
+      front.2 ∙ ap (λ t. Ok t) (front_of_none table front.0 front.1),
+  settled_stands folder table,
+)
+
+-- the table that the folder shows is one that its standing allows
+may_show : (old : World) (at : Standing) (table : JobTable) → shown_by (reading old) ≡ Ok table → StandsAt old.now.folder at →
+    MayShow at table
+may_show old at table shown stands =
+    let front : (front : List Step) × IsFront front at.steps × Shows (reading old) (after_steps at.table front) =
+    stands (reading old) (reading_is_image old.now.folder) in
+    (front.0, front.1, one_table (reading old) table (after_steps at.table front.0) shown front.2)
+
+-- where the host stands behind a move
+arrives : (move : Move) (old new : World) (at : Standing) → IsMoved move old new → StandsAt old.now.folder at →
+    (behind : Standing) × ArrivesAt move at behind × StandsAt new.now.folder behind
+arrives Unbegun old new at moved stands = (at, refl, still) where
+  still : StandsAt new.now.folder at
+  still image is =
+      let before : ShowsAsBefore old.now.folder image = (moved.now image is).0 in
+      let front : (front : List Step) × IsFront front at.steps × Shows before.from (after_steps at.table front) = stands before.from before.was in
+      (front.0, front.1, before.same ∙ front.2)
+arrives (Begun table steps) old new at moved stands = (
+  record { table = table; steps = steps },
+  (may_show old at table moved.1.shown stands, refl),
+  λ image is. (
+    (moved.1.now image is).stepping.front,
+    (moved.1.now image is).stepping.is_front,
+    (moved.1.now image is).stepping.shows,
+  ),
+)
+arrives (Achieved table steps) old new at moved stands = (
+  settled_at (after_steps table steps),
+  (may_show old at table moved.1.begun.shown stands, refl),
+  settled_stands new.now.folder (after_steps table steps) moved.1.whole,
+)
+arrives (Crashed image) old new at moved stands =
+    let front : (front : List Step) × IsFront front at.steps × Shows image (after_steps at.table front) = stands image moved.was in
+    (settled_at (after_steps at.table front.0), (after_steps at.table front.0, front.2, (front.0, front.1, refl), refl), only front.0 front.2) where
+      only : (front : List Step) → Shows image (after_steps at.table front) → StandsAt new.now.folder (settled_at (after_steps at.table front))
+      only front shows = settled_stands new.now.folder (after_steps at.table front)
+          (λ other is. subst (λ (files : Files). Shows files (after_steps at.table front)) (sym (moved.only other is)) shows)
+
+pub stands_through : (old : World) (at : Standing) (events : List Passed) → PassFrom old events → StandsAt old.now.folder at →
+    StandsThrough old at events
+stands_through old at [] pass stands = stands
+stands_through old at (event ∷ later) pass stands =
+    let behind : (behind : Standing) × ArrivesAt event.move at behind × StandsAt event.left.now.folder behind =
+    arrives event.move old event.left at pass.0 stands in
+    (stands, (behind.0, behind.1, stands_through event.left behind.0 later pass.1 behind.2))
+
+pub standing_hosts_read_tables : StandingHostsReadTables
+standing_hosts_read_tables old at [] through = tt
+standing_hosts_read_tables old at (event ∷ later) through =
+    let here : (front : List Step) × IsFront front at.steps × Shows (reading old) (after_steps at.table front) =
+    through.0 (reading old) (reading_is_image old.now.folder) in
+    ((after_steps at.table here.0, here.2), standing_hosts_read_tables event.left through.1.0 later through.1.2)
+
+pub events_pass_on : EventsPassOn
+events_pass_on old [] later first rest = rest
+events_pass_on old (event ∷ others) later first rest = (first.0, events_pass_on event.left others later first.1 rest)
+
+pub later_events_leave : LaterEventsLeave
+later_events_leave old [] later = refl
+later_events_leave old (event ∷ others) later = later_events_leave event.left others later
+
+pub still_worlds_are_unbegun : StillWorldsAreUnbegun
+still_worlds_are_unbegun old new same = record {
+  leaves = leaves_none (IsAsBefore old.now) old new same;
+  now = subst (λ (w : World). (image : Files) → IsImage w.now.folder image → IsAsBefore old.now image w.now.handed) (sym same)
+      (λ image is. (record { from = image; was = is; same = refl; others = λ name other. refl }, refl));
+}
