@@ -1,4 +1,4 @@
-//! The caller for whom this tool works as yet.
+//! The caller of the tests in memory.
 ghost use Rattle.std.specs.Prelude.{◌<◌, IfOk};
 
 use at_commands::Caller;
@@ -7,15 +7,15 @@ use host_calls::Text;
 use job_script::{Context, Variables};
 use std::alloc::{AllocError, Global};
 
-/// The user `ann` at home.
-pub fn ann(alloc: Global) -> Result<Caller, AllocError>
+/// The user `ann` in this directory.
+pub fn ann(alloc: Global, directory: &str) -> Result<Caller, AllocError>
     ensures { IfOk result (λ caller. caller.context.umask < 512) }
 {
     let mut environment = Variables::new(alloc);
     environment.push(alloc, "HOME", "/home/ann")?;
     let context = Context {
         user: Text::of(alloc, "ann")?,
-        directory: Text::of(alloc, "/home/ann")?,
+        directory: Text::of(alloc, directory)?,
         umask: 0o022,
         environment,
     };

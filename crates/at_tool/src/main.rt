@@ -1,48 +1,60 @@
-//! The tools over a spool in memory that lasts as long as the program, for the user `ann` on the first second of 2025.
+//! The tools over the real outside: the spool folder that `ATSPOOL` names, the clock and the load of the machine, and
+//! the standard streams of the process.
 #![tactic(auto)]
 
+#[cfg(test)]
 mod ann;
-mod outside;
+mod caller;
+mod environment;
+#[cfg(test)]
+mod memory;
+mod streams;
 #[cfg(test)]
 mod tests;
+#[cfg(test)]
+mod tests_of_folders;
+mod umask;
+mod unstarted;
 
-use crate::outside::{NOW, Outside, answer, made_in_memory, no_failure};
-use anyhow::{Context, Result};
-use std::io::{Read, Write};
+use crate::caller::caller_of;
+use crate::environment::{spool_of, words_of};
+use crate::streams::held_streams;
+use crate::unstarted::Unstarted;
+use at_commands::command as program;
 use std::process::ExitCode;
-use std::{env, io, str};
+use unix_host::{UnixErr, UnixHost, UnixInputs, UnixOut, UnixReadings};
 
 fn main(rt: HostRuntime) -> ExitCode {
+    // They stay held until the end: what is opened in between must not become a standard stream.
+    let _streams = held_streams(&rt);
     match run(&rt) {
         Ok(code) => ExitCode::from(code),
-        Err(error) => {
-            let _ = eprintln!(rt; "at: {error}");
-            ExitCode::from(6)
+        Err(why) => {
+            let _ = eprintln!(rt; "at: {}", why.text());
+            ExitCode::from(why.code())
         }
     }
 }
 
-// Runs the command that the arguments ask for on standard input, and gives its exit status.
-fn run(rt: &HostRuntime) -> Result<u8> {
-    let words = env::args(rt)?.collect::<Vec<String>>(rt.alloc())?;
-    let input = read_all(rt)?;
-    let mut memory = made_in_memory(rt.alloc(), NOW, &input, no_failure(rt.alloc()))?;
-    let code = answer(rt.alloc(), &words, &mut memory)?;
-    show(rt, &memory)?;
-    Ok(code)
-}
-
-// All of standard input.
-fn read_all(rt: &HostRuntime) -> io::Result<Vec<u8>> {
-    let mut input = Vec::new(rt.alloc());
-    rt.reader().read_to_end(&mut input)?;
-    Ok(input)
-}
-
-// Copies what was put on the sinks to standard output and standard error.
-fn show(rt: &HostRuntime, memory: &Outside) -> Result<()> {
-    io::writer(rt).write_all(memory.out.content())?;
-    let lines = str::from_utf8(memory.err.content()).context("an error line is no text")?;
-    rt.eprint(lines)?;
-    Ok(())
+// Does what the words of this process ask for over the real things, and gives the exit status.
+fn run(rt: &HostRuntime) -> Result<u8, Unstarted> {
+    let alloc = rt.alloc();
+    let words = words_of(rt)?;
+    let caller = caller_of(rt)?;
+    let mut host = UnixHost::make(rt.clone()?, alloc, spool_of(rt)?)?;
+    let mut readings = UnixReadings::make(rt.clone()?);
+    let mut inputs = UnixInputs::make(rt.clone()?);
+    let mut out = UnixOut::make(rt.clone()?);
+    let mut err = UnixErr::make(rt.clone()?);
+    let status = program(
+        alloc,
+        &words,
+        &caller,
+        &mut host,
+        &mut readings,
+        &mut inputs,
+        &mut out,
+        &mut err,
+    );
+    Ok(status.code)
 }

@@ -1,6 +1,6 @@
 //! Commands of a length that no scenario writes down.
 
-use crate::outside::{NOW, answer, made_in_memory, no_failure};
+use crate::memory::{NOW, answer, made_in_memory, no_failure};
 use host_calls::Name;
 use std::test::Fail;
 

@@ -5,6 +5,7 @@ use Rattle.host_calls.specs.Session.{Session}
 use Rattle.host_calls.specs.declared.child.Ending.{Ending}
 use Rattle.unix_host.specs.Children.{first_children}
 use Rattle.unix_host.specs.Endings.{ending_for}
+use Rattle.unix_host.specs.Listings.{names_in}
 use Rattle.unix_host.specs.Unsynced.{torn_alone, unsynced_by}
 use Rattle.unix_host.specs.declared.host.UnixHost.{UnixHost}
 use Rattle.unix_host.specs.declared.job.JobStart.{JobStart}
@@ -41,3 +42,7 @@ torn_file host = option_and_then (λ folder. torn_alone folder.changes.torn) hos
 -- within a session, what the byte of the lock says of it
 abbrev pub told_of : {R A B C D E F G : Type 0} → UnixHost R A B C D E F G → Option Unsynced
 told_of host = option_map (λ folder. folder.lock.told) host.folder
+
+-- within a session, the names of the kept listing
+abbrev pub listed_names : {R A B C D E F G : Type 0} → UnixHost R A B C D E F G → Option (List (List ℕ))
+listed_names host = option_map names_in (option_and_then (λ folder. folder.listing) host.folder)

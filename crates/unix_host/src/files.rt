@@ -1,8 +1,8 @@
 //! What a folder holds. Only plain files are opened, so that a FIFO blocks nobody and a link leads nowhere.
-ghost use Rattle.std.specs.Prelude.{◌≤◌, IfOk, IsSorted, vec_len};
-ghost use Rattle.host_calls.specs.Folder.{name_cmp};
+ghost use Rattle.std.specs.Prelude.{◌≤◌, IfOk, vec_len};
 
 use crate::front::{FileFrom, fill};
+use crate::listing::{Listed, Listing};
 use crate::paths::Paths;
 use host_calls::{EnterFault, HostFault, Name};
 use std::alloc::{Alloc, AllocError, Global};
@@ -68,16 +68,14 @@ fn resolved<R: Files>(rt: &R, alloc: Global, spool: &str) -> Result<Paths, Enter
     }
 }
 
-/// The names of the plain files, in byte order. Whatever has no `Name` is left out.
-pub fn names<R: Runtime>(rt: &R, alloc: Global, folder: &str) -> Result<Vec<Name>, HostFault>
-    ensures order { IfOk result (λ names. IsSorted name_cmp names.items) }
-{
-    let mut names = Vec::new(alloc);
+/// The plain files and their lengths. Whatever has no `Name` is left out.
+pub fn list<R: Runtime>(rt: &R, alloc: Global, folder: &str) -> Result<Listing, HostFault> {
+    let mut files = Vec::new(alloc);
     for entry in fs::read_dir(rt, folder).map_err(fault_of)? {
         match entry {
             Ok(entry) => {
-                if let Some(name) = plain_name(&entry).map_err(fault_of)? {
-                    names.push(name).map_err(AllocError::from)?;
+                if let Some(file) = plain_file(&entry).map_err(fault_of)? {
+                    files.push(file).map_err(AllocError::from)?;
                 }
             }
             // A name that is no text is no `Name` either.
@@ -85,15 +83,16 @@ pub fn names<R: Runtime>(rt: &R, alloc: Global, folder: &str) -> Result<Vec<Name
             Err(error) => return Err(fault_of(error)),
         }
     }
-    names.sort_unstable();
-    Ok(names)
+    Ok(Listing::of(alloc, files)?)
 }
 
-fn plain_name<R: Runtime>(entry: &DirEntry<R, R::A>) -> io::Result<Option<Name>> {
+fn plain_file<R: Runtime>(entry: &DirEntry<R, R::A>) -> io::Result<Option<Listed>> {
     let Some(name) = Name::of(entry.file_name().as_bytes()) else {
         return Ok(None);
     };
-    Ok(entry.file_type()?.is_file().then_some(name))
+    let found = entry.metadata()?;
+    let length = found.len();
+    Ok(found.is_file().then_some(Listed { name, length }))
 }
 
 // Nothing was done where a list could not be made for want of memory.
@@ -123,20 +122,23 @@ pub fn opened<R: Files<File = File>>(
     options.open(rt, path).map_err(|_| HostFault::Failed)
 }
 
-/// At most `most` bytes of a file from an offset on, fewer only at its end.
+/// At most `most` bytes from an offset on of a plain file of this length, fewer only at its end.
 pub fn read<R: Files<File = File>>(
     rt: &R,
     alloc: Global,
     path: &str,
+    length: u64,
     offset: u64,
     most: usize,
 ) -> Result<Vec<u8>, HostFault>
     ensures few { IfOk result (λ bytes. vec_len bytes ≤ most) }
 {
-    let behind = length(rt, path)?.saturating_sub(offset);
+    let behind = length.saturating_sub(offset);
     let count = usize::try_from(behind).unwrap_or(usize::MAX).min(most);
     let mut bytes = vec![in alloc; 0; count]?;
-    let file = opened(rt, path, OpenOptions::new().read(true))?;
+    let Ok(file) = File::open(rt, path) else {
+        return Err(HostFault::Failed);
+    };
     let mut from = FileFrom {
         file: &file,
         offset,

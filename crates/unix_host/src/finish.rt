@@ -17,6 +17,7 @@ pub fn finish<T>(
     ensures starts { counts.new.starts ≡ counts.old.starts }
     ensures taken { counts.new.taken ≡ counts.old.taken }
     ensures quiet { ¬ (IsErrOf result HostFault.Failed) → counts.new.files ≡ counts.old.files }
+    ensures listing { folder.new.listing ≡ folder.old.listing }
     ensures ok { OnOk answer (folder.new.changes ≡ folder.old.changes) }
     ensures failed { OnErr answer (folder.new.changes ≡ record folder.old.changes { has_failed = true }) }
 {

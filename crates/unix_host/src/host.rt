@@ -1,18 +1,18 @@
 //! A spool folder on a disk.
-ghost use Rattle.std.specs.Prelude.{◌≡◌, ◌≢◌, ◌≤◌, [], false, Contains, IsErrOf, IsSome, IsSorted, IfOk, IfSome, OnOk, Ok, Some, slice_get, vec_len};
+ghost use Rattle.std.specs.Prelude.{◌≡◌, ◌≢◌, ◌≤◌, [], false, Contains, IsErrOf, IsSome, IsSorted, IfOk, IfSome, OnOk, Ok, None, Some, slice_get, vec_len};
 ghost use Rattle.host_calls.specs.Causes.{HasCause, Rose};
 ghost use Rattle.host_calls.specs.Folder.{name_cmp};
 ghost use Rattle.host_calls.specs.Session.{IsInside, IsLeft, IsOutside, CallsInside, Enters, Starts, StaysInside};
 ghost use Rattle.unix_host.specs.Counted.{CountsEnters, CountsFiles, CountsNothing, CountsStarts};
 ghost use Rattle.unix_host.specs.declared.unsynced.Unsynced.{Unsynced};
-ghost use Rattle.unix_host.specs.UnixHost.{ending_in, starts_of, session_of, told_of, torn_file, unsynced_of};
+ghost use Rattle.unix_host.specs.UnixHost.{ending_in, listed_names, starts_of, session_of, told_of, torn_file, unsynced_of};
 ghost use Rattle.unix_host.specs.Untold.{untold_world};
 
 use crate::counts::Counts;
 use crate::finish::finish;
 use crate::job::{JobStart, Kid, ending_of};
 use crate::locked::LockedFolder;
-use crate::{files, job};
+use crate::{job, reading};
 use host_calls::{Child, Ending, EnterFault, Host, HostFault, Name, StartFault, Text};
 use std::alloc::{AllocError, Global};
 use std::fs::File;
@@ -69,6 +69,7 @@ impl<R: Runtime<File = File> + Processes> Host for UnixHost<R> {
             → Rose (session_of self.old).file_faults (session_of self.new).file_faults }
         ensures counts { CountsEnters (session_of self.old) (session_of self.new) result }
         ensures told { OnOk result (unsynced_of self.new ≡ told_of self.new) }
+        ensures unlisted { OnOk result (listed_names self.new ≡ None) }
     {
         match LockedFolder::enter(&self.rt, alloc, self.spool.as_str()) {
             Ok(folder) => {
@@ -97,11 +98,13 @@ impl<R: Runtime<File = File> + Processes> Host for UnixHost<R> {
         ensures inside { CallsInside HostFault.Failed (session_of self.old) (session_of self.new) result }
         ensures counts { CountsFiles (session_of self.old) (session_of self.new) result }
         ensures order { IfOk result (λ names. IsSorted name_cmp names.items) }
+        ensures kept { IfOk result (λ names. IfSome (listed_names self.old) (λ kept. names.items ≡ kept)) }
+        ensures keeps { IfOk result (λ names. listed_names self.new ≡ Some names.items) }
     {
         let Some(folder) = &mut self.folder else {
             unreachable!()
         };
-        let answer = files::names(&self.rt, alloc, folder.paths().folder());
+        let answer = folder.names(&self.rt, alloc);
         finish(folder, &mut self.counts, answer)
     }
 
@@ -113,8 +116,7 @@ impl<R: Runtime<File = File> + Processes> Host for UnixHost<R> {
         let Some(folder) = &mut self.folder else {
             unreachable!()
         };
-        let path = folder.paths().file(alloc, name)?;
-        let answer = files::length(&self.rt, path.as_str());
+        let answer = reading::length(folder, &self.rt, alloc, name);
         finish(folder, &mut self.counts, answer)
     }
 
@@ -133,8 +135,7 @@ impl<R: Runtime<File = File> + Processes> Host for UnixHost<R> {
         let Some(folder) = &mut self.folder else {
             unreachable!()
         };
-        let path = folder.paths().file(alloc, name)?;
-        let answer = files::read(&self.rt, alloc, path.as_str(), offset, most);
+        let answer = reading::read(folder, &self.rt, alloc, name, offset, most);
         finish(folder, &mut self.counts, answer)
     }
 
@@ -145,6 +146,7 @@ impl<R: Runtime<File = File> + Processes> Host for UnixHost<R> {
         ensures unsynced { OnOk result (unsynced_of self.new ≡ Some Unsynced.Anything) }
         ensures torn { OnOk result (unsynced_of self.old ≢ Some Unsynced.Anything
             → torn_file self.new ≡ Some name.now) }
+        ensures unlisted { OnOk result (listed_names self.new ≡ None) }
     {
         let Some(folder) = &mut self.folder else {
             unreachable!()
@@ -166,6 +168,7 @@ impl<R: Runtime<File = File> + Processes> Host for UnixHost<R> {
         ensures unsynced { OnOk result (unsynced_of self.new ≡ Some Unsynced.Anything) }
         ensures torn { OnOk result (unsynced_of self.old ≢ Some Unsynced.Anything
             → torn_file self.new ≡ Some name.now) }
+        ensures unlisted { OnOk result (listed_names self.new ≡ None) }
     {
         let Some(folder) = &mut self.folder else {
             unreachable!()
@@ -220,6 +223,7 @@ impl<R: Runtime<File = File> + Processes> Host for UnixHost<R> {
         ensures inside { CallsInside HostFault.Failed (session_of self.old) (session_of self.new) result }
         ensures counts { CountsFiles (session_of self.old) (session_of self.new) result }
         ensures unsynced { OnOk result (unsynced_of self.new ≢ Some Unsynced.Nothing) }
+        ensures unlisted { OnOk result (listed_names self.new ≡ None) }
     {
         let Some(folder) = &mut self.folder else {
             unreachable!()
@@ -233,6 +237,7 @@ impl<R: Runtime<File = File> + Processes> Host for UnixHost<R> {
         ensures inside { CallsInside HostFault.Failed (session_of self.old) (session_of self.new) result }
         ensures counts { CountsFiles (session_of self.old) (session_of self.new) result }
         ensures unsynced { OnOk result (unsynced_of self.new ≢ Some Unsynced.Nothing) }
+        ensures unlisted { OnOk result (listed_names self.new ≡ None) }
     {
         let Some(folder) = &mut self.folder else {
             unreachable!()

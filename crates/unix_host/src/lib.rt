@@ -4,6 +4,7 @@
 
 mod changes;
 mod counts;
+mod doing;
 mod err;
 mod files;
 mod finish;
@@ -11,10 +12,12 @@ mod front;
 mod host;
 mod inputs;
 mod job;
+mod listing;
 mod lock;
 mod locked;
 mod out;
 mod paths;
+mod reading;
 mod readings;
 mod torn;
 mod unsynced;

@@ -2,7 +2,9 @@
 //!
 //! A change is made only once the byte of the lock says at least what may be unsynced behind it, since its
 //! program may be killed at any moment. What may be unsynced is forgotten behind the sync of it alone.
-ghost use Rattle.std.specs.Prelude.{◌≡◌, ◌≢◌, ◌≤◌, IsTrue, IfOk, OnOk, OnErr, true, false, string_bytes};
+ghost use Rattle.std.specs.Prelude.{◌≡◌, ◌≢◌, ◌≤◌, Contains, IsSorted, IsTrue, IfOk, IfSome, OnOk, OnErr, None, Some, true, false, option_map, string_bytes, vec_len};
+ghost use Rattle.host_calls.specs.Folder.{name_cmp};
+ghost use Rattle.unix_host.specs.Listings.{names_in};
 ghost use Rattle.unix_host.specs.Unsynced.{unsynced_by};
 ghost use Rattle.unix_host.specs.inside.Changes.{left_by, Remembers};
 ghost use Rattle.unix_host.specs.inside.LockByte.{amount_of};
@@ -10,17 +12,15 @@ ghost use Rattle.unix_host.specs.inside.Paths.{file_in};
 ghost use Rattle.unix_host.specs.inside.Torn.{may_tear, HasTorn, HasWhole};
 
 use crate::changes::Changes;
-use crate::files;
+use crate::listing::Listing;
 use crate::lock::Lock;
 use crate::paths::Paths;
 use crate::torn::Torn;
 use crate::unsynced::Unsynced;
+use crate::{doing, files};
 use host_calls::{EnterFault, HostFault, Name};
 use std::alloc::Global;
-use std::fs;
-use std::fs::{File, Files, OpenOptions};
-use std::io::Write;
-use std::os::unix::fs::{FileExt, OpenOptionsExt};
+use std::fs::{File, Files};
 use std::rt::Runtime;
 use std::time::Clock;
 
@@ -30,6 +30,7 @@ pub struct LockedFolder {
     paths: Paths,
     lock: Lock,
     changes: Changes,
+    listing: Option<Listing>,
     ghost told: { amount_of (unsynced_by changes) ≤ amount_of lock.told },
 }
 
@@ -42,6 +43,7 @@ impl LockedFolder {
     ) -> Result<LockedFolder, EnterFault>
         ensures told { IfOk result (λ folder. unsynced_by folder.changes ≡ folder.lock.told) }
         ensures left { IfOk result (λ folder. left_by folder.changes ≡ folder.lock.told) }
+        ensures unlisted { IfOk result (λ folder. folder.listing ≡ None) }
     {
         let paths = files::make_folders(rt, alloc, spool)?;
         let lock = Lock::take(rt, paths.lock())?;
@@ -50,6 +52,7 @@ impl LockedFolder {
             paths,
             lock,
             changes,
+            listing: None,
         })
     }
 
@@ -59,6 +62,7 @@ impl LockedFolder {
             paths: _,
             lock,
             changes,
+            listing: _,
         } = self;
         lock.release(&changes);
     }
@@ -72,9 +76,37 @@ impl LockedFolder {
 
     /// A call failed: the next session is to sync all.
     pub fn fail(&mut self)
-        ensures { self.new.changes ≡ record self.old.changes { has_failed = true } }
+        ensures changes { self.new.changes ≡ record self.old.changes { has_failed = true } }
+        ensures listing { self.new.listing ≡ self.old.listing }
     {
         self.changes = self.changes.failed();
+    }
+
+    /// The names of the plain files, in byte order: those of the kept listing, where there is one.
+    pub fn names<R: Runtime>(&mut self, rt: &R, alloc: Global) -> Result<Vec<Name>, HostFault>
+        ensures order { IfOk result (λ names. IsSorted name_cmp names.items) }
+        ensures kept { IfOk result (λ names. IfSome self.old.listing (λ listing. names.items ≡ listing.names.items)) }
+        ensures keeps { IfOk result (λ names. option_map names_in self.new.listing ≡ Some names.items) }
+        ensures changes { self.new.changes ≡ self.old.changes }
+    {
+        let listing = match self.listing.take() {
+            Some(listing) => listing,
+            None => files::list(rt, alloc, self.paths.folder())?,
+        };
+        let names = listing.names();
+        self.listing = Some(listing);
+        Ok(names?)
+    }
+
+    /// The length of a file by the kept listing.
+    pub fn listed(&self, name: &Name) -> Option<u64>
+        ensures { IfSome result (λ length. IfSome self.now.listing (λ listing.
+            Contains listing.files.items (record { name = name.now; length = length }))) }
+    {
+        match &self.listing {
+            Some(listing) => listing.length_of(name),
+            None => None,
+        }
     }
 
     /// Makes a file that was not there.
@@ -89,11 +121,12 @@ impl LockedFolder {
         ensures torn { OnOk result (HasTorn name.now self.old.changes.torn self.new.changes.torn) }
         ensures unsynced { OnOk result (unsynced_by self.new.changes ≡ Unsynced.Anything) }
         ensures remembers { Remembers self.old.changes self.new.changes }
+        ensures unlisted { OnOk result (self.new.listing ≡ None) }
     {
         let path = self.paths.file(alloc, name)?;
         let next = self.changes.made(name);
         self.prepare(next)?;
-        self.make_file(rt, path.as_str(), name, bytes)
+        doing::make_file(self, rt, path.as_str(), name, bytes)
     }
 
     /// Writes over a range of a file.
@@ -108,11 +141,12 @@ impl LockedFolder {
         ensures torn { OnOk result (HasTorn name.now self.old.changes.torn self.new.changes.torn) }
         ensures unsynced { OnOk result (unsynced_by self.new.changes ≡ Unsynced.Anything) }
         ensures remembers { Remembers self.old.changes self.new.changes }
+        ensures unlisted { OnOk result (self.new.listing ≡ None) }
     {
         let path = self.paths.file(alloc, name)?;
         let next = self.changes.written(name);
         self.prepare(next)?;
-        self.write_range(rt, path.as_str(), name, offset, bytes)
+        doing::write_range(self, rt, path.as_str(), name, offset, bytes)
     }
 
     /// Moves a file to another name, and replaces what stands there.
@@ -125,25 +159,27 @@ impl LockedFolder {
     ) -> Result<(), HostFault>
         ensures names { OnOk result (IsTrue self.new.changes.names) }
         ensures remembers { Remembers self.old.changes self.new.changes }
+        ensures unlisted { OnOk result (self.new.listing ≡ None) }
         ensures unsynced { OnOk result (unsynced_by self.new.changes ≢ Unsynced.Nothing) }
     {
         let source = self.paths.file(alloc, from)?;
         let target = self.paths.file(alloc, to)?;
         let next = self.changes.moved(from);
         self.prepare(next)?;
-        self.move_name(rt, source.as_str(), target.as_str(), from, to)
+        doing::move_name(self, rt, source.as_str(), target.as_str(), from, to)
     }
 
     /// Removes a file.
     pub fn remove<R: Files>(&mut self, rt: &R, alloc: Global, name: &Name) -> Result<(), HostFault>
         ensures names { OnOk result (IsTrue self.new.changes.names) }
         ensures remembers { Remembers self.old.changes self.new.changes }
+        ensures unlisted { OnOk result (self.new.listing ≡ None) }
         ensures unsynced { OnOk result (unsynced_by self.new.changes ≢ Unsynced.Nothing) }
     {
         let path = self.paths.file(alloc, name)?;
         let next = self.changes.removed();
         self.prepare(next)?;
-        self.remove_name(rt, path.as_str(), name)
+        doing::remove_name(self, rt, path.as_str(), name)
     }
 
     /// Makes the bytes of a file certain.
@@ -206,7 +242,7 @@ impl LockedFolder {
         ensures torn { OnOk result (self.new.changes.torn ≡ Torn.Nobody) }
         ensures failed { self.new.changes.has_failed ≡ self.old.changes.has_failed }
     {
-        let mut left = files::names(rt, alloc, self.paths.folder())?;
+        let mut left = self.names(rt, alloc)?;
         while let Some(name) = left.pop() {
             // Files before it may be synced, so want of memory is a failure here.
             if self.sync(rt, alloc, &name).is_err() {
@@ -217,82 +253,18 @@ impl LockedFolder {
         Ok(())
     }
 
-    // Before a change: a program that is killed behind it leaves a byte that says enough.
+    // Before a change: what was listed holds no longer, and a program that is killed behind it leaves a byte that says
+    // enough.
     fn prepare(&mut self, next: Changes) -> Result<(), HostFault>
         ensures paths { self.new.paths ≡ self.old.paths }
         ensures ok { OnOk result (self.new.changes ≡ next) }
         ensures err { OnErr result (self.new.changes ≡ self.old.changes) }
         ensures told { OnOk result (amount_of (left_by self.new.changes) ≤ amount_of self.new.lock.told) }
+        ensures unlisted { self.new.listing ≡ None }
     {
+        self.listing = None;
         self.lock.raise(&next)?;
         self.changes = next;
         Ok(())
-    }
-
-    fn make_file<R: Files<File = File>>(
-        &self,
-        rt: &R,
-        path: &str,
-        name: &Name,
-        bytes: &[u8],
-    ) -> Result<(), HostFault>
-        requires path { path.now ≡ file_in (string_bytes self.now.paths.folder) name.now }
-        requires names { IsTrue self.now.changes.names }
-        requires torn { IsTrue (may_tear self.now.changes.torn name.now) }
-        requires told { amount_of (left_by self.now.changes) ≤ amount_of self.now.lock.told }
-    {
-        let _ = name;
-        let mut options = OpenOptions::new();
-        options.write(true).create_new(true).mode(0o600);
-        let Ok(mut file) = options.open(rt, path) else {
-            return Err(HostFault::Failed);
-        };
-        file.write_all(bytes).map_err(|_| HostFault::Failed)
-    }
-
-    fn write_range<R: Files<File = File>>(
-        &self,
-        rt: &R,
-        path: &str,
-        name: &Name,
-        offset: u64,
-        bytes: &[u8],
-    ) -> Result<(), HostFault>
-        requires path { path.now ≡ file_in (string_bytes self.now.paths.folder) name.now }
-        requires torn { IsTrue (may_tear self.now.changes.torn name.now) }
-        requires told { amount_of (left_by self.now.changes) ≤ amount_of self.now.lock.told }
-    {
-        let _ = name;
-        let file = files::opened(rt, path, OpenOptions::new().write(true))?;
-        file.write_all_at(bytes, offset)
-            .map_err(|_| HostFault::Failed)
-    }
-
-    fn move_name<R: Files>(
-        &self,
-        rt: &R,
-        source: &str,
-        target: &str,
-        from: &Name,
-        to: &Name,
-    ) -> Result<(), HostFault>
-        requires source { source.now ≡ file_in (string_bytes self.now.paths.folder) from.now }
-        requires target { target.now ≡ file_in (string_bytes self.now.paths.folder) to.now }
-        requires names { IsTrue self.now.changes.names }
-        requires torn { IsTrue (may_tear self.now.changes.torn from.now) → self.now.changes.torn ≡ Torn.Each }
-        requires told { amount_of (left_by self.now.changes) ≤ amount_of self.now.lock.told }
-    {
-        let _ = from;
-        let _ = to;
-        fs::rename(rt, source, target).map_err(|_| HostFault::Failed)
-    }
-
-    fn remove_name<R: Files>(&self, rt: &R, path: &str, name: &Name) -> Result<(), HostFault>
-        requires path { path.now ≡ file_in (string_bytes self.now.paths.folder) name.now }
-        requires names { IsTrue self.now.changes.names }
-        requires told { amount_of (left_by self.now.changes) ≤ amount_of self.now.lock.told }
-    {
-        let _ = name;
-        fs::remove_file(rt, path).map_err(|_| HostFault::Failed)
     }
 }

@@ -55,7 +55,7 @@ pub fn answer(alloc: Global, words: &[String], outside: &mut Outside) -> Result<
     requires { IsOutside (memory_session outside.old.host) }
     ensures { IsOutside (memory_session outside.new.host) }
 {
-    let caller = ann(alloc)?;
+    let caller = ann(alloc, "/home/ann")?;
     let status = command(
         alloc,
         words,

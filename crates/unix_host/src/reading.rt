@@ -1,0 +1,38 @@
+//! What is read of a folder under its lock.
+ghost use Rattle.std.specs.Prelude.{◌≤◌, IfOk, vec_len};
+
+use crate::files;
+use crate::locked::LockedFolder;
+use host_calls::{HostFault, Name};
+use std::alloc::Global;
+use std::fs::{File, Files};
+
+/// The length of a file, if it is a plain one: that of the kept listing, where it has the file.
+pub fn length<R: Files>(
+    folder: &LockedFolder,
+    rt: &R,
+    alloc: Global,
+    name: &Name,
+) -> Result<u64, HostFault> {
+    if let Some(length) = folder.listed(name) {
+        return Ok(length);
+    }
+    let path = folder.paths().file(alloc, name)?;
+    files::length(rt, path.as_str())
+}
+
+/// At most `most` bytes of a file from an offset on, fewer only at its end.
+pub fn read<R: Files<File = File>>(
+    folder: &LockedFolder,
+    rt: &R,
+    alloc: Global,
+    name: &Name,
+    offset: u64,
+    most: usize,
+) -> Result<Vec<u8>, HostFault>
+    ensures few { IfOk result (λ bytes. vec_len bytes ≤ most) }
+{
+    let length = length(folder, rt, alloc, name)?;
+    let path = folder.paths().file(alloc, name)?;
+    files::read(rt, alloc, path.as_str(), length, offset, most)
+}

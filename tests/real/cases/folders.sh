@@ -1,0 +1,106 @@
+# Spools that are odd, full, closed or damaged.
+
+case_a_new_spool() {
+  user=root with 'true' at noon tomorrow
+  took 1
+  [ "$(stat -c %a spool)" = 700 ] && [ -d spool.out ] && [ -f spool.lock ] || fail 'the folders are not made'
+  spool=$PWD/none/spool user=root with 'true' at noon tomorrow
+  refused 2 'at: spool fault'
+  : >file
+  spool=$PWD/file user=root with 'true' at noon tomorrow
+  refused 2 'at: spool fault'
+}
+
+case_what_is_no_plain_file() {
+  opened
+  with 'true' at -t 203001010000; took 1
+  job=$(basename "$(file_of 1)")
+  mkfifo "spool/a0000201b968a0"; mkfifo spool/fifo; mkdir "spool/a0000301b968a0"
+  ln -s "$job" "spool/a0000401b968a0"; ln -s /dev/zero spool/link; : >spool/README; : >"spool/two words"
+  with '' atq; ended 0 $'1\tTue Jan  1 00:00:00 2030 a ann\n' ''
+  with 'true' at -t 203001010000; took 2
+  with '' atrm 1; ended 0 '' ''
+  [ -p spool/fifo ] && [ -L "spool/a0000401b968a0" ] && [ -d "spool/a0000301b968a0" ] || fail 'other files are gone'
+}
+
+case_a_spool_that_is_a_link() {
+  opened real
+  ln -s real spool
+  spool=$PWD/spool
+  with 'true' at -t 203001010000; took 1
+  [ -f real.lock ] && [ -d real.out ] && [ ! -e spool.lock ] || fail 'one folder has two locks'
+  spool=$PWD/real with '' atq; ended 0 $'1\tTue Jan  1 00:00:00 2030 a ann\n' ''
+}
+
+case_a_folder_that_is_gone() {
+  opened
+  mkdir gone; cd gone || exit 1
+  rmdir ../gone
+  status=0; bare "$bin/atq" >../out 2>../err </dev/null || status=$?
+  (cd .. && [ "$status" = 0 ]) || fail "atq ends with $status"
+  spool=spool; status=0; bare "$bin/atq" >../out 2>../err </dev/null || status=$?
+  [ "$status" = 2 ] || fail "a spool below a folder that is gone: $status"
+  user=; status=0; bare "$bin/at" now >../out 2>../err </dev/null || status=$?
+  [ "$status" = 1 ] || fail "at ends with $status"
+}
+
+case_damages() {
+  opened
+  printf '0000g\n' >spool/.SEQ
+  with '' atq; refused 7 'atq: .SEQ damaged at 4'
+  with 'true' at noon tomorrow; refused 7 'at: .SEQ damaged at 4'
+  printf '00001\n' >spool/.SEQ; printf '.%.0s' $(seq 33) >spool/.JRN
+  with '' atq; refused 7 'atq: .JRN damaged at 32'
+  rm spool/.JRN; printf '#!/bin/sh\n' >spool/a0000201b968a0
+  with '' atq; refused 7 'atq: a0000201b968a0 damaged at 0'
+}
+
+case_a_file_size_limit() {
+  opened
+  with 'true' at -t 203001010000; took 1
+  head -c 900000 /dev/zero | tr '\0' '#' >large
+  trap '' XFSZ
+  (ulimit -f 100; status=0; bare timeout 40 "$bin/at" noon tomorrow >out 2>err <large || status=$?; [ "$status" = 2 ] || exit 1) \
+    || fail "a job that does not fit: $(cat err)"
+  with '' atq; ended 0 $'1\tTue Jan  1 00:00:00 2030 a ann\n' ''
+  call at noon tomorrow <large
+  [ "$status" = 0 ] || fail "no job after it: $(cat err)"
+}
+
+case_a_full_disk() {
+  [ "$(id -u)" = 0 ] && command -v mount >/dev/null || skip 'only root mounts a small disk'
+  mkdir disk
+  mount -t tmpfs -o size=256k tmpfs disk 2>/dev/null || skip 'no small disk can be mounted'
+  trap 'umount "$OLDPWD/disk" 2>/dev/null || umount disk' EXIT
+  opened disk/spool
+  with 'true' at -t 203001010000; took 1
+  head -c 400000 /dev/zero >disk/filler 2>/dev/null
+  with 'true' at -t 203001010000; refused 2 'at: spool fault'
+  with '' atq
+  [ "$status" = 0 ] && grep -q '^1	' out || fail "after a full disk: $(cat out err)"
+  rm disk/filler
+  with 'true' at -t 203001010000
+  [ "$status" = 0 ] || fail "no job once there is room: $(cat err)"
+  with '' at -c 1; [ "$(tail -n 1 out)" = true ] || fail 'the job before it is gone'
+}
+
+case_a_read_only_folder() {
+  opened
+  with 'true' at -t 203001010000; took 1
+  if [ "$(id -u)" = 0 ]; then
+    command -v setpriv >/dev/null || skip 'root writes everywhere, and there is no setpriv'
+    chown -R 65534:65534 spool spool.lock spool.out; chmod 755 .
+    as=(setpriv --reuid=65534 --regid=65534 --clear-groups)
+  else
+    as=()
+  fi
+  chmod 500 spool
+  for words in 'atq:0' 'at -t 203001010000:2' 'atrm 1:2'; do
+    # shellcheck disable=SC2086
+    set -- ${words%:*}
+    status=0; bare "${as[@]}" "$bin/$1" "${@:2}" >out 2>err </dev/null || status=$?
+    [ "$status" = "${words##*:}" ] || fail "$words: $status, $(cat out err)"
+  done
+  chmod 700 spool
+  user=root with '' atq; ended 0 $'1\tTue Jan  1 00:00:00 2030 a ann\n' ''
+}
