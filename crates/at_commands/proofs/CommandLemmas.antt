@@ -52,12 +52,7 @@ words_end asked caller tells at words.BadQueue is =
 words_end asked caller tells at words.Memory is =
     ends_at_words asked caller tells at Memory tt tt (λ found shown. any_memory (verdict_of asked caller found shown))
 
--- what no tool of a command asks for is refused
-pub daemon_ends : (limit interval : ℕ) (once : Bool) (turns : ℕ) (caller : Caller) (tells : Telling) (at : Holding) →
-    Ends NotesBy (Ok (request.Daemon limit interval once turns)) caller tells at at (Refused Usage)
-daemon_ends limit interval once turns caller tells at =
-    ends_at_words (Ok (request.Daemon limit interval once turns)) caller tells at (Refused Usage) tt refl (λ found shown. inl refl)
-
+-- a day is not made here
 pub make_ends : (count : ℕ) (caller : Caller) (tells : Telling) (at : Holding) → Ends NotesBy (Ok (request.Make count)) caller tells at at (Refused Usage)
 make_ends count caller tells at = ends_at_words (Ok (request.Make count)) caller tells at (Refused Usage) tt refl (λ found shown. inl refl)
 

@@ -1,4 +1,5 @@
 pub mod AnswerLemmas
+pub mod AtdLemmas
 pub mod CarryLemmas
 pub mod CommandLemmas
 pub mod EndsLemmas
@@ -7,6 +8,7 @@ pub mod JobsLemmas
 pub mod KeptLemmas
 pub mod LateLemmas
 pub mod PreparedLemmas
+pub mod ServedLemmas
 pub mod SessionLemmas
 pub mod SubmitLemmas
 pub mod UserLemmas

@@ -1,28 +1,32 @@
 //! The command: what its words ask for, done.
-ghost use Rattle.std.specs.Prelude.{◌≡◌, ◌≢◌, ◌<◌, IsTrue, Ok, map, string_bytes};
+ghost use Rattle.std.specs.Prelude.{◌≡◌, ◌≢◌, ◌<◌, ◌≤◌, IsTrue, Ok, map, string_bytes};
 ghost use Rattle.at_words.specs.Queues.{HasQueueLetter};
 ghost use Rattle.at_words.specs.Requests.{request_of};
 ghost use Rattle.host_calls.specs.Causes.{Rose};
-ghost use Rattle.host_calls.specs.Session.{IsLeft, IsOutside};
+ghost use Rattle.daemon_turn.specs.Kids.{KeepsChildren};
+ghost use Rattle.host_calls.specs.Session.{IsLeft, IsOutside, KeepsCounts};
 ghost use Rattle.host_calls.specs.World.{GoesOn};
 ghost use Rattle.listing_text.specs.Cause.{status_of};
 ghost use Rattle.command_answers.specs.Ends.{Ends, FailsToPrint, holding, telling};
 ghost use Rattle.command_answers.specs.Sinks.{NotesBy, SaysBy, sink_at};
+ghost use Rattle.serving.specs.Serves.{serve_at, telling as told_of};
+ghost use Rattle.at_commands.specs.Served.{IsNotServed, ServesAnew, WhereServed};
 ghost use Rattle.at_commands.specs.Tools.{name_of, tool_name_of};
 ghost use Rattle.at_commands.specs.inside.Wording.{words_cause};
 
 use crate::listing::list;
 use crate::removing::remove;
-use crate::saying::say_cause;
 use crate::showing::show;
 use crate::submitting::submit;
 use at_words::{Tool, ToolRequest, WordsFault, request, tool_of};
 use command_answers::Caller;
+use daemon_turn::Daemon;
 use host_calls::{Host, Inputs, Readings, Sink};
 use listing_text::{Cause, Refusal, Status};
+use serving::{say_cause, serve};
 use std::alloc::Global;
 
-/// Does what the words of `at`, `batch`, `atq` and `atrm` ask for. What words of other tools ask for is refused.
+/// Does what the words of the tools ask for. A day is not made here: what words of `atday` ask for is refused.
 pub fn command<H: Host, R: Readings, I: Inputs, O: Sink, E: Sink>(
     alloc: Global,
     words: &[String],
@@ -37,8 +41,9 @@ pub fn command<H: Host, R: Readings, I: Inputs, O: Sink, E: Sink>(
     requires umask { caller.now.context.umask < 512 }
 
     ensures code { result ≡ status_of result.cause }
-    ensures left { IsLeft (H.session host.old) (H.session host.new) }
-    ensures quiet { IsTrue H.tells → GoesOn (H.world host.old) (H.world host.new) }
+    ensures outside { IsOutside (H.session host.new) }
+    ensures kept { KeepsChildren (H.session host.old).children (H.session host.new).children }
+    ensures counts { KeepsCounts (H.session host.old) (H.session host.new) }
 
     // Each fault comes only where its count rose.
     ensures file_fault { result.cause ≡ Cause.FileFault
@@ -49,67 +54,149 @@ pub fn command<H: Host, R: Readings, I: Inputs, O: Sink, E: Sink>(
     ensures output_fault { result.cause ≡ Cause.OutputFault
         → FailsToPrint (request_of (map string_bytes words.now))
         (O.outlet out.old) (O.outlet out.new) (E.outlet err.old) (E.outlet err.new) }
-    ensures not_running { result.cause ≢ Cause.StillRunning }
 
-    // The verdict and its order, what each crash on the way and each image of the end show, and what is printed and said.
-    ensures ends { Ends (SaysBy (tool_name_of (map string_bytes words.now)))
+    // What no daemon does: it starts no child, hands nothing over, and its verdict and order, what each crash on the way
+    // and each image of the end show, and what is printed and said.
+    ensures left { IsNotServed (request_of (map string_bytes words.now))
+        → IsLeft (H.session host.old) (H.session host.new) }
+    ensures quiet { IsNotServed (request_of (map string_bytes words.now))
+        → IsTrue H.tells → GoesOn (H.world host.old) (H.world host.new) }
+    ensures not_running { IsNotServed (request_of (map string_bytes words.now)) → result.cause ≢ Cause.StillRunning }
+    ensures ends { IsNotServed (request_of (map string_bytes words.now)) →
+        Ends (SaysBy (tool_name_of (map string_bytes words.now)))
         (request_of (map string_bytes words.now)) caller.now
         (telling H.tells H.alone R.tells I.tells O.tells E.tells)
         (holding (H.world host.old) (R.answers readings.old) (I.contents inputs.old)
         (sink_at (O.content out.old) (O.outlet out.old)) (sink_at (E.content err.old) (E.outlet err.old)))
         (holding (H.world host.new) (R.answers readings.new) (I.contents inputs.new)
         (sink_at (O.content out.new) (O.outlet out.new)) (sink_at (E.content err.new) (E.outlet err.new))) result.cause }
+    ensures readers { IsNotServed (request_of (map string_bytes words.now))
+        → R.readers readings.new ≡ R.readers readings.old }
+
+    // What a daemon does: its turns, what is printed and said of them, and its cause.
+    ensures serves { WhereServed (request_of (map string_bytes words.now)) (λ limit interval once turns.
+        ServesAnew (told_of H.tells H.alone R.tells O.tells E.tells) limit interval once turns
+        (λ watch. serve_at (H.session host.old) (H.world host.old) watch (R.answers readings.old) (R.readers readings.old))
+        (λ watch. serve_at (H.session host.new) (H.world host.new) watch (R.answers readings.new) (R.readers readings.new))
+        (sink_at (O.content out.old) (O.outlet out.old)) (sink_at (O.content out.new) (O.outlet out.new))
+        (sink_at (E.content err.old) (E.outlet err.old)) (sink_at (E.content err.new) (E.outlet err.new)) result.cause) }
 
     // What the others were made as stays.
-    ensures readers { R.readers readings.new ≡ R.readers readings.old }
-    ensures contents { I.contents inputs.new ≡ I.contents inputs.old }
-    ensures input_made { (I.sources inputs.new).made_as ≡ (I.sources inputs.old).made_as }
-    ensures out_made { (O.outlet out.new).made_as ≡ (O.outlet out.old).made_as }
-    ensures errors_made { (E.outlet err.new).made_as ≡ (E.outlet err.old).made_as }
-{
-    let cause = answer(alloc, words, caller, host, readings, inputs, out, err);
-    Status::of(say_cause(alloc, tool_name(words), cause, err))
-}
-
-// Does what the words ask for. The line of the cause is still to be said.
-fn answer<H: Host, R: Readings, I: Inputs, O: Sink, E: Sink>(
-    alloc: Global,
-    words: &[String],
-    caller: &Caller,
-    host: &mut H,
-    readings: &mut R,
-    inputs: &mut I,
-    out: &mut O,
-    err: &mut E,
-) -> Cause
-    requires outside { IsOutside (H.session host.old) }
-    requires umask { caller.now.context.umask < 512 }
-    ensures left { IsLeft (H.session host.old) (H.session host.new) }
-    ensures quiet { IsTrue H.tells → GoesOn (H.world host.old) (H.world host.new) }
-    ensures file_fault { result ≡ Cause.FileFault
-        → Rose (H.session host.old).file_faults (H.session host.new).file_faults }
-    ensures busy { result ≡ Cause.Busy → Rose (H.session host.old).taken (H.session host.new).taken }
-    ensures input_fault { result ≡ Cause.InputFault
-        → Rose (I.sources inputs.old).input_faults (I.sources inputs.new).input_faults }
-    ensures output_fault { result ≡ Cause.OutputFault
-        → FailsToPrint (request_of (map string_bytes words.now))
-        (O.outlet out.old) (O.outlet out.new) (E.outlet err.old) (E.outlet err.new) }
-    ensures ends { Ends NotesBy (request_of (map string_bytes words.now)) caller.now
-        (telling H.tells H.alone R.tells I.tells O.tells E.tells)
-        (holding (H.world host.old) (R.answers readings.old) (I.contents inputs.old)
-        (sink_at (O.content out.old) (O.outlet out.old)) (sink_at (E.content err.old) (E.outlet err.old)))
-        (holding (H.world host.new) (R.answers readings.new) (I.contents inputs.new)
-        (sink_at (O.content out.new) (O.outlet out.new)) (sink_at (E.content err.new) (E.outlet err.new))) result }
-    ensures readers { R.readers readings.new ≡ R.readers readings.old }
+    ensures readers_made { (R.readers readings.new).made_as ≡ (R.readers readings.old).made_as }
     ensures contents { I.contents inputs.new ≡ I.contents inputs.old }
     ensures input_made { (I.sources inputs.new).made_as ≡ (I.sources inputs.old).made_as }
     ensures out_made { (O.outlet out.new).made_as ≡ (O.outlet out.old).made_as }
     ensures errors_made { (E.outlet err.new).made_as ≡ (E.outlet err.old).made_as }
 {
     match request(alloc, words) {
-        Ok(asked) => carry_out(alloc, asked, caller, host, readings, inputs, out, err),
-        Err(fault) => cause_of_words(fault),
+        Ok(asked) => match asked {
+            ToolRequest::Daemon {
+                limit,
+                interval,
+                once,
+                turns,
+            } => serve_anew(
+                alloc, limit, interval, once, turns, host, readings, out, err,
+            ),
+            asked => answer(
+                alloc,
+                asked,
+                tool_name(words),
+                caller,
+                host,
+                readings,
+                inputs,
+                out,
+                err,
+            ),
+        },
+        Err(fault) => Status::of(say_cause(
+            alloc,
+            tool_name(words),
+            cause_of_words(fault),
+            err,
+        )),
     }
+}
+
+// Serves with a daemon without kids.
+fn serve_anew<H: Host, R: Readings, O: Sink, E: Sink>(
+    alloc: Global,
+    limit: u32,
+    interval: u32,
+    once: bool,
+    turns: u64,
+    host: &mut H,
+    readings: &mut R,
+    out: &mut O,
+    err: &mut E,
+) -> Status
+    requires outside { IsOutside (H.session host.old) }
+    requires turns { 1 ≤ turns }
+    ensures code { result ≡ status_of result.cause }
+    ensures outside { IsOutside (H.session host.new) }
+    ensures kept { KeepsChildren (H.session host.old).children (H.session host.new).children }
+    ensures counts { KeepsCounts (H.session host.old) (H.session host.new) }
+    ensures file_fault { result.cause ≡ Cause.FileFault
+        → Rose (H.session host.old).file_faults (H.session host.new).file_faults }
+    ensures busy { result.cause ≡ Cause.Busy → Rose (H.session host.old).taken (H.session host.new).taken }
+    ensures no_input { result.cause ≢ Cause.InputFault }
+    ensures output_fault { result.cause ≡ Cause.OutputFault
+        → Rose (O.outlet out.old).sink_faults (O.outlet out.new).sink_faults }
+    ensures serves { ServesAnew (told_of H.tells H.alone R.tells O.tells E.tells) limit interval once turns
+        (λ watch. serve_at (H.session host.old) (H.world host.old) watch (R.answers readings.old) (R.readers readings.old))
+        (λ watch. serve_at (H.session host.new) (H.world host.new) watch (R.answers readings.new) (R.readers readings.new))
+        (sink_at (O.content out.old) (O.outlet out.old)) (sink_at (O.content out.new) (O.outlet out.new))
+        (sink_at (E.content err.old) (E.outlet err.old)) (sink_at (E.content err.new) (E.outlet err.new)) result.cause }
+    ensures readers_made { (R.readers readings.new).made_as ≡ (R.readers readings.old).made_as }
+    ensures out_made { (O.outlet out.new).made_as ≡ (O.outlet out.old).made_as }
+    ensures errors_made { (E.outlet err.new).made_as ≡ (E.outlet err.old).made_as }
+{
+    let mut daemon = Daemon::new(alloc, limit, interval);
+    serve(alloc, &mut daemon, turns, once, host, readings, out, err)
+}
+
+// Does what is asked for, and says the line of its cause.
+fn answer<H: Host, R: Readings, I: Inputs, O: Sink, E: Sink>(
+    alloc: Global,
+    asked: ToolRequest,
+    tool: &str,
+    caller: &Caller,
+    host: &mut H,
+    readings: &mut R,
+    inputs: &mut I,
+    out: &mut O,
+    err: &mut E,
+) -> Status
+    requires outside { IsOutside (H.session host.old) }
+    requires umask { caller.now.context.umask < 512 }
+    requires letter { HasQueueLetter asked }
+    requires tool { IsNotServed (Ok asked) }
+    ensures code { result ≡ status_of result.cause }
+    ensures left { IsLeft (H.session host.old) (H.session host.new) }
+    ensures quiet { IsTrue H.tells → GoesOn (H.world host.old) (H.world host.new) }
+    ensures file_fault { result.cause ≡ Cause.FileFault
+        → Rose (H.session host.old).file_faults (H.session host.new).file_faults }
+    ensures busy { result.cause ≡ Cause.Busy → Rose (H.session host.old).taken (H.session host.new).taken }
+    ensures input_fault { result.cause ≡ Cause.InputFault
+        → Rose (I.sources inputs.old).input_faults (I.sources inputs.new).input_faults }
+    ensures output_fault { result.cause ≡ Cause.OutputFault
+        → FailsToPrint (Ok asked) (O.outlet out.old) (O.outlet out.new) (E.outlet err.old) (E.outlet err.new) }
+    ensures not_running { result.cause ≢ Cause.StillRunning }
+    ensures ends { Ends (SaysBy tool.now) (Ok asked) caller.now
+        (telling H.tells H.alone R.tells I.tells O.tells E.tells)
+        (holding (H.world host.old) (R.answers readings.old) (I.contents inputs.old)
+        (sink_at (O.content out.old) (O.outlet out.old)) (sink_at (E.content err.old) (E.outlet err.old)))
+        (holding (H.world host.new) (R.answers readings.new) (I.contents inputs.new)
+        (sink_at (O.content out.new) (O.outlet out.new)) (sink_at (E.content err.new) (E.outlet err.new))) result.cause }
+    ensures readers { R.readers readings.new ≡ R.readers readings.old }
+    ensures contents { I.contents inputs.new ≡ I.contents inputs.old }
+    ensures input_made { (I.sources inputs.new).made_as ≡ (I.sources inputs.old).made_as }
+    ensures out_made { (O.outlet out.new).made_as ≡ (O.outlet out.old).made_as }
+    ensures errors_made { (E.outlet err.new).made_as ≡ (E.outlet err.old).made_as }
+{
+    let cause = carry_out(alloc, asked, caller, host, readings, inputs, out, err);
+    Status::of(say_cause(alloc, tool, cause, err))
 }
 
 // The cause of words that ask for nothing.
@@ -123,7 +210,7 @@ fn cause_of_words(fault: WordsFault) -> Cause
     }
 }
 
-// Does what is asked for.
+// Does what is asked for. The line of the cause is still to be said.
 fn carry_out<H: Host, R: Readings, I: Inputs, O: Sink, E: Sink>(
     alloc: Global,
     asked: ToolRequest,
@@ -137,6 +224,7 @@ fn carry_out<H: Host, R: Readings, I: Inputs, O: Sink, E: Sink>(
     requires outside { IsOutside (H.session host.old) }
     requires umask { caller.now.context.umask < 512 }
     requires letter { HasQueueLetter asked }
+    requires tool { IsNotServed (Ok asked) }
     ensures left { IsLeft (H.session host.old) (H.session host.new) }
     ensures quiet { IsTrue H.tells → GoesOn (H.world host.old) (H.world host.new) }
     ensures file_fault { result ≡ Cause.FileFault
@@ -170,7 +258,7 @@ fn carry_out<H: Host, R: Readings, I: Inputs, O: Sink, E: Sink>(
         ToolRequest::List(which) => list(alloc, &which, caller, host, out),
         ToolRequest::Remove(numbers) => remove(alloc, &numbers, caller, host),
         ToolRequest::Show(numbers) => show(alloc, &numbers, caller, host, out),
-        ToolRequest::Daemon { .. } => Cause::Refused(Refusal::Usage),
+        ToolRequest::Daemon { .. } => unreachable!(),
         ToolRequest::Make(_) => Cause::Refused(Refusal::Usage),
     }
 }

@@ -1,4 +1,4 @@
-//! The tools themselves: what the words of `at`, `batch`, `atq` and `atrm` ask for, done.
+//! The tools themselves: what the words of `at`, `batch`, `atq`, `atrm` and `atd` ask for, done.
 #![tactic(auto)]
 
 mod answering;
@@ -11,3 +11,4 @@ mod submitting;
 
 pub use answering::command;
 pub use command_answers::Caller;
+pub use serving::serve;

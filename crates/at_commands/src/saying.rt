@@ -1,15 +1,15 @@
 //! What a command says to its caller.
 ghost use Rattle.clock_range.specs.ClockRange.{IsClockMinute};
-ghost use Rattle.std.specs.Prelude.{◌≡◌, ◌⊎◌, ◌≤◌, IsTrue};
+ghost use Rattle.std.specs.Prelude.{◌≡◌, IsTrue};
 ghost use Rattle.civil_minute.specs.Zone.{IsReadable};
 ghost use Rattle.host_calls.specs.Causes.{HasCause};
 ghost use Rattle.command_answers.specs.Requested.{IsAcceptedLine};
 ghost use Rattle.command_answers.specs.Sinks.{sink_at};
-ghost use Rattle.at_commands.specs.inside.Saying.{IsSaid, SaysAccepted};
+ghost use Rattle.at_commands.specs.inside.Saying.{SaysAccepted};
 
 use civil_minute::{Zone, civil_of};
 use host_calls::{Sink, SinkFault};
-use listing_text::{Cause, accepted_line, cause_line, date_text};
+use listing_text::{accepted_line, date_text};
 use std::alloc::Global;
 
 // Puts the line of a job that was accepted.
@@ -30,26 +30,4 @@ pub(crate) fn say_accepted<E: Sink>(
     let civil = civil_of(alloc, minute, zone)?;
     let line = accepted_line(alloc, number, &date_text(&civil))?;
     err.put(alloc, line.as_slice())
-}
-
-// Puts the line of a cause, and answers it, or want of memory where the line found none. What was done has no line.
-pub(crate) fn say_cause<E: Sink>(alloc: Global, tool: &str, cause: Cause, err: &mut E) -> Cause
-    ensures made_as { (E.outlet err.new).made_as ≡ (E.outlet err.old).made_as }
-    ensures later { (E.outlet err.old).sink_faults ≤ (E.outlet err.new).sink_faults }
-    ensures same_or_memory { (result ≡ cause) ⊎ (result ≡ Cause.Memory) }
-    ensures said { IsSaid tool.now E.tells cause
-        (sink_at (E.content err.old) (E.outlet err.old)) (sink_at (E.content err.new) (E.outlet err.new)) result }
-{
-    if cause.is_done() {
-        return cause;
-    }
-    let line = match cause_line(alloc, tool, &cause) {
-        Ok(line) => line,
-        Err(_) => return Cause::Memory,
-    };
-    match err.put(alloc, line.as_slice()) {
-        Ok(()) => cause,
-        Err(SinkFault::Failed) => cause,
-        Err(SinkFault::Memory) => Cause::Memory,
-    }
 }

@@ -2,7 +2,7 @@ use Rattle.std.proofs.Common.{refl}
 use Rattle.command_answers.specs.Ends.{holding, telling}
 use Rattle.command_answers.specs.Sinks.{sink_at}
 use Rattle.command_answers.proofs.SpoolLemmas.{goes_on_none}
-use Rattle.at_commands.proofs.CommandLemmas.{daemon_ends, make_ends}
+use Rattle.at_commands.proofs.CommandLemmas.{make_ends}
 use Rattle.at_commands.proofs.answering.carry_out.Goals as goal
 
 pub submit-requires-clause-queue : goal.submit-requires-clause-queue
@@ -45,13 +45,8 @@ pub returns-in-Show-clause-ends : goal.returns-in-Show-clause-ends
 returns-in-Show-clause-ends g c = rw c.in-Show.is (c.show.ensures.ends g.R.Readings.tells g.I.Inputs.tells g.E.Sink.tells (g.R.Readings.answers c.args.readings.now) (g.I.Inputs.contents c.args.inputs.now)
     (sink_at (g.E.Sink.content c.args.err.now) (g.E.Sink.outlet c.args.err.now)))
 
-pub returns-in-Daemon-clause-quiet : goal.returns-in-Daemon-clause-quiet
-returns-in-Daemon-clause-quiet g c = λ told. goes_on_none _ _ refl
-
-pub returns-in-Daemon-clause-ends : goal.returns-in-Daemon-clause-ends
-returns-in-Daemon-clause-ends g c = rw c.in-Daemon.is (daemon_ends _ _ _ _ c.args.caller.now (telling g.H.Host.tells g.H.Host.alone g.R.Readings.tells g.I.Inputs.tells g.O.Sink.tells g.E.Sink.tells)
-    (holding (g.H.Host.world c.args.host.now) (g.R.Readings.answers c.args.readings.now) (g.I.Inputs.contents c.args.inputs.now)
-    (sink_at (g.O.Sink.content c.args.out.now) (g.O.Sink.outlet c.args.out.now)) (sink_at (g.E.Sink.content c.args.err.now) (g.E.Sink.outlet c.args.err.now))))
+pub unreachable-requires : goal.unreachable-requires
+unreachable-requires g c = rw c.in-Daemon.is at c.requires.tool
 
 pub returns-in-Make-clause-quiet : goal.returns-in-Make-clause-quiet
 returns-in-Make-clause-quiet g c = λ told. goes_on_none _ _ refl

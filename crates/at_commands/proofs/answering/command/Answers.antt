@@ -1,45 +1,50 @@
-use Rattle.std.proofs.Common.{refl}
-use Rattle.command_answers.specs.Ends.{holding, telling}
-use Rattle.command_answers.specs.Sinks.{sink_at}
-use Rattle.at_commands.proofs.CommandLemmas.{cause_had, ends_not_running, fails_later, memory_busy, memory_file_fault, memory_input_fault, memory_output_fault}
+use Rattle.std.proofs.Common.{refl, sym, subst, ap, ◌∙◌, List, ℕ, map, string_bytes}
+use Rattle.std.specs.Prelude.{codes}
+use Rattle.at_words.specs.Requests.{request_of}
+use Rattle.command_answers.specs.Ends.{Ends, holding, telling}
+use Rattle.command_answers.specs.Sinks.{NotesBy, sink_at}
+use Rattle.listing_text.specs.declared.cause.Cause.{Cause}
+use Rattle.listing_text.specs.declared.cause.Cause.TheVariants.{Memory}
+use Rattle.serving.specs.Saying.{IsSaid}
+use Rattle.serving.specs.Serves.{serve_at, telling as told_of}
+use Rattle.at_commands.specs.inside.Wording.{words_cause}
+use Rattle.at_commands.specs.Tools.{tool_name_of}
+use Rattle.at_commands.proofs.AtdLemmas.{nothing_served, words_served}
+use Rattle.at_commands.proofs.CommandLemmas.{words_end}
 use Rattle.at_commands.proofs.EndsLemmas.{ends_said}
+use Rattle.at_commands.proofs.ServedLemmas.{daemon_named, has_turns}
 use Rattle.at_commands.proofs.answering.command.Goals as goal
 
-pub returns-clause-code : goal.returns-clause-code
-returns-clause-code g c = rw c.of.ensures refl
+pub serve_anew-requires-clause-turns : goal.serve_anew-requires-clause-turns
+serve_anew-requires-clause-turns g c =
+    has_turns (map string_bytes c.args.words.now) c.in-Daemon.limit c.in-Daemon.interval c.in-Daemon.once c.in-Daemon.turns (rw c.in-Daemon.is at c.in-Ok.ensures.asked)
 
-pub returns-clause-file_fault : goal.returns-clause-file_fault
-returns-clause-file_fault g c = rw c.of.ensures (λ same. c.answer-cause.ensures.file_fault (cause_had c.say_cause.result c.answer-cause.result _ c.say_cause.ensures.same_or_memory memory_file_fault same))
-
-pub returns-clause-busy : goal.returns-clause-busy
-returns-clause-busy g c = rw c.of.ensures (λ same. c.answer-cause.ensures.busy (cause_had c.say_cause.result c.answer-cause.result _ c.say_cause.ensures.same_or_memory memory_busy same))
-
-pub returns-clause-input_fault : goal.returns-clause-input_fault
-returns-clause-input_fault g c = rw c.of.ensures (λ same. c.answer-cause.ensures.input_fault (cause_had c.say_cause.result c.answer-cause.result _ c.say_cause.ensures.same_or_memory memory_input_fault same))
-
-pub returns-clause-output_fault : goal.returns-clause-output_fault
-returns-clause-output_fault g c = rw c.of.ensures (λ same.
-    fails_later _ (g.O.Sink.outlet c.args.out.now) (g.O.Sink.outlet c.answer-cause.new.out) (g.E.Sink.outlet c.args.err.now) (g.E.Sink.outlet c.answer-cause.new.err)
-    (g.E.Sink.outlet c.say_cause.new.err) c.say_cause.ensures.later
-    (c.answer-cause.ensures.output_fault (cause_had c.say_cause.result c.answer-cause.result _ c.say_cause.ensures.same_or_memory memory_output_fault same)))
-
-pub returns-clause-ends : goal.returns-clause-ends
-returns-clause-ends g c = rw c.of.ensures
-    (ends_said _ _ c.args.caller.now (telling g.H.Host.tells g.H.Host.alone g.R.Readings.tells g.I.Inputs.tells g.O.Sink.tells g.E.Sink.tells)
+pub returns-in-Err-clause-ends : goal.returns-in-Err-clause-ends
+returns-in-Err-clause-ends g c = rw c.of.ensures (λ unserved.
+    ends_said (tool_name_of (map string_bytes c.args.words.now)) (request_of (map string_bytes c.args.words.now)) c.args.caller.now
+    (telling g.H.Host.tells g.H.Host.alone g.R.Readings.tells g.I.Inputs.tells g.O.Sink.tells g.E.Sink.tells)
     (holding (g.H.Host.world c.args.host.now) (g.R.Readings.answers c.args.readings.now) (g.I.Inputs.contents c.args.inputs.now)
     (sink_at (g.O.Sink.content c.args.out.now) (g.O.Sink.outlet c.args.out.now)) (sink_at (g.E.Sink.content c.args.err.now) (g.E.Sink.outlet c.args.err.now)))
-    (holding (g.H.Host.world c.answer-cause.new.host) (g.R.Readings.answers c.answer-cause.new.readings) (g.I.Inputs.contents c.answer-cause.new.inputs)
-    (sink_at (g.O.Sink.content c.answer-cause.new.out) (g.O.Sink.outlet c.answer-cause.new.out)) (sink_at (g.E.Sink.content c.say_cause.new.err) (g.E.Sink.outlet c.say_cause.new.err)))
-    (sink_at (g.E.Sink.content c.answer-cause.new.err) (g.E.Sink.outlet c.answer-cause.new.err))
-    c.answer-cause.result c.answer-cause.ensures.ends c.say_cause.result (rw c.tool_name.ensures at c.say_cause.ensures.said))
-
-pub returns-clause-not_running : goal.returns-clause-not_running
-returns-clause-not_running g c = rw c.of.ensures
-    (ends_not_running _ _ _ _ _ _ _
-    (ends_said _ _ c.args.caller.now (telling g.H.Host.tells g.H.Host.alone g.R.Readings.tells g.I.Inputs.tells g.O.Sink.tells g.E.Sink.tells)
+    (holding (g.H.Host.world c.args.host.now) (g.R.Readings.answers c.args.readings.now) (g.I.Inputs.contents c.args.inputs.now)
+    (sink_at (g.O.Sink.content c.args.out.now) (g.O.Sink.outlet c.args.out.now)) (sink_at (g.E.Sink.content c.say_cause.new.err) (g.E.Sink.outlet c.say_cause.new.err)))
+    (sink_at (g.E.Sink.content c.args.err.now) (g.E.Sink.outlet c.args.err.now))
+    c.cause_of_words.result
+    (rw c.cause_of_words.ensures (words_end (request_of (map string_bytes c.args.words.now)) c.args.caller.now
+    (telling g.H.Host.tells g.H.Host.alone g.R.Readings.tells g.I.Inputs.tells g.O.Sink.tells g.E.Sink.tells)
     (holding (g.H.Host.world c.args.host.now) (g.R.Readings.answers c.args.readings.now) (g.I.Inputs.contents c.args.inputs.now)
     (sink_at (g.O.Sink.content c.args.out.now) (g.O.Sink.outlet c.args.out.now)) (sink_at (g.E.Sink.content c.args.err.now) (g.E.Sink.outlet c.args.err.now)))
-    (holding (g.H.Host.world c.answer-cause.new.host) (g.R.Readings.answers c.answer-cause.new.readings) (g.I.Inputs.contents c.answer-cause.new.inputs)
-    (sink_at (g.O.Sink.content c.answer-cause.new.out) (g.O.Sink.outlet c.answer-cause.new.out)) (sink_at (g.E.Sink.content c.say_cause.new.err) (g.E.Sink.outlet c.say_cause.new.err)))
-    (sink_at (g.E.Sink.content c.answer-cause.new.err) (g.E.Sink.outlet c.answer-cause.new.err))
-    c.answer-cause.result c.answer-cause.ensures.ends c.say_cause.result c.say_cause.ensures.said))
+    c.in-Err.fault c.in-Err.ensures.asked))
+    c.say_cause.result (rw c.tool_name-in-Err.ensures at c.say_cause.ensures.said))
+
+pub returns-in-Err-clause-serves : goal.returns-in-Err-clause-serves
+returns-in-Err-clause-serves g c = rw c.of.ensures
+    (words_served (request_of (map string_bytes c.args.words.now)) c.in-Err.fault _ c.in-Err.ensures.asked (λ limit interval once turns is wanting.
+    nothing_served (told_of g.H.Host.tells g.H.Host.alone g.R.Readings.tells g.O.Sink.tells g.E.Sink.tells) limit interval once turns
+    (λ watch. serve_at (g.H.Host.session c.args.host.now) (g.H.Host.world c.args.host.now) watch (g.R.Readings.answers c.args.readings.now) (g.R.Readings.readers c.args.readings.now))
+    (sink_at (g.O.Sink.content c.args.out.now) (g.O.Sink.outlet c.args.out.now)) (sink_at (g.E.Sink.content c.args.err.now) (g.E.Sink.outlet c.args.err.now))
+    (sink_at (g.E.Sink.content c.say_cause.new.err) (g.E.Sink.outlet c.say_cause.new.err)) c.say_cause.result
+    (subst (λ (tool : List ℕ). IsSaid tool g.E.Sink.tells Memory (sink_at (g.E.Sink.content c.args.err.now) (g.E.Sink.outlet c.args.err.now))
+    (sink_at (g.E.Sink.content c.say_cause.new.err) (g.E.Sink.outlet c.say_cause.new.err)) c.say_cause.result) (daemon_named (map string_bytes c.args.words.now) limit interval once turns is)
+    (subst (λ (cause : Cause). IsSaid (tool_name_of (map string_bytes c.args.words.now)) g.E.Sink.tells cause (sink_at (g.E.Sink.content c.args.err.now) (g.E.Sink.outlet c.args.err.now))
+    (sink_at (g.E.Sink.content c.say_cause.new.err) (g.E.Sink.outlet c.say_cause.new.err)) c.say_cause.result)
+    (c.cause_of_words.ensures ∙ ap words_cause wanting) (rw c.tool_name-in-Err.ensures at c.say_cause.ensures.said)))))

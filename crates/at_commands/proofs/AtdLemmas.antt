@@ -1,0 +1,77 @@
+-- A command that asks for a daemon.
+use Rattle.std.proofs.Common.{◌≡◌, ◌≤◌, Bool, true, false, List, [], ℕ, sym, subst, ap, ◌∙◌, refl, append-nil, arith}
+use Rattle.std.specs.Prelude.{Ok, Err, codes}
+use Rattle.at_words.specs.Answers.{Answers}
+use Rattle.at_words.specs.Requests.{request_of}
+use Rattle.at_words.specs.declared.fault.WordsFault.{WordsFault}
+use Rattle.at_words.specs.declared.fault.WordsFault.TheVariants as words
+use Rattle.at_words.specs.declared.tool_request.ToolRequest.TheVariants as request
+use Rattle.command_answers.specs.Found.{Asked}
+use Rattle.command_answers.specs.Sinks.{SinkAt}
+use Rattle.daemon_turn.specs.Daemons.{Watch}
+use Rattle.listing_text.specs.declared.cause.Cause.{Cause}
+use Rattle.listing_text.specs.declared.cause.Cause.TheVariants.{Memory}
+use Rattle.serving.specs.Outcomes.{at_a_line}
+use Rattle.serving.specs.Saying.{IsSaid}
+use Rattle.serving.specs.Serves.{ServeAt, Telling, no_turn}
+use Rattle.serving.proofs.SinkLemmas.{silent_same}
+use Rattle.at_commands.specs.Served.{IsNotServed, ServesAnew, WhereServed, new_watch}
+
+-- where no daemon is asked for, nothing is said of one
+pub none_served : (asked : Asked) (IsSo : ℕ → ℕ → Bool → ℕ → Type 0) → IsNotServed asked → WhereServed asked IsSo
+none_served (Ok (request.Submit queue mail file when)) IsSo is = tt
+none_served (Ok (request.List filter)) IsSo is = tt
+none_served (Ok (request.Remove numbers)) IsSo is = tt
+none_served (Ok (request.Show numbers)) IsSo is = tt
+none_served (Ok (request.Daemon limit interval once turns)) IsSo is = absurd is
+none_served (Ok (request.Make count)) IsSo is = tt
+none_served (Err fault) IsSo is = tt
+
+pub served_asked : (one other : Asked) (IsSo : ℕ → ℕ → Bool → ℕ → Type 0) → one ≡ other → WhereServed one IsSo → WhereServed other IsSo
+served_asked one other IsSo same served = subst (λ (of : Asked). WhereServed of IsSo) same served
+
+pub unserved_asked : (one other : Asked) → one ≡ other → IsNotServed other → IsNotServed one
+unserved_asked one other same is = subst IsNotServed (sym same) is
+
+-- no turn was made, since there was no memory to read the words
+pub nothing_served : (tells : Telling) (limit interval : ℕ) (once : Bool) (turns : ℕ) (old : Watch → ServeAt) (out err err_new : SinkAt) (final : Cause)
+    → IsSaid (codes "atd") tells.errors Memory err err_new final → ServesAnew tells limit interval once turns old old out out err err_new final
+nothing_served tells limit interval once turns old out err err_new final said = record {
+  watch = new_watch limit interval;
+  serving = record {
+    items = [];
+    last = old (new_watch limit interval);
+    stop = at_a_line;
+    cut = false;
+    few = omega arith;
+    serves = no_turn;
+    stops = refl;
+    prints = record {
+      later = omega arith;
+      rose = λ cut. absurd (cc);
+      puts = λ told. record { count = 0; content = sym (append-nil out.content); later = omega arith };
+    };
+    between = err;
+    says = λ told. silent_same err err refl;
+    outcome = said;
+  };
+}
+
+-- words that could not be read
+words_served_by : (asked : Asked) (fault : WordsFault) (IsSo : ℕ → ℕ → Bool → ℕ → Type 0) → Answers asked (Err fault)
+    → ((limit interval : ℕ) (once : Bool) (turns : ℕ) → asked ≡ Ok (request.Daemon limit interval once turns) → fault ≡ words.Memory → IsSo limit interval once turns)
+    → WhereServed asked IsSo
+words_served_by (Ok (request.Submit queue mail file when)) fault IsSo answers so = tt
+words_served_by (Ok (request.List filter)) fault IsSo answers so = tt
+words_served_by (Ok (request.Remove numbers)) fault IsSo answers so = tt
+words_served_by (Ok (request.Show numbers)) fault IsSo answers so = tt
+words_served_by (Ok (request.Make count)) fault IsSo answers so = tt
+words_served_by (Err other) fault IsSo answers so = tt
+words_served_by (Ok (request.Daemon limit interval once turns)) words.Usage IsSo answers so = cc
+words_served_by (Ok (request.Daemon limit interval once turns)) words.BadQueue IsSo answers so = cc
+words_served_by (Ok (request.Daemon limit interval once turns)) words.Memory IsSo answers so = so limit interval once turns refl refl
+
+pub words_served : (asked : Asked) (fault : WordsFault) (IsSo : ℕ → ℕ → Bool → ℕ → Type 0) → Answers asked (Err fault)
+    → ((limit interval : ℕ) (once : Bool) (turns : ℕ) → asked ≡ Ok (request.Daemon limit interval once turns) → fault ≡ words.Memory → IsSo limit interval once turns)
+    → WhereServed asked IsSo
+words_served asked fault IsSo answers so = words_served_by asked fault IsSo answers so

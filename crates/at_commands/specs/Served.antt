@@ -1,0 +1,40 @@
+-- Which requests are served, and how (own).
+use Rattle.std.specs.Prelude.{[], ℕ, Bool, Result, Ok, Err}
+use Rattle.at_words.specs.declared.tool_request.ToolRequest.TheVariants as request
+use Rattle.command_answers.specs.Found.{Asked}
+use Rattle.command_answers.specs.Sinks.{SinkAt}
+use Rattle.daemon_turn.specs.Daemons.{Watch}
+use Rattle.listing_text.specs.declared.cause.Cause.{Cause}
+use Rattle.serving.specs.Serves.{ServeAt, Telling}
+use Rattle.serving.specs.Serving.{Serving}
+
+-- no daemon is asked for
+abbrev pub IsNotServed : Asked → Type 0
+IsNotServed (Ok (request.Submit queue mail file when)) = Unit {0}
+IsNotServed (Ok (request.List filter)) = Unit {0}
+IsNotServed (Ok (request.Remove numbers)) = Unit {0}
+IsNotServed (Ok (request.Show numbers)) = Unit {0}
+IsNotServed (Ok (request.Daemon limit interval once turns)) = ⊥
+IsNotServed (Ok (request.Make count)) = Unit {0}
+IsNotServed (Err fault) = Unit {0}
+
+-- where a daemon is asked for, this is so of its limit, its interval, whether it is served only until no kid is left, and
+-- the number of its turns
+abbrev pub WhereServed : Asked → (ℕ → ℕ → Bool → ℕ → Type 0) → Type 0
+WhereServed (Ok (request.Submit queue mail file when)) IsSo = Unit {0}
+WhereServed (Ok (request.List filter)) IsSo = Unit {0}
+WhereServed (Ok (request.Remove numbers)) IsSo = Unit {0}
+WhereServed (Ok (request.Show numbers)) IsSo = Unit {0}
+WhereServed (Ok (request.Daemon limit interval once turns)) IsSo = IsSo limit interval once turns
+WhereServed (Ok (request.Make count)) IsSo = Unit {0}
+WhereServed (Err fault) IsSo = Unit {0}
+
+-- a daemon without kids
+abbrev pub new_watch : ℕ → ℕ → Watch
+new_watch limit interval = record { kids = []; limit = limit; interval = interval }
+
+-- A daemon without kids served, and is gone. What it was served with is given by what the daemon keeps.
+pub record ServesAnew (tells : Telling) (limit interval : ℕ) (once : Bool) (turns : ℕ) (old new : Watch → ServeAt)
+    (out_old out_new err_old err_new : SinkAt) (cause : Cause) : Type 0 where
+  pub watch : Watch
+  pub serving : Serving tells once turns (old (new_watch limit interval)) (new watch) out_old out_new err_old err_new cause

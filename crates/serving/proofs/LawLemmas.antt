@@ -1,0 +1,144 @@
+-- What follows of serving.
+use Rattle.std.proofs.Common.{◌≡◌, ◌⊎◌, ◌≤◌, ℕ, ℤ, Bool, true, false, List, [], ◌∷◌, ◌++◌, refl, sym, ap, subst, ◌∙◌, inl, inr, arith}
+use Rattle.std.specs.Prelude.{Option, Some, None}
+use Rattle.clock_range.specs.ClockRange.{IsClockSecond}
+use Rattle.host_calls.specs.Causes.{Rose}
+use Rattle.host_calls.specs.Folder.{Files, IsImage}
+use Rattle.host_calls.specs.Session.{KeepsCounts, Session}
+use Rattle.host_calls.proofs.FolderLemmas.{reading_is_image}
+use Rattle.listing_text.specs.declared.cause.Cause.{Cause}
+use Rattle.listing_text.specs.declared.cause.Cause.TheVariants as cause
+use Rattle.command_answers.specs.Sinks.{SinkAt}
+use Rattle.daemon_turn.specs.declared.kid.Kid.{Kid}
+use Rattle.daemon_turn.specs.declared.report.TurnEnd.{TurnEnd}
+use Rattle.daemon_turn.specs.declared.report.TurnEnd.TheVariants.{Done, Busy, FileFault, Damaged, Memory}
+use Rattle.daemon_turn.specs.Laws.{IsDoneOrMemory, IsGood}
+use Rattle.daemon_turn.specs.Leaving.{DaemonAt}
+use Rattle.daemon_turn.proofs.LawLemmas.{good_folders_stay_good, turns_are_done}
+use Rattle.serving.specs.Items.{Item, first_end, last_item}
+use Rattle.serving.specs.Laws.{IsLastInRange, IsServedWell, ServingIsDone}
+use Rattle.serving.specs.Outcomes.{Stop, StopsBy, at_a_line, at_the_clock, at_the_end, damage_outcome, end_outcome, kids_outcome, last_outcome, outcome_by, output_outcome, turns_outcome}
+use Rattle.serving.specs.Serves.{RestsBehind, ServeAt, Served, Serves, Telling, next_turn, no_turn}
+use Rattle.serving.specs.Serving.{SaysOutcome}
+use Rattle.serving.specs.declared.outcome.Outcome.{Outcome}
+use Rattle.serving.specs.declared.outcome.Outcome.TheVariants.{OfTurn, Own}
+use Rattle.serving.proofs.OutcomeLemmas.{stops_spool}
+use Rattle.serving.proofs.ServeLemmas.{rested_spool, serves_counts}
+
+-- each of the turns was done, or found no memory
+abbrev pub AreWell : List Item → Type 0
+AreWell [] = Unit {0}
+AreWell (item ∷ items) = IsDoneOrMemory item.end × AreWell items
+
+well_more : (items : List Item) (item : Item) → AreWell items → IsDoneOrMemory item.end → AreWell (items ++ item ∷ [])
+well_more [] item well last = (last, tt)
+well_more (one ∷ items) item (here, well) last = (here, well_more items item well last)
+
+-- each image shows a table
+abbrev pub AreGood : DaemonAt → Type 0
+AreGood at = (image : Files) → IsImage at.world.now.folder image → IsGood image
+
+-- no fault of the spool rose
+pub record IsSound (old new : Session) : Type 0 where
+  pub taken : ¬ (Rose old.taken new.taken)
+  pub files : ¬ (Rose old.file_faults new.file_faults)
+
+sound_within : (first old new last : Session) → KeepsCounts first old → KeepsCounts new last → IsSound first last → IsSound old new
+sound_within first old new last before behind sound = record {
+  taken = λ rose. sound.taken (let earlier : first.taken ≤ old.taken = before.taken in let later : new.taken ≤ last.taken = behind.taken in
+      let risen : Rose old.taken new.taken = rose in omega arith);
+  files = λ rose. sound.files (let earlier : first.file_faults ≤ old.file_faults = before.file_faults in let later : new.file_faults ≤ last.file_faults = behind.file_faults in
+      let risen : Rose old.file_faults new.file_faults = rose in omega arith);
+}
+
+-- turns that the outside didn't hinder
+pub record GoWell (items : List Item) (at : DaemonAt) : Type 0 where
+  pub well : AreWell items
+  pub good : AreGood at
+
+module _ (tells : Telling) (once : Bool) (first : ServeAt) (told : tells.files ≡ true) (alone : tells.alone ≡ true) (opening : AreGood first.spool) where
+  served_well : (before : List Item) (item : Item) (rested after : ServeAt) → Served tells once before item rested after → AreGood rested.spool
+      → IsSound rested.spool.session after.spool.session → GoWell (item ∷ []) after.spool
+  served_well before item rested after served good sound =
+      let shown : IsGood _ = good _ (reading_is_image rested.spool.world.now.folder) in record {
+        well = (turns_are_done tells.files tells.alone _ rested.spool after.spool item.end item.steps served.turn told alone shown.0 shown.1 sound.taken sound.files, tt);
+        good = (good_folders_stay_good tells.files tells.alone _ rested.spool after.spool item.end item.steps served.turn told alone good).now;
+      }
+
+  pub go_well : (items : List Item) (last : ServeAt) → Serves tells once first items last → IsSound first.spool.session last.spool.session → GoWell items last.spool
+  go_well _ _ no_turn sound = record { well = tt; good = opening }
+  go_well _ _ (next_turn before item last rested after serves goes_on rests served) sound =
+      let same : rested.spool ≡ last.spool = rested_spool tells.clock once (last_item before) last rested rests in
+      let counts : KeepsCounts last.spool.session after.spool.session = subst (λ (spool : DaemonAt). KeepsCounts spool.session after.spool.session) same served.turn.counts in
+      let up_to : KeepsCounts first.spool.session last.spool.session = serves_counts tells once first before last serves in
+      let earlier : GoWell before last.spool = go_well before last serves (record {
+        taken = λ rose. sound.taken (let later : last.spool.session.taken ≤ after.spool.session.taken = counts.taken in let risen : Rose first.spool.session.taken last.spool.session.taken = rose in omega arith);
+        files = λ rose. sound.files (let later : last.spool.session.file_faults ≤ after.spool.session.file_faults = counts.file_faults in
+            let risen : Rose first.spool.session.file_faults last.spool.session.file_faults = rose in omega arith);
+      }) in
+      let here : IsSound last.spool.session after.spool.session = record {
+        taken = λ rose. sound.taken (let before_it : first.spool.session.taken ≤ last.spool.session.taken = up_to.taken in let risen : Rose last.spool.session.taken after.spool.session.taken = rose in omega arith);
+        files = λ rose. sound.files (let before_it : first.spool.session.file_faults ≤ last.spool.session.file_faults = up_to.file_faults in
+            let risen : Rose last.spool.session.file_faults after.spool.session.file_faults = rose in omega arith);
+      } in
+      let now : GoWell (item ∷ []) after.spool = served_well before item rested after served (subst AreGood (sym same) earlier.good)
+      (subst (λ (spool : DaemonAt). IsSound spool.session after.spool.session) (sym same) here) in
+      record { well = well_more before item earlier.well now.well.0; good = now.good }
+
+-- What it comes to then.
+
+abbrev pub IsWellFor : Outcome → Type 0
+IsWellFor (OfTurn of) = IsServedWell of
+IsWellFor (Own of) = IsServedWell of
+
+kids_well : (kids : List Kid) (cut : Bool) → ¬ (cut ≡ true) → IsWellFor (kids_outcome kids cut)
+kids_well [] false uncut = tt
+kids_well [] true uncut = absurd (uncut refl)
+kids_well (kid ∷ kids) cut uncut = tt
+
+end_well : (end : TurnEnd) (other : Outcome) → IsDoneOrMemory end → IsWellFor other → IsWellFor (end_outcome end other)
+end_well Done other well rest = rest
+end_well Memory other well rest = tt
+end_well Busy other well rest = absurd well
+end_well FileFault other well rest = absurd well
+end_well (Damaged damage) other well rest = absurd well
+
+turns_well : (once : Bool) (items : List Item) (kids : List Kid) (cut : Bool) → AreWell items → ¬ (cut ≡ true) → IsWellFor (turns_outcome once (first_end items) kids cut)
+turns_well true [] kids cut well uncut = kids_well kids cut uncut
+turns_well true (item ∷ items) kids cut well uncut = end_well item.end (kids_outcome kids cut) well.0 (kids_well kids cut uncut)
+turns_well false items kids cut well uncut = kids_well [] cut uncut
+
+damage_well : (end : TurnEnd) (other : Outcome) → IsDoneOrMemory end → IsWellFor other → IsWellFor (damage_outcome end other)
+damage_well Done other well rest = rest
+damage_well Memory other well rest = rest
+damage_well Busy other well rest = absurd well
+damage_well FileFault other well rest = absurd well
+damage_well (Damaged damage) other well rest = absurd well
+
+last_well : (items : List Item) (other : Outcome) → AreWell items → IsWellFor other → IsWellFor (last_outcome (last_item items) other)
+last_well [] other well rest = rest
+last_well (item ∷ []) other well rest = damage_well item.end other well.0 rest
+last_well (item ∷ next ∷ items) other well rest = last_well (next ∷ items) other well.1 rest
+
+stop_well : (stop : Stop) (tells once : Bool) (turns : ℕ) (items : List Item) (last new : ServeAt) (kids : List Kid) (cut : Bool) → tells ≡ true
+    → StopsBy stop tells once turns items last new → AreWell items → ¬ (cut ≡ true) → IsLastInRange new.answers → IsWellFor (outcome_by stop once items kids cut)
+stop_well at_the_end tells once turns items last new kids cut told stops well uncut range =
+    last_well items (turns_outcome once (first_end items) kids cut) well (turns_well once items kids cut well uncut)
+stop_well at_the_clock tells once turns items last new kids cut told stops well uncut range =
+    absurd (stops.2.out (range stops.2.now stops.2.rested.answers (stops.2.told told)))
+stop_well at_a_line tells once turns items last new kids cut told stops well uncut range = tt
+
+said_well : (tells : Bool) (outcome : Outcome) (before behind : SinkAt) (final : Cause) → SaysOutcome tells outcome before behind final → IsWellFor outcome → IsServedWell final
+said_well tells (OfTurn of) before behind final says well = subst IsServedWell (sym says.0) well
+said_well tells (Own of) before behind final (inl says) well = subst IsServedWell (sym says.0) well
+said_well tells (Own of) before behind final (inr says) well = subst IsServedWell (sym says.1) tt
+
+pub serving_is_done : ServingIsDone
+serving_is_done tells once turns old new out_old out_new err_old err_new final serving told alone clock good no_taken no_fault no_output range =
+    let same : new.spool ≡ serving.last.spool = stops_spool serving.stop tells.clock once turns serving.items serving.last new serving.stops in
+    let sound : IsSound old.spool.session new.spool.session = record { taken = no_taken; files = no_fault } in
+    let well : GoWell serving.items serving.last.spool = go_well tells once old told alone good serving.items serving.last serving.serves
+    (subst (λ (spool : DaemonAt). IsSound old.spool.session spool.session) same sound) in
+    said_well tells.errors _ serving.between err_new final serving.outcome
+    (stop_well serving.stop tells.clock once turns serving.items serving.last new serving.last.spool.watch.kids serving.cut clock serving.stops well.well
+    (λ cut. no_output (serving.prints.rose cut)) range)

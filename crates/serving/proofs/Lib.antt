@@ -1,0 +1,6 @@
+pub mod LawLemmas
+pub mod OutcomeLemmas
+pub mod ProceedLemmas
+pub mod ServeLemmas
+pub mod SinkLemmas
+pub mod StepLemmas

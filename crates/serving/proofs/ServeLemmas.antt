@@ -1,0 +1,153 @@
+-- Turns one behind another.
+use Rattle.std.proofs.Common.{◌≡◌, ◌⊎◌, ◌+◌, ◌<◌, ◌≤◌, ℕ, ℤ, Bool, true, false, List, [], ◌∷◌, ◌++◌, length, refl, sym, ap, subst, ◌∙◌, append-nil, append_assoc, arith}
+use Rattle.std.specs.Prelude.{Option, Some, None}
+use Rattle.host_calls.specs.Causes.{Rose}
+use Rattle.host_calls.specs.Clock.{Answers, Readers, with_rest}
+use Rattle.host_calls.specs.Session.{KeepsCounts, Session}
+use Rattle.host_calls.specs.World.{World}
+use Rattle.daemon_turn.specs.Daemons.{Watch}
+use Rattle.daemon_turn.specs.Kids.{KeepsChildren}
+use Rattle.host_calls.specs.declared.child.Child.{Child}
+use Rattle.daemon_turn.specs.Leaving.{DaemonAt}
+use Rattle.daemon_turn.specs.declared.mode.Mode.{Mode}
+use Rattle.daemon_turn.specs.declared.report.TurnEnd.{TurnEnd}
+use Rattle.daemon_turn.specs.declared.report.TurnEnd.TheVariants.{Done, Busy, FileFault, Damaged, Memory}
+use Rattle.serving.specs.Items.{Item, but_last, first_end, last_item, mode_behind}
+use Rattle.serving.specs.Lines.{step_lines, turn_lines}
+use Rattle.serving.specs.Serves.{RestsBehind, ServeAt, Served, Serves, Telling, no_turn, next_turn, serve_at}
+use Rattle.serving.specs.inside.Progressing.{IsRest, RestsBefore, first_or, mode_by}
+
+-- The list of turns with one more.
+
+pub last_more : (items : List Item) (item : Item) → last_item (items ++ item ∷ []) ≡ Some item
+last_more [] item = refl
+last_more (one ∷ []) item = refl
+last_more (one ∷ other ∷ items) item = last_more (other ∷ items) item
+
+pub first_more : (items : List Item) (item : Item) → first_end (items ++ item ∷ []) ≡ first_or (first_end items) item.end
+first_more [] item = refl
+first_more (one ∷ items) item = refl
+
+pub but_last_more : (items : List Item) (item : Item) → but_last (items ++ item ∷ []) ≡ items
+but_last_more [] item = refl
+but_last_more (one ∷ []) item = refl
+but_last_more (one ∷ other ∷ items) item = ap (λ (others : List Item). one ∷ others) (but_last_more (other ∷ items) item)
+
+pub lines_more : (items : List Item) (item : Item) → turn_lines (items ++ item ∷ []) ≡ turn_lines items ++ step_lines item.steps
+lines_more [] item = append-nil (step_lines item.steps)
+lines_more (one ∷ items) item =
+    ap (λ (others : List ℕ). step_lines one.steps ++ others) (lines_more items item)
+    ∙ sym (append_assoc (step_lines one.steps) (turn_lines items) (step_lines item.steps))
+
+pub one_longer : (items : List Item) (item : Item) → length (items ++ item ∷ []) ≡ length items + 1
+one_longer [] item = refl
+one_longer (one ∷ items) item = (let longer : length (items ++ item ∷ []) ≡ length items + 1 = one_longer items item in omega arith)
+
+-- The mode and the rest.
+
+pub mode_same : (once : Bool) (items : List Item) (first : Option TurnEnd) → first ≡ first_end items → mode_by once first ≡ mode_behind once items
+mode_same once items first same = ap (λ (end : Option TurnEnd). mode_by once end) same ∙ by_items once items where
+  by_items : (flag : Bool) (of : List Item) → mode_by flag (first_end of) ≡ mode_behind flag of
+  by_items false of = refl
+  by_items true [] = refl
+  by_items true (item ∷ of) = refl
+
+module _ (tells once : Bool) (session : Session) (world : World) (watch : Watch) (was is : Answers) (had has : Readers) (seconds : ℕ) where
+  rests_last : (items : List Item) → IsRest once (last_item items) seconds → RestsBefore tells (first_end items) seconds was is had has
+      → RestsBehind tells once (last_item items) (serve_at session world watch was had) (serve_at session world watch is has)
+  rests_last [] rest rests =
+      ap (λ (answers : Answers). serve_at session world watch answers has) rests.0 ∙ ap (λ (readers : Readers). serve_at session world watch was readers) rests.1
+  rests_last (item ∷ []) rest rests = record {
+    told = λ tell. subst (λ (some : ℕ). is ≡ with_rest some was) rest (rests.0 tell);
+    readers = rests.1;
+    spool = refl;
+  }
+  rests_last (item ∷ other ∷ items) rest rests = rests_last (other ∷ items) rest rests
+
+  pub rests_behind : (items : List Item) (first : Option TurnEnd) → first ≡ first_end items → IsRest once (last_item items) seconds
+      → RestsBefore tells first seconds was is had has
+      → RestsBehind tells once (last_item items) (serve_at session world watch was had) (serve_at session world watch is has)
+  rests_behind items first same rest rests =
+      rests_last items rest (subst (λ (end : Option TurnEnd). RestsBefore tells end seconds was is had has) same rests)
+
+-- the spool stays while it rests
+pub rested_spool : (tells once : Bool) (last : Option Item) (old new : ServeAt) → RestsBehind tells once last old new → new.spool ≡ old.spool
+rested_spool tells once None old new same = ap (λ (at : ServeAt). at.spool) same
+rested_spool tells once (Some item) old new rests = rests.spool
+
+-- Counts and children from turn to turn.
+
+pub counts_same : (session : Session) → KeepsCounts session session
+counts_same session = record { made_as = refl; file_faults = omega arith; start_faults = omega arith; taken = omega arith }
+
+pub counts_then : (old middle new : Session) → KeepsCounts old middle → KeepsCounts middle new → KeepsCounts old new
+counts_then old middle new first second = record {
+  made_as = second.made_as ∙ first.made_as;
+  file_faults = omega (arith, first.file_faults, second.file_faults);
+  start_faults = omega (arith, first.start_faults, second.start_faults);
+  taken = omega (arith, first.taken, second.taken);
+}
+
+pub children_same : (children : List Child) → KeepsChildren children children
+children_same children = ([], sym (append-nil children))
+
+pub children_then : (old middle new : List Child) → KeepsChildren old middle → KeepsChildren middle new → KeepsChildren old new
+children_then old middle new first second =
+    (first.0 ++ second.0, second.1 ∙ ap (λ (before : List Child). before ++ second.0) first.1 ∙ append_assoc old first.0 second.0)
+
+module _ (tells : Telling) (once : Bool) (first : ServeAt) where
+  pub serves_counts : (items : List Item) (last : ServeAt) → Serves tells once first items last → KeepsCounts first.spool.session last.spool.session
+  serves_counts _ _ no_turn = counts_same first.spool.session
+  serves_counts _ _ (next_turn before item last rested after serves goes_on rests served) =
+      counts_then first.spool.session last.spool.session after.spool.session (serves_counts before last serves)
+      (subst (λ (spool : DaemonAt). KeepsCounts spool.session after.spool.session) (rested_spool tells.clock once (last_item before) last rested rests) served.turn.counts)
+
+-- Why the first turn ended so.
+
+-- a fault of the outside that ended the first turn rose in it
+abbrev pub RoseFirst : Option TurnEnd → Session → Session → Type 0
+RoseFirst None old new = Unit {0}
+RoseFirst (Some Done) old new = Unit {0}
+RoseFirst (Some Busy) old new = Rose old.taken new.taken
+RoseFirst (Some FileFault) old new = Rose old.file_faults new.file_faults
+RoseFirst (Some (Damaged damage)) old new = Unit {0}
+RoseFirst (Some Memory) old new = Unit {0}
+
+rose_wider : (end : Option TurnEnd) (first old middle new : Session) → KeepsCounts first old → KeepsCounts middle new → RoseFirst end old middle → RoseFirst end first new
+rose_wider None first old middle new before behind rose = tt
+rose_wider (Some Done) first old middle new before behind rose = tt
+rose_wider (Some Busy) first old middle new before behind rose =
+    (let earlier : first.taken ≤ old.taken = before.taken in let later : middle.taken ≤ new.taken = behind.taken in let risen : Rose old.taken middle.taken = rose in omega arith)
+rose_wider (Some FileFault) first old middle new before behind rose =
+    (let earlier : first.file_faults ≤ old.file_faults = before.file_faults in let later : middle.file_faults ≤ new.file_faults = behind.file_faults in
+    let risen : Rose old.file_faults middle.file_faults = rose in omega arith)
+rose_wider (Some (Damaged damage)) first old middle new before behind rose = tt
+rose_wider (Some Memory) first old middle new before behind rose = tt
+
+module _ (tells : Telling) (once : Bool) (first : ServeAt) where
+  rose_served : (before : List Item) (item : Item) (old new : ServeAt) → Served tells once before item old new → RoseFirst (Some item.end) old.spool.session new.spool.session
+  rose_served before item old new served = by_end item.end served.turn.busy served.turn.fault where
+    by_end : (end : TurnEnd) → (end ≡ Busy → Rose old.spool.session.taken new.spool.session.taken)
+        → (end ≡ FileFault → Rose old.spool.session.file_faults new.spool.session.file_faults) → RoseFirst (Some end) old.spool.session new.spool.session
+    by_end Done busy fault = tt
+    by_end Busy busy fault = busy refl
+    by_end FileFault busy fault = fault refl
+    by_end (Damaged damage) busy fault = tt
+    by_end Memory busy fault = tt
+
+  rose_more : (before : List Item) (item : Item) (last rested after : ServeAt) → RoseFirst (first_end before) first.spool.session last.spool.session
+      → KeepsCounts first.spool.session last.spool.session → RestsBehind tells.clock once (last_item before) last rested → Served tells once before item rested after
+      → RoseFirst (first_end (before ++ item ∷ [])) first.spool.session after.spool.session
+  rose_more [] item last rested after rose counts rests served =
+      rose_wider (Some item.end) first.spool.session rested.spool.session after.spool.session after.spool.session
+      (subst (λ (spool : DaemonAt). KeepsCounts first.spool.session spool.session) (sym (rested_spool tells.clock once None last rested rests)) counts)
+      (counts_same after.spool.session) (rose_served [] item rested after served)
+  rose_more (head ∷ before) item last rested after rose counts rests served =
+      rose_wider (Some head.end) first.spool.session first.spool.session last.spool.session after.spool.session (counts_same first.spool.session)
+      (subst (λ (spool : DaemonAt). KeepsCounts spool.session after.spool.session) (rested_spool tells.clock once (last_item (head ∷ before)) last rested rests) served.turn.counts)
+      rose
+
+  pub rose_first : (items : List Item) (last : ServeAt) → Serves tells once first items last → RoseFirst (first_end items) first.spool.session last.spool.session
+  rose_first _ _ no_turn = tt
+  rose_first _ _ (next_turn before item last rested after serves goes_on rests served) =
+      rose_more before item last rested after (rose_first before last serves) (serves_counts tells once first before last serves) rests served

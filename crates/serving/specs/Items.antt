@@ -1,0 +1,75 @@
+-- The turns of a daemon that serves, and what it does between them (own).
+use Rattle.std.specs.Prelude.{◌-◌, ◌%◌, ◌&&◌, ◌||◌, [], ◌∷◌, ℕ, ℤ, Bool, true, false, List, Option, Some, None, unsigned_abs}
+use Rattle.daemon_turn.specs.declared.kid.Kid.{Kid}
+use Rattle.daemon_turn.specs.declared.mode.Mode.{Mode}
+use Rattle.daemon_turn.specs.declared.mode.Mode.TheVariants.{Full, EndsOnly}
+use Rattle.daemon_turn.specs.declared.report.TurnEnd.{TurnEnd}
+use Rattle.daemon_turn.specs.declared.report.TurnEnd.TheVariants.{Done, Busy, FileFault, Damaged, Memory}
+use Rattle.daemon_turn.specs.declared.step.TurnStep.{TurnStep}
+use Rattle.serving.specs.declared.looping.TheConstants.{LONGEST_REST, SHORT_REST}
+
+-- A turn of serving: the clock's answer, the load, if one was read, and what the turn reported.
+pub record Item : Type 0 where
+  pub now : ℤ
+  pub load : Option ℕ
+  pub end : TurnEnd
+  pub steps : List TurnStep
+
+-- the end of the first turn
+abbrev pub first_end : List Item → Option TurnEnd
+first_end [] = None
+first_end (item ∷ items) = Some item.end
+
+-- the last turn
+abbrev pub last_item : List Item → Option Item
+last_item [] = None
+last_item (item ∷ []) = Some item
+last_item (item ∷ other ∷ items) = last_item (other ∷ items)
+
+-- all turns but the last
+abbrev pub but_last : List Item → List Item
+but_last [] = []
+but_last (item ∷ []) = []
+but_last (item ∷ other ∷ items) = item ∷ but_last (other ∷ items)
+
+-- The mode of the turn behind these: where it is served only until no kid is left, the first turn alone starts jobs.
+abbrev pub mode_behind : Bool → List Item → Mode
+mode_behind false items = Full
+mode_behind true [] = Full
+mode_behind true (item ∷ items) = EndsOnly
+
+-- the seconds of the rest behind a turn: up to the next full minute where all was done, else a short one
+abbrev pub rest_after : TurnEnd → ℤ → ℕ
+rest_after Done now = LONGEST_REST - unsigned_abs now % LONGEST_REST
+rest_after Busy now = SHORT_REST
+rest_after FileFault now = SHORT_REST
+rest_after (Damaged damage) now = SHORT_REST
+rest_after Memory now = SHORT_REST
+
+-- and a short one where it is served only until no kid is left
+abbrev pub rest_behind : Bool → TurnEnd → ℤ → ℕ
+rest_behind true end now = SHORT_REST
+rest_behind false end now = rest_after end now
+
+-- the turn found a damage
+abbrev pub is_damaged : TurnEnd → Bool
+is_damaged (Damaged damage) = true
+is_damaged Done = false
+is_damaged Busy = false
+is_damaged FileFault = false
+is_damaged Memory = false
+
+-- no kid is left
+abbrev pub is_alone : List Kid → Bool
+is_alone [] = true
+is_alone (kid ∷ kids) = false
+
+-- No turn is made behind one that found a damage, nor, where it is served only until no kid is left, behind one that
+-- left none.
+abbrev pub is_last : Bool → TurnEnd → List Kid → Bool
+is_last once end kids = is_damaged end || (once && is_alone kids)
+
+-- and so behind these turns
+abbrev pub ends_behind : Bool → Option Item → List Kid → Bool
+ends_behind once None kids = false
+ends_behind once (Some item) kids = is_last once item.end kids

@@ -1,0 +1,86 @@
+-- How far serving has come, and one turn more (own).
+use Rattle.std.specs.Prelude.{◌≡◌, ◌<◌, ◌≤◌, ◌++◌, [], ◌∷◌, ℕ, ℤ, Bool, true, false, List, Option, Some, None, length, if◌then◌else◌}
+use Rattle.host_calls.specs.Clock.{Answers, Readers, with_rest}
+use Rattle.command_answers.specs.Sinks.{SinkAt}
+use Rattle.daemon_turn.specs.declared.kid.Kid.{Kid}
+use Rattle.daemon_turn.specs.declared.mode.Mode.{Mode}
+use Rattle.daemon_turn.specs.declared.mode.Mode.TheVariants.{Full, EndsOnly}
+use Rattle.daemon_turn.specs.declared.report.TurnEnd.{TurnEnd}
+use Rattle.serving.specs.Items.{Item, ends_behind, first_end, is_last, last_item, rest_behind}
+use Rattle.serving.specs.Lines.{SaysEnds, turn_lines}
+use Rattle.serving.specs.Outcomes.{Stop, StopsBy, at_a_line, at_the_end, damage_outcome, outcome_by, turns_outcome}
+use Rattle.serving.specs.Serves.{ServeAt, Serves, Telling}
+use Rattle.serving.specs.Serving.{Prints, said_of}
+use Rattle.serving.specs.declared.outcome.Outcome.{Outcome}
+use Rattle.serving.specs.declared.progress.Progress.{Progress}
+
+-- the mode of the next turn, by the end of the first one
+abbrev pub mode_by : Bool → Option TurnEnd → Mode
+mode_by false first = Full
+mode_by true None = Full
+mode_by true (Some end) = EndsOnly
+
+-- the end of the first turn, once one more ended so
+abbrev pub first_or : Option TurnEnd → TurnEnd → Option TurnEnd
+first_or None end = Some end
+first_or (Some first) end = Some first
+
+-- what serving comes to behind a turn that ended so, if no further one is made
+abbrev pub outcome_if : Bool → TurnEnd → Option TurnEnd → List Kid → Bool → Option Outcome
+outcome_if once end first kids cut =
+    if is_last once end kids then Some (damage_outcome end (turns_outcome once first kids cut)) else None
+
+-- a rest before the next turn, if it is not the first
+abbrev pub RestsBefore : Bool → Option TurnEnd → ℕ → Answers → Answers → Readers → Readers → Type 0
+RestsBefore tells None seconds answers_old answers_new readers_old readers_new =
+    (answers_new ≡ answers_old) × (readers_new ≡ readers_old)
+RestsBefore tells (Some end) seconds answers_old answers_new readers_old readers_new =
+    (tells ≡ true → answers_new ≡ with_rest seconds answers_old) × (readers_new ≡ readers_old)
+
+-- these are the seconds of the rest behind the last turn
+abbrev pub IsRest : Bool → Option Item → ℕ → Type 0
+IsRest once None seconds = Unit {0}
+IsRest once (Some item) seconds = seconds ≡ rest_behind once item.end item.now
+
+-- where a line found no memory, serving stops at it
+abbrev pub stop_where : Bool → Stop
+stop_where true = at_the_end
+stop_where false = at_a_line
+
+-- More was printed behind what was printed before, unless a put had failed: all of it, or up to a put that failed, or up to
+-- a line that found no memory.
+abbrev pub PrintsMore : Bool → List ℕ → Bool → Bool → SinkAt → SinkAt → Bool → Type 0
+PrintsMore tells text cut_old cut_new old new found =
+    (before : List ℕ) (start : SinkAt) → Prints tells at_the_end cut_old before start old
+    → Prints tells (stop_where found) cut_new (before ++ text) start new
+
+-- These turns were made, and a further one is to come.
+pub record HasServed (tells : Telling) (once : Bool) (items : List Item) (made : Progress) (first now : ServeAt)
+    (out_first out_now err_first err_now : SinkAt) : Type 0 where
+  pub serves : Serves tells once first items now
+  pub goes_on : ends_behind once (last_item items) now.spool.watch.kids ≡ false
+  pub begun : made.first ≡ first_end items
+  pub rest : IsRest once (last_item items) made.rest
+  pub prints : Prints tells.output at_the_end made.cut (turn_lines items) out_first out_now
+  pub says : tells.errors ≡ true → SaysEnds items err_first err_now
+
+-- Serving ended, and came to this.
+pub record HasEnded (tells : Telling) (once : Bool) (turns : ℕ) (first now : ServeAt)
+    (out_first out_now err_first err_now : SinkAt) (outcome : Outcome) : Type 0 where
+  pub items : List Item
+  pub last : ServeAt
+  pub stop : Stop
+  pub cut : Bool
+  pub few : length items ≤ turns
+  pub serves : Serves tells once first items last
+  pub stops : StopsBy stop tells.clock once turns items last now
+  pub prints : Prints tells.output stop cut (turn_lines items) out_first out_now
+  pub says : tells.errors ≡ true → SaysEnds (said_of stop items) err_first err_now
+  pub comes : outcome ≡ outcome_by stop once items last.spool.watch.kids cut
+
+-- One turn more was made, or serving ended.
+abbrev pub Proceeds : Telling → Bool → List Item → Progress → ServeAt → ServeAt → SinkAt → SinkAt → SinkAt → SinkAt → Option Outcome → Type 0
+Proceeds tells once items made first now out_first out_now err_first err_now None =
+    (item : Item) × HasServed tells once (items ++ item ∷ []) made first now out_first out_now err_first err_now
+Proceeds tells once items made first now out_first out_now err_first err_now (Some outcome) =
+    (turns : ℕ) → length items < turns → HasEnded tells once turns first now out_first out_now err_first err_now outcome

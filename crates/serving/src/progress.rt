@@ -1,0 +1,156 @@
+//! How far serving has come.
+ghost use Rattle.std.specs.Prelude.{◌≡◌, false, None};
+ghost use Rattle.clock_range.specs.ClockRange.{IsClockSecond};
+ghost use Rattle.serving.specs.Items.{rest_behind};
+ghost use Rattle.serving.specs.Outcomes.{end_outcome, kids_outcome, output_outcome, turns_outcome};
+ghost use Rattle.serving.specs.inside.Progressing.{RestsBefore, first_or, mode_by, outcome_if};
+
+use crate::Outcome;
+use crate::looping::{LONGEST_REST, SHORT_REST};
+use daemon_turn::{Kid, Mode, TurnEnd};
+use host_calls::Readings;
+use listing_text::Cause;
+
+// How far serving has come: how the first turn ended, the seconds of the rest before the next one, and whether a put on
+// the output failed.
+#[derive(Clone, Copy)]
+pub(crate) struct Progress {
+    pub(crate) first: Option<TurnEnd>,
+    pub(crate) rest: u32,
+    pub(crate) cut: bool,
+}
+
+impl Progress {
+    // No turn was made.
+    pub(crate) fn new() -> Progress
+        ensures { result ≡ record { first = None; rest = 0; cut = false } }
+    {
+        Progress {
+            first: None,
+            rest: 0,
+            cut: false,
+        }
+    }
+
+    // The mode of the next turn.
+    pub(crate) fn mode(&self, once: bool) -> Mode
+        ensures { result ≡ mode_by once self.now.first }
+    {
+        if once && self.first.is_some() {
+            Mode::EndsOnly
+        } else {
+            Mode::Full
+        }
+    }
+
+    // Rests before the next turn. There is no rest before the first.
+    pub(crate) fn rest<R: Readings>(&self, readings: &mut R)
+        ensures { RestsBefore R.tells self.now.first self.now.rest (R.answers readings.old) (R.answers readings.new)
+            (R.readers readings.old) (R.readers readings.new) }
+    {
+        match &self.first {
+            Some(_) => readings.rest(self.rest),
+            None => {}
+        }
+    }
+
+    // One turn more was made.
+    pub(crate) fn add(&mut self, once: bool, now: i64, end: &TurnEnd)
+        requires { IsClockSecond now }
+        ensures first { self.new.first ≡ first_or self.old.first end.now }
+        ensures rest { self.new.rest ≡ rest_behind once end.now now }
+        ensures cut { self.new.cut ≡ self.old.cut }
+    {
+        self.first = first_or(&self.first, end);
+        self.rest = rest_behind(once, end, now);
+    }
+
+    // What serving comes to behind a turn that ended so, if no further one is made.
+    pub(crate) fn outcome_behind(&self, once: bool, end: &TurnEnd, kids: &[Kid]) -> Option<Outcome>
+        ensures { result ≡ outcome_if once end.now self.now.first kids.now self.now.cut }
+    {
+        if let TurnEnd::Damaged(damage) = end {
+            return Some(Outcome::OfTurn(Cause::Damaged(*damage)));
+        }
+        if once && kids.is_empty() {
+            Some(self.outcome(once, kids))
+        } else {
+            None
+        }
+    }
+
+    // What serving comes to where all turns are made.
+    pub(crate) fn outcome(&self, once: bool, kids: &[Kid]) -> Outcome
+        ensures { result ≡ turns_outcome once self.now.first kids.now self.now.cut }
+    {
+        if !once {
+            return output_outcome(self.cut);
+        }
+        let other = kids_outcome(kids, self.cut);
+        match &self.first {
+            Some(end) => end_outcome(end, other),
+            None => other,
+        }
+    }
+}
+
+// The end of the first turn, once one more ended so.
+fn first_or(first: &Option<TurnEnd>, end: &TurnEnd) -> Option<TurnEnd>
+    ensures { result ≡ first_or first.now end.now }
+{
+    match first {
+        Some(first) => Some(*first),
+        None => Some(*end),
+    }
+}
+
+// The seconds of the rest behind a turn.
+fn rest_behind(once: bool, end: &TurnEnd, now: i64) -> u32
+    requires { IsClockSecond now }
+    ensures { result ≡ rest_behind once end.now now }
+{
+    if once {
+        return SHORT_REST;
+    }
+    match end {
+        TurnEnd::Done => LONGEST_REST - (now.unsigned_abs() % u64::from(LONGEST_REST)) as u32,
+        TurnEnd::Busy => SHORT_REST,
+        TurnEnd::FileFault => SHORT_REST,
+        TurnEnd::Damaged(_) => SHORT_REST,
+        TurnEnd::Memory => SHORT_REST,
+    }
+}
+
+// The output failed, or all was done.
+fn output_outcome(cut: bool) -> Outcome
+    ensures { result ≡ output_outcome cut }
+{
+    if cut {
+        Outcome::Own(Cause::OutputFault)
+    } else {
+        Outcome::Own(Cause::Done)
+    }
+}
+
+// Kids that are left come before that.
+fn kids_outcome(kids: &[Kid], cut: bool) -> Outcome
+    ensures { result ≡ kids_outcome kids.now cut }
+{
+    match kids {
+        [] => output_outcome(cut),
+        [..] => Outcome::Own(Cause::StillRunning),
+    }
+}
+
+// What a turn ended with, unless it was done.
+fn end_outcome(end: &TurnEnd, other: Outcome) -> Outcome
+    ensures { result ≡ end_outcome end.now other }
+{
+    match end {
+        TurnEnd::Done => other,
+        TurnEnd::Busy => Outcome::OfTurn(Cause::Busy),
+        TurnEnd::FileFault => Outcome::OfTurn(Cause::FileFault),
+        TurnEnd::Damaged(damage) => Outcome::OfTurn(Cause::Damaged(*damage)),
+        TurnEnd::Memory => Outcome::OfTurn(Cause::Memory),
+    }
+}
