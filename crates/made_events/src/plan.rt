@@ -1,0 +1,45 @@
+//! The plan of a made day: nothing fails, and children end after up to two questions.
+ghost use Rattle.std.specs.Prelude.{◌≡◌, ◌≢◌, ◌≤◌, IfOk};
+ghost use Rattle.made_events.specs.Plans.{made_child, made_children, made_plan};
+
+use crate::made::MAX_MADE;
+use host_calls::Ending;
+use memory_host::{CallList, ChildPlan, ChildPlans, FailingList, Plan};
+use std::alloc::{AllocError, Global};
+
+/// The plan of a day of so many events.
+pub fn made_plan(alloc: Global, count: u32) -> Result<Plan, AllocError>
+    requires { count ≤ MAX_MADE }
+    ensures { IfOk result (λ plan. plan ≡ made_plan count) }
+{
+    Ok(Plan {
+        failing: FailingList::new(alloc),
+        taken: CallList::new(alloc),
+        failing_starts: CallList::new(alloc),
+        fuse: None,
+        children: children_to(alloc, count)?,
+    })
+}
+
+// The plans of the children of the numbers below the count.
+fn children_to(alloc: Global, count: u32) -> Result<ChildPlans, AllocError>
+    requires { count ≤ MAX_MADE }
+    ensures { IfOk result (λ plans. plans ≡ made_children count) }
+{
+    let mut plans = ChildPlans::new(alloc);
+    for number in 0..count {
+        plans.push(alloc, made_child(number))?;
+    }
+    Ok(plans)
+}
+
+// The plan of the child of this number.
+fn made_child(number: u32) -> ChildPlan
+    ensures plan { result ≡ made_child number }
+    ensures ends { result.ending ≢ Ending.NotStarted }
+{
+    ChildPlan {
+        asks: number % 3,
+        ending: Ending::Exit((number % 2) as u8),
+    }
+}
