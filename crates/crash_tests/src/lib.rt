@@ -11,6 +11,8 @@ mod journal_calls;
 #[cfg(test)]
 mod journal_tests;
 #[cfg(test)]
+mod line_tests;
+#[cfg(test)]
 mod recovery_tests;
 #[cfg(test)]
 mod slot_tests;

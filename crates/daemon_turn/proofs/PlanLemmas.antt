@@ -1,11 +1,15 @@
 -- What a turn will do, by the rows of the store.
 use Rattle.clock_range.specs.ClockRange.{IsClockSecond}
 use Rattle.std.proofs.lemmas.Int.{ints, to_z-of_z}
-use Rattle.std.proofs.Common.{◌≡◌, ◌++◌, ℕ, ℤ, Bool, true, FitsSigned, List, [], arith, of_z, to_z, w64, filter, map, sym, ap, subst, refl, inl, inr}
+use Rattle.std.proofs.Common.{◌≡◌, ◌++◌, ℕ, ℤ, Bool, true, FitsSigned, List, [], ◌∷◌, arith, of_z, to_z, w64, filter, map, sym, ap, subst, refl, inl, inr}
 use Rattle.std.specs.Prelude.{IfNone, IfSome, Option, Some, None, option_to_list}
 use Rattle.spool_model.specs.declared.row.Row.{Row}
 use Rattle.spool_model.specs.JobTable.{JobTable}
-use Rattle.queue_rules.specs.Order.{AreInDueOrder, IsFirstBatch, is_ready_batch, places_of}
+use Rattle.spool_model.specs.Lists.{live_rows}
+use Rattle.due_lines.specs.declared.due.Due.{Due}
+use Rattle.due_lines.specs.Dues.{IsLineOf}
+use Rattle.due_lines.proofs.LineLemmas.{head_is_first, line_is_due_order, no_places}
+use Rattle.queue_rules.specs.Order.{AreInDueOrder, IsFirstBatch, is_ready_batch, is_ready_job, places_of}
 use Rattle.spool_store.specs.Listed.{ListsLive}
 use Rattle.spool_store.proofs.CountLemmas.{rows_listed}
 use Rattle.daemon_turn.specs.declared.kid.Kid.{Kid}
@@ -18,23 +22,35 @@ pub lost_listed : (table : JobTable) (rows : List Row) (kids : List Kid) → Lis
 lost_listed table rows kids lists =
     ap (λ (listed : List Row). map (λ (row : Row). Interrupted row.number) (filter (is_left kids) listed)) (sym (rows_listed table rows lists))
 
-pub batch_listed : (table : JobTable) (rows : List Row) (now written : ℤ) (may : Bool) (found : Option ℕ) → ListsLive table rows → written ≡ now → may ≡ true →
-    IfSome found (IsFirstBatch rows written) → IfNone found (places_of (is_ready_batch written) rows ≡ []) → IsBatchOrderWhere may table now (option_to_list found)
-batch_listed table rows now written may found lists same is some none =
+-- an item of the first of a line, or of none
+pub batch_in_line : (table : JobTable) (dues : List Due) (now written : ℤ) (may : Bool) (found : Option ℕ) → written ≡ now → may ≡ true → IsLineOf (is_ready_batch written) (live_rows table) dues
+    → IfSome found (λ number. (due : Due) × (later : List Due) × (dues ≡ due ∷ later) × (number ≡ due.number)) → IfNone found (dues ≡ []) → IsBatchOrderWhere may table now (option_to_list found)
+batch_in_line table dues now written may found same is line some none =
     subst (λ (b : Bool). IsBatchOrderWhere b table now (option_to_list found)) (sym is) (by_found found some none) where
-      by_found : (one : Option ℕ) → IfSome one (IsFirstBatch rows written) → IfNone one (places_of (is_ready_batch written) rows ≡ []) → IsBatchOrderWhere true table now (option_to_list one)
-      by_found (Some number) first other =
-          inl (number, subst (λ (listed : List Row). IsFirstBatch listed now number) (sym (rows_listed table rows lists)) (subst (λ (of : ℤ). IsFirstBatch rows of number) same first), refl)
+      by_found : (one : Option ℕ) → IfSome one (λ number. (due : Due) × (later : List Due) × (dues ≡ due ∷ later) × (number ≡ due.number)) → IfNone one (dues ≡ [])
+          → IsBatchOrderWhere true table now (option_to_list one)
+      by_found (Some number) (due, later, are, of) other =
+          inl (
+            number,
+            subst (IsFirstBatch (live_rows table) now) (sym of) (subst (λ (at : ℤ). IsFirstBatch (live_rows table) at due.number) same
+                (head_is_first (live_rows table) written due later (subst (IsLineOf (is_ready_batch written) (live_rows table)) are line))),
+            refl,
+          )
       by_found None first other =
-          inr (subst (λ (listed : List Row). places_of (is_ready_batch now) listed ≡ []) (sym (rows_listed table rows lists)) (subst (λ (of : ℤ). places_of (is_ready_batch of) rows ≡ []) same other), refl)
+          inr (
+            subst (λ (at : ℤ). places_of (is_ready_batch at) (live_rows table) ≡ []) same
+                (no_places (is_ready_batch written) (live_rows table) (subst (IsLineOf (is_ready_batch written) (live_rows table)) other line)),
+            refl,
+          )
 
-pub order_listed : (turn : Turn) (table : JobTable) (rows : List Row) (written : ℤ) (jobs : List ℕ) (batch : Option ℕ) (order : List ℕ) → ListsLive table rows → written ≡ turn.now →
-    AreInDueOrder rows written jobs → IsBatchOrderWhere (has_batch_turn turn table) table turn.now (option_to_list batch) → order ≡ jobs ++ option_to_list batch →
-    IsFullOrder turn table order
-order_listed turn table rows written jobs batch order lists same due allowed both = record {
-  jobs = jobs;
+pub order_in_line : (turn : Turn) (table : JobTable) (dues : List Due) (written : ℤ) (numbers : List ℕ) (batch : Option ℕ) (order : List ℕ) → written ≡ turn.now
+    → IsLineOf (is_ready_job written) (live_rows table) dues → numbers ≡ map (λ due. due.number) dues → IsBatchOrderWhere (has_batch_turn turn table) table turn.now (option_to_list batch)
+    → order ≡ numbers ++ option_to_list batch → IsFullOrder turn table order
+order_in_line turn table dues written numbers batch order same line are allowed both = record {
+  jobs = numbers;
   batch = option_to_list batch;
-  due = subst (λ (listed : List Row). AreInDueOrder listed turn.now jobs) (sym (rows_listed table rows lists)) (subst (λ (of : ℤ). AreInDueOrder rows of jobs) same due);
+  due = subst (λ (at : ℤ). AreInDueOrder (live_rows table) at numbers) same
+      (subst (AreInDueOrder (live_rows table) written) (sym are) (line_is_due_order (live_rows table) written dues line));
   allowed = allowed;
   both = both;
 }

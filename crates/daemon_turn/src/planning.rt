@@ -1,6 +1,7 @@
 //! What a turn will do is known before its first step.
 ghost use Rattle.clock_range.specs.ClockRange.{IsClockSecond};
-ghost use Rattle.std.specs.Prelude.{◌≡◌, List, IfOk, filter, map, option_to_list};
+ghost use Rattle.due_lines.specs.declared.due.Due.{Due};
+ghost use Rattle.std.specs.Prelude.{◌≡◌, ◌∷◌, [], List, IfOk, IfSome, IfNone, filter, map, option_to_list};
 ghost use Rattle.daemon_turn.specs.Decisions.{interrupts, is_left};
 ghost use Rattle.daemon_turn.specs.Kids.{AreByNumber};
 ghost use Rattle.daemon_turn.specs.Starting.{IsBatchOrderWhere, IsFullOrder, IsOrder, turn_of};
@@ -11,9 +12,9 @@ ghost use Rattle.queue_rules.specs.Queues.{may_start_batch};
 
 use crate::kids::has_kid;
 use crate::{Kid, Mode, Occasion, TurnStep};
-use queue_rules::{due_order, first_batch, may_start_batch};
+use queue_rules::may_start_batch;
 use spool_model::{Row, State};
-use spool_store::Store;
+use spool_store::{Due, Store};
 use std::alloc::{AllocError, Global};
 
 // What a turn will do on a store.
@@ -103,11 +104,28 @@ fn full_order(
         → IsFullOrder (turn_of (record { kids = kids; limit = limit; interval = interval }) at)
         store.now.table numbers.items) }
 {
-    let mut numbers = due_order(alloc, store.rows(), at.now)?;
+    let mut numbers = numbers_of(alloc, store.due(at.now))?;
     if let Some(number) = batch_job(store, limit, interval, at) {
         numbers.push(number)?;
     }
     Ok(numbers)
+}
+
+// The numbers of jobs in line.
+fn numbers_of(alloc: Global, dues: &[Due]) -> Result<Vec<u32>, AllocError>
+    ensures { IfOk result (λ numbers. numbers.items ≡ map (λ due. due.number) dues.now) }
+{
+    dues.iter().map(|due| due.number).collect(alloc)
+}
+
+// The number of the first job in line.
+fn first_of(dues: &[Due]) -> Option<u32>
+    ensures some { IfSome result (λ number. (due : Due) × (later : List Due)
+        × (dues.now ≡ due ∷ later) × (number ≡ due.number)) }
+    ensures none { IfNone result (dues.now ≡ []) }
+{
+    let due = dues.first()?;
+    Some(due.number)
 }
 
 // The first batch job, where one may start.
@@ -117,7 +135,7 @@ fn batch_job(store: &Store, limit: u32, interval: u32, at: Occasion) -> Option<u
         store.now.table at.now (option_to_list result) }
 {
     if may_start_batch(at.load, limit, store.last_batch(), at.now, interval) {
-        first_batch(store.rows(), at.now)
+        first_of(store.due_batch(at.now))
     } else {
         None
     }

@@ -8,6 +8,7 @@ pub mod FrontLemmas
 pub mod KeptMarks
 pub mod KindLemmas
 pub mod LifecycleLemmas
+pub mod LinedLemmas
 pub mod ListLemmas
 pub mod ListedLemmas
 pub mod Listing

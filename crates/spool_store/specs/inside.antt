@@ -1,6 +1,7 @@
 pub mod FoundJobs
 pub mod JobRows
 pub mod Lifecycles
+pub mod Lined
 pub mod Marking
 pub mod Survey
 pub mod Tables

@@ -1,5 +1,9 @@
 //! What a store keeps of its jobs.
-ghost use Rattle.std.specs.Prelude.{◌≡◌, ◌↔◌, OnOk, OnErr, IsTrue, IfSome, IfNone, Some, map, if◌then◌else◌};
+ghost use Rattle.clock_range.specs.ClockRange.{IsClockSecond};
+ghost use Rattle.due_lines.specs.Dues.{IsLineOf};
+ghost use Rattle.queue_rules.specs.Order.{is_ready_batch, is_ready_job};
+ghost use Rattle.spool_model.specs.Lists.{live_rows};
+ghost use Rattle.std.specs.Prelude.{◌≡◌, ◌↔◌, IfOk, OnOk, OnErr, IsTrue, IfSome, IfNone, Some, map, if◌then◌else◌};
 ghost use Rattle.std.specs.FinMap as finite;
 ghost use Rattle.spool_model.specs.declared.entry.Entry.TheVariants.{Live, Done};
 ghost use Rattle.spool_model.specs.declared.state.State.TheVariants.{Pending};
@@ -10,27 +14,29 @@ ghost use Rattle.spool_store.specs.Listed.{AreListed, IsLive, ListsDecided, List
 ghost use Rattle.spool_store.specs.Rows.{decided_entry, listed_table, row_entry};
 
 use crate::sorted;
+use due_lines::{Due, Lines};
 use host_calls::Ending;
 use spool_model::{Decided, Fate, Row, is_batch};
-use std::alloc::AllocError;
+use std::alloc::{AllocError, Global};
 use std::marker::Model;
 
 // The job table without scripts: the last number, the rows of the live jobs and the decided
-// numbers, both in the order of their numbers, and the second of the last batch start.
+// numbers, both in the order of their numbers, and the second of the last batch start. The lines are
+// those of the rows that are pending.
 #[derive(Drop)]
 pub(crate) struct Jobs {
     last: u32,
     last_batch: Option<i64>,
     rows: Vec<Row>,
     decided: Vec<Decided>,
+    lines: Lines,
 }
 
 impl Model for Jobs {
-    ghost use Rattle.std.specs.Prelude.{map};
     ghost use Rattle.spool_model.specs.Codes.{table_code};
     ghost use Rattle.spool_model.specs.JobTable.{JobTable};
-    ghost use Rattle.spool_store.specs.Listed.{AreListed};
-    ghost use Rattle.spool_store.specs.Rows.{decided_entry, listed_table, row_entry};
+    ghost use Rattle.spool_store.specs.Rows.{listed_table};
+    ghost use Rattle.spool_store.specs.inside.Lined.{AreKept};
 
     ghost Value = { JobTable };
 
@@ -38,26 +44,29 @@ impl Model for Jobs {
 
     ghost view = { λ jobs. listed_table jobs.last jobs.rows.items jobs.decided.items jobs.last_batch };
 
-    ghost invariant = { λ jobs. AreListed jobs.last (map row_entry jobs.rows.items) (map decided_entry jobs.decided.items) };
+    ghost invariant = { λ jobs. AreKept jobs.last jobs.rows.items jobs.decided.items jobs.lines };
 }
 
 impl Jobs {
     // The jobs of these rows and decided numbers, both in the order of their numbers.
     pub(crate) fn of(
+        alloc: Global,
         last: u32,
         last_batch: Option<i64>,
         rows: Vec<Row>,
         decided: Vec<Decided>,
-    ) -> Jobs
+    ) -> Result<Jobs, AllocError>
         requires { AreListed last (map row_entry rows.items) (map decided_entry decided.items) }
-        ensures { result ≡ listed_table last rows.items decided.items last_batch }
+        ensures { IfOk result (λ jobs. jobs ≡ listed_table last rows.items decided.items last_batch) }
     {
-        Jobs {
+        let lines = Lines::of(alloc, rows.as_slice())?;
+        Ok(Jobs {
             last,
             last_batch,
             rows,
             decided,
-        }
+            lines,
+        })
     }
 
     // The number that was drawn last, 0 before the first.
@@ -115,6 +124,22 @@ impl Jobs {
         }
     }
 
+    // The pending jobs outside the batch queues that are due, by minute, then number.
+    pub(crate) fn due(&self, now: i64) -> &[Due]
+        requires { IsClockSecond now }
+        ensures { IsLineOf (is_ready_job now) (live_rows self.now) result.now }
+    {
+        self.lines.jobs.due(now)
+    }
+
+    // The pending jobs of the batch queues that are due, by minute, then number.
+    pub(crate) fn due_batch(&self, now: i64) -> &[Due]
+        requires { IsClockSecond now }
+        ensures { IsLineOf (is_ready_batch now) (live_rows self.now) result.now }
+    {
+        self.lines.batch.due(now)
+    }
+
     // Draws the next number.
     pub(crate) fn draw(&mut self)
         requires { IsLegal self.old Draw }
@@ -131,7 +156,9 @@ impl Jobs {
         ensures taken { OnOk result (self.new ≡ after_step self.old (Accept row.number (row_job row))) }
         ensures kept { OnErr result (self.new ≡ self.old) }
     {
-        self.rows.push(row)?;
+        self.rows.reserve(1)?;
+        self.lines.add(&row)?;
+        self.rows.push_reserved(row);
         Ok(())
     }
 
@@ -150,6 +177,7 @@ impl Jobs {
         ensures { self.new ≡ after_step self.old (Start number second) }
     {
         let row = sorted::start_row(&mut self.rows, number, second);
+        self.lines.take(&row);
         self.last_batch = last_batch_after(self.last_batch, row.queue, second);
     }
 
@@ -187,7 +215,8 @@ impl Jobs {
         ensures kept { OnErr result (self.new ≡ self.old) }
     {
         sorted::insert_decided(&mut self.decided, Decided { number, fate })?;
-        sorted::remove_row(&mut self.rows, number);
+        let row = sorted::remove_row(&mut self.rows, number);
+        self.lines.take(&row);
         Ok(())
     }
 }

@@ -19,6 +19,7 @@ mod submitting;
 mod survey;
 mod tables;
 
+pub use due_lines::Due;
 pub use fault::StoreFault;
 pub(crate) use jobs::Jobs;
 pub use laws::lists_are_of_the_table;

@@ -1,10 +1,11 @@
 //! Rows and decided numbers in vectors, in the order of their numbers.
-ghost use Rattle.std.specs.Prelude.{◌≡◌, ◌≤◌, ◌<◌, OnOk, OnErr, IsSome, Some, None, length, map};
+ghost use Rattle.std.specs.Prelude.{◌∷◌, [], ◌≡◌, ◌≤◌, ◌<◌, OnOk, OnErr, IsSome, Some, None, length, map};
 ghost use Rattle.std.specs.List.Sorted.{IsPartitionPoint};
 ghost use Rattle.spool_model.specs.declared.entry.Entry.TheVariants.{Live, Done};
 ghost use Rattle.spool_model.specs.declared.state.State.TheVariants.{Running};
 ghost use Rattle.spool_store.specs.Listed.{IsEdited, Rises, entry_in, row_job};
 ghost use Rattle.spool_store.specs.Rows.{decided_entry, row_entry};
+ghost use Rattle.spool_store.specs.inside.Lined.{IsRowPut, running};
 
 use spool_model::{Decided, Row, State};
 use std::alloc::AllocError;
@@ -27,14 +28,15 @@ pub(crate) fn decided_place(decided: &[Decided], number: u32) -> usize
     decided.partition_point(|done| done.number < number)
 }
 
-// Takes the row of this number out.
-pub(crate) fn remove_row(rows: &mut Vec<Row>, number: u32)
+// Takes the row of this number out, and gives it.
+pub(crate) fn remove_row(rows: &mut Vec<Row>, number: u32) -> Row
     requires order { Rises (map row_entry rows.old.items) }
     requires present { IsSome (entry_in (map row_entry rows.old.items) number) }
-    ensures { IsEdited (map row_entry rows.old.items) (map row_entry rows.new.items) number None }
+    ensures edited { IsEdited (map row_entry rows.old.items) (map row_entry rows.new.items) number None }
+    ensures taken { IsRowPut rows.old.items result [] rows.new.items }
 {
     let place = row_place(rows, number);
-    rows.remove(place);
+    rows.remove(place)
 }
 
 // Brings the row of this number to running since this second, and gives it as it was.
@@ -44,6 +46,7 @@ pub(crate) fn start_row(rows: &mut Vec<Row>, number: u32, second: i64) -> Row
     ensures was { entry_in (map row_entry rows.old.items) number ≡ Some (row_entry result).1 }
     ensures started { IsEdited (map row_entry rows.old.items) (map row_entry rows.new.items) number
         (Some (Live (row_job result) (Running second))) }
+    ensures put { IsRowPut rows.old.items result (running result second ∷ []) rows.new.items }
 {
     let place = row_place(rows, number);
     let row = rows[place];

@@ -3,10 +3,14 @@ ghost use Rattle.std.specs.Prelude.{◌≡◌, IfNone, IfSome, IsTrue, Contains}
 ghost use Rattle.clock_range.specs.ClockRange.{IsClockSecond};
 ghost use Rattle.spool_model.specs.declared.row.Row.{Row};
 ghost use Rattle.spool_model.specs.JobTable.{IsSound};
+ghost use Rattle.spool_model.specs.Lists.{live_rows};
+ghost use Rattle.queue_rules.specs.Order.{is_ready_batch, is_ready_job};
+ghost use Rattle.due_lines.specs.Dues.{IsLineOf};
 ghost use Rattle.spool_store.specs.Listed.{IsLive, IsRowOf, ListsDecided, ListsLive};
 ghost use Rattle.spool_store.specs.Stored.{IsRowInRange, IsStored};
 
 use crate::Jobs;
+use due_lines::Due;
 use spool_model::{Decided, Row};
 use start_journal::Journal;
 use std::marker::Model;
@@ -74,5 +78,22 @@ impl Store {
         ensures range { IfSome result IsClockSecond }
     {
         self.jobs.last_batch()
+    }
+
+    /// The pending jobs outside the batch queues whose minute has begun, by minute, then number. It takes no
+    /// memory.
+    pub fn due(&self, now: i64) -> &[Due]
+        requires { IsClockSecond now }
+        ensures { IsLineOf (is_ready_job now) (live_rows self.now.table) result.now }
+    {
+        self.jobs.due(now)
+    }
+
+    /// The pending jobs of the batch queues whose minute has begun, by minute, then number. It takes no memory.
+    pub fn due_batch(&self, now: i64) -> &[Due]
+        requires { IsClockSecond now }
+        ensures { IsLineOf (is_ready_batch now) (live_rows self.now.table) result.now }
+    {
+        self.jobs.due_batch(now)
     }
 }

@@ -64,7 +64,8 @@ pub(crate) fn jobs_shown(
         (IsFound (damage_of_jobs last marks.now (files_found seen.now))) }
 {
     let (rows, decided) = listed(alloc, last, marks, lives, seen)?;
-    Ok(Jobs::of(last, last_batch(marks), rows, decided))
+    let jobs = Jobs::of(alloc, last, last_batch(marks), rows, decided)?;
+    Ok(jobs)
 }
 
 fn rows_in_order(alloc: Global, rows: &BTreeMap<u32, Row>) -> Result<Vec<Row>, AllocError>

@@ -96,14 +96,14 @@ fn has_numbers(jobs: &Jobs, rows: &[u32], decided: &[u32]) -> bool {
             .all(|(done, number)| done.number == *number)
 }
 
-fn no_jobs(alloc: Global) -> Jobs {
-    Jobs::of(0, None, Vec::new(alloc), Vec::new(alloc))
+fn no_jobs(alloc: Global) -> Result<Jobs, AllocError> {
+    Jobs::of(alloc, 0, None, Vec::new(alloc), Vec::new(alloc))
 }
 
 #[test]
 fn both_lists_stay_in_order(rt: HostRuntime) -> Result<(), Fail> {
     let user = UserName::of(b"ann").ok_or("ann")?;
-    let mut jobs = no_jobs(rt.alloc());
+    let mut jobs = no_jobs(rt.alloc())?;
     let trials: [(Trial, bool, &[u32], &[u32], Option<i64>); 18] = [
         (Trial::Accept(b'a'), false, &[], &[], None),
         (Trial::Draw, true, &[], &[], None),

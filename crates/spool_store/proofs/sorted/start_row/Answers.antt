@@ -12,11 +12,9 @@ use Rattle.spool_store.specs.Listed.{row_job}
 use Rattle.spool_store.specs.Rows.{row_entry}
 use Rattle.spool_store.proofs.Edits.{IsBefore, IsFrom, edited_put, set_is_put, test_from}
 use Rattle.spool_store.proofs.Places.{is_at_place}
+use Rattle.spool_store.specs.inside.Lined.{running}
+use Rattle.spool_store.proofs.LinedLemmas.{row_set}
 use Rattle.spool_store.proofs.sorted.start_row.Goals as goal
-
--- the row, running
-abbrev running : Row → ℤ → Row
-running row second = record { number = row.number; queue = row.queue; minute = row.minute; user = row.user; state = Running second }
 
 pub index-row-requires : goal.index-row-requires
 index-row-requires c =
@@ -46,3 +44,11 @@ returns-clause-started c =
     (ap (λ second. map row_entry (set rows place (running row second))) (to_z-of_z w64 c.args.second c.ranges.second)
     ∙ set_is_put row_entry rows place (running row c.args.second) (subst (λ at. AllWithin (IsBefore row_entry at) rows 0 place) (sym same) before) there.0 (λ d. there.2 d ∙ sym same)
     ∙ ap (λ at. put nat_cmp at (Live (row_job row) (Running c.args.second)) (map row_entry rows)) same)
+
+pub returns-clause-put : goal.returns-clause-put
+returns-clause-put c =
+    let rows = c.args.rows.now.items in
+    let row = c.index-row.result.now in
+    let place = c.row_place-place.result in
+    let there = is_at_place row_entry rows _ place c.args.number c.deref.ensures.value (test_from _ c.requires.order) c.row_place-place.ensures.place c.requires.present in
+    row_set rows _ place row (running row c.args.second) there.0 c.index-row.ensures (ap (λ second. set rows place (running row second)) (to_z-of_z w64 c.args.second c.ranges.second))

@@ -9,10 +9,13 @@ remove_decided-requires-clause-present c = subst IsSome (sym (done_is_decided c.
 
 pub invariant_of-self : goal.invariant_of-self
 invariant_of-self c =
-    still_listed (map row_entry c.self.inside.rows.items) (map decided_entry c.self.inside.decided.items) _ _ c.args.number None None (unedited _ c.args.number c.self.invariant.live_rise (done_is_decided c.self.inside.last c.self.inside.rows.items c.self.inside.decided.items c.self.inside.last_batch c.args.self.now c.self.view_is c.args.number c.requires.0 c.requires.1).0) c.remove_decided.ensures
-    c.self.inside.last c.self.invariant (λ some. refl) (is_drawn c.self.inside.last c.self.inside.rows.items c.self.inside.decided.items c.self.inside.last_batch c.args.self.now c.self.view_is c.self.invariant c.args.number (subst IsSome (sym c.requires.1) refl))
+    record {
+      listed = still_listed (map row_entry c.self.inside.rows.items) (map decided_entry c.self.inside.decided.items) _ _ c.args.number None None (unedited _ c.args.number c.self.invariant.listed.live_rise (done_is_decided c.self.inside.last c.self.inside.rows.items c.self.inside.decided.items c.self.inside.last_batch c.args.self.now c.self.view_is c.args.number c.requires.0 c.requires.1).0) c.remove_decided.ensures
+          c.self.inside.last c.self.invariant.listed (λ some. refl) (is_drawn c.self.inside.last c.self.inside.rows.items c.self.inside.decided.items c.self.inside.last_batch c.args.self.now c.self.view_is c.self.invariant.listed c.args.number (subst IsSome (sym c.requires.1) refl));
+      lined = c.self.invariant.lined;
+    }
 
 pub returns : goal.returns
 returns c =
     table_taken c.self.inside.last c.self.inside.rows.items c.self.inside.decided.items c.self.inside.last_batch c.args.self.now c.self.view_is c.self.inside.rows.items _ c.args.number None None
-    (unedited _ c.args.number c.self.invariant.live_rise (done_is_decided c.self.inside.last c.self.inside.rows.items c.self.inside.decided.items c.self.inside.last_batch c.args.self.now c.self.view_is c.args.number c.requires.0 c.requires.1).0) c.remove_decided.ensures refl
+    (unedited _ c.args.number c.self.invariant.listed.live_rise (done_is_decided c.self.inside.last c.self.inside.rows.items c.self.inside.decided.items c.self.inside.last_batch c.args.self.now c.self.view_is c.args.number c.requires.0 c.requires.1).0) c.remove_decided.ensures refl

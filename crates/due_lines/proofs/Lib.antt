@@ -1,0 +1,4 @@
+pub mod CountedLemmas
+pub mod LineLemmas
+pub mod OrderLemmas
+pub mod RowLemmas

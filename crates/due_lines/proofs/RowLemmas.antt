@@ -1,0 +1,183 @@
+-- The line of rows: with one row more, with one less, and its front.
+use Rattle.std.proofs.Common.{◌≡◌, ◌*◌, ◌&&◌, ◌++◌, ◌<◌, ℕ, ℤ, pos, Bool, true, false, cond, not, List, [], ◌∷◌, Contains, IsPermutation, length, map, filter, get_or, refl, sym, ap, subst, ◌∙◌, arith}
+use Rattle.std.specs.Int.RustNames.{int_le}
+use Rattle.std.proofs.lemmas.List.{append-nil, get_or-map, length-map, map-append}
+use Rattle.std.proofs.lemmas.List.Elements.{filter-append}
+use Rattle.std.proofs.lemmas.List.Sorted.{Contains-permutation, IsPermutation-map, IsPermutation-middle, IsPermutation-sym, IsPermutation-trans, IsPermutation-cons}
+use Rattle.spool_model.specs.declared.row.Row.{Row}
+use Rattle.spool_model.specs.JobTable.{is_batch_queue}
+use Rattle.queue_rules.specs.Order.{is_pending, is_ready_batch, is_ready_job, place_of, places_of}
+use Rattle.due_lines.specs.declared.due.Due.{Due}
+use Rattle.due_lines.specs.Dues.{AreInLine, IsLineOf, due_of, due_place, is_due_at, is_waiting_batch, is_waiting_job}
+use Rattle.due_lines.proofs.CountedLemmas.{cancel, kept_permutation}
+use Rattle.due_lines.proofs.OrderLemmas.{kept_in_line}
+
+-- the places of a front, a row and a back
+middle_places : (test : Row → Bool) (front back : List Row) (row : Row) →
+    places_of test (front ++ row ∷ back) ≡ places_of test front ++ map place_of (cond (test row) (row ∷ filter test back) (filter test back))
+middle_places test front back row = ap (map place_of) (filter-append test front (row ∷ back)) ∙ map-append place_of (filter test front) (filter test (row ∷ back))
+
+both_places : (test : Row → Bool) (front back : List Row) → places_of test (front ++ back) ≡ places_of test front ++ places_of test back
+both_places test front back = ap (map place_of) (filter-append test front back) ∙ map-append place_of (filter test front) (filter test back)
+
+-- a row that fails the test has no place
+pub unlisted : (test : Row → Bool) (front back : List Row) (row : Row) → test row ≡ false → places_of test (front ++ row ∷ back) ≡ places_of test (front ++ back)
+unlisted test front back row fails =
+    middle_places test front back row
+    ∙ ap (λ (b : Bool). places_of test front ++ map place_of (cond b (row ∷ filter test back) (filter test back))) fails
+    ∙ sym (both_places test front back)
+
+-- one that passes it has one
+listed : (test : Row → Bool) (front back : List Row) (row : Row) → test row ≡ true → IsPermutation (places_of test (front ++ row ∷ back)) (place_of row ∷ places_of test (front ++ back))
+listed test front back row passes =
+    let whole : places_of test (front ++ row ∷ back) ≡ places_of test front ++ place_of row ∷ places_of test back =
+    middle_places test front back row ∙ ap (λ (b : Bool). places_of test front ++ map place_of (cond b (row ∷ filter test back) (filter test back))) passes in
+    subst (λ (places : List (ℕ × ℕ)). IsPermutation places (place_of row ∷ places_of test (front ++ back))) (sym whole)
+    (subst (λ (places : List (ℕ × ℕ)). IsPermutation (places_of test front ++ place_of row ∷ places_of test back) (place_of row ∷ places)) (sym (both_places test front back))
+    (IsPermutation-middle (places_of test front) (place_of row) (places_of test back)))
+
+-- a row that passes more, and one less
+pub row_more : (test : Row → Bool) (rows : List Row) (row : Row) (old new : List Due) → test row ≡ true → IsPermutation (due_of row ∷ old) new → AreInLine new
+    → IsLineOf test rows old → IsLineOf test (rows ++ row ∷ []) new
+row_more test rows row old new passes added line is = record {
+  same = IsPermutation-trans _ _ _ (listed test rows [] row passes)
+      (IsPermutation-trans (place_of row ∷ places_of test (rows ++ [])) (place_of row ∷ map due_place old) (map due_place new)
+      (IsPermutation-cons (place_of row) _ _ (subst (λ (all : List Row). IsPermutation (places_of test all) (map due_place old)) (sym (append-nil rows)) is.same))
+      (IsPermutation-map due_place (due_of row ∷ old) new added));
+  in_line = line;
+}
+
+pub row_less : (test : Row → Bool) (front back : List Row) (row : Row) (old new : List Due) → test row ≡ true → IsPermutation old (due_of row ∷ new) → AreInLine new
+    → IsLineOf test (front ++ row ∷ back) old → IsLineOf test (front ++ back) new
+row_less test front back row old new passes taken line is = record {
+  same = cancel (place_of row) (places_of test (front ++ back)) (map due_place new)
+      (IsPermutation-trans _ _ _ (IsPermutation-sym _ _ (listed test front back row passes))
+      (IsPermutation-trans _ _ _ is.same (IsPermutation-map due_place old (due_of row ∷ new) taken)));
+  in_line = line;
+}
+
+-- a row that fails changes nothing
+pub row_unlisted : (test : Row → Bool) (front back : List Row) (row : Row) (dues : List Due) → test row ≡ false → IsLineOf test (front ++ row ∷ back) dues → IsLineOf test (front ++ back) dues
+row_unlisted test front back row dues fails is = record {
+  same = subst (λ (places : List (ℕ × ℕ)). IsPermutation places (map due_place dues)) (unlisted test front back row fails) is.same;
+  in_line = is.in_line;
+}
+
+pub row_put : (test : Row → Bool) (front back : List Row) (row : Row) (dues : List Due) → test row ≡ false → IsLineOf test (front ++ back) dues → IsLineOf test (front ++ row ∷ back) dues
+row_put test front back row dues fails is = record {
+  same = subst (λ (places : List (ℕ × ℕ)). IsPermutation places (map due_place dues)) (sym (unlisted test front back row fails)) is.same;
+  in_line = is.in_line;
+}
+
+pub row_pushed : (test : Row → Bool) (rows : List Row) (row : Row) (dues : List Due) → test row ≡ false → IsLineOf test rows dues → IsLineOf test (rows ++ row ∷ []) dues
+row_pushed test rows row dues fails is =
+    row_put test rows [] row dues fails (subst (λ (all : List Row). IsLineOf test all dues) (sym (append-nil rows)) is)
+
+-- a place among those of jobs is that of one of them
+of_place : (dues : List Due) (row : Row) → Contains (map due_place dues) (place_of row) → Contains dues (due_of row)
+of_place dues row (k, inside, here) =
+    let within : k < length dues = subst (λ (n : ℕ). k < n) (length-map dues due_place) inside in
+    let one : Due = get_or dues k (due_of row) in
+    let place : due_place one ≡ place_of row = sym (get_or-map due_place dues k (due_of row) (place_of row) within) ∙ here in
+    (k, within, ap (λ (p : ℕ × ℕ). record { minute = p.0; number = p.1 }) place)
+
+-- a row that passes is in the line
+pub row_in_line : (test : Row → Bool) (front back : List Row) (row : Row) (dues : List Due) → test row ≡ true → IsLineOf test (front ++ row ∷ back) dues → Contains dues (due_of row)
+row_in_line test front back row dues passes is =
+    of_place dues row (Contains-permutation (places_of test (front ++ row ∷ back)) (map due_place dues) (place_of row) is.same
+    (Contains-permutation (place_of row ∷ places_of test (front ++ back)) (places_of test (front ++ row ∷ back)) (place_of row)
+    (IsPermutation-sym _ _ (listed test front back row passes)) (0, omega arith, refl)))
+
+-- a row of one kind is not of the other
+pub not_job : (row : Row) → is_waiting_batch row ≡ true → is_waiting_job row ≡ false
+not_job row = by_tests (is_pending row.state) (is_batch_queue row.queue) where
+  by_tests : (p b : Bool) → (p && b) ≡ true → (p && not b) ≡ false
+  by_tests true true is = refl
+  by_tests true false is = cc
+  by_tests false b is = refl
+
+pub not_batch : (row : Row) → is_waiting_job row ≡ true → is_waiting_batch row ≡ false
+not_batch row = by_tests (is_pending row.state) (is_batch_queue row.queue) where
+  by_tests : (p b : Bool) → (p && not b) ≡ true → (p && b) ≡ false
+  by_tests true true is = cc
+  by_tests true false is = refl
+  by_tests false b is = refl
+
+-- a row that does not wait is of none
+pub none_job : (row : Row) → is_pending row.state ≡ false → is_waiting_job row ≡ false
+none_job row is = ap (λ (b : Bool). b && not (is_batch_queue row.queue)) is
+
+pub none_batch : (row : Row) → is_pending row.state ≡ false → is_waiting_batch row ≡ false
+none_batch row is = ap (λ (b : Bool). b && is_batch_queue row.queue) is
+
+-- the place's minute has begun
+abbrev has_begun : ℤ → ℕ × ℕ → Bool
+has_begun now place = int_le (pos (60 * place.0)) now
+
+-- a test and one that asks for the minute too
+abbrev Narrows : ℤ → (Row → Bool) → (Row → Bool) → Type 0
+Narrows now wide narrow = (row : Row) → narrow row ≡ (wide row && has_begun now (place_of row))
+
+begun_places : (now : ℤ) (wide narrow : Row → Bool) → Narrows now wide narrow → (rows : List Row) → filter (has_begun now) (places_of wide rows) ≡ places_of narrow rows
+begun_places now wide narrow narrows [] = refl
+begun_places now wide narrow narrows (row ∷ rows) = by_tests (begun_places now wide narrow narrows rows) (wide row) (has_begun now (place_of row)) refl refl where
+  by_tests : filter (has_begun now) (places_of wide rows) ≡ places_of narrow rows → (w h : Bool) → wide row ≡ w → has_begun now (place_of row) ≡ h → filter (has_begun now) (places_of wide (row ∷ rows)) ≡ places_of narrow (row ∷ rows)
+  by_tests again w h is_wide has =
+      ap (λ (b : Bool). filter (has_begun now) (map place_of (cond b (row ∷ filter wide rows) (filter wide rows)))) is_wide
+      ∙ by_cases again w h has
+      ∙ ap (λ (b : Bool). map place_of (cond b (row ∷ filter narrow rows) (filter narrow rows)))
+      (ap (λ (b : Bool). w && b) (sym has) ∙ ap (λ (b : Bool). b && has_begun now (place_of row)) (sym is_wide) ∙ sym (narrows row)) where
+        by_cases : filter (has_begun now) (places_of wide rows) ≡ places_of narrow rows → (w h : Bool) → has_begun now (place_of row) ≡ h →
+            filter (has_begun now) (map place_of (cond w (row ∷ filter wide rows) (filter wide rows))) ≡ map place_of (cond (w && h) (row ∷ filter narrow rows) (filter narrow rows))
+        by_cases again true true has = ap (λ (b : Bool). cond b (place_of row ∷ filter (has_begun now) (places_of wide rows)) (filter (has_begun now) (places_of wide rows))) has
+            ∙ ap (λ (rest : List (ℕ × ℕ)). place_of row ∷ rest) again
+        by_cases again true false has = ap (λ (b : Bool). cond b (place_of row ∷ filter (has_begun now) (places_of wide rows)) (filter (has_begun now) (places_of wide rows))) has
+            ∙ again
+        by_cases again false h has = again
+
+begun_dues : (now : ℤ) (dues : List Due) → filter (has_begun now) (map due_place dues) ≡ map due_place (filter (is_due_at now) dues)
+begun_dues now [] = refl
+begun_dues now (due ∷ dues) = by_test (begun_dues now dues) (is_due_at now due) where
+  by_test : filter (has_begun now) (map due_place dues) ≡ map due_place (filter (is_due_at now) dues) → (b : Bool) → cond b (due_place due ∷ filter (has_begun now) (map due_place dues)) (filter (has_begun now) (map due_place dues))
+      ≡ map due_place (cond b (due ∷ filter (is_due_at now) dues) (filter (is_due_at now) dues))
+  by_test again true = ap (λ (rest : List (ℕ × ℕ)). due_place due ∷ rest) again
+  by_test again false = again
+
+-- the front of a line is the line of the rows whose minute has begun
+front_of_line : (now : ℤ) (wide narrow : Row → Bool) → Narrows now wide narrow → (rows : List Row) (dues : List Due) → IsLineOf wide rows dues → IsLineOf narrow rows (filter (is_due_at now) dues)
+front_of_line now wide narrow narrows rows dues is = record {
+  same = subst (λ (places : List (ℕ × ℕ)). IsPermutation places (map due_place (filter (is_due_at now) dues))) (begun_places now wide narrow narrows rows)
+      (subst (IsPermutation (filter (has_begun now) (places_of wide rows))) (begun_dues now dues)
+      (kept_permutation (has_begun now) (places_of wide rows) (map due_place dues) is.same));
+  in_line = kept_in_line (is_due_at now) dues is.in_line;
+}
+
+pub front_of_jobs : (now : ℤ) (rows : List Row) (dues : List Due) → IsLineOf is_waiting_job rows dues → IsLineOf (is_ready_job now) rows (filter (is_due_at now) dues)
+front_of_jobs now = front_of_line now is_waiting_job (is_ready_job now) (λ row. by (is_pending row.state) (has_begun now (place_of row)) (not (is_batch_queue row.queue))) where
+  by : (p q r : Bool) → ((p && q) && r) ≡ ((p && r) && q)
+  by true true true = refl
+  by true true false = refl
+  by true false true = refl
+  by true false false = refl
+  by false q r = refl
+
+pub front_of_batch : (now : ℤ) (rows : List Row) (dues : List Due) → IsLineOf is_waiting_batch rows dues → IsLineOf (is_ready_batch now) rows (filter (is_due_at now) dues)
+front_of_batch now = front_of_line now is_waiting_batch (is_ready_batch now) (λ row. by (is_pending row.state) (has_begun now (place_of row)) (is_batch_queue row.queue)) where
+  by : (p q r : Bool) → ((p && q) && r) ≡ ((p && r) && q)
+  by true true true = refl
+  by true true false = refl
+  by true false true = refl
+  by true false false = refl
+  by false q r = refl
+
+due_places : (rows : List Row) → map place_of rows ≡ map due_place (map due_of rows)
+due_places [] = refl
+due_places (row ∷ rows) = ap (λ (rest : List (ℕ × ℕ)). place_of row ∷ rest) (due_places rows)
+
+-- the rows that pass, brought in line
+pub line_of_rows : (test : Row → Bool) (rows : List Row) (dues line : List Due) → dues ≡ map due_of (filter test rows) → IsPermutation dues line → AreInLine line → IsLineOf test rows line
+line_of_rows test rows dues line are same in_line = record {
+  same = subst (λ (places : List (ℕ × ℕ)). IsPermutation places (map due_place line)) (sym (due_places (filter test rows)))
+      (IsPermutation-map due_place (map due_of (filter test rows)) line (subst (λ (all : List Due). IsPermutation all line) are same));
+  in_line = in_line;
+}

@@ -1,0 +1,117 @@
+//! A line of due jobs.
+ghost use Rattle.std.specs.Prelude.{◌≡◌, ◌≤◌, ◌∷◌, true, false, OnOk, OnErr, IfOk, IsPermutation, Contains, filter, length, map};
+ghost use Rattle.std.specs.List.Sorted.{IsPartitionPoint};
+ghost use Rattle.spool_model.specs.declared.row.Row.{Row};
+ghost use Rattle.due_lines.specs.Dues.{AreInLine, IsLineOf, due_of, is_before, is_due_at, is_waiting_batch, is_waiting_job};
+
+use crate::Due;
+use crate::due::{is_waiting_batch, is_waiting_job};
+use spool_model::Row;
+use std::alloc::{AllocError, Global};
+use std::marker::Model;
+
+/// Jobs in order of minute, then number: seen as the list of them.
+#[derive(Drop)]
+pub struct Line {
+    dues: Vec<Due>,
+}
+
+impl Model for Line {
+    ghost use Rattle.std.specs.Prelude.{List};
+    ghost use Rattle.std.specs.Coded.{coded_list};
+    ghost use Rattle.due_lines.specs.contracts.due.Due as due;
+    ghost use Rattle.due_lines.specs.declared.due.Due.{Due};
+    ghost use Rattle.due_lines.specs.Dues.{AreInLine};
+
+    ghost Value = { List Due };
+
+    ghost coded = { coded_list due.the_row.coded };
+
+    ghost view = { λ line. line.dues.items };
+
+    ghost invariant = { λ line. AreInLine line.dues.items };
+}
+
+impl Line {
+    /// The line of the pending rows outside the batch queues.
+    pub fn of_jobs(alloc: Global, rows: &[Row]) -> Result<Line, AllocError>
+        ensures { IfOk result (IsLineOf is_waiting_job rows.now) }
+    {
+        Ok(Line::sorted(waiting_jobs(alloc, rows)?))
+    }
+
+    /// The line of the pending rows of the batch queues.
+    pub fn of_batch(alloc: Global, rows: &[Row]) -> Result<Line, AllocError>
+        ensures { IfOk result (IsLineOf is_waiting_batch rows.now) }
+    {
+        Ok(Line::sorted(waiting_batch(alloc, rows)?))
+    }
+
+    // These jobs in order.
+    fn sorted(mut dues: Vec<Due>) -> Line
+        ensures same { IsPermutation dues.items result }
+        ensures in_line { AreInLine result }
+    {
+        dues.sort_unstable_by_key(|due| (due.minute, due.number));
+        Line { dues }
+    }
+
+    /// Puts the job in its place. Where memory is wanting nothing changes.
+    pub fn add(&mut self, due: Due) -> Result<(), AllocError>
+        ensures added { OnOk result (IsPermutation (due ∷ self.old) self.new) }
+        ensures kept { OnErr result (self.new ≡ self.old) }
+        ensures in_line { AreInLine self.new }
+    {
+        let place = place_of(&self.dues, due);
+        self.dues.insert(place, due)?;
+        Ok(())
+    }
+
+    /// Takes the job out.
+    pub fn take(&mut self, due: Due)
+        requires { Contains self.old due }
+        ensures taken { IsPermutation self.old (due ∷ self.new) }
+        ensures in_line { AreInLine self.new }
+    {
+        let place = place_of(&self.dues, due);
+        self.dues.remove(place);
+    }
+
+    /// The jobs whose minute has begun.
+    pub fn due(&self, now: i64) -> &[Due]
+        ensures { result.now ≡ filter (is_due_at now) self.now }
+    {
+        let count = self.dues.partition_point(|due| due.is_due_at(now));
+        &self.dues[..count]
+    }
+}
+
+// How many jobs of the line stand before this one: its place.
+fn place_of(dues: &[Due], due: Due) -> usize
+    requires { AreInLine dues.now }
+    ensures bound { result ≤ length dues.now }
+    ensures place { IsPartitionPoint (λ other. is_before other due ≡ true) (λ other. is_before other due ≡ false)
+        dues.now result }
+{
+    dues.partition_point(|other| other.is_before(&due))
+}
+
+// The pending rows outside the batch queues.
+fn waiting_jobs(alloc: Global, rows: &[Row]) -> Result<Vec<Due>, AllocError>
+    ensures { IfOk result (λ dues. dues.items ≡ map due_of (filter is_waiting_job rows.now)) }
+{
+    rows.iter()
+        .filter(|row| is_waiting_job(row))
+        .map(Due::of)
+        .collect(alloc)
+}
+
+// The pending rows of the batch queues.
+fn waiting_batch(alloc: Global, rows: &[Row]) -> Result<Vec<Due>, AllocError>
+    ensures { IfOk result (λ dues. dues.items ≡ map due_of (filter is_waiting_batch rows.now)) }
+{
+    rows.iter()
+        .filter(|row| is_waiting_batch(row))
+        .map(Due::of)
+        .collect(alloc)
+}

@@ -1,0 +1,56 @@
+//! The two lines of the pending jobs.
+ghost use Rattle.std.specs.Prelude.{◌≡◌, ◌++◌, ◌∷◌, [], List, OnOk, OnErr, IfOk};
+ghost use Rattle.spool_model.specs.declared.row.Row.{Row};
+ghost use Rattle.due_lines.specs.TwoLines.{AreLinesOf};
+
+use crate::due::{is_waiting_batch, is_waiting_job};
+use crate::{Due, Line};
+use spool_model::Row;
+use std::alloc::{AllocError, Global};
+
+/// The line of the pending jobs outside the batch queues, and that of those in them.
+#[derive(Drop)]
+pub struct Lines {
+    pub jobs: Line,
+    pub batch: Line,
+}
+
+impl Lines {
+    /// The lines of these rows.
+    pub fn of(alloc: Global, rows: &[Row]) -> Result<Lines, AllocError>
+        ensures { IfOk result (AreLinesOf rows.now) }
+    {
+        Ok(Lines {
+            jobs: Line::of_jobs(alloc, rows)?,
+            batch: Line::of_batch(alloc, rows)?,
+        })
+    }
+
+    /// A row more. Where memory is wanting nothing changes.
+    pub fn add(&mut self, row: &Row) -> Result<(), AllocError>
+        ensures added { OnOk result ((rows : List Row) → AreLinesOf rows self.old
+            → AreLinesOf (rows ++ row.now ∷ []) self.new) }
+        ensures kept { OnErr result (self.new ≡ self.old) }
+    {
+        if is_waiting_batch(row) {
+            self.batch.add(Due::of(row))
+        } else if is_waiting_job(row) {
+            self.jobs.add(Due::of(row))
+        } else {
+            Ok(())
+        }
+    }
+
+    /// A row less.
+    pub fn take(&mut self, row: &Row)
+        requires { (front : List Row) × (back : List Row) × AreLinesOf (front ++ row.now ∷ back) self.old }
+        ensures { (front back : List Row) → AreLinesOf (front ++ row.now ∷ back) self.old
+            → AreLinesOf (front ++ back) self.new }
+    {
+        if is_waiting_batch(row) {
+            self.batch.take(Due::of(row));
+        } else if is_waiting_job(row) {
+            self.jobs.take(Due::of(row));
+        }
+    }
+}
