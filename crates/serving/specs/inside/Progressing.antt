@@ -79,7 +79,8 @@ pub record HasEnded (tells : Telling) (once : Bool) (turns : ℕ) (first now : S
   pub comes : outcome ≡ outcome_by stop once items last.spool.watch.kids cut
 
 -- One turn more was made, or serving ended.
-abbrev pub Proceeds : Telling → Bool → List Item → Progress → ServeAt → ServeAt → SinkAt → SinkAt → SinkAt → SinkAt → Option Outcome → Type 0
+abbrev pub Proceeds : Telling → Bool → List Item → Progress → ServeAt → ServeAt
+    → SinkAt → SinkAt → SinkAt → SinkAt → Option Outcome → Type 0
 Proceeds tells once items made first now out_first out_now err_first err_now None =
     (item : Item) × HasServed tells once (items ++ item ∷ []) made first now out_first out_now err_first err_now
 Proceeds tells once items made first now out_first out_now err_first err_now (Some outcome) =
