@@ -110,12 +110,7 @@ pub fn command<H: Host, R: Readings, I: Inputs, O: Sink, E: Sink>(
                 err,
             ),
         },
-        Err(fault) => Status::of(say_cause(
-            alloc,
-            tool_name(words),
-            cause_of_words(fault),
-            err,
-        )),
+        Err(fault) => Status::of(say_cause(alloc, tool_name(words), cause_of_words(fault), err)),
     }
 }
 

@@ -98,9 +98,7 @@ fn make_turns<H: Host, R: Readings, O: Sink, E: Sink>(
 {
     let mut progress = Progress::new();
     for _turn in 0..turns {
-        match next_turn(
-            alloc, daemon, once, &mut progress, host, readings, out, err,
-        ) {
+        match next_turn(alloc, daemon, once, &mut progress, host, readings, out, err) {
             Some(outcome) => return outcome,
             None => {}
         }

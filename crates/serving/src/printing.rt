@@ -34,7 +34,11 @@ fn print_step<O: Sink>(alloc: Global, step: &TurnStep, out: &mut O) -> Result<()
 {
     match step {
         TurnStep::HandedOver(number, _) => print(alloc, &TurnStepText::HandedOver(*number), out),
-        TurnStep::Ended(number, ending) => print(alloc, &TurnStepText::Ended(*number, *ending), out),
+        TurnStep::Ended(number, ending) => print(
+            alloc,
+            &TurnStepText::Ended(*number, *ending),
+            out,
+        ),
         TurnStep::Interrupted(number) => print(alloc, &TurnStepText::Interrupted(*number), out),
         TurnStep::Forgotten(_) => Ok(()),
     }
