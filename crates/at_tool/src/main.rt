@@ -5,6 +5,10 @@
 #[cfg(test)]
 mod ann;
 mod caller;
+#[cfg(test)]
+mod counting;
+#[cfg(test)]
+mod crowd_tests;
 mod environment;
 #[cfg(test)]
 mod memory;
