@@ -1,0 +1,8 @@
+use Rattle.at_day.specs.Days.{first_machine}
+use Rattle.at_day.specs.Machines.{machine}
+use Rattle.at_day.proofs.DeedLemmas.{IsSoFar}
+use Rattle.at_day.proofs.days.each_event.Given as goal
+
+-- the events so far are deeds
+abbrev pub invariant-loop-event : goal.invariant-loop-event
+invariant-loop-event l = IsSoFar l.events l.event-index l.reports.items (first_machine l.initial.host) (machine l.host l.daemon)

@@ -1,0 +1,32 @@
+-- A machine at one moment (own).
+use Rattle.std.specs.Prelude.{[], ℕ}
+use Rattle.daemon_turn.specs.Daemons.{Watch}
+use Rattle.daemon_turn.specs.Leaving.{DaemonAt}
+use Rattle.host_calls.specs.Session.{Session}
+use Rattle.host_calls.specs.World.{World}
+use Rattle.memory_host.specs.Host.{memory_session, memory_world}
+use Rattle.memory_host.specs.declared.memory_host.MemoryHost.{MemoryHost}
+
+-- its host, and what the daemon that works on it keeps
+pub record Machine : Type 0 where
+  pub host : MemoryHost
+  pub watch : Watch
+
+abbrev pub machine : MemoryHost → Watch → Machine
+machine host watch = record { host = host; watch = watch }
+
+-- what its host tells as every host does
+abbrev pub session_of : Machine → Session
+session_of at = memory_session at.host
+
+-- the moments of its spool folder
+abbrev pub spool_of : Machine → World
+spool_of at = memory_world at.host
+
+-- the daemon and its host, as a turn sees them
+abbrev pub daemon_at : Machine → DaemonAt
+daemon_at at = record { session = memory_session at.host; world = memory_world at.host; watch = at.watch }
+
+-- a daemon that watches no child, with this limit and this interval
+abbrev pub idle_watch : ℕ → ℕ → Watch
+idle_watch limit interval = record { kids = []; limit = limit; interval = interval }
