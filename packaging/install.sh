@@ -1,5 +1,5 @@
 #!/bin/sh
-# Installs at, batch, atq, atrm, atd and atday, with their man pages, completions and units.
+# Installs at, batch, atq, atrm and atd, with their man pages, completions and units.
 #
 #   packaging/install.sh                             for the machine, below /usr/local
 #   PREFIX="$HOME/.local" packaging/install.sh       for one user, without root
@@ -16,7 +16,8 @@ to=$DESTDIR$PREFIX
 # The program. The toolchain builds only what is proved.
 if [ -z "${BINARY:-}" ]; then
     command -v rt >/dev/null || { echo 'install.sh: the toolchain is not here: give a BINARY' >&2; exit 1; }
-    (cd "$here/crates/at_tool" && rt run -- atday --make 1 >/dev/null)
+    # (the words are refused, which touches no folder)
+    (cd "$here/crates/at_tool" && rt run -- at -l -r >/dev/null 2>&1) || true
     BINARY=$here/crates/at_tool/out/at_tool
 fi
 [ -x "$BINARY" ] || { echo "install.sh: $BINARY is no program" >&2; exit 1; }
@@ -24,7 +25,7 @@ fi
 file() { install -D -m 644 "$1" "$2"; }
 
 install -D -m 755 "$BINARY" "$to/bin/at"
-for tool in batch atq atrm atday; do ln -sf at "$to/bin/$tool"; done
+for tool in batch atq atrm; do ln -sf at "$to/bin/$tool"; done
 mkdir -p "$to/sbin"
 ln -sf ../bin/at "$to/sbin/atd"
 
@@ -35,9 +36,9 @@ for name in batch atq atrm; do ln -sf at.1 "$to/share/man/man1/$name.1"; done
 ln -sf at.allow.5 "$to/share/man/man5/at.deny.5"
 
 file "$here/packaging/completions/at.bash" "$to/share/bash-completion/completions/at"
-for tool in batch atq atrm atd atday; do ln -sf at "$to/share/bash-completion/completions/$tool"; done
+for tool in batch atq atrm atd; do ln -sf at "$to/share/bash-completion/completions/$tool"; done
 file "$here/packaging/completions/_at" "$to/share/zsh/site-functions/_at"
-for tool in at batch atq atrm atd atday; do
+for tool in at batch atq atrm atd; do
     file "$here/packaging/completions/at.fish" "$to/share/fish/vendor_completions.d/$tool.fish"
 done
 
