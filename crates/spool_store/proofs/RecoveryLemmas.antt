@@ -4,6 +4,7 @@ use Rattle.std.specs.Prelude.{◌≢◌, Contains, IsErrAnd, Ok, Err, Result, is
 use Rattle.std.specs.FinMap as finite
 use Rattle.std.specs.List.{filter}
 use Rattle.host_calls.specs.declared.fault.HostFault.{HostFault}
+use Rattle.host_calls.specs.declared.fault.HostFault.TheVariants as host
 use Rattle.host_calls.specs.Folder.{Files, Folder, IsImage, IsInNoImage, IsSettled, IsSyncedInPart, reading_of, settled}
 use Rattle.host_calls.specs.World.{FileCall, World, reading}
 use Rattle.host_calls.proofs.FolderLemmas.{reading_is_image, reading_of-settled, settled_image}
@@ -30,9 +31,9 @@ use Rattle.spool_store.specs.declared.fault.StoreFault.{StoreFault}
 use Rattle.spool_store.specs.declared.fault.StoreFault.TheVariants.{Damaged, FileFault, Memory, NumbersUsedUp, QueueFull}
 use Rattle.spool_store.specs.declared.survey.Survey.{Survey}
 use Rattle.host_calls.specs.Damages.{IfDamaged}
-use Rattle.spool_store.specs.Faults.{IsOfReading}
+use Rattle.spool_store.specs.Faults.{IsOfReading, fault_of}
 use Rattle.spool_store.specs.inside.Survey.{IsSurvey, is_left_over}
-use Rattle.spool_store.specs.Recovering.{IsRecovered, Recovered}
+use Rattle.spool_store.specs.Recovering.{IsRecovered, Recovered, ShowsTheSame}
 use Rattle.whole_file.proofs.ChangesJoined.{changes_join}
 use Rattle.spool_store.proofs.RecoveryNames.{are_files, counting_stays, decided_left, journal_stays, left_among, left_is_spool, left_there, sequence_stays, stays_apart, temporary_left}
 
@@ -54,6 +55,15 @@ settling old new result call =
       | inl is ↦ as_before old.now.folder image is
       | inr done ↦ as_before old.now.folder image (settled_before old.now.folder done.0 image done.1 done.2)
     ])
+
+-- and the reading is that of before, whatever came of it
+settling_reads : {T : Type 0} (old new : World) (result : Result T HostFault) → FileCall IsSettled IsSyncedInPart old new result → reading new ≡ reading old
+settling_reads old new (Ok value) call = ap reading_of call.outcome ∙ reading_of-settled old.now.folder
+settling_reads old new (Err host.Failed) call = elim call.outcome [ | inl same ↦ ap reading_of same | inr part ↦ part.reading ]
+settling_reads old new (Err host.Memory) call = ap reading call.outcome
+
+settling_shows : {T : Type 0} (old new : World) (result : Result T HostFault) → FileCall IsSettled IsSyncedInPart old new result → ShowsTheSame old.now.folder new.now.folder
+settling_shows old new result call = ap shown_by (settling_reads old new result call)
 
 -- The look at the settled folder.
 
@@ -79,15 +89,27 @@ has_settled old settled looked value look call same is = record {
 pub only_settled : {T : Type 0} (old settled looked : World) (result : Result T HostFault) → FileCall IsSettled IsSyncedInPart old settled result → looked ≡ settled → ChangesFiles (ShowsAsBefore old.now.folder) old looked
 only_settled old settled looked result call same = subst (ChangesFiles (ShowsAsBefore old.now.folder) old) (sym same) (settling old settled result call)
 
+-- where the settling failed, nothing of what the reading shows has changed
+pub unsettled : {T : Type 0} (old settled : World) (call_result : Result T HostFault) (fault : HostFault) (result : Result Kept StoreFault) → FileCall IsSettled IsSyncedInPart old settled call_result → IsErrAnd result (λ one. one ≡ fault_of fault)
+    → Recovered old.now.folder settled.now.folder result
+unsettled old settled call_result fault (Ok kept) call is = absurd is
+unsettled old settled call_result fault (Err other) call is = subst (λ one. Recovered old.now.folder settled.now.folder (Err one)) (sym is) (by_fault fault) where
+  by_fault : (one : HostFault) → Recovered old.now.folder settled.now.folder (Err (fault_of one))
+  by_fault host.Failed = settling_shows old settled call_result call
+  by_fault host.Memory = settling_shows old settled call_result call
+
 -- and where it answers a damage, the reading shows it
-pub settled_damage : {T : Type 0} (old settled : World) (new : Folder) (value : T) (fault : StoreFault) (result : Result Kept StoreFault) → FileCall IsSettled IsSyncedInPart old settled (Ok value) → IsErrAnd result (λ one. one ≡ fault) → IsOfReading fault → IfDamaged {T = Survey} Damaged (λ damage. shown_by (reading settled) ≡ Err damage) (Err fault)
-    → Recovered old.now.folder new result
-settled_damage old settled new value fault (Ok kept) call is of_reading damaged = absurd is
-settled_damage old settled new value fault (Err other) call is of_reading damaged = subst (λ one. Recovered old.now.folder new (Err one)) (sym is) (by_fault fault of_reading damaged) where
-  by_fault : (one : StoreFault) → IsOfReading one → IfDamaged {T = Survey} Damaged (λ damage. shown_by (reading settled) ≡ Err damage) (Err one) → Recovered old.now.folder new (Err one)
+pub settled_damage : {T : Type 0} (old settled new : World) (value : T) (fault : StoreFault) (result : Result Kept StoreFault) → FileCall IsSettled IsSyncedInPart old settled (Ok value) → new ≡ settled → IsErrAnd result (λ one. one ≡ fault) → IsOfReading fault → IfDamaged {T = Survey} Damaged (λ damage. shown_by (reading settled) ≡ Err damage) (Err fault)
+    → Recovered old.now.folder new.now.folder result
+settled_damage old settled new value fault (Ok kept) call same is of_reading damaged = absurd is
+settled_damage old settled new value fault (Err other) call same is of_reading damaged = subst (λ one. Recovered old.now.folder new.now.folder (Err one)) (sym is) (by_fault fault of_reading damaged) where
+  shows_still : ShowsTheSame old.now.folder new.now.folder
+  shows_still = ap (λ (world : World). shown_by (reading world)) same ∙ settling_shows old settled (Ok value) call
+
+  by_fault : (one : StoreFault) → IsOfReading one → IfDamaged {T = Survey} Damaged (λ damage. shown_by (reading settled) ≡ Err damage) (Err one) → Recovered old.now.folder new.now.folder (Err one)
   by_fault (Damaged damage) of shows = ap shown_by (sym (settled_reading old settled call.outcome)) ∙ shows damage refl
-  by_fault Memory of shows = tt
-  by_fault FileFault of shows = tt
+  by_fault Memory of shows = shows_still
+  by_fault FileFault of shows = shows_still
   by_fault QueueFull of shows = absurd of
   by_fault NumbersUsedUp of shows = absurd of
 
@@ -158,6 +180,23 @@ module _ (old looked : World) (look : Survey) (at : HasSettled old looked look) 
     others = others_same image left;
   })
 
+  -- each image of the end is left so
+  left_at_end : (new : World) → ChangesFiles IsLeft looked new → (image : Files) → IsImage new.now.folder image → IsLeft image
+  left_at_end new changes image is =
+      (at_end (λ one handed. IsLeft one × (handed ≡ looked.now.handed)) looked new changes.leaves
+      (λ one was. (record { from = one; was = was; others = λ name apart. refl }, refl)) image is).0
+
+  -- so where the clearing failed, the reading shows what it showed
+  pub uncleared : (new : World) (fault : HostFault) (result : Result Kept StoreFault) → ChangesFiles IsLeft looked new → IsErrAnd result (λ one. one ≡ fault_of fault) → Recovered old.now.folder new.now.folder result
+  uncleared new fault (Ok kept) changes is = absurd is
+  uncleared new fault (Err other) changes is = subst (λ one. Recovered old.now.folder new.now.folder (Err one)) (sym is) (by_fault fault) where
+    shows_still : ShowsTheSame old.now.folder new.now.folder
+    shows_still = shows_same (reading new) (left_at_end new changes (reading new) (reading_is_image new.now.folder))
+
+    by_fault : (one : HostFault) → Recovered old.now.folder new.now.folder (Err (fault_of one))
+    by_fault host.Failed = shows_still
+    by_fault host.Memory = shows_still
+
   -- The end.
 
   module _ (new : World) (changes : ChangesFiles IsLeft looked new) (nothing : names ≡ [] → new ≡ looked) (cleared : names ≢ [] → AreCleared names looked.now.folder new.now.folder) where
@@ -170,9 +209,7 @@ module _ (old looked : World) (look : Survey) (at : HasSettled old looked look) 
 
     -- each image of the end is left so
     end_left : (image : Files) → IsImage new.now.folder image → IsLeft image
-    end_left image is =
-        (at_end (λ one handed. IsLeft one × (handed ≡ looked.now.handed)) looked new changes.leaves
-        (λ one was. (record { from = one; was = was; others = λ name apart. refl }, refl)) image is).0
+    end_left = left_at_end new changes
 
     -- no file that was left over is in an image
     gone : (name : List ℕ) → is_left_over marks name ≡ true → IsInNoImage new.now.folder name

@@ -15,11 +15,16 @@ pub record IsRecovered (old new : Folder) (kept : Kept) : Type 0 where
   pub current : IsCurrent kept new table
   pub others : KeepsOthers old new
 
--- what is left, by the answer: damage is answered where the reading shows it
+-- the reading shows what it showed: the same table, or the same damage
+abbrev pub ShowsTheSame : Folder → Folder → Type 0
+ShowsTheSame old new = shown_by (reading_of new) ≡ shown_by (reading_of old)
+
+-- what is left, by the answer: damage is answered where the reading shows it, and a recovery that failed has changed
+-- nothing of what it shows
 abbrev pub Recovered : Folder → Folder → Result Kept StoreFault → Type 0
 Recovered old new (Ok kept) = IsRecovered old new kept
 Recovered old new (Err (Damaged damage)) = shown_by (reading_of old) ≡ Err damage
-Recovered old new (Err FileFault) = Unit {0}
-Recovered old new (Err Memory) = Unit {0}
+Recovered old new (Err FileFault) = ShowsTheSame old new
+Recovered old new (Err Memory) = ShowsTheSame old new
 Recovered old new (Err QueueFull) = ⊥
 Recovered old new (Err NumbersUsedUp) = ⊥

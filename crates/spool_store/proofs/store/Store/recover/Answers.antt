@@ -1,5 +1,5 @@
 use Rattle.std.proofs.Common.{ap}
-use Rattle.spool_store.proofs.RecoveryLemmas.{can_clear, clearing, has_settled, only_settled, recovered, settled_damage, settled_untouched, settling}
+use Rattle.spool_store.proofs.RecoveryLemmas.{can_clear, clearing, has_settled, only_settled, recovered, settled_damage, settled_untouched, settling, uncleared, unsettled}
 use Rattle.spool_store.proofs.store.Store.recover.Goals as goal
 
 pub returns-in_err-settle-clause-files : goal.returns-in_err-settle-clause-files
@@ -10,7 +10,7 @@ returns-in_err-jobs-clause-files g c = λ tells. only_settled _ _ _ _ (c.settle.
 
 pub returns-in_err-jobs-clause-recovered : goal.returns-in_err-jobs-clause-recovered
 returns-in_err-jobs-clause-recovered g c = λ tells.
-    settled_damage _ _ _ _ c.in_err-jobs.field-0.0 c.from_residual-in_err-jobs.result (c.in_ok-settle.ensures.files tells) c.from_residual-in_err-jobs.ensures.1
+    settled_damage _ _ _ _ c.in_err-jobs.field-0.0 c.from_residual-in_err-jobs.result (c.in_ok-settle.ensures.files tells) (c.take_survey.ensures.looks tells) c.from_residual-in_err-jobs.ensures.1
     c.in_err-jobs.ensures.of_reading (c.in_err-jobs.ensures.damaged tells)
 
 pub clear-requires-clause-held : goal.clear-requires-clause-held
@@ -38,3 +38,11 @@ returns-clause-recovered g c = λ tells.
 pub returns-in_err-jobs-clause-untouched : goal.returns-in_err-jobs-clause-untouched
 returns-in_err-jobs-clause-untouched g c = λ tells.
     settled_untouched _ _ _ _ c.from_residual-in_err-jobs.result (c.in_ok-settle.ensures.files tells) (c.take_survey.ensures.looks tells)
+
+pub returns-in_err-settle-clause-recovered : goal.returns-in_err-settle-clause-recovered
+returns-in_err-settle-clause-recovered g c = λ tells. unsettled _ _ _ c.in_err-settle.field-0.0 c.from_residual.result (c.settle.ensures.files tells) c.from_residual.ensures.1
+
+pub returns-in_err-clear-clause-recovered : goal.returns-in_err-clear-clause-recovered
+returns-in_err-clear-clause-recovered g c = λ tells.
+    uncleared _ _ c.in_ok-jobs.field-0 (has_settled _ _ _ _ _ (c.in_ok-settle.ensures.files tells) (c.in_ok-jobs.ensures.looks tells) (c.in_ok-jobs.ensures.shown tells)) _ c.as_slice.ensures.value
+    _ c.in_err-clear.field-0.0 c.from_residual-in_err-clear.result (c.clear.ensures.files tells) c.from_residual-in_err-clear.ensures.1
