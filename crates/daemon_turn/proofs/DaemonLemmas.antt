@@ -7,8 +7,9 @@ use Rattle.host_calls.specs.declared.child.Handed.{Handed}
 use Rattle.host_calls.specs.declared.fault.EnterFault.{EnterFault}
 use Rattle.host_calls.specs.Causes.{Rose}
 use Rattle.host_calls.specs.Session.{Enters, IsLeft, Session}
-use Rattle.host_calls.specs.World.{World}
+use Rattle.host_calls.specs.World.{World, reading}
 use Rattle.spool_model.specs.JobTable.{JobTable}
+use Rattle.spool_shows.specs.Shown.{shown_by}
 use Rattle.whole_file.proofs.OthersLemmas.{changes_none}
 use Rattle.job_runs.specs.Attempts.{IsUnbegun}
 use Rattle.job_runs.specs.Calls.{ShowsAsBefore}
@@ -39,6 +40,7 @@ idle_same : (before after : Session) (old new : World) (watch : Watch) → new �
 idle_same before after old new watch same = record {
   none = record { none = refl; kids = refl };
   unbegun = unbegun_same old new same;
+  shown = ap (λ (world : World). shown_by (reading world)) same;
   asked = ap (λ (world : World). world.asked) same;
 }
 
@@ -122,7 +124,7 @@ module _ (turn : Turn) (before between worked after : Session) (entered : betwee
   }
 
   idle_at : (steps : List TurnStep) → IsIdle steps (stand between old watch) (stand worked new now) → IsIdle steps (stand before old watch) (stand after new now)
-  idle_at steps idle = record { none = idle.none; unbegun = idle.unbegun; asked = idle.asked }
+  idle_at steps idle = record { none = idle.none; unbegun = idle.unbegun; shown = idle.shown; asked = idle.asked }
 
   pub leaves_at : (end : TurnEnd) (steps : List TurnStep) → TurnLeaves turn steps (stand between old watch) (stand worked new now) end → TurnLeaves turn steps (stand before old watch) (stand after new now) end
   leaves_at Done steps leaves = whole_at steps leaves

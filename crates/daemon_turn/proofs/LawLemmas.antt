@@ -1,10 +1,11 @@
 -- What follows of every turn.
-use Rattle.std.proofs.Common.{◌≡◌, List, sym, ◌∙◌, refl, inl, inr}
+use Rattle.std.proofs.Common.{◌≡◌, ◌++◌, List, sym, ◌∙◌, refl, inl, inr}
 use Rattle.std.specs.Prelude.{Result, Ok, Err}
 use Rattle.host_calls.specs.declared.child.Handed.{Handed}
 use Rattle.host_calls.specs.declared.damage.Damage.{Damage}
 use Rattle.host_calls.specs.Folder.{Files, IsImage}
 use Rattle.host_calls.specs.World.{LeavesOnly, World, reading}
+use Rattle.host_calls.proofs.FolderLemmas.{reading_is_image}
 use Rattle.host_calls.proofs.WorldLemmas.{at_end, leaves_weaker}
 use Rattle.spool_model.specs.declared.step.Step.{Step}
 use Rattle.spool_model.specs.JobTable.{JobTable}
@@ -14,9 +15,10 @@ use Rattle.job_runs.specs.Attempts.{IsAsBefore, IsBegun, IsOnTheWay, IsUnbegun}
 use Rattle.daemon_turn.specs.declared.report.TurnEnd.{TurnEnd}
 use Rattle.daemon_turn.specs.declared.report.TurnEnd.TheVariants.{Done, Busy, FileFault, Damaged, Memory}
 use Rattle.daemon_turn.specs.declared.step.TurnStep.{TurnStep}
-use Rattle.daemon_turn.specs.Laws.{GoodFoldersStayGood, IsGood, TurnsAreDone}
-use Rattle.daemon_turn.specs.Leaving.{DaemonAt, TurnLeaves}
+use Rattle.daemon_turn.specs.Laws.{GoodFoldersStayGood, IsGood, ReadingsStayGood, TurnsAreDone}
+use Rattle.daemon_turn.specs.Leaving.{DaemonAt, IsIdle, IsStopped, TurnLeaves}
 use Rattle.daemon_turn.specs.Starting.{Turn, turn_of}
+use Rattle.daemon_turn.specs.StepsOf.{steps_of}
 
 no_damage : (table : JobTable) (damage : Damage) (shown : Result JobTable Damage) → shown ≡ Ok table → shown ≡ Err damage → ⊥
 no_damage table damage shown is bad = let impossible : ◌≡◌ {A = Result JobTable Damage} (Ok table) (Err damage) = sym is ∙ bad in cc
@@ -58,3 +60,27 @@ pub good_folders_stay_good : GoodFoldersStayGood
 good_folders_stay_good tells alone at old new end steps turn told is_alone good =
     let leaves : LeavesOnly (λ image handed. IsGood image) old.world new.world = good_by (turn_of old.watch at) steps old new end (turn.leaves told is_alone) good in
     record { leaves = leaves; now = at_end (λ image handed. IsGood image) old.world new.world leaves good }
+
+-- The reading behind a turn.
+
+idle_reads : (steps : List TurnStep) (old new : DaemonAt) → IsIdle steps old new → IsGood (reading old.world) → IsGood (reading new.world)
+idle_reads steps old new idle good = (good.0, idle.shown ∙ good.1)
+
+stopped_reads : (turn : Turn) (steps : List TurnStep) (old new : DaemonAt) → IsStopped turn steps old new → IsGood (reading new.world)
+stopped_reads turn steps old new stopped = elim (stopped.ends (reading new.world) (reading_is_image new.world.now.folder)) [
+  | inl without ↦ (after_steps stopped.table (steps_of steps), without)
+  | inr with_next ↦ (after_steps stopped.table (steps_of (steps ++ stopped.next)), with_next)
+]
+
+reads_by : (turn : Turn) (steps : List TurnStep) (old new : DaemonAt) (end : TurnEnd) → TurnLeaves turn steps old new end → IsGood (reading old.world) → IsGood (reading new.world)
+reads_by turn steps old new Done whole good =
+    (after_steps whole.table (steps_of steps), whole.achieved.whole (reading new.world) (reading_is_image new.world.now.folder))
+reads_by turn steps old new Busy idle good = idle_reads steps old new idle.0 good
+reads_by turn steps old new FileFault (inl idle) good = idle_reads steps old new idle good
+reads_by turn steps old new FileFault (inr stopped) good = stopped_reads turn steps old new stopped
+reads_by turn steps old new (Damaged damage) idle good = idle_reads steps old new idle.0 good
+reads_by turn steps old new Memory (inl idle) good = idle_reads steps old new idle good
+reads_by turn steps old new Memory (inr stopped) good = stopped_reads turn steps old new stopped
+
+pub readings_stay_good : ReadingsStayGood
+readings_stay_good tells alone at old new end steps turn told is_alone good = reads_by (turn_of old.watch at) steps old new end (turn.leaves told is_alone) good

@@ -14,7 +14,7 @@ use Rattle.host_calls.specs.Session.{CallsInside, Session, StaysInside}
 use Rattle.host_calls.specs.World.{World, reading}
 use Rattle.spool_model.specs.JobTable.{JobTable}
 use Rattle.spool_model.specs.Steps.{after_steps}
-use Rattle.spool_shows.specs.Shown.{Shows}
+use Rattle.spool_shows.specs.Shown.{Shows, shown_by}
 use Rattle.spool_shows.proofs.Membership.{Has, contained, filtered_has, has_contained}
 use Rattle.whole_file.specs.Others.{ChangesFiles}
 use Rattle.job_runs.specs.Attempts.{IsBegun}
@@ -27,7 +27,7 @@ use Rattle.job_runs.proofs.MadeLemmas.{fronts_changed, fronts_then, made_steps_a
 use Rattle.spool_store.specs.declared.fault.StoreFault.{StoreFault}
 use Rattle.spool_store.specs.declared.fault.StoreFault.TheVariants as fault
 use Rattle.spool_store.specs.Faults.{IsOfReading, IsOfStep}
-use Rattle.spool_store.specs.Recovering.{IsRecovered, Recovered}
+use Rattle.spool_store.specs.Recovering.{IsRecovered, Recovered, ShowsTheSame}
 use Rattle.daemon_turn.specs.declared.kid.Kid.{Kid}
 use Rattle.daemon_turn.specs.declared.step.TurnStep.{TurnStep}
 use Rattle.spool_model.specs.Lists.{is_running}
@@ -131,19 +131,21 @@ no_children : (session : Session) → KeepsChildren session.children session.chi
 no_children session = ([], sym (append-nil session.children))
 
 module _ (tells : Bool) (turn : Turn) (before after : Session) (old new : World) (kids : List Kid) (limit interval : ℕ) (was : List TurnStep) (none : was ≡ []) (changes : tells ≡ true → ChangesFiles (ShowsAsBefore old.now.folder) old new) where
-  idle : tells ≡ true → IsIdle was (standing before old kids limit interval) (standing after new kids limit interval)
-  idle told = record {
+  idle : tells ≡ true → ShowsTheSame old.now.folder new.now.folder → IsIdle was (standing before old kids limit interval) (standing after new kids limit interval)
+  idle told shown = record {
     none = record { none = none; kids = refl };
     unbegun = recoveries_begin_nothing old new (changes told);
+    shown = shown;
     asked = (changes told).asked;
   }
 
   leaves_by : (of : StoreFault) → IsOfReading of → (tells ≡ true → Recovered old.now.folder new.now.folder (Err of)) →
       (tells ≡ true → IfDamaged {T = Kept} fault.Damaged (λ damage. reading new ≡ reading old) (Err of)) → tells ≡ true →
       TurnLeaves turn was (standing before old kids limit interval) (standing after new kids limit interval) (end_after (Err of))
-  leaves_by fault.FileFault reads recovered untouched told = inl (idle told)
-  leaves_by fault.Memory reads recovered untouched told = inl (idle told)
-  leaves_by (fault.Damaged damage) reads recovered untouched told = (idle told, recovered told, untouched told damage refl)
+  leaves_by fault.FileFault reads recovered untouched told = inl (idle told (recovered told))
+  leaves_by fault.Memory reads recovered untouched told = inl (idle told (recovered told))
+  leaves_by (fault.Damaged damage) reads recovered untouched told =
+      (idle told (ap shown_by (untouched told damage refl)), recovered told, untouched told damage refl)
   leaves_by fault.QueueFull reads recovered untouched told = absurd reads
   leaves_by fault.NumbersUsedUp reads recovered untouched told = absurd reads
 

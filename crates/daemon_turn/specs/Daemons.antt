@@ -1,5 +1,5 @@
 -- What a daemon keeps from turn to turn (own).
-use Rattle.std.specs.Prelude.{ℕ, List, refl}
+use Rattle.std.specs.Prelude.{[], ℕ, List, refl}
 use Rattle.std.specs.Coded.{Coded, code_by, coded×, coded_ℕ, coded_list}
 use Rattle.daemon_turn.specs.contracts.kid.Kid as kid
 use Rattle.daemon_turn.specs.declared.kid.Kid.{Kid}
@@ -10,6 +10,10 @@ pub record Watch : Type 0 where
   pub kids : List Kid
   pub limit : ℕ
   pub interval : ℕ
+
+-- the watch of a daemon that has no kids
+abbrev pub new_watch : ℕ → ℕ → Watch
+new_watch limit interval = record { kids = []; limit = limit; interval = interval }
 
 -- how a proof tells one daemon from another: by these three
 abbrev pub watch_code : Coded Watch

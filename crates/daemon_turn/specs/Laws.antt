@@ -30,6 +30,11 @@ TurnsAreDone = (tells alone : Bool) (at : Occasion) (old new : DaemonAt) (end : 
 abbrev pub IsGood : Files → Type 0
 IsGood image = (table : JobTable) × Shows image table
 
+-- where the reading shows a table, it shows one behind a turn too
+abbrev pub ReadingsStayGood : Type 0
+ReadingsStayGood = (tells alone : Bool) (at : Occasion) (old new : DaemonAt) (end : TurnEnd) (steps : List TurnStep) →
+    TurnsTo tells alone at old new end steps → tells ≡ true → alone ≡ true → IsGood (reading old.world) → IsGood (reading new.world)
+
 -- each image of each moment shows a table, and so does each that the end leaves
 pub record StaysGood (old new : DaemonAt) : Type 0 where
   pub leaves : LeavesOnly (λ image handed. IsGood image) old.world new.world

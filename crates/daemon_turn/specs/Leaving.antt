@@ -12,6 +12,7 @@ use Rattle.spool_shows.specs.Shown.{Shows, shown_by}
 use Rattle.job_runs.specs.Attempts.{IsAchieved, IsBegun, IsUnbegun}
 use Rattle.job_runs.specs.Hands.{Hands}
 use Rattle.job_runs.specs.Made.{HandsFronts, flags_of}
+use Rattle.spool_store.specs.Recovering.{ShowsTheSame}
 use Rattle.daemon_turn.specs.declared.kid.Kid.{Kid}
 use Rattle.daemon_turn.specs.declared.occasion.Occasion.{Occasion}
 use Rattle.daemon_turn.specs.declared.report.TurnEnd.{TurnEnd}
@@ -70,10 +71,12 @@ pub record IsNone (steps : List TurnStep) (old new : Watch) : Type 0 where
   pub none : steps ≡ []
   pub kids : new.kids ≡ old.kids
 
--- The turn was stopped before a recovery succeeded: no step was begun, and the kids are as before.
+-- The turn was stopped before a recovery succeeded: no step was begun, the reading shows what it showed, and the kids are
+-- as before.
 pub record IsIdle (steps : List TurnStep) (old new : DaemonAt) : Type 0 where
   pub none : IsNone steps old.watch new.watch
   pub unbegun : IsUnbegun old.world new.world
+  pub shown : ShowsTheSame old.world.now.folder new.world.now.folder
   pub asked : new.world.asked ≡ old.world.asked
 
 -- what a turn leaves, by its end

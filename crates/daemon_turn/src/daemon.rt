@@ -1,8 +1,9 @@
 //! The daemon: it keeps the children that it started, and makes turns.
 ghost use Rattle.clock_range.specs.ClockRange.{IsClockSecond};
-ghost use Rattle.std.specs.Prelude.{◌≡◌, [], IfErr};
+ghost use Rattle.std.specs.Prelude.{◌≡◌, IfErr};
 ghost use Rattle.host_calls.specs.Session.{IsOutside};
 ghost use Rattle.spool_store.specs.Faults.{IsOfReading};
+ghost use Rattle.daemon_turn.specs.Daemons.{new_watch};
 ghost use Rattle.daemon_turn.specs.Kids.{AreByNumber, AreChildren};
 ghost use Rattle.daemon_turn.specs.Leaving.{TurnsTo};
 ghost use Rattle.daemon_turn.specs.inside.Working.{end_after};
@@ -39,7 +40,7 @@ impl Model for Daemon {
 impl Daemon {
     /// A daemon without kids. It takes no memory.
     pub fn new(alloc: Global, limit: u32, interval: u32) -> Daemon
-        ensures { result ≡ record { kids = []; limit = limit; interval = interval } }
+        ensures { result ≡ new_watch limit interval }
     {
         Daemon {
             kids: Vec::new(alloc),
