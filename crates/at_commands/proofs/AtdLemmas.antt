@@ -8,14 +8,14 @@ use Rattle.at_words.specs.declared.fault.WordsFault.TheVariants as words
 use Rattle.at_words.specs.declared.tool_request.ToolRequest.TheVariants as request
 use Rattle.command_answers.specs.Found.{Asked}
 use Rattle.command_answers.specs.Sinks.{SinkAt}
-use Rattle.daemon_turn.specs.Daemons.{Watch}
+use Rattle.daemon_turn.specs.Daemons.{Watch, new_watch}
 use Rattle.listing_text.specs.declared.cause.Cause.{Cause}
 use Rattle.listing_text.specs.declared.cause.Cause.TheVariants.{Memory}
 use Rattle.serving.specs.Outcomes.{at_a_line}
 use Rattle.serving.specs.Saying.{IsSaid}
-use Rattle.serving.specs.Serves.{ServeAt, Telling, no_turn}
+use Rattle.serving.specs.Serves.{ServeAt, ServeTelling, no_turn}
 use Rattle.serving.proofs.SinkLemmas.{silent_same}
-use Rattle.at_commands.specs.Served.{IsNotServed, ServesAnew, WhereServed, new_watch}
+use Rattle.at_commands.specs.Served.{IsNotServed, ServesAnew, WhereServed}
 
 -- where no daemon is asked for, nothing is said of one
 pub none_served : (asked : Asked) (IsSo : ℕ → ℕ → Bool → ℕ → Type 0) → IsNotServed asked → WhereServed asked IsSo
@@ -34,7 +34,7 @@ pub unserved_asked : (one other : Asked) → one ≡ other → IsNotServed other
 unserved_asked one other same is = subst IsNotServed (sym same) is
 
 -- no turn was made, since there was no memory to read the words
-pub nothing_served : (tells : Telling) (limit interval : ℕ) (once : Bool) (turns : ℕ) (old : Watch → ServeAt) (out err err_new : SinkAt) (final : Cause)
+pub nothing_served : (tells : ServeTelling) (limit interval : ℕ) (once : Bool) (turns : ℕ) (old : Watch → ServeAt) (out err err_new : SinkAt) (final : Cause)
     → IsSaid (codes "atd") tells.errors Memory err err_new final → ServesAnew tells limit interval once turns old old out out err err_new final
 nothing_served tells limit interval once turns old out err err_new final said = record {
   watch = new_watch limit interval;

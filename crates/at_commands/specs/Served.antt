@@ -1,11 +1,11 @@
 -- Which requests are served, and how (own).
-use Rattle.std.specs.Prelude.{[], ℕ, Bool, Result, Ok, Err}
+use Rattle.std.specs.Prelude.{ℕ, Bool, Result, Ok, Err}
 use Rattle.at_words.specs.declared.tool_request.ToolRequest.TheVariants as request
 use Rattle.command_answers.specs.Found.{Asked}
 use Rattle.command_answers.specs.Sinks.{SinkAt}
-use Rattle.daemon_turn.specs.Daemons.{Watch}
+use Rattle.daemon_turn.specs.Daemons.{Watch, new_watch}
 use Rattle.listing_text.specs.declared.cause.Cause.{Cause}
-use Rattle.serving.specs.Serves.{ServeAt, Telling}
+use Rattle.serving.specs.Serves.{ServeAt, ServeTelling}
 use Rattle.serving.specs.Serving.{Serving}
 
 -- no daemon is asked for
@@ -29,12 +29,8 @@ WhereServed (Ok (request.Daemon limit interval once turns)) IsSo = IsSo limit in
 WhereServed (Ok (request.Make count)) IsSo = Unit {0}
 WhereServed (Err fault) IsSo = Unit {0}
 
--- a daemon without kids
-abbrev pub new_watch : ℕ → ℕ → Watch
-new_watch limit interval = record { kids = []; limit = limit; interval = interval }
-
 -- A daemon without kids served, and is gone. What it was served with is given by what the daemon keeps.
-pub record ServesAnew (tells : Telling) (limit interval : ℕ) (once : Bool) (turns : ℕ) (old new : Watch → ServeAt)
+pub record ServesAnew (tells : ServeTelling) (limit interval : ℕ) (once : Bool) (turns : ℕ) (old new : Watch → ServeAt)
     (out_old out_new err_old err_new : SinkAt) (cause : Cause) : Type 0 where
   pub watch : Watch
   pub serving : Serving tells once turns (old (new_watch limit interval)) (new watch) out_old out_new err_old err_new cause

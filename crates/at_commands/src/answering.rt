@@ -9,7 +9,7 @@ ghost use Rattle.host_calls.specs.World.{GoesOn};
 ghost use Rattle.listing_text.specs.Cause.{status_of};
 ghost use Rattle.command_answers.specs.Ends.{Ends, FailsToPrint, holding, telling};
 ghost use Rattle.command_answers.specs.Sinks.{NotesBy, SaysBy, sink_at};
-ghost use Rattle.serving.specs.Serves.{serve_at, telling as told_of};
+ghost use Rattle.serving.specs.Serves.{serve_at, serve_telling};
 ghost use Rattle.at_commands.specs.Served.{IsNotServed, ServesAnew, WhereServed};
 ghost use Rattle.at_commands.specs.Tools.{name_of, tool_name_of};
 ghost use Rattle.at_commands.specs.inside.Wording.{words_cause};
@@ -75,7 +75,7 @@ pub fn command<H: Host, R: Readings, I: Inputs, O: Sink, E: Sink>(
 
     // What a daemon does: its turns, what is printed and said of them, and its cause.
     ensures serves { WhereServed (request_of (map string_bytes words.now)) (λ limit interval once turns.
-        ServesAnew (told_of H.tells H.alone R.tells O.tells E.tells) limit interval once turns
+        ServesAnew (serve_telling H.tells H.alone R.tells O.tells E.tells) limit interval once turns
         (λ watch. serve_at (H.session host.old) (H.world host.old) watch (R.answers readings.old) (R.readers readings.old))
         (λ watch. serve_at (H.session host.new) (H.world host.new) watch (R.answers readings.new) (R.readers readings.new))
         (sink_at (O.content out.old) (O.outlet out.old)) (sink_at (O.content out.new) (O.outlet out.new))
@@ -138,7 +138,7 @@ fn serve_anew<H: Host, R: Readings, O: Sink, E: Sink>(
     ensures no_input { result.cause ≢ Cause.InputFault }
     ensures output_fault { result.cause ≡ Cause.OutputFault
         → Rose (O.outlet out.old).sink_faults (O.outlet out.new).sink_faults }
-    ensures serves { ServesAnew (told_of H.tells H.alone R.tells O.tells E.tells) limit interval once turns
+    ensures serves { ServesAnew (serve_telling H.tells H.alone R.tells O.tells E.tells) limit interval once turns
         (λ watch. serve_at (H.session host.old) (H.world host.old) watch (R.answers readings.old) (R.readers readings.old))
         (λ watch. serve_at (H.session host.new) (H.world host.new) watch (R.answers readings.new) (R.readers readings.new))
         (sink_at (O.content out.old) (O.outlet out.old)) (sink_at (O.content out.new) (O.outlet out.new))

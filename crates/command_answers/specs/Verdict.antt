@@ -115,7 +115,8 @@ submission_checks caller found =
     user_check caller.context ∷ directory_check caller.context ∷ variables_check caller.context
     ∷ clock_check found ∷ zone_check caller.zone ∷ time_check found ∷ length_check found ∷ []
 
--- The checks before the spool is entered. What is served is no command of this table (own: refused until then).
+-- The checks before the spool is entered. A daemon and a made day are no such commands: what they come to is said where
+-- they are made, and asked of a command they are a wrong usage (own).
 abbrev pub early_checks : ToolRequest → Caller → Found → List (Option Refusal)
 early_checks (request.Submit queue mail file when) caller found = submission_checks caller found
 early_checks (request.List filter) caller found = user_check caller.context ∷ zone_check caller.zone ∷ []

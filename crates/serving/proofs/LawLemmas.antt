@@ -3,9 +3,8 @@ use Rattle.std.proofs.Common.{◌≡◌, ◌⊎◌, ◌≤◌, ℕ, ℤ, Bool, t
 use Rattle.std.specs.Prelude.{Option, Some, None}
 use Rattle.clock_range.specs.ClockRange.{IsClockSecond}
 use Rattle.host_calls.specs.Causes.{Rose}
-use Rattle.host_calls.specs.Folder.{Files, IsImage}
 use Rattle.host_calls.specs.Session.{KeepsCounts, Session}
-use Rattle.host_calls.proofs.FolderLemmas.{reading_is_image}
+use Rattle.host_calls.specs.World.{reading}
 use Rattle.listing_text.specs.declared.cause.Cause.{Cause}
 use Rattle.listing_text.specs.declared.cause.Cause.TheVariants as cause
 use Rattle.command_answers.specs.Sinks.{SinkAt}
@@ -14,11 +13,11 @@ use Rattle.daemon_turn.specs.declared.report.TurnEnd.{TurnEnd}
 use Rattle.daemon_turn.specs.declared.report.TurnEnd.TheVariants.{Done, Busy, FileFault, Damaged, Memory}
 use Rattle.daemon_turn.specs.Laws.{IsDoneOrMemory, IsGood}
 use Rattle.daemon_turn.specs.Leaving.{DaemonAt}
-use Rattle.daemon_turn.proofs.LawLemmas.{good_folders_stay_good, turns_are_done}
+use Rattle.daemon_turn.proofs.LawLemmas.{readings_stay_good, turns_are_done}
 use Rattle.serving.specs.Items.{Item, first_end, last_item}
 use Rattle.serving.specs.Laws.{IsLastInRange, IsServedWell, ServingIsDone}
 use Rattle.serving.specs.Outcomes.{Stop, StopsBy, at_a_line, at_the_clock, at_the_end, damage_outcome, end_outcome, kids_outcome, last_outcome, outcome_by, output_outcome, turns_outcome}
-use Rattle.serving.specs.Serves.{RestsBehind, ServeAt, Served, Serves, Telling, next_turn, no_turn}
+use Rattle.serving.specs.Serves.{RestsBehind, ServeAt, Served, Serves, ServeTelling, next_turn, no_turn}
 use Rattle.serving.specs.Serving.{SaysOutcome}
 use Rattle.serving.specs.declared.outcome.Outcome.{Outcome}
 use Rattle.serving.specs.declared.outcome.Outcome.TheVariants.{OfTurn, Own}
@@ -34,9 +33,9 @@ well_more : (items : List Item) (item : Item) → AreWell items → IsDoneOrMemo
 well_more [] item well last = (last, tt)
 well_more (one ∷ items) item (here, well) last = (here, well_more items item well last)
 
--- each image shows a table
-abbrev pub AreGood : DaemonAt → Type 0
-AreGood at = (image : Files) → IsImage at.world.now.folder image → IsGood image
+-- the reading shows a table
+abbrev pub ReadsGood : DaemonAt → Type 0
+ReadsGood at = IsGood (reading at.world)
 
 -- no fault of the spool rose
 pub record IsSound (old new : Session) : Type 0 where
@@ -54,16 +53,15 @@ sound_within first old new last before behind sound = record {
 -- turns that the outside didn't hinder
 pub record GoWell (items : List Item) (at : DaemonAt) : Type 0 where
   pub well : AreWell items
-  pub good : AreGood at
+  pub good : ReadsGood at
 
-module _ (tells : Telling) (once : Bool) (first : ServeAt) (told : tells.files ≡ true) (alone : tells.alone ≡ true) (opening : AreGood first.spool) where
-  served_well : (before : List Item) (item : Item) (rested after : ServeAt) → Served tells once before item rested after → AreGood rested.spool
+module _ (tells : ServeTelling) (once : Bool) (first : ServeAt) (told : tells.files ≡ true) (alone : tells.alone ≡ true) (opening : ReadsGood first.spool) where
+  served_well : (before : List Item) (item : Item) (rested after : ServeAt) → Served tells once before item rested after → ReadsGood rested.spool
       → IsSound rested.spool.session after.spool.session → GoWell (item ∷ []) after.spool
-  served_well before item rested after served good sound =
-      let shown : IsGood _ = good _ (reading_is_image rested.spool.world.now.folder) in record {
-        well = (turns_are_done tells.files tells.alone _ rested.spool after.spool item.end item.steps served.turn told alone shown.0 shown.1 sound.taken sound.files, tt);
-        good = (good_folders_stay_good tells.files tells.alone _ rested.spool after.spool item.end item.steps served.turn told alone good).now;
-      }
+  served_well before item rested after served good sound = record {
+    well = (turns_are_done tells.files tells.alone _ rested.spool after.spool item.end item.steps served.turn told alone good.0 good.1 sound.taken sound.files, tt);
+    good = readings_stay_good tells.files tells.alone _ rested.spool after.spool item.end item.steps served.turn told alone good;
+  }
 
   pub go_well : (items : List Item) (last : ServeAt) → Serves tells once first items last → IsSound first.spool.session last.spool.session → GoWell items last.spool
   go_well _ _ no_turn sound = record { well = tt; good = opening }
@@ -81,7 +79,7 @@ module _ (tells : Telling) (once : Bool) (first : ServeAt) (told : tells.files �
         files = λ rose. sound.files (let before_it : first.spool.session.file_faults ≤ last.spool.session.file_faults = up_to.file_faults in
             let risen : Rose last.spool.session.file_faults after.spool.session.file_faults = rose in omega arith);
       } in
-      let now : GoWell (item ∷ []) after.spool = served_well before item rested after served (subst AreGood (sym same) earlier.good)
+      let now : GoWell (item ∷ []) after.spool = served_well before item rested after served (subst ReadsGood (sym same) earlier.good)
       (subst (λ (spool : DaemonAt). IsSound spool.session after.spool.session) (sym same) here) in
       record { well = well_more before item earlier.well now.well.0; good = now.good }
 

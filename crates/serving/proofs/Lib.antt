@@ -1,3 +1,4 @@
+pub mod ExampleLemmas
 pub mod LawLemmas
 pub mod OutcomeLemmas
 pub mod ProceedLemmas

@@ -12,7 +12,7 @@ use Rattle.daemon_turn.specs.declared.report.TurnEnd.{TurnEnd}
 use Rattle.daemon_turn.specs.declared.report.TurnEnd.TheVariants.{Done, Busy, FileFault, Damaged, Memory}
 use Rattle.serving.specs.Items.{Item, ends_behind, first_end, is_last, last_item}
 use Rattle.serving.specs.Outcomes.{Stop, StopsBy, at_a_line, at_the_clock, at_the_end, damage_outcome, end_outcome, kids_outcome, last_outcome, outcome_by, output_outcome, turns_outcome}
-use Rattle.serving.specs.Serves.{ServeAt, Telling}
+use Rattle.serving.specs.Serves.{ServeAt, ServeTelling}
 use Rattle.serving.specs.Serving.{SaysOutcome}
 use Rattle.serving.specs.declared.outcome.Outcome.{Outcome}
 use Rattle.serving.specs.declared.outcome.Outcome.TheVariants.{OfTurn, Own}
@@ -90,7 +90,7 @@ stops_spool at_the_clock tells once turns items last now stops =
     stops.2.spool ∙ rested_spool tells once (last_item items) last stops.2.rested stops.2.rests
 stops_spool at_a_line tells once turns items last now stops = ap (λ (at : ServeAt). at.spool) stops
 
-pub ended_caused : (tells : Telling) (once : Bool) (turns : ℕ) (first now : ServeAt) (out_first out_now err_first err_now err_end : SinkAt) (outcome : Outcome) (final : Cause)
+pub ended_caused : (tells : ServeTelling) (once : Bool) (turns : ℕ) (first now : ServeAt) (out_first out_now err_first err_now err_end : SinkAt) (outcome : Outcome) (final : Cause)
     → HasEnded tells once turns first now out_first out_now err_first err_now outcome → SaysOutcome tells.errors outcome err_now err_end final
     → IsCaused final first.spool.session now.spool.session out_first out_now
 ended_caused tells once turns first now out_first out_now err_first err_now err_end outcome final ended says =

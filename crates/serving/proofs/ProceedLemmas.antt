@@ -15,7 +15,7 @@ use Rattle.daemon_turn.specs.declared.report.TurnEnd.{TurnEnd}
 use Rattle.serving.specs.Items.{Item, but_last, ends_behind, first_end, is_last, last_item, mode_behind, rest_behind}
 use Rattle.serving.specs.Lines.{SaysEnd, SaysEnds, step_lines, turn_lines}
 use Rattle.serving.specs.Outcomes.{Stop, StopsBy, at_a_line, at_the_clock, at_the_end, damage_outcome, last_outcome, outcome_by, turns_outcome}
-use Rattle.serving.specs.Serves.{AnswersTurn, RestsBehind, ServeAt, Served, Serves, StopsAtClock, Telling, next_turn, no_turn}
+use Rattle.serving.specs.Serves.{AnswersTurn, RestsBehind, ServeAt, Served, Serves, StopsAtClock, ServeTelling, next_turn, no_turn}
 use Rattle.serving.specs.Serving.{Prints, SaysOutcome, Serving}
 use Rattle.serving.specs.declared.outcome.Outcome.{Outcome}
 use Rattle.serving.specs.declared.outcome.Outcome.TheVariants.{OfTurn, Own}
@@ -26,7 +26,7 @@ use Rattle.serving.proofs.ServeLemmas.{but_last_more, first_more, last_more, lin
 use Rattle.serving.proofs.SinkLemmas.{ends_more, ends_silent, nothing_put, silent_same}
 
 -- nothing was served yet
-pub nothing_served : (tells : Telling) (once : Bool) (made : Progress) (at : ServeAt) (out err : SinkAt) → made ≡ record { first = None; rest = 0; cut = false }
+pub nothing_served : (tells : ServeTelling) (once : Bool) (made : Progress) (at : ServeAt) (out err : SinkAt) → made ≡ record { first = None; rest = 0; cut = false }
     → HasServed tells once [] made at at out out err err
 nothing_served tells once made at out err same =
     subst (λ (of : Progress). HasServed tells once [] of at at out out err err) (sym same) (record {
@@ -38,7 +38,7 @@ nothing_served tells once made at out err same =
       says = λ told. silent_same err err refl;
     })
 
-module _ (tells : Telling) (once : Bool) (items : List Item) (made : Progress) (first now : ServeAt) (out_first out_now err_first err_now : SinkAt)
+module _ (tells : ServeTelling) (once : Bool) (items : List Item) (made : Progress) (first now : ServeAt) (out_first out_now err_first err_now : SinkAt)
     (has : HasServed tells once items made first now out_first out_now err_first err_now) where
   -- the clock went out of range
   pub ended_at_clock : (after : ServeAt) (turns : ℕ) → length items < turns → StopsAtClock tells.clock once (last_item items) now after
@@ -158,7 +158,7 @@ module _ (tells : Telling) (once : Bool) (items : List Item) (made : Progress) (
   }
 
 -- serving, with its last line
-pub serving_of : (tells : Telling) (once : Bool) (turns : ℕ) (first now : ServeAt) (out_first out_now err_first err_now err_end : SinkAt) (outcome : Outcome) (final : Cause)
+pub serving_of : (tells : ServeTelling) (once : Bool) (turns : ℕ) (first now : ServeAt) (out_first out_now err_first err_now err_end : SinkAt) (outcome : Outcome) (final : Cause)
     → HasEnded tells once turns first now out_first out_now err_first err_now outcome → SaysOutcome tells.errors outcome err_now err_end final
     → Serving tells once turns first now out_first out_now err_first err_end final
 serving_of tells once turns first now out_first out_now err_first err_now err_end outcome final ended says = record {
@@ -187,7 +187,7 @@ answers_turn tells item spool_old spool_new was between is had next has now same
   unread = λ none. subst (λ (readers : Readers). Rose readers.load_faults has.load_faults) same (unread none);
 }
 
-pub served_by : (tells : Telling) (once : Bool) (items : List Item) (first : Option TurnEnd) (item : Item) (old new : ServeAt) (mode : Mode) (second : ℤ) → first ≡ first_end items
+pub served_by : (tells : ServeTelling) (once : Bool) (items : List Item) (first : Option TurnEnd) (item : Item) (old new : ServeAt) (mode : Mode) (second : ℤ) → first ≡ first_end items
     → mode ≡ mode_by once first → second ≡ item.now → IsClockSecond item.now → AnswersTurn tells.clock item old new
     → TurnsTo tells.files tells.alone (record { now = second; load = item.load; mode = mode }) old.spool new.spool item.end item.steps → Served tells once items item old new
 served_by tells once items first item old new mode second begun of_mode same range read turn = record {

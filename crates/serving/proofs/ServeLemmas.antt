@@ -14,7 +14,7 @@ use Rattle.daemon_turn.specs.declared.report.TurnEnd.{TurnEnd}
 use Rattle.daemon_turn.specs.declared.report.TurnEnd.TheVariants.{Done, Busy, FileFault, Damaged, Memory}
 use Rattle.serving.specs.Items.{Item, but_last, first_end, last_item, mode_behind}
 use Rattle.serving.specs.Lines.{step_lines, turn_lines}
-use Rattle.serving.specs.Serves.{RestsBehind, ServeAt, Served, Serves, Telling, no_turn, next_turn, serve_at}
+use Rattle.serving.specs.Serves.{RestsBehind, ServeAt, Served, Serves, ServeTelling, no_turn, next_turn, serve_at}
 use Rattle.serving.specs.inside.Progressing.{IsRest, RestsBefore, first_or, mode_by}
 
 -- The list of turns with one more.
@@ -95,7 +95,7 @@ pub children_then : (old middle new : List Child) → KeepsChildren old middle �
 children_then old middle new first second =
     (first.0 ++ second.0, second.1 ∙ ap (λ (before : List Child). before ++ second.0) first.1 ∙ append_assoc old first.0 second.0)
 
-module _ (tells : Telling) (once : Bool) (first : ServeAt) where
+module _ (tells : ServeTelling) (once : Bool) (first : ServeAt) where
   pub serves_counts : (items : List Item) (last : ServeAt) → Serves tells once first items last → KeepsCounts first.spool.session last.spool.session
   serves_counts _ _ no_turn = counts_same first.spool.session
   serves_counts _ _ (next_turn before item last rested after serves goes_on rests served) =
@@ -124,7 +124,7 @@ rose_wider (Some FileFault) first old middle new before behind rose =
 rose_wider (Some (Damaged damage)) first old middle new before behind rose = tt
 rose_wider (Some Memory) first old middle new before behind rose = tt
 
-module _ (tells : Telling) (once : Bool) (first : ServeAt) where
+module _ (tells : ServeTelling) (once : Bool) (first : ServeAt) where
   rose_served : (before : List Item) (item : Item) (old new : ServeAt) → Served tells once before item old new → RoseFirst (Some item.end) old.spool.session new.spool.session
   rose_served before item old new served = by_end item.end served.turn.busy served.turn.fault where
     by_end : (end : TurnEnd) → (end ≡ Busy → Rose old.spool.session.taken new.spool.session.taken)

@@ -4,12 +4,12 @@ use Rattle.std.specs.Prelude.{◌≡◌, ℕ, ℤ, Bool, true}
 use Rattle.clock_range.specs.ClockRange.{IsClockSecond}
 use Rattle.host_calls.specs.Causes.{Rose}
 use Rattle.host_calls.specs.Clock.{Answers, with_now}
-use Rattle.host_calls.specs.Folder.{Files, IsImage}
+use Rattle.host_calls.specs.World.{reading}
 use Rattle.listing_text.specs.declared.cause.Cause.{Cause}
 use Rattle.listing_text.specs.declared.cause.Cause.TheVariants.{Done, Refused, FileFault, InputFault, OutputFault, Busy, Memory, Damaged, StillRunning}
 use Rattle.command_answers.specs.Sinks.{SinkAt}
 use Rattle.daemon_turn.specs.Laws.{IsGood}
-use Rattle.serving.specs.Serves.{ServeAt, Telling}
+use Rattle.serving.specs.Serves.{ServeAt, ServeTelling}
 use Rattle.serving.specs.Serving.{Serving}
 
 -- the cause is no fault of the outside, no damage and no refusal
@@ -28,13 +28,14 @@ IsServedWell (Damaged damage) = ⊥
 abbrev pub IsLastInRange : Answers → Type 0
 IsLastInRange answers = (now : ℤ) (earlier : Answers) → answers ≡ with_now now earlier → IsClockSecond now
 
--- Where each image of the folder shows a table, no count of files, of taken locks or of the output rose, and the clock's last
--- answer is in its range, serving is done, or kids are left, or it finds no memory.
+-- Where the reading shows a table, no count of files, of taken locks or of the output rose, and the clock's last answer is
+-- in its range, serving is done, or kids are left, or it finds no memory.
 abbrev pub ServingIsDone : Type 0
-ServingIsDone = (tells : Telling) (once : Bool) (turns : ℕ) (old new : ServeAt) (out_old out_new err_old err_new : SinkAt) (cause : Cause) →
+ServingIsDone = (tells : ServeTelling) (once : Bool) (turns : ℕ) (old new : ServeAt)
+    (out_old out_new err_old err_new : SinkAt) (cause : Cause) →
     Serving tells once turns old new out_old out_new err_old err_new cause →
     tells.files ≡ true → tells.alone ≡ true → tells.clock ≡ true →
-    ((image : Files) → IsImage old.spool.world.now.folder image → IsGood image) →
+    IsGood (reading old.spool.world) →
     ¬ (Rose old.spool.session.taken new.spool.session.taken) →
     ¬ (Rose old.spool.session.file_faults new.spool.session.file_faults) →
     ¬ (Rose out_old.faults out_new.faults) → IsLastInRange new.answers → IsServedWell cause

@@ -1,3 +1,4 @@
+pub mod Examples
 pub mod Items
 pub mod Laws
 pub mod Lines

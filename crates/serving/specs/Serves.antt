@@ -20,15 +20,15 @@ serve_at session world watch answers readers =
     record { spool = record { session = session; world = world; watch = watch }; answers = answers; readers = readers }
 
 -- which of the objects that are served with tell what they hold, and whether the host is alone
-pub record Telling : Type 0 where
+pub record ServeTelling : Type 0 where
   pub files : Bool
   pub alone : Bool
   pub clock : Bool
   pub output : Bool
   pub errors : Bool
 
-abbrev pub telling : Bool → Bool → Bool → Bool → Bool → Telling
-telling files alone clock output errors =
+abbrev pub serve_telling : Bool → Bool → Bool → Bool → Bool → ServeTelling
+serve_telling files alone clock output errors =
     record { files = files; alone = alone; clock = clock; output = output; errors = errors }
 
 -- The readings answered the second and the load, and nothing else of them changed but the count of loads that were
@@ -40,7 +40,7 @@ pub record AnswersTurn (tells : Bool) (item : Item) (old new : ServeAt) : Type 0
   pub unread : item.load ≡ None → Rose old.readers.load_faults new.readers.load_faults
 
 -- One turn was made, at the second and with the load that the readings answered.
-pub record Served (tells : Telling) (once : Bool) (before : List Item) (item : Item) (old new : ServeAt) : Type 0 where
+pub record Served (tells : ServeTelling) (once : Bool) (before : List Item) (item : Item) (old new : ServeAt) : Type 0 where
   pub now : IsClockSecond item.now
   pub read : AnswersTurn tells.clock item old new
   pub turn : TurnsTo tells.files tells.alone (record { now = item.now; load = item.load; mode = mode_behind once before })
@@ -58,7 +58,7 @@ RestsBehind tells once None old new = new ≡ old
 RestsBehind tells once (Some item) old new = Rests tells (rest_behind once item.end item.now) old new
 
 -- The turns lead from the first state to this one: each begins where the one before it ended, behind a rest.
-pub data Serves (tells : Telling) (once : Bool) (first : ServeAt) : List Item → ServeAt → Type 0 where
+pub data Serves (tells : ServeTelling) (once : Bool) (first : ServeAt) : List Item → ServeAt → Type 0 where
   no_turn : Serves tells once first [] first
   next_turn : (before : List Item) (item : Item) (last rested after : ServeAt)
       → Serves tells once first before last

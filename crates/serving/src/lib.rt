@@ -10,7 +10,7 @@ mod progress;
 mod saying;
 mod serving_turn;
 
-pub use laws::serving_ends_well;
+pub use laws::{serving_ends_well, small_servings};
 pub use looping::{LONGEST_REST, SHORT_REST, serve};
 pub use outcome::Outcome;
 pub use saying::say_cause;

@@ -5,7 +5,7 @@ ghost use Rattle.daemon_turn.specs.Kids.{AreChildren, KeepsChildren};
 ghost use Rattle.host_calls.specs.Causes.{Rose};
 ghost use Rattle.host_calls.specs.Session.{IsOutside, KeepsCounts};
 ghost use Rattle.listing_text.specs.Cause.{status_of};
-ghost use Rattle.serving.specs.Serves.{serve_at, telling};
+ghost use Rattle.serving.specs.Serves.{serve_at, serve_telling};
 ghost use Rattle.serving.specs.Serving.{Serving};
 ghost use Rattle.serving.specs.inside.Progressing.{HasEnded};
 
@@ -55,7 +55,7 @@ pub fn serve<H: Host, R: Readings, O: Sink, E: Sink>(
     ensures no_input { result.cause ≢ Cause.InputFault }
 
     // The turns and the rests between them, what is printed and said of them, and the cause.
-    ensures serving { Serving (telling H.tells H.alone R.tells O.tells E.tells) once turns
+    ensures serving { Serving (serve_telling H.tells H.alone R.tells O.tells E.tells) once turns
         (serve_at (H.session host.old) (H.world host.old) daemon.old (R.answers readings.old) (R.readers readings.old))
         (serve_at (H.session host.new) (H.world host.new) daemon.new (R.answers readings.new) (R.readers readings.new))
         (sink_at (O.content out.old) (O.outlet out.old)) (sink_at (O.content out.new) (O.outlet out.new))
@@ -90,7 +90,7 @@ fn make_turns<H: Host, R: Readings, O: Sink, E: Sink>(
     ensures readers_made { (R.readers readings.new).made_as ≡ (R.readers readings.old).made_as }
     ensures out_made { (O.outlet out.new).made_as ≡ (O.outlet out.old).made_as }
     ensures errors_made { (E.outlet err.new).made_as ≡ (E.outlet err.old).made_as }
-    ensures ends { HasEnded (telling H.tells H.alone R.tells O.tells E.tells) once turns
+    ensures ends { HasEnded (serve_telling H.tells H.alone R.tells O.tells E.tells) once turns
         (serve_at (H.session host.old) (H.world host.old) daemon.old (R.answers readings.old) (R.readers readings.old))
         (serve_at (H.session host.new) (H.world host.new) daemon.new (R.answers readings.new) (R.readers readings.new))
         (sink_at (O.content out.old) (O.outlet out.old)) (sink_at (O.content out.new) (O.outlet out.new))

@@ -5,7 +5,7 @@ ghost use Rattle.daemon_turn.specs.Kids.{AreChildren, KeepsChildren};
 ghost use Rattle.host_calls.specs.Session.{IsOutside, KeepsCounts};
 ghost use Rattle.serving.specs.Items.{Item};
 ghost use Rattle.serving.specs.Lines.{step_lines};
-ghost use Rattle.serving.specs.Serves.{ServeAt, serve_at, telling};
+ghost use Rattle.serving.specs.Serves.{ServeAt, serve_at, serve_telling};
 ghost use Rattle.serving.specs.inside.Ends.{SaysEndOr};
 ghost use Rattle.serving.specs.inside.Progressing.{HasServed, PrintsMore, Proceeds};
 
@@ -40,11 +40,11 @@ pub(crate) fn next_turn<H: Host, R: Readings, O: Sink, E: Sink>(
     ensures out_made { (O.outlet out.new).made_as ≡ (O.outlet out.old).made_as }
     ensures errors_made { (E.outlet err.new).made_as ≡ (E.outlet err.old).made_as }
     ensures proceeds { (items : List Item) (first : ServeAt) (out_first err_first : SinkAt) →
-        HasServed (telling H.tells H.alone R.tells O.tells E.tells) once items progress.old first
+        HasServed (serve_telling H.tells H.alone R.tells O.tells E.tells) once items progress.old first
         (serve_at (H.session host.old) (H.world host.old) daemon.old (R.answers readings.old) (R.readers readings.old))
         out_first (sink_at (O.content out.old) (O.outlet out.old))
         err_first (sink_at (E.content err.old) (E.outlet err.old))
-        → Proceeds (telling H.tells H.alone R.tells O.tells E.tells) once items progress.new first
+        → Proceeds (serve_telling H.tells H.alone R.tells O.tells E.tells) once items progress.new first
         (serve_at (H.session host.new) (H.world host.new) daemon.new (R.answers readings.new) (R.readers readings.new))
         out_first (sink_at (O.content out.new) (O.outlet out.new))
         err_first (sink_at (E.content err.new) (E.outlet err.new)) result }

@@ -9,7 +9,7 @@ use Rattle.daemon_turn.specs.declared.report.TurnEnd.{TurnEnd}
 use Rattle.serving.specs.Items.{Item, ends_behind, first_end, is_last, last_item, rest_behind}
 use Rattle.serving.specs.Lines.{SaysEnds, turn_lines}
 use Rattle.serving.specs.Outcomes.{Stop, StopsBy, at_a_line, at_the_end, damage_outcome, outcome_by, turns_outcome}
-use Rattle.serving.specs.Serves.{ServeAt, Serves, Telling}
+use Rattle.serving.specs.Serves.{ServeAt, Serves, ServeTelling}
 use Rattle.serving.specs.Serving.{Prints, said_of}
 use Rattle.serving.specs.declared.outcome.Outcome.{Outcome}
 use Rattle.serving.specs.declared.progress.Progress.{Progress}
@@ -55,7 +55,7 @@ PrintsMore tells text cut_old cut_new old new found =
     → Prints tells (stop_where found) cut_new (before ++ text) start new
 
 -- These turns were made, and a further one is to come.
-pub record HasServed (tells : Telling) (once : Bool) (items : List Item) (made : Progress) (first now : ServeAt)
+pub record HasServed (tells : ServeTelling) (once : Bool) (items : List Item) (made : Progress) (first now : ServeAt)
     (out_first out_now err_first err_now : SinkAt) : Type 0 where
   pub serves : Serves tells once first items now
   pub goes_on : ends_behind once (last_item items) now.spool.watch.kids ≡ false
@@ -65,7 +65,7 @@ pub record HasServed (tells : Telling) (once : Bool) (items : List Item) (made :
   pub says : tells.errors ≡ true → SaysEnds items err_first err_now
 
 -- Serving ended, and came to this.
-pub record HasEnded (tells : Telling) (once : Bool) (turns : ℕ) (first now : ServeAt)
+pub record HasEnded (tells : ServeTelling) (once : Bool) (turns : ℕ) (first now : ServeAt)
     (out_first out_now err_first err_now : SinkAt) (outcome : Outcome) : Type 0 where
   pub items : List Item
   pub last : ServeAt
@@ -79,7 +79,7 @@ pub record HasEnded (tells : Telling) (once : Bool) (turns : ℕ) (first now : S
   pub comes : outcome ≡ outcome_by stop once items last.spool.watch.kids cut
 
 -- One turn more was made, or serving ended.
-abbrev pub Proceeds : Telling → Bool → List Item → Progress → ServeAt → ServeAt
+abbrev pub Proceeds : ServeTelling → Bool → List Item → Progress → ServeAt → ServeAt
     → SinkAt → SinkAt → SinkAt → SinkAt → Option Outcome → Type 0
 Proceeds tells once items made first now out_first out_now err_first err_now None =
     (item : Item) × HasServed tells once (items ++ item ∷ []) made first now out_first out_now err_first err_now

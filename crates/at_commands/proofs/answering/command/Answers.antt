@@ -6,7 +6,7 @@ use Rattle.command_answers.specs.Sinks.{NotesBy, sink_at}
 use Rattle.listing_text.specs.declared.cause.Cause.{Cause}
 use Rattle.listing_text.specs.declared.cause.Cause.TheVariants.{Memory}
 use Rattle.serving.specs.Saying.{IsSaid}
-use Rattle.serving.specs.Serves.{serve_at, telling as told_of}
+use Rattle.serving.specs.Serves.{serve_at, serve_telling}
 use Rattle.at_commands.specs.inside.Wording.{words_cause}
 use Rattle.at_commands.specs.Tools.{tool_name_of}
 use Rattle.at_commands.proofs.AtdLemmas.{nothing_served, words_served}
@@ -39,7 +39,7 @@ returns-in-Err-clause-ends g c = rw c.of.ensures (λ unserved.
 pub returns-in-Err-clause-serves : goal.returns-in-Err-clause-serves
 returns-in-Err-clause-serves g c = rw c.of.ensures
     (words_served (request_of (map string_bytes c.args.words.now)) c.in-Err.fault _ c.in-Err.ensures.asked (λ limit interval once turns is wanting.
-    nothing_served (told_of g.H.Host.tells g.H.Host.alone g.R.Readings.tells g.O.Sink.tells g.E.Sink.tells) limit interval once turns
+    nothing_served (serve_telling g.H.Host.tells g.H.Host.alone g.R.Readings.tells g.O.Sink.tells g.E.Sink.tells) limit interval once turns
     (λ watch. serve_at (g.H.Host.session c.args.host.now) (g.H.Host.world c.args.host.now) watch (g.R.Readings.answers c.args.readings.now) (g.R.Readings.readers c.args.readings.now))
     (sink_at (g.O.Sink.content c.args.out.now) (g.O.Sink.outlet c.args.out.now)) (sink_at (g.E.Sink.content c.args.err.now) (g.E.Sink.outlet c.args.err.now))
     (sink_at (g.E.Sink.content c.say_cause.new.err) (g.E.Sink.outlet c.say_cause.new.err)) c.say_cause.result
