@@ -3,6 +3,7 @@
  *
  *   floor submit SPOOL     the calls of one submission, with all its syncs
  *   floor list SPOOL       the calls of one listing
+ *   floor remove SPOOL N   the calls of one removal, with all its syncs
  *   floor none             nothing */
 #define _GNU_SOURCE
 #include <dirent.h>
@@ -94,6 +95,28 @@ static void submit(const char *spool) {
     end();
 }
 
+/* The mark of the removal in the journal, its gate, and the file. */
+static void take_away(const char *spool, unsigned long number) {
+    begin(spool);
+    survey();
+    tell('u');
+    char mark[40], name[32];
+    snprintf(mark, sizeof mark, "-R%08lx--000000000000000000.\n", number);
+    snprintf(name, sizeof name, "a%05lx0fffffff", number);
+    int file = openat(folder, ".JRN", O_RDWR | O_CREAT | O_CLOEXEC, 0600);
+    check(file >= 0, ".JRN");
+    struct stat found;
+    check(fstat(file, &found) == 0, ".JRN");
+    check(pwrite(file, mark, 32, found.st_size) == 32, ".JRN");
+    check(fsync(file) == 0, "fsync");
+    check(pwrite(file, "+", 1, found.st_size) == 1, ".JRN");
+    check(fsync(file) == 0, "fsync");
+    close(file);
+    check(unlinkat(folder, name, 0) == 0, name);
+    check(fsync(folder) == 0, "fsync");
+    end();
+}
+
 static void list(const char *spool) {
     begin(spool);
     survey();
@@ -103,6 +126,7 @@ static void list(const char *spool) {
 int main(int count, char **words) {
     if (count == 3 && strcmp(words[1], "submit") == 0) submit(words[2]);
     else if (count == 3 && strcmp(words[1], "list") == 0) list(words[2]);
+    else if (count == 4 && strcmp(words[1], "remove") == 0) take_away(words[2], strtoul(words[3], NULL, 10));
     else if (!(count == 2 && strcmp(words[1], "none") == 0)) return 2;
     return 0;
 }
