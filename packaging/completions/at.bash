@@ -1,4 +1,4 @@
-# Completions of at, batch, atq, atrm and atd for bash.
+# Completions of at, batch, atq, atrm, atd and atday for bash.
 
 _coefhird_jobs() { atq 2>/dev/null | cut -f 1; }
 
@@ -61,8 +61,17 @@ _coefhird_atd() {
     esac
 }
 
+_coefhird_atday() {
+    COMPREPLY=()
+    case ${COMP_WORDS[COMP_CWORD-1]} in
+        --make) ;;
+        *) mapfile -t COMPREPLY < <(compgen -W '--make' -- "${COMP_WORDS[COMP_CWORD]}") ;;
+    esac
+}
+
 complete -F _coefhird_at at
 complete -F _coefhird_batch batch
 complete -F _coefhird_atq atq
 complete -F _coefhird_atrm atrm
 complete -F _coefhird_atd atd
+complete -F _coefhird_atday atday

@@ -1,4 +1,4 @@
-# Completions of at, batch, atq, atrm and atd for fish.
+# Completions of at, batch, atq, atrm, atd and atday for fish.
 
 function __coefhird_jobs
     atq 2>/dev/null
@@ -39,3 +39,6 @@ complete -c atd -s b -x -d 'seconds between two starts in batch queues'
 complete -c atd -s l -x -d 'the load from which on no batch job starts'
 complete -c atd -s s -d 'make one turn, and end when the children have ended'
 complete -c atd -l turns -x -d 'make so many turns and end'
+
+complete -c atday -f
+complete -c atday -l make -x -d 'make so many events'
