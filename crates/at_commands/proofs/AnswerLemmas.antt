@@ -33,6 +33,7 @@ use Rattle.at_commands.specs.inside.Answering.{EndsPrinting, EndsRemoving}
 use Rattle.at_commands.specs.inside.Printing.{PutsWhole}
 use Rattle.at_commands.specs.inside.Session.{IsNoOutput, IsOfSpool}
 use Rattle.at_commands.specs.inside.Sessions.{Lists, Shows, lists_alone}
+use Rattle.command_answers.proofs.CheckLemmas.{refused_up_to}
 use Rattle.at_commands.proofs.CarryLemmas.{carries_no_memory, carries_unsaid, done_allowed, no_true}
 use Rattle.at_commands.proofs.EndsLemmas.{ends_carried, ends_early, silent}
 use Rattle.at_commands.proofs.ForLemmas.{carries_unentered, carries_unopened, keeps_lists, listing_lacks, listing_made, showing_done, showing_stopped}
@@ -190,6 +191,7 @@ module _ (asked : ToolRequest) (caller : Caller) (tells : Telling) (at : Holding
   refused_early refusal verdict ahead =
       ends_early asked caller tells at at lists_alone keeps_lists (Refused refusal) (check_of refusal)
       (λ allow deny. subst (λ (of : Option Refusal). KeepsOrder of (Refused refusal)) (sym (verdict (lists_alone allow deny))) (inl refl)) tt refl ahead
+      (λ allow deny. refused_up_to (early_verdict asked caller (lists_alone allow deny)) refusal (verdict (lists_alone allow deny)))
       (λ allow deny told. sym (clock (check_of refusal))) (λ allow deny. finds (check_of refusal) (lists_alone allow deny)) refl (silent at.output) (silent at.errors)
 
 first_refused : (refusal : Refusal) (later : List (Option Refusal)) (check : Option Refusal) → check ≡ Some refusal → first_refusal (check ∷ later) ≡ Some refusal

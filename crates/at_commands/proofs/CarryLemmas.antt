@@ -4,6 +4,7 @@ use Rattle.std.proofs.lemmas.Bool.Decides.{nat_tests}
 use Rattle.std.proofs.lemmas.Option.{same_Some}
 use Rattle.std.specs.Prelude.{Option, Some, None, Ok, Err}
 use Rattle.std.specs.FinMap as finite
+use Rattle.access_lists.specs.Access.{may_use}
 use Rattle.at_words.specs.declared.tool_request.ToolRequest.{ToolRequest}
 use Rattle.host_calls.specs.World.{World, reading}
 use Rattle.job_runs.specs.Current.{Kept}
@@ -15,18 +16,19 @@ use Rattle.spool_model.specs.declared.step.Step.{Step}
 use Rattle.spool_model.specs.JobTable.{JobTable}
 use Rattle.spool_shows.specs.Shown.{shown_by}
 use Rattle.command_answers.specs.declared.caller.Caller.{Caller}
-use Rattle.command_answers.specs.Checks.{Check, check_of, is_before, of_access, of_folder, of_lock, of_output, of_steps, place_of}
+use Rattle.command_answers.specs.Checks.{Check, ComesUpTo, check_of, is_before, of_access, of_folder, of_lists, of_lock, of_output, of_steps, place_of}
 use Rattle.command_answers.specs.Ends.{KeepsOrder, Reaches}
 use Rattle.command_answers.specs.Found.{AreInFolder, Found, allow_file, deny_file}
 use Rattle.command_answers.specs.inside.Carrying.{AreSessionSteps, AreWorkSteps, Carries, Finding}
-use Rattle.command_answers.specs.Sessions.{IsNotOpened, IsOpened, Works, faults, is_damaged, lacks_memory, refuses}
+use Rattle.command_answers.specs.Sessions.{AreListsIn, IsNotOpened, IsOpened, Works, faults, lists_lack_memory, is_damaged, lacks_memory, refuses, lists_fault}
 use Rattle.command_answers.specs.Spool.{SpoolEnds}
 use Rattle.command_answers.specs.Verdict.{spool_verdict, table_verdict}
 use Rattle.command_answers.proofs.SessionLemmas.{works_end}
 use Rattle.command_answers.proofs.SpoolLemmas.{attempt_of, unbegun_same}
 use Rattle.spool_session.specs.Entering.{IsOfEntry}
 use Rattle.at_commands.proofs.KeptLemmas.{kept_decides}
-use Rattle.at_commands.proofs.LateLemmas.{OnTable, any_memory, late_busy, late_file_fault, not_permitted, permitted, spool_late, table_on}
+use Rattle.command_answers.proofs.CheckLemmas.{allowed_up_to, refused_up_to}
+use Rattle.at_commands.proofs.LateLemmas.{OnTable, any_memory, late_busy, late_file_fault, late_up_to_lists, late_up_to_lock, not_permitted, permitted, spool_late, table_on, table_up_to_folder}
 
 pub no_true : false ≡ true → ⊥
 no_true is = cc
@@ -69,6 +71,7 @@ module _ (tells alone : Bool) (asked : ToolRequest) (caller : Caller) (finding :
     entered = refl;
     reach = reach;
     order = order;
+    up_to = late_up_to_lock _ (spool_late asked caller held (shown_by (reading old)));
     folder = lists;
     apart = λ told is_alone early. same told is_alone;
     spool = spool;
@@ -104,21 +107,48 @@ module _ (tells alone : Bool) (asked : ToolRequest) (caller : Caller) (finding :
   not_entered (Damaged damage) entry same = absurd entry
   not_entered StillRunning entry same = absurd entry
 
-  -- no store was had: a file fault or want of memory
-  stopped_at_folder : (cause : Cause) → Reaches cause of_folder →
+  -- the lists could not be read: a file fault or want of memory
+  stopped_at_lists : (cause : Cause) → Reaches cause of_lists →
       KeepsOrder (spool_verdict asked caller (finding (finite.get (reading old) allow_file) (finite.get (reading old) deny_file)) (shown_by (reading old))) cause →
+      (tells ≡ true → new ≡ old) →
       (tells ≡ true → alone ≡ true →
       SpoolEnds (AreSessionSteps asked caller (finding (finite.get (reading old) allow_file) (finite.get (reading old) deny_file))) old new cause) →
       Carries tells alone asked caller finding old new cause
-  stopped_at_folder cause reach order spool = record {
+  stopped_at_lists cause reach order same spool = record {
     allow = finite.get (reading old) allow_file;
     deny = finite.get (reading old) deny_file;
+    shown = shown_by (reading old);
+    reached = of_lists;
+    entered = refl;
+    reach = reach;
+    order = order;
+    up_to = late_up_to_lists _ (spool_late asked caller here (shown_by (reading old)));
+    folder = in_folder;
+    apart = λ told is_alone early. same told;
+    spool = spool;
+  }
+
+  -- no store was had for a user whom the lists permit: a file fault or want of memory
+  stopped_at_folder : (allow deny : Option (List ℕ)) → may_use caller.context.user allow deny ≡ true → (tells ≡ true → AreListsIn (reading old) allow deny) →
+      (cause : Cause) → Reaches cause of_folder → KeepsOrder (spool_verdict asked caller (finding allow deny) (shown_by (reading old))) cause →
+      (tells ≡ true → alone ≡ true → SpoolEnds (AreSessionSteps asked caller (finding allow deny)) old new cause) →
+      Carries tells alone asked caller finding old new cause
+  stopped_at_folder allow deny permits lists cause reach order spool = record {
+    allow = allow;
+    deny = deny;
     shown = shown_by (reading old);
     reached = of_folder;
     entered = refl;
     reach = reach;
     order = order;
-    folder = in_folder;
+    up_to = subst (λ (of : Option Refusal). ComesUpTo of of_folder)
+        (sym (permitted asked caller (finding allow deny) (shown_by (reading old)) (rw (keeps.allow_is allow deny, keeps.deny_is allow deny) permits)))
+        (table_up_to_folder (table_verdict asked caller (shown_by (reading old))) (table_on asked caller (shown_by (reading old))));
+    folder = λ told is_alone. record {
+      allow = keeps.allow_is allow deny ∙ (lists told).allow_is;
+      deny = keeps.deny_is allow deny ∙ (lists told).deny_is;
+      table = refl;
+    };
     apart = λ told is_alone early. absurd (no_true early);
     spool = spool;
   }
@@ -126,10 +156,16 @@ module _ (tells alone : Bool) (asked : ToolRequest) (caller : Caller) (finding :
   -- why no store was had
   pub not_opened : (user : List ℕ) (cause : Cause) → caller.context.user ≡ user → IsNotOpened tells user old new cause →
       Carries tells alone asked caller finding old new cause
-  not_opened user cause same (faults unbegun) =
-      stopped_at_folder FileFault (refl, refl) (late_file_fault _ (spool_late asked caller here (shown_by (reading old)))) (λ told is_alone. inl (unbegun told))
-  not_opened user cause same (lacks_memory unbegun) =
-      stopped_at_folder Memory tt (any_memory _) (λ told is_alone. inl (unbegun told))
+  not_opened user cause same (lists_fault still) =
+      stopped_at_lists FileFault (refl, refl) (late_file_fault _ (spool_late asked caller here (shown_by (reading old)))) still
+      (λ told is_alone. inl (unbegun_same old new (still told)))
+  not_opened user cause same (lists_lack_memory still) =
+      stopped_at_lists Memory tt (any_memory _) still (λ told is_alone. inl (unbegun_same old new (still told)))
+  not_opened user cause same (faults allow deny permits lists unbegun) =
+      stopped_at_folder allow deny (rw same permits) lists FileFault (refl, refl)
+      (late_file_fault _ (spool_late asked caller (finding allow deny) (shown_by (reading old)))) (λ told is_alone. inl (unbegun told))
+  not_opened user cause same (lacks_memory allow deny permits lists unbegun) =
+      stopped_at_folder allow deny (rw same permits) lists Memory tt (any_memory _) (λ told is_alone. inl (unbegun told))
   not_opened user cause same (refuses allow deny refused lists kept) = record {
     allow = allow;
     deny = deny;
@@ -138,6 +174,7 @@ module _ (tells alone : Bool) (asked : ToolRequest) (caller : Caller) (finding :
     entered = refl;
     reach = refl;
     order = subst (λ (of : Option Refusal). KeepsOrder of (Refused NotAllowed)) (sym (not_permitted asked caller (finding allow deny) (shown_by (reading old)) (rw (keeps.allow_is allow deny, keeps.deny_is allow deny, same) refused))) (inl refl);
+    up_to = refused_up_to _ NotAllowed (not_permitted asked caller (finding allow deny) (shown_by (reading old)) (rw (keeps.allow_is allow deny, keeps.deny_is allow deny, same) refused));
     folder = λ told is_alone. record {
       allow = keeps.allow_is allow deny ∙ (lists told).allow_is;
       deny = keeps.deny_is allow deny ∙ (lists told).deny_is;
@@ -155,6 +192,7 @@ module _ (tells alone : Bool) (asked : ToolRequest) (caller : Caller) (finding :
     reach = refl;
     order = subst (λ (of : Option Refusal). KeepsOrder of (Damaged damage))
         (sym (permitted asked caller (finding allow deny) (Err damage) (rw (keeps.allow_is allow deny, keeps.deny_is allow deny, same) permits))) tt;
+    up_to = allowed_up_to _ of_folder (permitted asked caller (finding allow deny) (Err damage) (rw (keeps.allow_is allow deny, keeps.deny_is allow deny, same) permits));
     folder = λ told is_alone. record {
       allow = keeps.allow_is allow deny ∙ (lists told).allow_is;
       deny = keeps.deny_is allow deny ∙ (lists told).deny_is;
@@ -186,10 +224,10 @@ module _ (tells alone : Bool) (asked : ToolRequest) (caller : Caller) (finding :
 
   -- the work behind the store that was opened
   abbrev worked_at : (cause : Cause) (reached : Check) → is_before reached of_lock ≡ false → is_before reached of_folder ≡ false → Reaches cause reached →
-      KeepsOrder (table_verdict asked caller (Ok kept.table)) cause →
+      KeepsOrder (table_verdict asked caller (Ok kept.table)) cause → ComesUpTo (table_verdict asked caller (Ok kept.table)) reached →
       (tells ≡ true → Works (AreWorkSteps asked caller found) opened.table middle new cause) →
       Carries tells alone asked caller finding old new cause
-  worked_at cause reached entered behind reach order works = record {
+  worked_at cause reached entered behind reach order up_to works = record {
     allow = opened.allow;
     deny = opened.deny;
     shown = Ok opened.table;
@@ -197,6 +235,7 @@ module _ (tells alone : Bool) (asked : ToolRequest) (caller : Caller) (finding :
     entered = entered;
     reach = reach;
     order = subst (λ (of : Option Refusal). KeepsOrder of cause) (sym decides) order;
+    up_to = subst (λ (of : Option Refusal). ComesUpTo of reached) (sym decides) up_to;
     folder = λ told is_alone. record {
       allow = keeps.allow_is opened.allow opened.deny ∙ (opened.lists told).allow_is;
       deny = keeps.deny_is opened.allow opened.deny ∙ (opened.lists told).deny_is;
@@ -216,6 +255,19 @@ module _ (tells alone : Bool) (asked : ToolRequest) (caller : Caller) (finding :
   behind : (place : ℕ) → nat_lt 14 place ≡ true → (nat_lt place 11 ≡ false) × (nat_lt place 14 ≡ false)
   behind place is = (grind (arith, nat_tests), grind (arith, nat_tests))
 
+  -- how far a command came that found no memory: to the check that refuses it, or to its steps
+  abbrev pub reached_by : Option Refusal → Check
+  reached_by None = of_steps
+  reached_by (Some refusal) = check_of refusal
+
+  pub far_by : (verdict : Option Refusal) → OnTable verdict → (is_before (reached_by verdict) of_lock ≡ false) × (is_before (reached_by verdict) of_folder ≡ false)
+  far_by None on = (refl, refl)
+  far_by (Some refusal) on = behind (place_of (check_of refusal)) on.1
+
+  pub up_to_by : (verdict : Option Refusal) → ComesUpTo verdict (reached_by verdict)
+  up_to_by None = tt
+  up_to_by (Some refusal) = refused_up_to (Some refusal) refusal refl
+
   -- the table refuses
   pub work_refused : (refusal : Refusal) → table_verdict asked caller (Ok kept.table) ≡ Some refusal → (tells ≡ true → new ≡ middle) →
       Carries tells alone asked caller finding old new (Refused refusal)
@@ -224,27 +276,34 @@ module _ (tells alone : Bool) (asked : ToolRequest) (caller : Caller) (finding :
       on_table (table_verdict asked caller (Ok kept.table)) refusal (table_on asked caller (Ok kept.table)) is in
       let far : (nat_lt (place_of (check_of refusal)) 11 ≡ false) × (nat_lt (place_of (check_of refusal)) 14 ≡ false) = behind (place_of (check_of refusal)) late in
       worked_at (Refused refusal) (check_of refusal) far.0 far.1 refl
-      (subst (λ (of : Option Refusal). KeepsOrder of (Refused refusal)) (sym is) (inl refl)) (λ told. (late, same told))
+      (subst (λ (of : Option Refusal). KeepsOrder of (Refused refusal)) (sym is) (inl refl))
+      (refused_up_to (table_verdict asked caller (Ok kept.table)) refusal is) (λ told. (late, same told))
 
   -- the table doesn't refuse: the work was done, or a fault of a file or want of memory came
   abbrev pub work_done : table_verdict asked caller (Ok kept.table) ≡ None → (tells ≡ true → Works (AreWorkSteps asked caller found) opened.table middle new Done) →
       Carries tells alone asked caller finding old new Done
-  work_done is works = worked_at Done of_output refl refl refl (subst (λ (of : Option Refusal). KeepsOrder of Done) (sym is) tt) works
+  work_done is works =
+      worked_at Done of_output refl refl refl (subst (λ (of : Option Refusal). KeepsOrder of Done) (sym is) tt) (allowed_up_to _ of_output is) works
 
   abbrev pub work_unsaid : table_verdict asked caller (Ok kept.table) ≡ None →
       (tells ≡ true → Works (AreWorkSteps asked caller found) opened.table middle new OutputFault) →
       Carries tells alone asked caller finding old new OutputFault
-  work_unsaid is works = worked_at OutputFault of_output refl refl refl (subst (λ (of : Option Refusal). KeepsOrder of OutputFault) (sym is) tt) works
+  work_unsaid is works =
+      worked_at OutputFault of_output refl refl refl (subst (λ (of : Option Refusal). KeepsOrder of OutputFault) (sym is) tt) (allowed_up_to _ of_output is) works
 
   abbrev pub work_fails : table_verdict asked caller (Ok kept.table) ≡ None →
       (tells ≡ true → Works (AreWorkSteps asked caller found) opened.table middle new FileFault) →
       Carries tells alone asked caller finding old new FileFault
   work_fails is works =
-      worked_at FileFault of_steps refl refl (refl, refl) (subst (λ (of : Option Refusal). KeepsOrder of FileFault) (sym is) tt) works
+      worked_at FileFault of_steps refl refl (refl, refl) (subst (λ (of : Option Refusal). KeepsOrder of FileFault) (sym is) tt) (allowed_up_to _ of_steps is) works
 
   abbrev pub work_lacks_memory : (tells ≡ true → Works (AreWorkSteps asked caller found) opened.table middle new Memory) →
       Carries tells alone asked caller finding old new Memory
-  work_lacks_memory works = worked_at Memory of_steps refl refl tt (any_memory (table_verdict asked caller (Ok kept.table))) works
+  work_lacks_memory works =
+      worked_at Memory (reached_by (table_verdict asked caller (Ok kept.table)))
+      (far_by (table_verdict asked caller (Ok kept.table)) (table_on asked caller (Ok kept.table))).0
+      (far_by (table_verdict asked caller (Ok kept.table)) (table_on asked caller (Ok kept.table))).1 tt
+      (any_memory (table_verdict asked caller (Ok kept.table))) (up_to_by (table_verdict asked caller (Ok kept.table))) works
 
 -- A session stands as it was between entering and leaving, where nobody else changes the folder.
 abbrev pub carries_within : (tells alone : Bool) (asked : ToolRequest) (caller : Caller) (finding : Finding) (before entered left after : World) (cause : Cause) →
@@ -258,6 +317,7 @@ carries_within tells alone asked caller finding before entered left after cause 
   entered = carries.entered;
   reach = carries.reach;
   order = carries.order;
+  up_to = carries.up_to;
   folder = λ told is_alone.
       subst (λ (of : World). AreInFolder (reading of) (finding carries.allow carries.deny) carries.shown) (enters told is_alone) (carries.folder told refl);
   apart = λ told is_alone early. leaves told is_alone ∙ carries.apart told refl early ∙ enters told is_alone;
@@ -288,6 +348,7 @@ module _ (tells alone : Bool) (asked : ToolRequest) (caller : Caller) (finding :
     entered = refl;
     reach = refl;
     order = subst (λ (of : Option Refusal). KeepsOrder of OutputFault) (sym (done_allowed _ carries.order)) tt;
+    up_to = allowed_up_to _ of_output (done_allowed _ carries.order);
     folder = carries.folder;
     apart = λ told is_alone early. absurd (no_true early);
     spool = carries.spool;
@@ -302,6 +363,7 @@ module _ (tells alone : Bool) (asked : ToolRequest) (caller : Caller) (finding :
     entered = refl;
     reach = tt;
     order = any_memory _;
+    up_to = allowed_up_to _ of_output (done_allowed _ carries.order);
     folder = carries.folder;
     apart = λ told is_alone early. absurd (no_true early);
     spool = λ told is_alone. attempt_of (AreSessionSteps asked caller (finding carries.allow carries.deny)) old new Done (carries.spool told is_alone);

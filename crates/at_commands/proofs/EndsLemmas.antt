@@ -21,7 +21,7 @@ use Rattle.spool_model.specs.JobTable.{JobTable}
 use Rattle.spool_shows.specs.Shown.{shown_by}
 use Rattle.job_runs.specs.Attempts.{Achieves}
 use Rattle.command_answers.specs.declared.caller.Caller.{Caller}
-use Rattle.command_answers.specs.Checks.{Check, check_of, is_before, of_lock, of_words, place_of}
+use Rattle.command_answers.specs.Checks.{Check, ComesUpTo, check_of, is_before, of_access, of_clock, of_date, of_directory, of_folder, of_input, of_jobs, of_length, of_lists, of_lock, of_number, of_output, of_room, of_spelling, of_steps, of_user, of_variables, of_words, of_zone, place_of}
 use Rattle.command_answers.specs.Ends.{Ends, Holding, IsNoRefusal, KeepsOrder, Reaches, Telling}
 use Rattle.command_answers.specs.Found.{Asked, Finds, Found, allow_file, answers_read, deny_file, found_of}
 use Rattle.command_answers.specs.inside.Carrying.{AreSessionSteps, Carries, Finding, IsSessionLine, IsSessionText}
@@ -32,7 +32,7 @@ use Rattle.command_answers.specs.Verdict.{early_verdict, first_refusal, spool_ve
 use Rattle.command_answers.proofs.SpoolLemmas.{attempt_of, unbegun_same}
 use Rattle.serving.specs.Saying.{IsSaid, IsUndone, SaysLine}
 use Rattle.at_commands.proofs.CarryLemmas.{KeepsLists, ends_map}
-use Rattle.at_commands.proofs.LateLemmas.{any_memory, late_input, spool_late}
+use Rattle.at_commands.proofs.LateLemmas.{any_memory, late_input, late_up_to, spool_late}
 
 -- Texts of one kind that are texts of another.
 module _ (A B : List ℕ → Type 0) (all : (text : List ℕ) → A text → B text) (old new : SinkAt) where
@@ -93,6 +93,7 @@ module _ (asked : ToolRequest) (caller : Caller) (tells : Telling) (before after
     reached = carries.reached;
     reach = carries.reach;
     order = subst (λ (of : Option Refusal). KeepsOrder of cause) (sym (verdict_late asked caller found carries.shown none)) carries.order;
+    up_to = subst (λ (of : Option Refusal). ComesUpTo of carries.reached) (sym (verdict_late asked caller found carries.shown none)) carries.up_to;
     clock = clock;
     finds = finds;
     folder = carries.folder;
@@ -135,6 +136,14 @@ keeps_early None asked caller found shown cause is order =
       by_cause Busy early none = absurd early
       by_cause (Damaged damage) early none = absurd early
       by_cause StillRunning early none = absurd early
+
+-- and so how far the command came
+up_to_early : (early : Option Refusal) (asked : ToolRequest) (caller : Caller) (found : Found) (shown : Result JobTable Damage) (reached : Check) →
+    is_before reached of_lock ≡ true → ComesUpTo early reached → ComesUpTo (first_refusal (early ∷ spool_verdict asked caller found shown ∷ [])) reached
+up_to_early (Some refusal) asked caller found shown reached ahead up_to = up_to
+up_to_early None asked caller found shown reached ahead up_to =
+    subst (λ (of : Option Refusal). ComesUpTo of reached) (sym (alone (spool_verdict asked caller found shown)))
+    (late_up_to (spool_verdict asked caller found shown) reached (spool_late asked caller found shown) ahead)
 
 no_true : false ≡ true → ⊥
 no_true is = cc
@@ -185,12 +194,12 @@ silent_notes StillRunning IsLine old new early silent = absurd early
 pub ends_early : (asked : ToolRequest) (caller : Caller) (tells : Telling) (before after : Holding) (finding : Finding) (keeps : KeepsLists finding)
     (cause : Cause) (reached : Check) →
     ((allow deny : Option (List ℕ)) → KeepsOrder (early_verdict asked caller (finding allow deny)) cause) → IsEarly cause → Reaches cause reached →
-    is_before reached of_lock ≡ true →
+    is_before reached of_lock ≡ true → ((allow deny : Option (List ℕ)) → ComesUpTo (early_verdict asked caller (finding allow deny)) reached) →
     ((allow deny : Option (List ℕ)) → tells.clock ≡ true → after.answers ≡ answers_read (Ok asked) reached (finding allow deny).now before.answers) →
     ((allow deny : Option (List ℕ)) → Finds tells.input (Ok asked) caller.zone before.contents reached (finding allow deny)) →
     after.spool ≡ before.spool → IsSilent before.output after.output → IsSilent before.errors after.errors →
     Ends NotesBy (Ok asked) caller tells before after cause
-ends_early asked caller tells before after finding keeps cause reached order early reach ahead clock finds same silent quiet =
+ends_early asked caller tells before after finding keeps cause reached order early reach ahead up_to clock finds same silent quiet =
     let allow : Option (List ℕ) = finite.get (reading before.spool) allow_file in
     let deny : Option (List ℕ) = finite.get (reading before.spool) deny_file in
     let shown : Result JobTable Damage = shown_by (reading before.spool) in
@@ -200,6 +209,7 @@ ends_early asked caller tells before after finding keeps cause reached order ear
       reached = reached;
       reach = reach;
       order = keeps_early (early_verdict asked caller (finding allow deny)) asked caller (finding allow deny) shown cause early (order allow deny);
+      up_to = up_to_early (early_verdict asked caller (finding allow deny)) asked caller (finding allow deny) shown reached ahead (up_to allow deny);
       clock = clock allow deny;
       finds = finds allow deny;
       folder = λ told is_alone. record { allow = keeps.allow_is allow deny; deny = keeps.deny_is allow deny; table = refl };
@@ -280,6 +290,7 @@ module _ (tool : List ℕ) (asked : Asked) (caller : Caller) (tells : Telling) (
     reached = ends.reached;
     reach = ends.reach;
     order = ends.order;
+    up_to = ends.up_to;
     clock = ends.clock;
     finds = ends.finds;
     folder = ends.folder;
@@ -296,6 +307,7 @@ module _ (tool : List ℕ) (asked : Asked) (caller : Caller) (tells : Telling) (
     reached = ends.reached;
     reach = tt;
     order = any_memory _;
+    up_to = ends.up_to;
     clock = ends.clock;
     finds = ends.finds;
     folder = ends.folder;
@@ -314,6 +326,32 @@ module _ (tool : List ℕ) (asked : Asked) (caller : Caller) (tells : Telling) (
   ]
 
 -- A command that stopped at its words.
+
+-- no check comes before that of the words
+words_first : (check : Check) → is_before check of_words ≡ false
+words_first of_words = refl
+words_first of_user = refl
+words_first of_directory = refl
+words_first of_variables = refl
+words_first of_clock = refl
+words_first of_zone = refl
+words_first of_spelling = refl
+words_first of_date = refl
+words_first of_input = refl
+words_first of_length = refl
+words_first of_lock = refl
+words_first of_lists = refl
+words_first of_access = refl
+words_first of_folder = refl
+words_first of_room = refl
+words_first of_number = refl
+words_first of_jobs = refl
+words_first of_steps = refl
+words_first of_output = refl
+
+up_to_words : (verdict : Option Refusal) → ComesUpTo verdict of_words
+up_to_words None = tt
+up_to_words (Some refusal) = words_first (check_of refusal)
 
 -- nothing was read yet
 answers_unread : (asked : Asked) (now : ℤ) (answers : Answers) → answers_read asked of_words now answers ≡ answers
@@ -353,6 +391,7 @@ ends_at_words asked caller tells at cause early reach order =
       reached = of_words;
       reach = reach;
       order = order found shown;
+      up_to = up_to_words (verdict_of asked caller found shown);
       clock = λ told. sym (answers_unread asked (pos 0) at.answers);
       finds = finds_unread tells.input asked caller.zone at.contents found;
       folder = λ told is_alone. record { allow = refl; deny = refl; table = refl };

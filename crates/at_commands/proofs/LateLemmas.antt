@@ -1,6 +1,7 @@
 -- The checks within a session come behind those before it.
-use Rattle.std.proofs.Common.{◌≡◌, Bool, true, false, ℕ, List, [], ◌∷◌, refl, inl, inr, cond}
-use Rattle.std.specs.Prelude.{◌&&◌, Option, Some, None, Result, Ok, Err, map, nat_le}
+use Rattle.std.proofs.Common.{◌≡◌, Bool, true, false, ℕ, List, [], ◌∷◌, refl, inl, inr, cond, arith}
+use Rattle.std.proofs.lemmas.Bool.Decides.{nat_tests}
+use Rattle.std.specs.Prelude.{◌&&◌, Option, Some, None, Result, Ok, Err, map, nat_le, nat_lt}
 use Rattle.access_lists.specs.Access.{may_use}
 use Rattle.at_words.specs.declared.filter.Filter.TheVariants as filter
 use Rattle.at_words.specs.declared.tool_request.ToolRequest.{ToolRequest}
@@ -17,7 +18,7 @@ use Rattle.spool_model.specs.JobTable.{JobTable}
 use Rattle.spool_model.specs.Lists.{live_count}
 use Rattle.spool_store.specs.declared.submitting.TheConstants.{MAX_LIVE}
 use Rattle.command_answers.specs.declared.caller.Caller.{Caller}
-use Rattle.command_answers.specs.Checks.{Check, check_of, is_before, of_folder, of_input, of_lock}
+use Rattle.command_answers.specs.Checks.{Check, ComesUpTo, check_of, is_before, of_folder, of_input, of_lists, of_lock, place_of}
 use Rattle.command_answers.specs.Ends.{KeepsOrder}
 use Rattle.command_answers.specs.Found.{Found}
 use Rattle.command_answers.specs.Verdict.{first_refusal, jobs_check, number_check, room_check, row_at, row_check, spool_verdict, table_verdict}
@@ -118,6 +119,37 @@ late_file_fault (Some refusal) late = inr (inr late.lock)
 pub any_memory : (verdict : Option Refusal) → KeepsOrder verdict Memory
 any_memory None = tt
 any_memory (Some refusal) = inr (inl refl)
+
+-- How far a command comes whose refusal is late.
+
+-- a check behind the lock is not before one that is not behind it, nor before the lists
+not_earlier : (place reached : ℕ) → nat_lt 11 place ≡ true → nat_lt reached 11 ≡ true → nat_lt place reached ≡ false
+not_earlier place reached late ahead = grind (arith, nat_tests)
+
+not_at_lock : (place : ℕ) → nat_lt 11 place ≡ true → nat_lt place 11 ≡ false
+not_at_lock place late = grind (arith, nat_tests)
+
+not_at_lists : (place : ℕ) → nat_lt 11 place ≡ true → nat_lt place 12 ≡ false
+not_at_lists place late = grind (arith, nat_tests)
+
+not_at_folder : (place : ℕ) → nat_lt 14 place ≡ true → nat_lt place 14 ≡ false
+not_at_folder place behind = grind (arith, nat_tests)
+
+pub late_up_to : (verdict : Option Refusal) (reached : Check) → AllLate verdict → is_before reached of_lock ≡ true → ComesUpTo verdict reached
+late_up_to None reached late ahead = tt
+late_up_to (Some refusal) reached late ahead = not_earlier (place_of (check_of refusal)) (place_of reached) late.lock ahead
+
+pub late_up_to_lock : (verdict : Option Refusal) → AllLate verdict → ComesUpTo verdict of_lock
+late_up_to_lock None late = tt
+late_up_to_lock (Some refusal) late = not_at_lock (place_of (check_of refusal)) late.lock
+
+pub late_up_to_lists : (verdict : Option Refusal) → AllLate verdict → ComesUpTo verdict of_lists
+late_up_to_lists None late = tt
+late_up_to_lists (Some refusal) late = not_at_lists (place_of (check_of refusal)) late.lock
+
+pub table_up_to_folder : (verdict : Option Refusal) → OnTable verdict → ComesUpTo verdict of_folder
+table_up_to_folder None on = tt
+table_up_to_folder (Some refusal) on = not_at_folder (place_of (check_of refusal)) on.1
 
 -- where the lists permit the user, the table decides
 pub permitted : (asked : ToolRequest) (caller : Caller) (found : Found) (shown : Result JobTable Damage) →

@@ -108,7 +108,7 @@ module _ (tells : Tells) (queue : ℕ) (mail : Bool) (file : Option (List ℕ)) 
       ends_early (request.Submit queue mail file when) caller (telling tells.files tells.alone tells.clock tells.input output tells.sink)
       (holding before.spool before.answers before.contents printed before.sink) (holding after.spool after.answers after.contents printed after.sink)
       (found_of prepares.now prepares.time prepares.commands) (finding_keeps prepares.now prepares.time prepares.commands) stopped.cause prepares.reached
-      (λ allow deny. ends.order) (early_of stopped.cause ends.comes) ends.reach ends.early (λ allow deny. prepares.clock)
+      (λ allow deny. ends.order) (early_of stopped.cause ends.comes) ends.reach ends.early (λ allow deny. ends.up_to) (λ allow deny. prepares.clock)
       (λ allow deny. record { time = prepares.finds.time; commands = prepares.finds.commands }) same (silent printed) quiet
 
   module _ (submission : Submission)

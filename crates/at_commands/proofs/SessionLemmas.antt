@@ -8,7 +8,7 @@ use Rattle.spool_store.specs.declared.fault.StoreFault.{StoreFault}
 use Rattle.spool_store.specs.declared.fault.StoreFault.TheVariants as store
 use Rattle.command_answers.specs.declared.stopped.Stopped.{Stopped}
 use Rattle.command_answers.specs.Causes.{cause_in, cause_of, stopped_by}
-use Rattle.command_answers.specs.Sessions.{IsNotOpened, faults, is_damaged, lacks_memory, refuses}
+use Rattle.command_answers.specs.Sessions.{IsNotOpened, faults, is_damaged, lacks_memory, lists_fault, lists_lack_memory, refuses}
 use Rattle.job_listing.specs.Scripts.{ComesOfShowing, IsOfShowing}
 use Rattle.job_removal.specs.Removing.{ComesOfRemoving, IsOfWork}
 use Rattle.spool_session.specs.Entering.{ComesOfEntering, IsOfEntry}
@@ -16,8 +16,10 @@ use Rattle.at_commands.specs.inside.Session.{ComesOfSession, IsNoOutput, IsOfSes
 
 -- no store was had
 pub not_opened_comes : (tells : Bool) (user : List ℕ) (old new : World) (cause : Cause) → IsNotOpened tells user old new cause → IsOfSession cause
-not_opened_comes tells user old new cause (faults unbegun) = tt
-not_opened_comes tells user old new cause (lacks_memory unbegun) = tt
+not_opened_comes tells user old new cause (lists_fault same) = tt
+not_opened_comes tells user old new cause (lists_lack_memory same) = tt
+not_opened_comes tells user old new cause (faults allow deny permits lists unbegun) = tt
+not_opened_comes tells user old new cause (lacks_memory allow deny permits lists unbegun) = tt
 not_opened_comes tells user old new cause (refuses allow deny refused lists same) = tt
 not_opened_comes tells user old new cause (is_damaged damage allow deny permits lists shows) = tt
 
@@ -37,8 +39,10 @@ not_busy (Err stopped) comes is =
 
 -- nor does the output fail where none is put
 pub not_opened_of_spool : (tells : Bool) (user : List ℕ) (old new : World) (cause : Cause) → IsNotOpened tells user old new cause → IsOfSpool cause
-not_opened_of_spool tells user old new cause (faults unbegun) = tt
-not_opened_of_spool tells user old new cause (lacks_memory unbegun) = tt
+not_opened_of_spool tells user old new cause (lists_fault same) = tt
+not_opened_of_spool tells user old new cause (lists_lack_memory same) = tt
+not_opened_of_spool tells user old new cause (faults allow deny permits lists unbegun) = tt
+not_opened_of_spool tells user old new cause (lacks_memory allow deny permits lists unbegun) = tt
 not_opened_of_spool tells user old new cause (refuses allow deny refused lists same) = tt
 not_opened_of_spool tells user old new cause (is_damaged damage allow deny permits lists shows) = tt
 

@@ -1,3 +1,4 @@
+pub mod CheckLemmas
 pub mod LawLemmas
 pub mod SessionLemmas
 pub mod SpoolLemmas

@@ -1,5 +1,5 @@
 -- The checks of a command, and their order (own).
-use Rattle.std.specs.Prelude.{ℕ, Bool, nat_lt}
+use Rattle.std.specs.Prelude.{◌≡◌, ℕ, Bool, false, Option, Some, None, nat_lt}
 use Rattle.listing_text.specs.declared.refusal.Refusal.{Refusal}
 use Rattle.listing_text.specs.declared.refusal.Refusal.TheVariants.{Usage, NotAllowed, Timespec, NoSuchDay, OutOfRange, Past, BadTimeArg, BadZone, BadQueue, BadDirectory, BadUser, TooLong, EnvironmentTooLarge, QueueFull, NumbersUsedUp, NoSuchJob, NotYours, RunningJob, BadClock}
 
@@ -72,3 +72,8 @@ check_of NumbersUsedUp = of_number
 check_of (NoSuchJob number) = of_jobs
 check_of (NotYours number) = of_jobs
 check_of (RunningJob number) = of_jobs
+
+-- a command that is refused comes no further than the check that refuses it
+abbrev pub ComesUpTo : Option Refusal → Check → Type 0
+ComesUpTo None reached = Unit {0}
+ComesUpTo (Some refusal) reached = is_before (check_of refusal) reached ≡ false

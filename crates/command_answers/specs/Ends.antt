@@ -12,7 +12,7 @@ use Rattle.listing_text.specs.declared.cause.Cause.TheVariants.{Done, Refused, F
 use Rattle.listing_text.specs.declared.refusal.Refusal.{Refusal}
 use Rattle.spool_model.specs.JobTable.{JobTable}
 use Rattle.command_answers.specs.declared.caller.Caller.{Caller}
-use Rattle.command_answers.specs.Checks.{Check, check_of, is_before, of_input, of_lock, of_folder, of_output}
+use Rattle.command_answers.specs.Checks.{Check, ComesUpTo, check_of, is_before, of_input, of_lock, of_folder, of_output}
 use Rattle.command_answers.specs.Found.{AreInFolder, Asked, Finds, Found, answers_read}
 use Rattle.command_answers.specs.Requested.{AreAskedSteps, IsAskedLine, IsAskedText}
 use Rattle.command_answers.specs.Sinks.{PrintsBy, SinkAt}
@@ -99,6 +99,7 @@ pub record Ends (Notes : Cause → (List ℕ → Type 0) → SinkAt → SinkAt �
   pub reached : Check
   pub reach : Reaches cause reached
   pub order : KeepsOrder (verdict_of asked caller found shown) cause
+  pub up_to : ComesUpTo (verdict_of asked caller found shown) reached
   pub clock : tells.clock ≡ true → after.answers ≡ answers_read asked reached found.now before.answers
   pub finds : Finds tells.input asked caller.zone before.contents reached found
   pub folder : tells.files ≡ true → tells.alone ≡ true → AreInFolder (reading before.spool) found shown

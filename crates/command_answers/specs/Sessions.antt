@@ -49,13 +49,20 @@ pub record IsOpened (tells : Bool) (user : List ℕ) (old new : World) (kept : K
   pub lists : tells ≡ true → AreListsIn (reading old) allow deny
   pub recovered : tells ≡ true → IsRecovery old new table kept
 
--- why a session has no store: a file fault, want of memory, a user whom the lists refuse, or a damage
+-- Why a session has no store: the lists could not be read, for a file fault or want of memory; they refuse the user; or
+-- they permit the user, and the recovery found a fault, no memory or a damage. Nothing is settled for a user whom they refuse.
 pub data IsNotOpened (tells : Bool) (user : List ℕ) (old new : World) : Cause → Type 0 where
-  faults : (tells ≡ true → IsUnbegun old new) → IsNotOpened tells user old new FileFault
-  lacks_memory : (tells ≡ true → IsUnbegun old new) → IsNotOpened tells user old new Memory
+  lists_fault : (tells ≡ true → new ≡ old) → IsNotOpened tells user old new FileFault
+  lists_lack_memory : (tells ≡ true → new ≡ old) → IsNotOpened tells user old new Memory
   refuses : (allow deny : Option (List ℕ)) → may_use user allow deny ≡ false
       → (tells ≡ true → AreListsIn (reading old) allow deny) → (tells ≡ true → new ≡ old)
       → IsNotOpened tells user old new (Refused NotAllowed)
+  faults : (allow deny : Option (List ℕ)) → may_use user allow deny ≡ true
+      → (tells ≡ true → AreListsIn (reading old) allow deny) → (tells ≡ true → IsUnbegun old new)
+      → IsNotOpened tells user old new FileFault
+  lacks_memory : (allow deny : Option (List ℕ)) → may_use user allow deny ≡ true
+      → (tells ≡ true → AreListsIn (reading old) allow deny) → (tells ≡ true → IsUnbegun old new)
+      → IsNotOpened tells user old new Memory
   is_damaged : (damage : Damage) (allow deny : Option (List ℕ)) → may_use user allow deny ≡ true
       → (tells ≡ true → AreListsIn (reading old) allow deny) → (tells ≡ true → IsDamage old new damage)
       → IsNotOpened tells user old new (Damaged damage)

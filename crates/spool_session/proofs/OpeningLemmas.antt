@@ -16,14 +16,13 @@ use Rattle.spool_store.specs.declared.fault.StoreFault.TheVariants as store
 use Rattle.spool_store.specs.Faults.{IsOfReading}
 use Rattle.spool_store.specs.Recovering.{IsRecovered, Recovered}
 use Rattle.command_answers.specs.Causes.{cause_of, cause_of_host}
-use Rattle.command_answers.specs.Sessions.{AreListsIn, IsNotOpened, IsOpened, faults, is_damaged, lacks_memory}
-use Rattle.command_answers.proofs.SpoolLemmas.{unbegun_same}
+use Rattle.command_answers.specs.Sessions.{AreListsIn, IsNotOpened, IsOpened, faults, lists_lack_memory, is_damaged, lacks_memory, lists_fault}
 
 -- a list could not be read
 pub lists_unread : (tells : Bool) (user : List ℕ) (old new : World) (fault : HostFault) → (tells ≡ true → new ≡ old) →
     IsNotOpened tells user old new (cause_of_host fault)
-lists_unread tells user old new host.Failed same = faults (λ told. unbegun_same old new (same told))
-lists_unread tells user old new host.Memory same = lacks_memory (λ told. unbegun_same old new (same told))
+lists_unread tells user old new host.Failed same = lists_fault same
+lists_unread tells user old new host.Memory same = lists_lack_memory same
 
 module _ (tells : Bool) (user : List ℕ) (allow deny : Option (List ℕ)) (old middle new : World)
     (permits : may_use user allow deny ≡ true) (looks : tells ≡ true → middle ≡ old)
@@ -36,8 +35,8 @@ module _ (tells : Bool) (user : List ℕ) (allow deny : Option (List ℕ)) (old 
   pub unrecovered : (fault : StoreFault) → IsOfReading fault → (tells ≡ true → Recovered middle.now.folder new.now.folder (Err fault)) →
       (tells ≡ true → IfDamaged {T = Kept} store.Damaged (λ damage. reading new ≡ reading middle) (Err fault)) →
       IsNotOpened tells user old new (cause_of fault)
-  unrecovered store.FileFault of_reading recovered untouched = faults (λ told. recoveries_begin_nothing old new (changed told))
-  unrecovered store.Memory of_reading recovered untouched = lacks_memory (λ told. recoveries_begin_nothing old new (changed told))
+  unrecovered store.FileFault of_reading recovered untouched = faults allow deny permits lists (λ told. recoveries_begin_nothing old new (changed told))
+  unrecovered store.Memory of_reading recovered untouched = lacks_memory allow deny permits lists (λ told. recoveries_begin_nothing old new (changed told))
   unrecovered (store.Damaged damage) of_reading recovered untouched =
       is_damaged damage allow deny permits lists (λ told. record {
         shown = sym (ap (λ (world : World). shown_by (reading world)) (looks told)) ∙ recovered told;

@@ -26,6 +26,7 @@ use Rattle.command_answers.specs.Ends.{KeepsOrder}
 use Rattle.command_answers.specs.Found.{AreRead, FindsInput, Found, found_of}
 use Rattle.command_answers.specs.Times.{IsMeant, IsTimeOf}
 use Rattle.command_answers.specs.Verdict.{clock_check, directory_check, first_refusal, is_unreadable, length_check, submission_checks, time_check, user_check, variables_check, zone_check}
+use Rattle.command_answers.proofs.CheckLemmas.{allowed_up_to, refused_up_to}
 use Rattle.submission_checks.specs.Preparing.{Prepares}
 use Rattle.submission_checks.specs.Reading.{IsOfInput}
 use Rattle.submission_checks.specs.Timing.{MeansNone}
@@ -178,6 +179,7 @@ module _ (readings_tell inputs_tell : Bool) (caller : Caller) (mail : Bool) (fil
         finds = finds_none found (check_of is.refusal) is.before_zone is.before_input;
         ends = rw is.is (record {
           order = refused (first_refusal (submission_checks caller found)) is.refusal (is.verdict _);
+          up_to = refused_up_to (first_refusal (submission_checks caller found)) is.refusal (is.verdict _);
           reach = refl;
           early = is.early;
           comes = tt;
@@ -207,6 +209,8 @@ module _ (readings_tell inputs_tell : Bool) (caller : Caller) (mail : Bool) (fil
           ends = record {
             order = refused (first_refusal (submission_checks caller found)) BadClock
                 (from_clock found ∙ stop (clock_check found) _ BadClock (rw out refl));
+            up_to = refused_up_to (first_refusal (submission_checks caller found)) BadClock
+                (from_clock found ∙ stop (clock_check found) _ BadClock (rw out refl));
             reach = refl;
             early = refl;
             comes = tt;
@@ -233,6 +237,8 @@ module _ (readings_tell inputs_tell : Bool) (caller : Caller) (mail : Bool) (fil
             ends = record {
               order = refused (first_refusal (submission_checks caller found)) BadZone
                   (from_zone found refl ∙ stop (zone_check caller.zone) _ BadZone (rw unreadable refl));
+              up_to = refused_up_to (first_refusal (submission_checks caller found)) BadZone
+                  (from_zone found refl ∙ stop (zone_check caller.zone) _ BadZone (rw unreadable refl));
               reach = refl;
               early = refl;
               comes = tt;
@@ -255,7 +261,13 @@ module _ (readings_tell inputs_tell : Bool) (caller : Caller) (mail : Bool) (fil
               reached = of_zone;
               clock = told;
               finds = finds_none found of_zone refl refl;
-              ends = record { order = no_memory _; reach = tt; early = refl; comes = tt };
+              ends = record {
+                order = no_memory _;
+                up_to = allowed_up_to (first_refusal (submission_checks caller found)) of_zone (from_time found refl);
+                reach = tt;
+                early = refl;
+                comes = tt;
+              };
             }
 
         -- the time means no minute
@@ -273,6 +285,7 @@ module _ (readings_tell inputs_tell : Bool) (caller : Caller) (mail : Bool) (fil
               finds = record { time = λ beyond. meant; commands = λ tells beyond. absurd (no_true (sym before_input ∙ beyond)) };
               ends = record {
                 order = refused (first_refusal (submission_checks caller found)) refusal (from_time found refl);
+                up_to = refused_up_to (first_refusal (submission_checks caller found)) refusal (from_time found refl);
                 reach = refl;
                 early = early;
                 comes = tt;
@@ -316,7 +329,13 @@ module _ (readings_tell inputs_tell : Bool) (caller : Caller) (mail : Bool) (fil
                 reached = of_input;
                 clock = told;
                 finds = record { time = λ beyond. meant; commands = λ tells beyond. absurd (no_true beyond) };
-                ends = record { order = rw (from_length found refl refl) tt; reach = refl; early = refl; comes = tt };
+                ends = record {
+                  order = rw (from_length found refl refl) tt;
+                  up_to = allowed_up_to (first_refusal (submission_checks caller found)) of_input (from_length found refl refl);
+                  reach = refl;
+                  early = refl;
+                  comes = tt;
+                };
               }
           input_stops Memory of_input_fault = memory_stops
           input_stops Done of_input_fault = absurd of_input_fault
@@ -342,6 +361,8 @@ module _ (readings_tell inputs_tell : Bool) (caller : Caller) (mail : Bool) (fil
                   finds = record { time = λ beyond. meant; commands = λ tells beyond. read tells };
                   ends = record {
                     order = refused (first_refusal (submission_checks caller found)) TooLong
+                        (from_length found refl refl ∙ stop (length_check found) _ TooLong (rw (lt-ltb MAX_COMMANDS (length commands) long) refl));
+                    up_to = refused_up_to (first_refusal (submission_checks caller found)) TooLong
                         (from_length found refl refl ∙ stop (length_check found) _ TooLong (rw (lt-ltb MAX_COMMANDS (length commands) long) refl));
                     reach = refl;
                     early = refl;

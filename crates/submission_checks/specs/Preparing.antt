@@ -9,7 +9,7 @@ use Rattle.listing_text.specs.declared.cause.Cause.TheVariants.{Done, Refused, F
 use Rattle.listing_text.specs.declared.refusal.Refusal.{Refusal}
 use Rattle.command_answers.specs.declared.caller.Caller.{Caller}
 use Rattle.command_answers.specs.declared.stopped.Stopped.{Stopped}
-use Rattle.command_answers.specs.Checks.{Check, is_before, of_variables, of_lock}
+use Rattle.command_answers.specs.Checks.{Check, ComesUpTo, is_before, of_variables, of_lock}
 use Rattle.command_answers.specs.Ends.{KeepsOrder, Reaches}
 use Rattle.command_answers.specs.Found.{FindsInput, Found, found_of}
 use Rattle.command_answers.specs.Times.{minute_in}
@@ -38,6 +38,7 @@ pub record IsPrepared (caller : Caller) (mail : Bool) (found : Found) (reached :
 -- a check refuses, the inputs failed, or there was no memory
 pub record IsStoppedEarly (caller : Caller) (found : Found) (reached : Check) (cause : Cause) : Type 0 where
   pub order : KeepsOrder (first_refusal (submission_checks caller found)) cause
+  pub up_to : ComesUpTo (first_refusal (submission_checks caller found)) reached
   pub reach : Reaches cause reached
   pub early : is_before reached of_lock ≡ true
   pub comes : IsOfPreparing cause

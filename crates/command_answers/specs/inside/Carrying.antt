@@ -7,7 +7,7 @@ use Rattle.listing_text.specs.declared.cause.Cause.{Cause}
 use Rattle.spool_model.specs.declared.step.Step.{Step}
 use Rattle.spool_model.specs.JobTable.{JobTable}
 use Rattle.command_answers.specs.declared.caller.Caller.{Caller}
-use Rattle.command_answers.specs.Checks.{Check, is_before, of_lock, of_folder}
+use Rattle.command_answers.specs.Checks.{Check, ComesUpTo, is_before, of_lock, of_folder}
 use Rattle.command_answers.specs.Ends.{KeepsOrder, Reaches}
 use Rattle.command_answers.specs.Found.{AreInFolder, Found}
 use Rattle.command_answers.specs.Requested.{Prints, Says, next_number, steps_of}
@@ -48,6 +48,7 @@ pub record Carries (tells alone : Bool) (asked : ToolRequest) (caller : Caller) 
   pub entered : is_before reached of_lock ≡ false
   pub reach : Reaches cause reached
   pub order : KeepsOrder (spool_verdict asked caller (finding allow deny) shown) cause
+  pub up_to : ComesUpTo (spool_verdict asked caller (finding allow deny) shown) reached
   pub folder : tells ≡ true → alone ≡ true → AreInFolder (reading old) (finding allow deny) shown
   pub apart : tells ≡ true → alone ≡ true → is_before reached of_folder ≡ true → new ≡ old
   pub spool : tells ≡ true → alone ≡ true → SpoolEnds (AreSessionSteps asked caller (finding allow deny)) old new cause
