@@ -1,5 +1,5 @@
 -- Small servings, made turn by turn.
-use Rattle.std.proofs.Common.{◌≡◌, ◌≤◌, ◌<◌, ℕ, zero, suc, ℤ, Bool, true, false, List, [], ◌∷◌, ◌++◌, refl, sym, ap, subst, inl, arith, lit≤, lit<}
+use Rattle.std.proofs.Common.{◌≡◌, ◌<◌, ℕ, zero, suc, ℤ, Bool, true, false, List, [], ◌∷◌, ◌++◌, refl, sym, ap, subst, inl, arith, lit≤, lit<}
 use Rattle.std.specs.Fmt.{digits}
 use Rattle.std.specs.Prelude.{Contains, Option, Some, None, codes, slice_index_or}
 use Rattle.clock_range.specs.ClockRange.{IsClockSecond}
@@ -115,9 +115,11 @@ silent : (content : List ℕ) → IsSilent (sink content) (sink content)
 silent content = record { content = refl; later = lit≤ tt }
 
 done_silent : (one other : Item) → one.end ≡ Done → other.end ≡ Done → SaysEnds (one ∷ other ∷ []) (sink []) (sink [])
-done_silent one other first second =
-    (sink [], subst (λ (end : TurnEnd). SaysEnd end (sink []) (sink [])) (sym first) (silent []),
-    (sink [], subst (λ (end : TurnEnd). SaysEnd end (sink []) (sink [])) (sym second) (silent []), silent []))
+done_silent one other first second = (
+  sink [],
+  subst (λ (end : TurnEnd). SaysEnd end (sink []) (sink [])) (sym first) (silent []),
+  (sink [], subst (λ (end : TurnEnd). SaysEnd end (sink []) (sink [])) (sym second) (silent []), silent []),
+)
 
 -- What two turns come to.
 
@@ -232,7 +234,7 @@ unfolding digits
 taken_first world =
     let end : ServeAt = served_with world (first_child ∷ []) 1 (first_kid ∷ []) (midnight ∷ second_later ∷ []) (Some 42 ∷ Some 42 ∷ []) 1 0 in
     let first : Served told false [] taken (opening world) (refused world 0) =
-      record { now = at_midnight; read = answered midnight 42 Busy _ (opening world) (refused world 0) refl refl; turn = held world _ } in
+    record { now = at_midnight; read = answered midnight 42 Busy _ (opening world) (refused world 0) refl refl; turn = held world _ } in
     let second : Served told false (taken ∷ []) (handed_at second_later) (refused world 1) end = record {
       now = a_second_later;
       read = answered second_later 42 Done _ (refused world 1) end refl refl;
