@@ -1,5 +1,5 @@
 -- Small servings, made turn by turn.
-use Rattle.std.proofs.Common.{◌≡◌, ◌≤◌, ◌<◌, ℕ, zero, suc, ℤ, Bool, true, false, List, [], ◌∷◌, ◌++◌, refl, sym, ap, subst, inl, arith, lit≤, lit<}
+use Rattle.std.proofs.Common.{◌≡◌, ◌<◌, ℕ, zero, suc, ℤ, Bool, true, false, List, [], ◌∷◌, ◌++◌, refl, sym, ap, subst, inl, arith, lit≤, lit<}
 use Rattle.std.specs.Fmt.{digits}
 use Rattle.std.specs.Prelude.{Contains, Option, Some, None, codes, slice_index_or}
 use Rattle.clock_range.specs.ClockRange.{IsClockSecond}

@@ -1,12 +1,9 @@
 -- What follows of serving.
-use Rattle.std.proofs.Common.{◌≡◌, ◌⊎◌, ◌≤◌, ℕ, ℤ, Bool, true, false, List, [], ◌∷◌, ◌++◌, refl, sym, ap, subst, ◌∙◌, inl, inr, arith}
-use Rattle.std.specs.Prelude.{Option, Some, None}
-use Rattle.clock_range.specs.ClockRange.{IsClockSecond}
+use Rattle.std.proofs.Common.{◌≡◌, ◌≤◌, ℕ, Bool, true, false, List, [], ◌∷◌, ◌++◌, refl, sym, subst, inl, inr, arith}
 use Rattle.host_calls.specs.Causes.{Rose}
 use Rattle.host_calls.specs.Session.{KeepsCounts, Session}
 use Rattle.host_calls.specs.World.{reading}
 use Rattle.listing_text.specs.declared.cause.Cause.{Cause}
-use Rattle.listing_text.specs.declared.cause.Cause.TheVariants as cause
 use Rattle.command_answers.specs.Sinks.{SinkAt}
 use Rattle.daemon_turn.specs.declared.kid.Kid.{Kid}
 use Rattle.daemon_turn.specs.declared.report.TurnEnd.{TurnEnd}
@@ -16,8 +13,8 @@ use Rattle.daemon_turn.specs.Leaving.{DaemonAt}
 use Rattle.daemon_turn.proofs.LawLemmas.{readings_stay_good, turns_are_done}
 use Rattle.serving.specs.Items.{Item, first_end, last_item}
 use Rattle.serving.specs.Laws.{IsLastInRange, IsServedWell, ServingIsDone}
-use Rattle.serving.specs.Outcomes.{Stop, StopsBy, at_a_line, at_the_clock, at_the_end, damage_outcome, end_outcome, kids_outcome, last_outcome, outcome_by, output_outcome, turns_outcome}
-use Rattle.serving.specs.Serves.{RestsBehind, ServeAt, Served, Serves, ServeTelling, next_turn, no_turn}
+use Rattle.serving.specs.Outcomes.{Stop, StopsBy, at_a_line, at_the_clock, at_the_end, damage_outcome, end_outcome, kids_outcome, last_outcome, outcome_by, turns_outcome}
+use Rattle.serving.specs.Serves.{ServeAt, Served, Serves, ServeTelling, next_turn, no_turn}
 use Rattle.serving.specs.Serving.{SaysOutcome}
 use Rattle.serving.specs.declared.outcome.Outcome.{Outcome}
 use Rattle.serving.specs.declared.outcome.Outcome.TheVariants.{OfTurn, Own}

@@ -1,5 +1,5 @@
 -- One turn more, and the end of serving.
-use Rattle.std.proofs.Common.{◌≡◌, ◌⊎◌, ◌+◌, ◌<◌, ◌≤◌, ℕ, ℤ, Bool, true, false, List, [], ◌∷◌, ◌++◌, length, refl, sym, ap, subst, ◌∙◌, inl, inr, append-nil, arith, lit≤}
+use Rattle.std.proofs.Common.{◌≡◌, ◌+◌, ◌<◌, ◌≤◌, ℕ, ℤ, Bool, true, false, List, [], ◌∷◌, ◌++◌, length, refl, sym, ap, subst, ◌∙◌, inl, inr, arith}
 use Rattle.std.specs.Prelude.{Option, Some, None, if◌then◌else◌}
 use Rattle.clock_range.specs.ClockRange.{IsClockSecond}
 use Rattle.host_calls.specs.Causes.{Rose}
@@ -8,17 +8,16 @@ use Rattle.listing_text.specs.declared.cause.Cause.{Cause}
 use Rattle.listing_text.specs.declared.cause.Cause.TheVariants as cause
 use Rattle.listing_text.specs.declared.refusal.Refusal.TheVariants.{BadClock}
 use Rattle.command_answers.specs.Sinks.{IsSilent, SinkAt}
-use Rattle.daemon_turn.specs.declared.kid.Kid.{Kid}
 use Rattle.daemon_turn.specs.Leaving.{DaemonAt, TurnsTo}
 use Rattle.daemon_turn.specs.declared.mode.Mode.{Mode}
 use Rattle.daemon_turn.specs.declared.report.TurnEnd.{TurnEnd}
-use Rattle.serving.specs.Items.{Item, but_last, ends_behind, first_end, is_last, last_item, mode_behind, rest_behind}
+use Rattle.serving.specs.Items.{Item, ends_behind, first_end, is_last, last_item, mode_behind, rest_behind}
 use Rattle.serving.specs.Lines.{SaysEnd, SaysEnds, step_lines, turn_lines}
-use Rattle.serving.specs.Outcomes.{Stop, StopsBy, at_a_line, at_the_clock, at_the_end, damage_outcome, last_outcome, outcome_by, turns_outcome}
+use Rattle.serving.specs.Outcomes.{at_a_line, at_the_clock, at_the_end, damage_outcome, last_outcome, turns_outcome}
 use Rattle.serving.specs.Serves.{AnswersTurn, RestsBehind, ServeAt, Served, Serves, StopsAtClock, ServeTelling, next_turn, no_turn}
 use Rattle.serving.specs.Serving.{Prints, SaysOutcome, Serving}
 use Rattle.serving.specs.declared.outcome.Outcome.{Outcome}
-use Rattle.serving.specs.declared.outcome.Outcome.TheVariants.{OfTurn, Own}
+use Rattle.serving.specs.declared.outcome.Outcome.TheVariants.{Own}
 use Rattle.serving.specs.declared.progress.Progress.{Progress}
 use Rattle.serving.specs.inside.Progressing.{HasEnded, HasServed, IsRest, PrintsMore, Proceeds, first_or, mode_by, outcome_if}
 use Rattle.serving.proofs.OutcomeLemmas.{no_damage}

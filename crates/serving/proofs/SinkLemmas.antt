@@ -1,10 +1,9 @@
 -- Texts put one behind another, and lines said one after the other.
-use Rattle.std.proofs.Common.{◌≡◌, ◌⊎◌, ◌+◌, ◌<◌, ◌≤◌, ℕ, Bool, true, false, List, [], ◌∷◌, ◌++◌, length, take, drop, get_or, refl, sym, ap, subst, ◌∙◌, inl, inr, min, append-nil, append_assoc, arith}
-use Rattle.std.specs.Prelude.{Err, IsErrAnd, Ok, Result}
+use Rattle.std.proofs.Common.{◌≡◌, ◌≤◌, ℕ, Bool, true, false, List, [], ◌∷◌, ◌++◌, length, take, drop, refl, sym, ap, subst, ◌∙◌, inl, inr, append-nil, append_assoc, arith}
+use Rattle.std.specs.Prelude.{Err, Ok}
 use Rattle.std.proofs.Math.Seq.{take-append_seam}
 use Rattle.std.proofs.lemmas.List.{take-append-drop}
 use Rattle.host_calls.specs.Causes.{Rose}
-use Rattle.host_calls.specs.declared.fault.SinkFault.{SinkFault}
 use Rattle.host_calls.specs.declared.fault.SinkFault.TheVariants.{Failed, Memory as NoMemory}
 use Rattle.listing_text.specs.declared.cause.Cause.{Cause}
 use Rattle.listing_text.specs.declared.cause.Cause.TheVariants as cause
@@ -13,11 +12,11 @@ use Rattle.daemon_turn.specs.declared.report.TurnEnd.{TurnEnd}
 use Rattle.daemon_turn.specs.declared.report.TurnEnd.TheVariants.{Done, Busy, FileFault, Damaged, Memory}
 use Rattle.serving.specs.Items.{Item}
 use Rattle.serving.specs.Lines.{SaysEnd, SaysEnds, daemon_name}
-use Rattle.serving.specs.Outcomes.{at_a_line, at_the_clock, at_the_end}
+use Rattle.serving.specs.Outcomes.{at_a_line, at_the_end}
 use Rattle.serving.specs.Saying.{IsSaid}
 use Rattle.serving.specs.Serving.{Prints, PutsUnless}
 use Rattle.serving.specs.inside.Ends.{SaysEndOr, cause_of_end, finds_memory}
-use Rattle.serving.specs.inside.Printing.{PutsLines, PutsText}
+use Rattle.serving.specs.inside.Printing.{PutsLines}
 use Rattle.serving.specs.inside.Progressing.{PrintsMore}
 
 -- What is put behind a text that was put.

@@ -1,7 +1,6 @@
 -- Small servings, written down: two turns each and the rest between them (own). The host doesn't tell its files.
-use Rattle.std.specs.Prelude.{◌++◌, [], ◌∷◌, ℕ, ℤ, pos, Bool, true, false, List, Option, Some, None, codes}
+use Rattle.std.specs.Prelude.{[], ◌∷◌, ℕ, ℤ, pos, Bool, true, false, List, Option, Some, None, codes}
 use Rattle.host_calls.specs.declared.child.Child.{Child}
-use Rattle.host_calls.specs.Clock.{Answers, Readers}
 use Rattle.host_calls.specs.Session.{Session}
 use Rattle.host_calls.specs.World.{World}
 use Rattle.listing_text.specs.declared.cause.Cause.{Cause}

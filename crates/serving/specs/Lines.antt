@@ -1,6 +1,5 @@
 -- What serving prints and says, turn by turn (own).
-use Rattle.std.specs.Prelude.{◌≡◌, ◌⊎◌, ◌≤◌, ◌++◌, [], ◌∷◌, ℕ, Bool, true, false, List, codes}
-use Rattle.host_calls.specs.Causes.{Rose}
+use Rattle.std.specs.Prelude.{◌⊎◌, ◌++◌, [], ◌∷◌, ℕ, List, codes}
 use Rattle.listing_text.specs.Cause.{cause_line_of}
 use Rattle.listing_text.specs.Lines.{turn_line_of}
 use Rattle.listing_text.specs.declared.cause.Cause.TheVariants.{FileFault as SpoolFailed, Busy as SpoolTaken, Memory as NoMemory, Damaged as SpoolDamaged}

@@ -1,5 +1,5 @@
 -- What serving comes to, before its last line is said (own).
-use Rattle.std.specs.Prelude.{◌≡◌, ◌⊎◌, ◌<◌, ◌≤◌, [], ◌∷◌, ℕ, Bool, true, false, List, Option, Some, None, length, if◌then◌else◌}
+use Rattle.std.specs.Prelude.{◌≡◌, ◌⊎◌, ◌<◌, [], ◌∷◌, ℕ, Bool, true, false, List, Option, Some, None, length, if◌then◌else◌}
 use Rattle.listing_text.specs.declared.cause.Cause.{Cause}
 use Rattle.listing_text.specs.declared.cause.Cause.TheVariants as cause
 use Rattle.listing_text.specs.declared.refusal.Refusal.TheVariants.{BadClock}

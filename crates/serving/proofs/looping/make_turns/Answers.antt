@@ -1,6 +1,5 @@
-use Rattle.std.proofs.Common.{refl, sym, ◌∙◌, List, [], ◌∷◌, ◌++◌, length, ◌≡◌, ◌+◌, ◌<◌, arith}
+use Rattle.std.proofs.Common.{refl, ◌∙◌, [], ◌∷◌, ◌++◌, length, ◌≡◌, ◌+◌, arith}
 use Rattle.command_answers.specs.Sinks.{sink_at}
-use Rattle.serving.specs.Items.{Item}
 use Rattle.serving.specs.Serves.{serve_at, serve_telling}
 use Rattle.serving.proofs.ProceedLemmas.{ended_made, nothing_served}
 use Rattle.serving.proofs.ServeLemmas.{children_same, children_then, counts_same, counts_then, one_longer}

@@ -1,8 +1,5 @@
-use Rattle.std.proofs.Common.{refl, sym, ◌∙◌, ◌≡◌, ap}
 use Rattle.command_answers.specs.Sinks.{sink_at}
-use Rattle.listing_text.specs.declared.cause.Cause.{Cause}
 use Rattle.listing_text.specs.declared.cause.Cause.TheVariants as cause
-use Rattle.serving.specs.Serves.{serve_at, serve_telling}
 use Rattle.serving.proofs.OutcomeLemmas.{caused_for, ended_caused}
 use Rattle.serving.proofs.ProceedLemmas.{serving_of}
 use Rattle.serving.proofs.looping.serve.Goals as goal

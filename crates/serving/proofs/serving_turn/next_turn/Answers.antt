@@ -1,9 +1,8 @@
-use Rattle.std.proofs.Common.{◌≡◌, ℤ, FitsSigned, refl, rules, w64, to_z, of_z, sym, subst, ap, ◌∙◌, Bool, List, false, true}
+use Rattle.std.proofs.Common.{◌≡◌, ℤ, FitsSigned, refl, rules, w64, to_z, of_z, sym, subst, ap, ◌∙◌, Bool, true}
 use Rattle.std.proofs.lemmas.Int.{to_z-of_z}
 use Rattle.std.specs.Prelude.{IsTrue}
 use Rattle.clock_range.specs.ClockRange.{IsClockSecond}
-use Rattle.command_answers.specs.Sinks.{SinkAt, sink_at}
-use Rattle.daemon_turn.specs.declared.kid.Kid.{Kid}
+use Rattle.command_answers.specs.Sinks.{sink_at}
 use Rattle.serving.specs.Items.{Item, rest_behind}
 use Rattle.serving.specs.Lines.{step_lines}
 use Rattle.serving.specs.Serves.{ServeAt, serve_at, serve_telling}
