@@ -3,5 +3,10 @@ pub mod CountLemmas
 pub mod CountedLemmas
 pub mod DeedLemmas
 pub mod HappeningLemmas
+pub mod LineLemmas
+pub mod MadeLemmas
 pub mod MoveLemmas
+pub mod ProgramLemmas
+pub mod RequestLemmas
+pub mod SoundLemmas
 pub mod SpellingLemmas

@@ -3,5 +3,10 @@ pub mod Days
 pub mod Deeds
 pub mod Giving
 pub mod Happening
+pub mod Laws
+pub mod Lines
 pub mod Machines
+pub mod MadeDays
+pub mod Programs
 pub mod Promise
+pub mod inside

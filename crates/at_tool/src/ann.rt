@@ -1,7 +1,7 @@
 //! The caller of the tests in memory.
 ghost use Rattle.std.specs.Prelude.{◌<◌, IfOk};
 
-use at_commands::Caller;
+use at_day::Caller;
 use civil_minute::Zone;
 use host_calls::Text;
 use job_script::{Context, Variables};

@@ -3,7 +3,7 @@ ghost use Rattle.std.specs.Prelude.{◌<◌, IfOk};
 
 use crate::environment::{variable, variables_of};
 use crate::umask::umask_of;
-use at_commands::Caller;
+use at_day::Caller;
 use civil_minute::zone_of;
 use host_calls::Text;
 use job_script::Context;

@@ -6,7 +6,7 @@ ghost use Rattle.memory_host.specs.Host.{memory_session};
 use crate::ann::ann;
 use crate::counting::CountingInputs;
 use crate::memory::{NOW, no_failure};
-use at_commands::command;
+use at_day::program;
 use host_calls::Name;
 use memory_host::{Files, ListReadings, MemoryHost, MemorySink};
 use std::alloc::{AllocError, Global};
@@ -58,7 +58,7 @@ fn status(
     let mut readings = ListReadings::make(alloc, &[NOW], &[None])?;
     let mut out = MemorySink::make(alloc, None);
     let caller = ann(alloc, "/home/ann")?;
-    let status = command(
+    let status = program(
         alloc,
         &list,
         &caller,

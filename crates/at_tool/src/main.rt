@@ -1,6 +1,10 @@
 //! The tools over the real outside: the spool folder that `ATSPOOL` names, the clock and the load of the machine, and
-//! the standard streams of the process.
+//! the standard streams of the process. A day that `atday` makes needs no folder.
 #![tactic(auto)]
+
+ghost use Rattle.std.specs.Prelude.{◌<◌, IfOk};
+ghost use Rattle.host_calls.specs.Session.{IsOutside};
+ghost use Rattle.memory_host.specs.Host.{memory_session};
 
 #[cfg(test)]
 mod ann;
@@ -24,7 +28,10 @@ use crate::caller::caller_of;
 use crate::environment::{spool_of, words_of};
 use crate::streams::held_streams;
 use crate::unstarted::Unstarted;
-use at_commands::command as program;
+use at_day::{Caller, asks_for_day, program};
+use host_calls::Host;
+use memory_host::{CallList, ChildPlans, FailingList, Files, MemoryHost, Plan};
+use std::alloc::{AllocError, Global};
 use std::process::ExitCode;
 use unix_host::{UnixErr, UnixHost, UnixInputs, UnixOut, UnixReadings};
 
@@ -40,25 +47,56 @@ fn main(rt: HostRuntime) -> ExitCode {
     }
 }
 
-// Does what the words of this process ask for over the real things, and gives the exit status.
+// Does what the words of this process ask for over the real things, and gives the exit status. A day is handed a host in
+// memory in place of the real one, which it would leave alone.
 fn run(rt: &HostRuntime) -> Result<u8, Unstarted> {
-    let alloc = rt.alloc();
     let words = words_of(rt)?;
     let caller = caller_of(rt)?;
-    let mut host = UnixHost::make(rt.clone()?, alloc, spool_of(rt)?)?;
+    if asks_for_day(&words) {
+        let mut host = no_spool(rt.alloc())?;
+        return Ok(answer(rt, &words, &caller, &mut host)?);
+    }
+    let mut host = UnixHost::make(rt.clone()?, rt.alloc(), spool_of(rt)?)?;
+    Ok(answer(rt, &words, &caller, &mut host)?)
+}
+
+// Does what the words ask for over the host and the real things beside it, and gives the exit status.
+fn answer<H: Host>(
+    rt: &HostRuntime,
+    words: &[String],
+    caller: &Caller,
+    host: &mut H,
+) -> Result<u8, AllocError>
+    requires outside { IsOutside (H.session host.old) }
+    requires umask { caller.now.context.umask < 512 }
+{
     let mut readings = UnixReadings::make(rt.clone()?);
     let mut inputs = UnixInputs::make(rt.clone()?);
     let mut out = UnixOut::make(rt.clone()?);
     let mut err = UnixErr::make(rt.clone()?);
     let status = program(
-        alloc,
-        &words,
-        &caller,
-        &mut host,
+        rt.alloc(),
+        words,
+        caller,
+        host,
         &mut readings,
         &mut inputs,
         &mut out,
         &mut err,
     );
     Ok(status.code)
+}
+
+// A host in memory without files.
+fn no_spool(alloc: Global) -> Result<MemoryHost, AllocError>
+    ensures { IfOk result (λ host. IsOutside (memory_session host)) }
+{
+    let plan = Plan {
+        failing: FailingList::new(alloc),
+        taken: CallList::new(alloc),
+        failing_starts: CallList::new(alloc),
+        fuse: None,
+        children: ChildPlans::new(alloc),
+    };
+    MemoryHost::make(alloc, Files::new(alloc), plan)
 }

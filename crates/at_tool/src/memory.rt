@@ -8,7 +8,7 @@ ghost use Rattle.memory_host.specs.Inputs.{given_contents};
 ghost use Rattle.memory_host.specs.Readings.{readings_spelling};
 
 use crate::ann::ann;
-use at_commands::command;
+use at_day::program;
 use host_calls::Name;
 use memory_host::{
     CallList, ChildPlans, FailingList, Files, ListReadings, MemoryHost, MemoryInputs, MemorySink,
@@ -56,7 +56,7 @@ pub fn answer(alloc: Global, words: &[String], outside: &mut Outside) -> Result<
     ensures { IsOutside (memory_session outside.new.host) }
 {
     let caller = ann(alloc, "/home/ann")?;
-    let status = command(
+    let status = program(
         alloc,
         words,
         &caller,

@@ -6,7 +6,7 @@ ghost use Rattle.daemon_turn.specs.Kids.{AreChildren};
 
 use crate::ann::ann;
 use crate::umask::umask_in;
-use at_commands::command;
+use at_day::program;
 use clock_range::is_clock_second;
 use daemon_turn::{Daemon, Mode, TurnStep, TurnSteps};
 use host_calls::{Ending, Host, Readings, Text};
@@ -63,7 +63,7 @@ fn submitted<H: Host, R: Readings>(
     let mut inputs = MemoryInputs::make(alloc, commands, None, false)?;
     let mut out = MemorySink::make(alloc, None);
     let mut err = MemorySink::make(alloc, None);
-    let status = command(
+    let status = program(
         alloc,
         &words,
         &caller,

@@ -1,0 +1,227 @@
+-- How words of atday end, put together from the day that was made and the line of the cause.
+use Rattle.std.proofs.Common.{◌≡◌, ◌⊎◌, ◌≤◌, ◌++◌, [], ◌∷◌, ℕ, Bool, true, List, length, sym, ap, subst, ◌∙◌, refl, inl, inr, arith, append-nil}
+use Rattle.std.specs.Prelude.{Result, Ok, Err}
+use Rattle.std.proofs.Math.Seq.{take-length}
+use Rattle.std.specs.List.{concat}
+use Rattle.at_words.specs.Answers.{Answers}
+use Rattle.at_words.specs.declared.fault.WordsFault.{WordsFault}
+use Rattle.at_words.specs.declared.fault.WordsFault.TheVariants as words
+use Rattle.at_words.specs.declared.tool_request.ToolRequest.{ToolRequest}
+use Rattle.at_words.specs.declared.tool_request.ToolRequest.TheVariants as request
+use Rattle.command_answers.specs.Ends.{FailsToPrint}
+use Rattle.command_answers.specs.Found.{Asked}
+use Rattle.command_answers.specs.Sinks.{EndsLine, IsCut, IsPut, IsPutInPart, IsPutOrCut, IsSilent, SinkAt, sink_at}
+use Rattle.host_calls.specs.Causes.{Rose}
+use Rattle.host_calls.specs.Sink.{Outlet}
+use Rattle.host_calls.specs.declared.fault.SinkFault.{SinkFault}
+use Rattle.host_calls.specs.declared.fault.SinkFault.TheVariants as sink
+use Rattle.listing_text.specs.Cause.{cause_line_of}
+use Rattle.listing_text.specs.declared.cause.Cause.{Cause}
+use Rattle.listing_text.specs.declared.cause.Cause.TheVariants.{Done, Refused, FileFault, InputFault, OutputFault, Busy, Memory, Damaged, StillRunning}
+use Rattle.serving.specs.Saying.{IsSaid, SaysLine}
+use Rattle.serving.specs.inside.Printing.{PutsLines}
+use Rattle.at_day.specs.declared.counts.Counts.{Counts}
+use Rattle.at_day.specs.Laws.{MadeDaysAreTold}
+use Rattle.at_day.specs.Lines.{day_lines}
+use Rattle.at_day.specs.MadeDays.{ComesTo}
+use Rattle.at_day.specs.Programs.{EndsDay, EndsMade, EndsRefused, TellsDay}
+use Rattle.at_day.specs.inside.Making.{IsDayRequest, PutsDay, cause_of_words}
+use Rattle.at_day.proofs.RequestLemmas.{IsDayAsked}
+
+silent : (at : SinkAt) → IsSilent at at
+silent at = record { content = refl; later = omega arith }
+
+-- Fronts.
+
+whole_in_part : (text : List ℕ) (old new : SinkAt) → IsPut text old new → IsPutInPart text old new
+whole_in_part text old new put = record {
+  count = length text;
+  content = put.content ∙ ap (λ (front : List ℕ). old.content ++ front) (sym (take-length text));
+  later = put.later;
+}
+
+cut_in_part : (text : List ℕ) (old new : SinkAt) → IsCut text old new → IsPutInPart text old new
+cut_in_part text old new cut = record { count = cut.count; content = cut.content; later = cut.later }
+
+none_in_part : (text : List ℕ) (old new : SinkAt) → IsSilent old new → IsPutInPart text old new
+none_in_part text old new quiet = record { count = 0; content = quiet.content ∙ sym (append-nil old.content); later = quiet.later }
+
+-- The lines that were put.
+
+pub day_put : (tells : Bool) (count : ℕ) (counts : Counts) (old new : SinkAt) (result : Result (Unit {0}) SinkFault) →
+    ComesTo count counts → PutsLines tells (concat (day_lines count counts)) old new result → PutsDay tells count old new result
+day_put tells count counts old new (Ok done) comes puts = record { counts = counts; comes = comes; puts = puts.puts }
+day_put tells count counts old new (Err sink.Failed) comes puts = (
+  puts.failed refl,
+  record { counts = counts; comes = comes; puts = λ told. cut_in_part (concat (day_lines count counts)) old new (puts.puts told) },
+)
+day_put tells count counts old new (Err sink.Memory) comes puts = inr (record { counts = counts; comes = comes; puts = puts.puts })
+
+-- no memory was found before the first of them
+pub day_unput : (tells : Bool) (count : ℕ) (at : SinkAt) → PutsDay tells count at at (Err sink.Memory)
+day_unput tells count at = inl (λ told. silent at)
+
+-- What was asked for.
+
+pub ends_asked : (tells : Bool) (asked : Asked) (made : ToolRequest) (count : ℕ) (old new : SinkAt) (cause : Cause) →
+    Ok made ≡ asked → made ≡ request.Make count → EndsMade tells count old new cause → EndsDay tells asked old new cause
+ends_asked tells asked made count old new cause is made_is ends =
+    subst (λ (of : Asked). EndsDay tells of old new cause) (sym (ap (λ (of : ToolRequest). Ok of) made_is) ∙ is) ends
+
+unread : (tells : Bool) (asked : Asked) (at : SinkAt) → IsDayAsked asked → EndsDay tells asked at at Memory
+unread tells (Ok (request.Make count)) at is = inl (λ told. silent at)
+unread tells (Err words.Usage) at is = record { refused = inr refl; nothing = λ told. silent at }
+unread tells (Err words.BadQueue) at is = absurd is
+unread tells (Err words.Memory) at is = absurd is
+unread tells (Ok (request.Submit queue mail file when)) at is = absurd is
+unread tells (Ok (request.List filter)) at is = absurd is
+unread tells (Ok (request.Remove numbers)) at is = absurd is
+unread tells (Ok (request.Show numbers)) at is = absurd is
+unread tells (Ok (request.Daemon limit interval once turns)) at is = absurd is
+
+pub ends_unasked : (tells : Bool) (asked : Asked) (fault : WordsFault) (at : SinkAt) → IsDayAsked asked →
+    Answers {T = ToolRequest} asked (Err fault) → EndsDay tells asked at at (cause_of_words fault)
+ends_unasked tells asked words.Usage at is answers =
+    subst (λ (of : Asked). EndsDay tells of at at (cause_of_words words.Usage)) answers
+    (record { refused = inl refl; nothing = λ told. silent at })
+ends_unasked tells asked words.BadQueue at is answers = absurd (subst IsDayAsked (sym answers) is)
+ends_unasked tells asked words.Memory at is answers = unread tells asked at is
+
+-- The line of the cause.
+
+module _ (tells : Bool) (count : ℕ) (old new : SinkAt) where
+  made_without_line : (cause : Cause) → EndsMade tells count old new cause → EndsMade tells count old new Memory
+  made_without_line Done ends = inr (record {
+    counts = ends.counts;
+    comes = ends.comes;
+    puts = λ told. whole_in_part (concat (day_lines count ends.counts)) old new (ends.puts told);
+  })
+  made_without_line OutputFault ends = inr ends.1
+  made_without_line Memory ends = ends
+  made_without_line (Refused refusal) ends = absurd ends
+  made_without_line FileFault ends = absurd ends
+  made_without_line InputFault ends = absurd ends
+  made_without_line Busy ends = absurd ends
+  made_without_line (Damaged damage) ends = absurd ends
+  made_without_line StillRunning ends = absurd ends
+
+module _ (tells : Bool) (old new : SinkAt) (cause : Cause) where
+  without_line : (asked : Asked) → EndsDay tells asked old new cause → EndsDay tells asked old new Memory
+  without_line (Ok (request.Make count)) ends = made_without_line tells count old new cause ends
+  without_line (Err words.Usage) ends = record { refused = inr refl; nothing = ends.nothing }
+  without_line (Err words.BadQueue) ends = absurd ends
+  without_line (Err words.Memory) ends = absurd ends
+  without_line (Ok (request.Submit queue mail file when)) ends = absurd ends
+  without_line (Ok (request.List filter)) ends = absurd ends
+  without_line (Ok (request.Remove numbers)) ends = absurd ends
+  without_line (Ok (request.Show numbers)) ends = absurd ends
+  without_line (Ok (request.Daemon limit interval once turns)) ends = absurd ends
+
+  pub day_said : (asked : Asked) (final : Cause) → (final ≡ cause) ⊎ (final ≡ Memory) → EndsDay tells asked old new cause →
+      EndsDay tells asked old new final
+  day_said asked final (inl same) ends = subst (λ (of : Cause). EndsDay tells asked old new of) (sym same) ends
+  day_said asked final (inr lacks) ends = subst (λ (of : Cause). EndsDay tells asked old new of) (sym lacks) (without_line asked ends)
+
+module _ (tool : List ℕ) (old new : SinkAt) where
+  line_part : IsPutOrCut (cause_line_of tool Memory) old new → IsPutInPart (cause_line_of tool Memory) old new
+  line_part (inl put) = whole_in_part (cause_line_of tool Memory) old new put
+  line_part (inr cut) = cut_in_part (cause_line_of tool Memory) old new cut
+
+  line_ends : (cause : Cause) → SaysLine tool cause old new → EndsLine tool cause old new
+  line_ends Memory says = line_part says
+  line_ends Done says = says
+  line_ends (Refused refusal) says = says
+  line_ends FileFault says = says
+  line_ends InputFault says = says
+  line_ends OutputFault says = says
+  line_ends Busy says = says
+  line_ends (Damaged damage) says = says
+  line_ends StillRunning says = says
+
+  pub line_said : (tells : Bool) (cause final : Cause) → IsSaid tool tells cause old new final → tells ≡ true →
+      EndsLine tool final old new
+  line_said tells cause final (inl as_is) told = subst (λ (of : Cause). EndsLine tool of old new) (sym as_is.0) (line_ends cause (as_is.1 told))
+  line_said tells cause final (inr lacks) told =
+      subst (λ (of : Cause). EndsLine tool of old new) (sym lacks.1) (none_in_part (cause_line_of tool Memory) old new (lacks.2 told))
+
+-- What a cause of these words can be.
+
+abbrev pub IsDayCause : Cause → Type 0
+IsDayCause Done = Unit {0}
+IsDayCause (Refused refusal) = Unit {0}
+IsDayCause OutputFault = Unit {0}
+IsDayCause Memory = Unit {0}
+IsDayCause FileFault = ⊥
+IsDayCause InputFault = ⊥
+IsDayCause Busy = ⊥
+IsDayCause (Damaged damage) = ⊥
+IsDayCause StillRunning = ⊥
+
+module _ (tells : Bool) (old new : SinkAt) where
+  made_cause : (count : ℕ) (cause : Cause) → EndsMade tells count old new cause → IsDayCause cause
+  made_cause count Done ends = tt
+  made_cause count OutputFault ends = tt
+  made_cause count Memory ends = tt
+  made_cause count (Refused refusal) ends = tt
+  made_cause count FileFault ends = absurd ends
+  made_cause count InputFault ends = absurd ends
+  made_cause count Busy ends = absurd ends
+  made_cause count (Damaged damage) ends = absurd ends
+  made_cause count StillRunning ends = absurd ends
+
+  refused_cause : (cause : Cause) → EndsRefused tells old new cause → IsDayCause cause
+  refused_cause cause ends = elim ends.refused [
+    | inl refused ↦ subst IsDayCause (sym refused) tt
+    | inr lacks ↦ subst IsDayCause (sym lacks) tt
+  ]
+
+  pub day_cause : (asked : Asked) (cause : Cause) → EndsDay tells asked old new cause → IsDayCause cause
+  day_cause (Ok (request.Make count)) cause ends = made_cause count cause ends
+  day_cause (Err words.Usage) cause ends = refused_cause cause ends
+  day_cause (Err words.BadQueue) cause ends = absurd ends
+  day_cause (Err words.Memory) cause ends = absurd ends
+  day_cause (Ok (request.Submit queue mail file when)) cause ends = absurd ends
+  day_cause (Ok (request.List filter)) cause ends = absurd ends
+  day_cause (Ok (request.Remove numbers)) cause ends = absurd ends
+  day_cause (Ok (request.Show numbers)) cause ends = absurd ends
+  day_cause (Ok (request.Daemon limit interval once turns)) cause ends = absurd ends
+
+  pub no_such_cause : (asked : Asked) (cause other : Cause) → EndsDay tells asked old new cause → (IsDayCause other → ⊥) →
+      cause ≡ other → ⊥
+  no_such_cause asked cause other ends none same = none (subst IsDayCause same (day_cause asked cause ends))
+
+refused_fails : (tells : Bool) (old new : SinkAt) → EndsRefused tells old new OutputFault → ⊥
+refused_fails tells old new ends = elim ends.refused [ inl refused ↦ (cc) | inr lacks ↦ (cc) ]
+
+fails : (tells : Bool) (out_old out_new err_old err_new : Outlet) (old new : List ℕ) (asked : Asked) →
+    EndsDay tells asked (sink_at old out_old) (sink_at new out_new) OutputFault → FailsToPrint asked out_old out_new err_old err_new
+fails tells out_old out_new err_old err_new old new (Ok (request.Make count)) ends = ends.0
+fails tells out_old out_new err_old err_new old new (Err words.Usage) ends =
+    absurd (refused_fails tells (sink_at old out_old) (sink_at new out_new) ends)
+fails tells out_old out_new err_old err_new old new (Err words.BadQueue) ends = absurd ends
+fails tells out_old out_new err_old err_new old new (Err words.Memory) ends = absurd ends
+fails tells out_old out_new err_old err_new old new (Ok (request.Submit queue mail file when)) ends = absurd ends
+fails tells out_old out_new err_old err_new old new (Ok (request.List filter)) ends = absurd ends
+fails tells out_old out_new err_old err_new old new (Ok (request.Remove numbers)) ends = absurd ends
+fails tells out_old out_new err_old err_new old new (Ok (request.Show numbers)) ends = absurd ends
+fails tells out_old out_new err_old err_new old new (Ok (request.Daemon limit interval once turns)) ends = absurd ends
+
+pub day_fails : (tells : Bool) (out_old out_new err_old err_new : Outlet) (old new : List ℕ) (asked : Asked) (cause : Cause) →
+    EndsDay tells asked (sink_at old out_old) (sink_at new out_new) cause → cause ≡ OutputFault →
+    FailsToPrint asked out_old out_new err_old err_new
+day_fails tells out_old out_new err_old err_new old new asked cause ends same =
+    fails tells out_old out_new err_old err_new old new asked
+    (subst (λ (of : Cause). EndsDay tells asked (sink_at old out_old) (sink_at new out_new) of) same ends)
+
+-- The law.
+
+pub made_days_are_told : MadeDaysAreTold
+made_days_are_told tells count old new Done ends none = inl refl
+made_days_are_told tells count old new Memory ends none = inr refl
+made_days_are_told tells count old new OutputFault ends none = absurd (none ends.0)
+made_days_are_told tells count old new (Refused refusal) ends none = absurd ends
+made_days_are_told tells count old new FileFault ends none = absurd ends
+made_days_are_told tells count old new InputFault ends none = absurd ends
+made_days_are_told tells count old new Busy ends none = absurd ends
+made_days_are_told tells count old new (Damaged damage) ends none = absurd ends
+made_days_are_told tells count old new StillRunning ends none = absurd ends

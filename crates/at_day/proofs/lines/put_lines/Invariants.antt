@@ -1,0 +1,13 @@
+use Rattle.std.proofs.Common.{◌≡◌, take}
+use Rattle.std.specs.List.{concat}
+use Rattle.std.specs.Prelude.{Ok}
+use Rattle.command_answers.specs.Sinks.{sink_at}
+use Rattle.serving.specs.inside.Printing.{PutsLines}
+use Rattle.at_day.proofs.lines.put_lines.Given as goal
+
+abbrev pub invariant-loop-line : goal.invariant-loop-line
+invariant-loop-line g l = record {
+  made_as : (g.O.Sink.outlet l.out).made_as ≡ (g.O.Sink.outlet l.fn.out).made_as;
+  puts : PutsLines g.O.Sink.tells (concat (take l.line-index l.lines))
+      (sink_at (g.O.Sink.content l.fn.out) (g.O.Sink.outlet l.fn.out)) (sink_at (g.O.Sink.content l.out) (g.O.Sink.outlet l.out)) (Ok tt);
+}

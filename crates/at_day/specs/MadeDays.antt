@@ -1,0 +1,58 @@
+-- A day that is made from a number (own): what it comes to.
+use Rattle.std.specs.Prelude.{◌≡◌, [], ◌∷◌, ℕ, Bool, true, false, List, Ok}
+use Rattle.std.specs.FinMap.{from_entries}
+use Rattle.std.specs.List.{list_any}
+use Rattle.command_answers.specs.Found.{deny_file}
+use Rattle.daemon_turn.specs.declared.report.TurnEnd.{TurnEnd}
+use Rattle.daemon_turn.specs.declared.report.TurnEnd.TheVariants as end
+use Rattle.day_events.specs.declared.report.EventReport.{EventReport}
+use Rattle.day_events.specs.declared.report.EventReport.TheVariants as told
+use Rattle.host_calls.specs.Folder.{Files}
+use Rattle.listing_text.specs.declared.cause.Cause.{Cause}
+use Rattle.listing_text.specs.declared.cause.Cause.TheVariants.{Done, Refused, FileFault, InputFault, OutputFault, Busy, Memory, Damaged, StillRunning}
+use Rattle.made_events.specs.Made.{made_events}
+use Rattle.made_events.specs.Plans.{made_plan}
+use Rattle.memory_host.specs.Host.{IsNew}
+use Rattle.memory_host.specs.declared.memory_host.MemoryHost.{MemoryHost}
+use Rattle.at_day.specs.declared.counts.Counts.{Counts}
+use Rattle.at_day.specs.Days.{IsDay}
+
+-- an empty list of users who may not use at, and no other file
+abbrev pub deny_alone : Files
+deny_alone = from_entries ((deny_file, []) ∷ [])
+
+-- it was want of memory
+abbrev pub is_memory : Cause → Bool
+is_memory Memory = true
+is_memory Done = false
+is_memory (Refused refusal) = false
+is_memory FileFault = false
+is_memory InputFault = false
+is_memory OutputFault = false
+is_memory Busy = false
+is_memory (Damaged damage) = false
+is_memory StillRunning = false
+
+abbrev pub is_for_memory : TurnEnd → Bool
+is_for_memory end.Memory = true
+is_for_memory end.Done = false
+is_for_memory end.Busy = false
+is_for_memory end.FileFault = false
+is_for_memory (end.Damaged damage) = false
+
+-- the event ended with want of memory
+abbrev pub lacks_memory : EventReport → Bool
+lacks_memory (told.Command status out err) = is_memory status.cause
+lacks_memory (told.Turn turned) = is_for_memory turned.end
+lacks_memory told.Rebooted = false
+
+-- The made day of so many events comes to these counts: on a host of its plan, which holds an empty list of users who may
+-- not use at and no other file, its events were made one behind another; none of them ended with want of memory; and
+-- this is what the folder counts that they left.
+pub record ComesTo (count : ℕ) (counts : Counts) : Type 0 where
+  pub first : MemoryHost
+  pub is_new : IsNew deny_alone (made_plan count) first
+  pub last : MemoryHost
+  pub reports : List EventReport
+  pub day : IsDay (made_events count) first last (record { events = reports; counts = Ok counts })
+  pub found_memory : list_any lacks_memory reports ≡ false

@@ -1,0 +1,75 @@
+-- The program (own): every tool, and beside them the days that are made from a number.
+use Rattle.std.specs.Prelude.{◌≡◌, ◌⊎◌, ◌≤◌, ℕ, Bool, true, false, List, Option, Some, None, Ok, Err}
+use Rattle.std.specs.List.{concat}
+use Rattle.at_words.specs.declared.fault.WordsFault.TheVariants as words
+use Rattle.at_words.specs.declared.tool.Tool.{Tool}
+use Rattle.at_words.specs.declared.tool.Tool.TheVariants.{At, Batch, Atq, Atrm, Atd, Atday}
+use Rattle.at_words.specs.declared.tool_request.ToolRequest.TheVariants as request
+use Rattle.at_words.specs.Tools.{tool_of_words}
+use Rattle.command_answers.specs.Found.{Asked}
+use Rattle.command_answers.specs.Sinks.{IsPut, IsPutInPart, IsSilent, SinkAt}
+use Rattle.host_calls.specs.Causes.{Rose}
+use Rattle.listing_text.specs.declared.cause.Cause.{Cause}
+use Rattle.listing_text.specs.declared.cause.Cause.TheVariants.{Done, Refused, FileFault, InputFault, OutputFault, Busy, Memory, Damaged, StillRunning}
+use Rattle.listing_text.specs.declared.refusal.Refusal.TheVariants.{Usage}
+use Rattle.at_day.specs.declared.counts.Counts.{Counts}
+use Rattle.at_day.specs.Lines.{day_lines}
+use Rattle.at_day.specs.MadeDays.{ComesTo}
+
+-- the tool makes days
+abbrev pub makes_days : Tool → Bool
+makes_days Atday = true
+makes_days At = false
+makes_days Batch = false
+makes_days Atq = false
+makes_days Atrm = false
+makes_days Atd = false
+
+-- the tool that was found makes days
+abbrev pub finds_day_maker : Option (Tool × ℕ) → Bool
+finds_day_maker None = false
+finds_day_maker (Some found) = makes_days found.0
+
+-- the words are those of atday
+abbrev pub asks_for_day : List (List ℕ) → Bool
+asks_for_day words = finds_day_maker (tool_of_words words)
+
+-- The lines of the day of so many events were put in this way. What is put is known where the sink tells it.
+pub record TellsDay (Puts : List ℕ → SinkAt → SinkAt → Type 0) (tells : Bool) (count : ℕ) (old new : SinkAt) : Type 0 where
+  pub counts : Counts
+  pub comes : ComesTo count counts
+  pub puts : tells ≡ true → Puts (concat (day_lines count counts)) old new
+
+-- nothing was put
+abbrev pub TellsNothing : Bool → SinkAt → SinkAt → Type 0
+TellsNothing tells old new = tells ≡ true → IsSilent old new
+
+-- How a day of so many events ends, by its cause: with all of its lines, with a front of them where the sink failed, and
+-- with a front or nothing where no memory was found. There is no other cause.
+abbrev pub EndsMade : Bool → ℕ → SinkAt → SinkAt → Cause → Type 0
+EndsMade tells count old new Done = TellsDay IsPut tells count old new
+EndsMade tells count old new OutputFault = Rose old.faults new.faults × TellsDay IsPutInPart tells count old new
+EndsMade tells count old new Memory = TellsNothing tells old new ⊎ TellsDay IsPutInPart tells count old new
+EndsMade tells count old new (Refused refusal) = ⊥
+EndsMade tells count old new FileFault = ⊥
+EndsMade tells count old new InputFault = ⊥
+EndsMade tells count old new Busy = ⊥
+EndsMade tells count old new (Damaged damage) = ⊥
+EndsMade tells count old new StillRunning = ⊥
+
+-- The words are refused, unless no memory was found to read them or to say so. Nothing is put.
+pub record EndsRefused (tells : Bool) (old new : SinkAt) (cause : Cause) : Type 0 where
+  pub refused : (cause ≡ Refused Usage) ⊎ (cause ≡ Memory)
+  pub nothing : TellsNothing tells old new
+
+-- how words of atday end, by what they ask for
+abbrev pub EndsDay : Bool → Asked → SinkAt → SinkAt → Cause → Type 0
+EndsDay tells (Ok (request.Make count)) old new cause = EndsMade tells count old new cause
+EndsDay tells (Err words.Usage) old new cause = EndsRefused tells old new cause
+EndsDay tells (Err words.BadQueue) old new cause = ⊥
+EndsDay tells (Err words.Memory) old new cause = ⊥
+EndsDay tells (Ok (request.Submit queue mail file when)) old new cause = ⊥
+EndsDay tells (Ok (request.List filter)) old new cause = ⊥
+EndsDay tells (Ok (request.Remove numbers)) old new cause = ⊥
+EndsDay tells (Ok (request.Show numbers)) old new cause = ⊥
+EndsDay tells (Ok (request.Daemon limit interval once turns)) old new cause = ⊥

@@ -1,0 +1,59 @@
+-- What the functions answer of which a made day is put together (own).
+use Rattle.std.specs.Prelude.{◌≡◌, ◌≤◌, ℕ, Bool, Result, Ok, Err, List}
+use Rattle.at_words.specs.declared.fault.WordsFault.{WordsFault}
+use Rattle.at_words.specs.declared.fault.WordsFault.TheVariants as words
+use Rattle.at_words.specs.declared.tool_request.ToolRequest.{ToolRequest}
+use Rattle.at_words.specs.declared.tool_request.ToolRequest.TheVariants as request
+use Rattle.command_answers.specs.Sinks.{SinkAt}
+use Rattle.host_calls.specs.declared.fault.SinkFault.{SinkFault}
+use Rattle.host_calls.specs.declared.fault.SinkFault.TheVariants.{Failed, Memory}
+use Rattle.listing_text.specs.declared.cause.Cause.{Cause}
+use Rattle.listing_text.specs.declared.cause.Cause.TheVariants as cause
+use Rattle.listing_text.specs.declared.refusal.Refusal.TheVariants.{BadQueue, Usage}
+use Rattle.made_events.specs.declared.made.TheConstants.{MAX_MADE}
+use Rattle.spool_store.specs.declared.fault.StoreFault.{StoreFault}
+use Rattle.spool_store.specs.declared.fault.StoreFault.TheVariants as fault
+use Rattle.at_day.specs.declared.counts.Counts.{Counts}
+use Rattle.at_day.specs.Lines.{day_lines}
+use Rattle.at_day.specs.MadeDays.{ComesTo}
+use Rattle.at_day.specs.Programs.{EndsMade}
+
+-- what was asked for is a day that can be made
+abbrev pub IsDayRequest : ToolRequest → Type 0
+IsDayRequest (request.Make count) = count ≤ MAX_MADE
+IsDayRequest (request.Submit queue mail file when) = ⊥
+IsDayRequest (request.List filter) = ⊥
+IsDayRequest (request.Remove numbers) = ⊥
+IsDayRequest (request.Show numbers) = ⊥
+IsDayRequest (request.Daemon limit interval once turns) = ⊥
+
+-- the folder was counted, or no memory was found for it
+abbrev pub IsSound : Result Counts StoreFault → Type 0
+IsSound (Ok counts) = Unit {0}
+IsSound (Err fault.Memory) = Unit {0}
+IsSound (Err fault.FileFault) = ⊥
+IsSound (Err (fault.Damaged damage)) = ⊥
+IsSound (Err fault.QueueFull) = ⊥
+IsSound (Err fault.NumbersUsedUp) = ⊥
+
+-- the lines are those of what the day of so many events comes to
+pub record AreLinesOfDay (count : ℕ) (lines : List (List ℕ)) : Type 0 where
+  pub counts : Counts
+  pub comes : ComesTo count counts
+  pub lines_are : lines ≡ day_lines count counts
+
+-- the cause by what a put answered
+abbrev pub cause_of_put : Result (Unit {0}) SinkFault → Cause
+cause_of_put (Ok done) = cause.Done
+cause_of_put (Err Failed) = cause.OutputFault
+cause_of_put (Err Memory) = cause.Memory
+
+-- the cause of words that ask for nothing
+abbrev pub cause_of_words : WordsFault → Cause
+cause_of_words words.Usage = cause.Refused Usage
+cause_of_words words.BadQueue = cause.Refused BadQueue
+cause_of_words words.Memory = cause.Memory
+
+-- how the puts of a day end, as its cause says it
+abbrev pub PutsDay : Bool → ℕ → SinkAt → SinkAt → Result (Unit {0}) SinkFault → Type 0
+PutsDay tells count old new put = EndsMade tells count old new (cause_of_put put)
