@@ -59,7 +59,7 @@ settling old new result call =
 -- and the reading is that of before, whatever came of it
 settling_reads : {T : Type 0} (old new : World) (result : Result T HostFault) → FileCall IsSettled IsSyncedInPart old new result → reading new ≡ reading old
 settling_reads old new (Ok value) call = ap reading_of call.outcome ∙ reading_of-settled old.now.folder
-settling_reads old new (Err host.Failed) call = elim call.outcome [ | inl same ↦ ap reading_of same | inr part ↦ part.reading ]
+settling_reads old new (Err host.Failed) call = elim call.outcome [ inl same ↦ ap reading_of same | inr part ↦ part.reading ]
 settling_reads old new (Err host.Memory) call = ap reading call.outcome
 
 settling_shows : {T : Type 0} (old new : World) (result : Result T HostFault) → FileCall IsSettled IsSyncedInPart old new result → ShowsTheSame old.now.folder new.now.folder
