@@ -5,7 +5,7 @@ use Rattle.std.specs.List.{list_all}
 use Rattle.std.proofs.lemmas.List.Sums.{AllPass-from_list_all}
 use Rattle.std.proofs.lemmas.List.{map_push, take-append-drop, take_more}
 use Rattle.daemon_turn.specs.declared.kid.Kid.{Kid}
-use Rattle.daemon_turn.specs.Daemons.{Watch}
+use Rattle.daemon_turn.specs.Daemons.{Watch, new_watch}
 use Rattle.daemon_turn.specs.Kids.{AreChildren}
 use Rattle.day_events.specs.Days.{is_day_event}
 use Rattle.day_events.specs.declared.event.Event.{Event}
@@ -22,7 +22,7 @@ use Rattle.at_day.specs.Days.{IsDayCut, IsDayOf, IsReady, first_machine}
 use Rattle.at_day.specs.declared.days.TheConstants.{LIMIT, INTERVAL}
 use Rattle.at_day.specs.Deeds.{AreDoneOn, Deed, IsDoneOn, events_of, machine_after, passed_of, reports_of}
 use Rattle.at_day.specs.Happening.{Happens, IsUnreported}
-use Rattle.at_day.specs.Machines.{Machine, idle_watch, machine, session_of, spool_of}
+use Rattle.at_day.specs.Machines.{Machine, machine, session_of, spool_of}
 use Rattle.at_day.specs.Promise.{KeepsPromise}
 use Rattle.at_day.proofs.MoveLemmas.{happens_moves}
 
@@ -191,7 +191,7 @@ on_err (Err fault) is = is
 -- the loop of a day
 
 pub so_far_at_first : (events : List Event) (host : MemoryHost) (reports : List EventReport) (watch : Watch) → reports ≡ [] →
-    watch ≡ idle_watch LIMIT INTERVAL → IsOutside (memory_session host) →
+    watch ≡ new_watch LIMIT INTERVAL → IsOutside (memory_session host) →
     IsSoFar events 0 reports (first_machine host) (machine host watch)
 so_far_at_first events host reports watch none is outside =
     subst (λ (of : List EventReport). IsSoFar events 0 of (first_machine host) (machine host watch)) (sym none)

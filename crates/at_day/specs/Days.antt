@@ -1,5 +1,6 @@
 -- A day (own): its deeds, what it reports, and what it leaves.
 use Rattle.std.specs.Prelude.{◌≡◌, ◌++◌, List}
+use Rattle.daemon_turn.specs.Daemons.{new_watch}
 use Rattle.daemon_turn.specs.Kids.{AreChildren}
 use Rattle.day_events.specs.declared.event.Event.{Event}
 use Rattle.day_events.specs.declared.report.EventReport.{EventReport}
@@ -10,12 +11,12 @@ use Rattle.at_day.specs.declared.days.TheConstants.{LIMIT, INTERVAL}
 use Rattle.at_day.specs.declared.report.DayReport.{DayReport}
 use Rattle.at_day.specs.Counting.{IsCounted}
 use Rattle.at_day.specs.Deeds.{AreDoneOn, Deed, events_of, machine_after, reports_of}
-use Rattle.at_day.specs.Machines.{Machine, idle_watch, machine, session_of}
+use Rattle.at_day.specs.Machines.{Machine, machine, session_of}
 use Rattle.at_day.specs.Promise.{KeepsPromise}
 
 -- the machine of a day at first: its daemon watches no child
 abbrev pub first_machine : MemoryHost → Machine
-first_machine host = machine host (idle_watch LIMIT INTERVAL)
+first_machine host = machine host (new_watch LIMIT INTERVAL)
 
 -- a machine on which an event can happen: no session is on, and each child that the daemon watches is one of the host
 pub record IsReady (at : Machine) : Type 0 where

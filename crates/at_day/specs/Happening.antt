@@ -4,6 +4,7 @@ use Rattle.command_answers.specs.declared.caller.Caller.{Caller}
 use Rattle.daemon_turn.specs.declared.mode.Mode.TheVariants.{Full}
 use Rattle.daemon_turn.specs.declared.occasion.Occasion.{Occasion}
 use Rattle.daemon_turn.specs.declared.report.TurnReport.{TurnReport}
+use Rattle.daemon_turn.specs.Daemons.{new_watch}
 use Rattle.daemon_turn.specs.Leaving.{TurnsTo}
 use Rattle.day_events.specs.declared.event.Event.{Event}
 use Rattle.day_events.specs.declared.event.Event.TheVariants.{Command, Turn, Reboot}
@@ -12,7 +13,7 @@ use Rattle.day_events.specs.declared.report.EventReport.TheVariants as told
 use Rattle.listing_text.specs.declared.status.Status.{Status}
 use Rattle.memory_host.specs.Host.{IsRebooted, IsUnchanged}
 use Rattle.at_day.specs.Giving.{IsGiven}
-use Rattle.at_day.specs.Machines.{Machine, daemon_at, idle_watch}
+use Rattle.at_day.specs.Machines.{Machine, daemon_at}
 
 -- when a full turn is made
 abbrev pub full_turn : ℤ → Option ℕ → Occasion
@@ -26,7 +27,7 @@ IsTurned now load turned old new =
 -- The machine came up again with an image of the moment before, and the daemon was made anew.
 pub record IsUpAgain (pick : ℕ) (fuse : Option ℕ) (old new : Machine) : Type 0 where
   pub host : IsRebooted pick fuse old.host new.host
-  pub watch : new.watch ≡ idle_watch old.watch.limit old.watch.interval
+  pub watch : new.watch ≡ new_watch old.watch.limit old.watch.interval
 
 -- The command was given, and the daemon is as it was.
 pub record IsCommanded (words : List (List ℕ)) (caller : Caller) (input : List ℕ) (now : ℤ) (status : Status) (out err : List ℕ)

@@ -1,5 +1,4 @@
 -- A machine at one moment (own).
-use Rattle.std.specs.Prelude.{[], ℕ}
 use Rattle.daemon_turn.specs.Daemons.{Watch}
 use Rattle.daemon_turn.specs.Leaving.{DaemonAt}
 use Rattle.host_calls.specs.Session.{Session}
@@ -26,7 +25,3 @@ spool_of at = memory_world at.host
 -- the daemon and its host, as a turn sees them
 abbrev pub daemon_at : Machine → DaemonAt
 daemon_at at = record { session = memory_session at.host; world = memory_world at.host; watch = at.watch }
-
--- a daemon that watches no child, with this limit and this interval
-abbrev pub idle_watch : ℕ → ℕ → Watch
-idle_watch limit interval = record { kids = []; limit = limit; interval = interval }

@@ -11,7 +11,7 @@ ghost use Rattle.host_calls.specs.Causes.{Rose};
 ghost use Rattle.host_calls.specs.Session.{IsLeft, IsOutside, KeepsCounts};
 ghost use Rattle.host_calls.specs.World.{GoesOn};
 ghost use Rattle.listing_text.specs.Cause.{status_of};
-ghost use Rattle.serving.specs.Serves.{serve_at, telling as told_of};
+ghost use Rattle.serving.specs.Serves.{serve_at, serve_telling};
 ghost use Rattle.at_day.specs.Programs.{EndsDay, asks_for_day, makes_days};
 ghost use Rattle.at_day.specs.inside.Making.{IsDayRequest, cause_of_words};
 
@@ -77,7 +77,7 @@ pub fn program<H: Host, R: Readings, I: Inputs, O: Sink, E: Sink>(
 
     // What a daemon does: its turns, what is printed and said of them, and its cause.
     ensures serves { WhereServed (request_of (map string_bytes words.now)) (λ limit interval once turns.
-        ServesAnew (told_of H.tells H.alone R.tells O.tells E.tells) limit interval once turns
+        ServesAnew (serve_telling H.tells H.alone R.tells O.tells E.tells) limit interval once turns
         (λ watch. serve_at (H.session host.old) (H.world host.old) watch (R.answers readings.old) (R.readers readings.old))
         (λ watch. serve_at (H.session host.new) (H.world host.new) watch (R.answers readings.new) (R.readers readings.new))
         (sink_at (O.content out.old) (O.outlet out.old)) (sink_at (O.content out.new) (O.outlet out.new))
