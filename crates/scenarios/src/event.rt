@@ -14,6 +14,8 @@ pub enum Event {
     Turn(i64, Option<u32>),
     /// A crash, and the machine comes up again.
     Reboot(u64, Option<u64>),
+    /// What the folder counts is printed.
+    Counts,
     /// The folder, what was handed over and what was asked are printed.
     Show,
 }
@@ -31,6 +33,10 @@ pub fn event_of(alloc: Global, word: &[u8], rest: &[Vec<u8>]) -> Result<Event, W
             Ok(Event::Turn(second(now)?, load(read)?))
         }
         b"reboot" => reboot(rest),
+        b"counts" => {
+            none(rest)?;
+            Ok(Event::Counts)
+        }
         b"show" => {
             none(rest)?;
             Ok(Event::Show)

@@ -7,11 +7,12 @@ use crate::Why;
 use crate::event::Event;
 use crate::settings::Settings;
 use crate::transcript::Transcript;
-use at_commands::command;
+use at_day::{Counts, day, program};
 use clock_range::is_clock_second;
 use daemon_turn::{Daemon, Mode, TurnEnd, TurnStep};
 use host_calls::{Asked, Ending, Handed};
 use memory_host::MemoryHost;
+use spool_store::StoreFault;
 use std::alloc::{AllocError, Global};
 
 /// A spool folder in memory, and a daemon whose kids are children of it.
@@ -50,6 +51,7 @@ impl Machine {
             }
             Event::Turn(now, load) => self.turn(alloc, now, load, transcript),
             Event::Reboot(pick, fuse) => Ok(self.reboot(alloc, pick, fuse, transcript)?),
+            Event::Counts => Ok(self.counts(alloc, transcript)?),
             Event::Show => Ok(self.show(alloc, transcript)?),
         }
     }
@@ -87,7 +89,7 @@ impl Machine {
         let mut inputs = settings.inputs(alloc)?;
         let mut out = settings.out(alloc);
         let mut err = settings.err(alloc);
-        let status = command(
+        let status = program(
             alloc,
             words,
             &settings.caller,
@@ -109,6 +111,12 @@ impl Machine {
                 transcript.line(line.as_str())
             }
         }
+    }
+
+    // Prints what a day without events counts.
+    fn counts(&mut self, alloc: Global, transcript: &mut Transcript) -> Result<(), AllocError> {
+        let report = day(alloc, &[], &mut self.host)?;
+        transcript.line(counts_line(alloc, &report.counts)?.as_str())
     }
 
     // Crashes, and comes up with the image that the pick names.
@@ -192,6 +200,36 @@ fn end_line(alloc: Global, end: &TurnEnd) -> Result<String, AllocError> {
             format!(in alloc; "turn damaged {name} at {offset}")
         }
     }
+}
+
+// What a folder counts, or why it could not be counted.
+fn counts_line(alloc: Global, counts: &Result<Counts, StoreFault>) -> Result<String, AllocError> {
+    match counts {
+        Ok(counts) => counted_line(alloc, counts),
+        Err(StoreFault::Damaged(damage)) => {
+            let name = str::from_utf8(damage.name.as_bytes()).unwrap_or("");
+            let offset = damage.offset;
+            format!(in alloc; "counts damaged {name} at {offset}")
+        }
+        Err(StoreFault::Memory) => "counts memory".to_string(alloc),
+        Err(_) => "counts file fault".to_string(alloc),
+    }
+}
+
+fn counted_line(alloc: Global, counts: &Counts) -> Result<String, AllocError> {
+    let Counts {
+        last,
+        pending,
+        running,
+        removed,
+        finished,
+        not_started,
+        interrupted,
+    } = *counts;
+    format!(in alloc;
+        "counts last {last}, pending {pending}, running {running}, removed {removed}, finished {finished}, \
+         not started {not_started}, interrupted {interrupted}"
+    )
 }
 
 // A step of a turn.

@@ -3,7 +3,7 @@ ghost use Rattle.std.specs.Prelude.{◌<◌, IfOk, vec_len};
 
 use crate::Why;
 use crate::values::{load, none, number, one, second, text, two, umask};
-use at_commands::Caller;
+use at_day::Caller;
 use civil_minute::{Zone, zone_of};
 use host_calls::Text;
 use job_script::{Context, Variables};

@@ -1,0 +1,56 @@
+-- A day without events leaves the children of the host.
+use Rattle.std.proofs.Common.{◌≡◌, ◌++◌, [], ◌∷◌, List, sym, ap, subst, ◌∙◌, refl}
+use Rattle.std.specs.Prelude.{IfOk, OnErr, Result, Ok, Err}
+use Rattle.std.specs.declared.alloc.AllocError.{AllocError}
+use Rattle.at_day.specs.declared.report.DayReport.{DayReport}
+use Rattle.at_day.specs.Days.{IsDay, IsDayCut, IsDayOf, first_machine}
+use Rattle.at_day.specs.Deeds.{Deed, events_of, machine_after}
+use Rattle.day_events.specs.declared.event.Event.{Event}
+use Rattle.day_events.specs.declared.report.EventReport.{EventReport}
+use Rattle.daemon_turn.specs.declared.kid.Kid.{Kid}
+use Rattle.host_calls.specs.declared.child.Child.{Child}
+use Rattle.host_calls.specs.Session.{Session}
+use Rattle.memory_host.specs.Host.{memory_session}
+use Rattle.memory_host.specs.declared.memory_host.MemoryHost.{MemoryHost}
+use Rattle.scenarios.specs.Machine.{HaveChildren}
+
+no_deeds : (deeds : List Deed) → events_of deeds ≡ [] → deeds ≡ []
+no_deeds [] none = refl
+no_deeds (deed ∷ later) none = cc
+
+no_front : (front later : List Event) → front ++ later ≡ [] → front ≡ []
+no_front [] later none = refl
+no_front (event ∷ front) later none = cc
+
+host_left : (old : MemoryHost) (deeds : List Deed) → events_of deeds ≡ [] → (machine_after (first_machine old) deeds).host ≡ old
+host_left old deeds none = ap (λ (of : List Deed). (machine_after (first_machine old) of).host) (no_deeds deeds none)
+
+children_of_day : (old new : MemoryHost) (report : DayReport) → IsDay [] old new report →
+    (memory_session new).children ≡ (memory_session old).children
+children_of_day old new report day =
+    day.counted.left.children
+    ∙ ap (λ (host : MemoryHost). (memory_session host).children) (sym day.day.last_is ∙ host_left old day.day.deeds day.day.events_are)
+
+children_of_cut : (old new : MemoryHost) → IsDayCut [] (first_machine old) new →
+    (memory_session new).children ≡ (memory_session old).children
+children_of_cut old new cut =
+    ap (λ (session : Session). session.children) cut.as_left.session
+    ∙ ap (λ (host : MemoryHost). (memory_session host).children)
+    (host_left old cut.deeds (no_front (events_of cut.deeds) cut.later cut.events_are))
+
+have_after_day : (old new : MemoryHost) (report : DayReport) (kids : List Kid) → IsDay [] old new report →
+    HaveChildren (memory_session old).children kids → HaveChildren (memory_session new).children kids
+have_after_day old new report kids day have =
+    subst (λ (children : List Child). HaveChildren children kids) (sym (children_of_day old new report day)) have
+
+have_after_cut : (old new : MemoryHost) (kids : List Kid) → IsDayCut [] (first_machine old) new →
+    HaveChildren (memory_session old).children kids → HaveChildren (memory_session new).children kids
+have_after_cut old new kids cut have =
+    subst (λ (children : List Child). HaveChildren children kids) (sym (children_of_cut old new cut)) have
+
+-- each kid of a daemon still has one of them
+pub have_behind_day : (old new : MemoryHost) (kids : List Kid) (result : Result DayReport AllocError) →
+    IfOk result (IsDay [] old new) → OnErr result (IsDayCut [] (first_machine old) new) →
+    HaveChildren (memory_session old).children kids → HaveChildren (memory_session new).children kids
+have_behind_day old new kids (Ok report) day cut have = have_after_day old new report kids day have
+have_behind_day old new kids (Err wanting) day cut have = have_after_cut old new kids cut have
