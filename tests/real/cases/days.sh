@@ -18,7 +18,8 @@ case_two_thousand_events() {
   made="$(day 2000 750 0 0 250 418 0 82)"$'\n'
   for _ in 1 2; do
     { time (ulimit -v 65536; call atday --make 2000; ended 0 "$made" ''); } 2>times || fail "$(cat times)"
-    awk 'END { exit !($1 + $2 < 1) }' times || fail "it took $(tail -n 1 times) seconds of processor time"
+    # Some 0.6 seconds where docs/PERFORMANCE.md was measured: other machines may be slower.
+    awk 'END { exit !($1 + $2 < 2) }' times || fail "it took $(tail -n 1 times) seconds of processor time"
   done
 }
 
