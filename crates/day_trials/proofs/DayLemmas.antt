@@ -1,5 +1,5 @@
 -- The made day, and a machine on which an event can happen.
-use Rattle.std.proofs.Common.{◌≡◌, [], true, refl}
+use Rattle.std.proofs.Common.{◌≡◌, ◌∙◌, [], true, refl, ap, length}
 use Rattle.std.specs.Prelude.{Result, Ok, Err, IfOk, OnOk}
 use Rattle.std.specs.List.{list_all}
 use Rattle.daemon_turn.specs.Daemons.{Watch}
@@ -12,17 +12,29 @@ use Rattle.memory_host.specs.Host.{memory_session}
 use Rattle.memory_host.specs.declared.memory_host.MemoryHost.{MemoryHost}
 use Rattle.at_day.specs.Days.{IsReady}
 use Rattle.at_day.specs.Happening.{Happens}
-use Rattle.at_day.specs.Machines.{Machine, idle_watch, machine}
+use Rattle.at_day.specs.Machines.{Machine, machine}
 use Rattle.at_day.proofs.DeedLemmas.{ready_after, so_far_at_first}
-use Rattle.day_trials.specs.declared.stepped.TheConstants.{LIMIT, INTERVAL}
+use Rattle.day_trials.specs.declared.opening.Opening.{Opening}
+use Rattle.day_trials.specs.declared.opening.Trouble.{Trouble}
+use Rattle.day_trials.specs.Troubles.{IsOpening, day_watch}
 
 -- a day can have each of its events
 pub made_are_day_events : list_all is_day_event (made_events 32) ≡ true
 unfolding made_event made_events
 made_are_day_events = refl
 
+-- there are so many
+made_are_counted : length (made_events 32) ≡ 32
+unfolding made_events
+made_are_counted = refl
+
+pub opening_is_counted : {E : Type 0} (result : Result Opening E) (trouble : Trouble) → IfOk result (IsOpening trouble) →
+    IfOk result (λ opening. length opening.events ≡ 32)
+opening_is_counted (Ok opening) trouble is = ap length is.events ∙ made_are_counted
+opening_is_counted (Err fault) trouble is = tt
+
 -- an event can happen at first
-pub ready_at_first : (host : MemoryHost) (watch : Watch) → watch ≡ idle_watch LIMIT INTERVAL → IsOutside (memory_session host) →
+pub ready_at_first : (host : MemoryHost) (watch : Watch) → watch ≡ day_watch → IsOutside (memory_session host) →
     IsReady (machine host watch)
 ready_at_first host watch is outside = (so_far_at_first [] host [] watch refl is outside).ready
 

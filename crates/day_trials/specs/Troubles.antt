@@ -2,6 +2,8 @@
 use Rattle.std.specs.Prelude.{◌≡◌, [], ◌∷◌, ℕ, true, Some, codes}
 use Rattle.std.specs.List.{list_all}
 use Rattle.std.specs.FinMap as map
+use Rattle.at_day.specs.declared.days.TheConstants.{LIMIT, INTERVAL}
+use Rattle.daemon_turn.specs.Daemons.{Watch, new_watch}
 use Rattle.day_events.specs.Days.{is_day_event}
 use Rattle.host_calls.specs.Folder.{Files}
 use Rattle.made_events.specs.Made.{made_events}
@@ -40,3 +42,7 @@ pub record IsOpening (trouble : Trouble) (opening : Opening) : Type 0 where
   pub events : opening.events ≡ made_events EVENTS
   pub of_day : list_all is_day_event opening.events ≡ true
   pub host : IsFirst trouble opening.host
+
+-- the daemon of a day before its first event
+abbrev pub day_watch : Watch
+day_watch = new_watch LIMIT INTERVAL

@@ -8,8 +8,8 @@ use host_calls::Handed;
 use memory_host::MemoryHost;
 use std::alloc::{AllocError, Global};
 
-/// Whether both are reports of a command with one status that put the same, of a turn that was done in the same steps, or
-/// of a reboot.
+/// Whether both are reports of a command with one status that put the same, of a turn that was done with the same steps,
+/// or of a reboot.
 pub fn are_alike(one: &EventReport, other: &EventReport) -> bool
     ensures { result ≡ true → AreAlike one.now other.now }
 {

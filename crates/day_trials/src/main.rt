@@ -10,6 +10,7 @@ mod rule;
 mod rules;
 mod stepped;
 mod tables;
+mod taken;
 mod tried;
 
 use crate::line::{are_kept, line_of};

@@ -1,12 +1,16 @@
 //! Which rule a tried day breaks first.
-ghost use Rattle.std.specs.Prelude.{◌≡◌, ◌==◌, ◌<◌, nat_lt, if◌then◌else◌};
+ghost use Rattle.std.specs.Prelude.{◌≡◌, ◌==◌, ◌<◌, None, nat_lt, if◌then◌else◌};
 ghost use Rattle.memory_host.specs.Host.{calls_of, memory_world};
-ghost use Rattle.day_trials.specs.Rules.{are_not_started, broken_rule, is_above, numbering_rule, of_failing_call, of_failing_start, of_reboot, starting_rule};
+ghost use Rattle.day_trials.specs.Rules.{IsAlikeWithoutFault, are_not_started, broken_rule, busy_rule, is_above, numbering_rule, of_failing_call, of_failing_start, of_reboot, starting_rule};
 
-use crate::reports::{are_counted, are_damaged, end_in_fault, is_given_twice};
+use crate::alike::are_alike;
+use crate::reports::{
+    are_counted, are_damaged, end_in_fault, ends_in_fault, is_busy, is_given_twice,
+};
 use crate::rule::Rule;
 use crate::tried::{STARTS, SUBMITTED};
 use at_day::{Counts, DayReport};
+use day_events::EventReport;
 use memory_host::MemoryHost;
 use spool_store::StoreFault;
 
@@ -46,6 +50,30 @@ pub fn broken_rule(report: &DayReport, left: &MemoryHost, may_fail: bool) -> Opt
         return Some(Rule::Undamaged);
     }
     None
+}
+
+/// Where the event finds the lock taken.
+pub fn busy_rule(report: &EventReport) -> Option<Rule>
+    ensures { result ≡ busy_rule report.now }
+{
+    if is_busy(report) {
+        None
+    } else {
+        Some(Rule::Busy)
+    }
+}
+
+/// Where the event happens on both days: what it reports with the lock that is taken, and what without.
+pub fn alike_rule(report: &EventReport, without: &EventReport) -> Option<Rule>
+    ensures { result ≡ None → IsAlikeWithoutFault report.now without.now }
+{
+    if ends_in_fault(report) {
+        return Some(Rule::NoFault);
+    }
+    if are_alike(report, without) {
+        return None;
+    }
+    Some(Rule::Alike)
 }
 
 fn numbering_rule(report: &DayReport) -> Option<Rule>

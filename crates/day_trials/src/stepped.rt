@@ -1,16 +1,16 @@
 //! Made days whose events happen one by one.
-ghost use Rattle.std.specs.Prelude.{◌≡◌, true, OnOk};
+ghost use Rattle.std.specs.Prelude.{◌≡◌, true, IfOk, OnOk, length, vec_len};
+ghost use Rattle.std.specs.List.{list_all};
 ghost use Rattle.day_events.specs.Days.{is_day_event};
 ghost use Rattle.host_calls.specs.Session.{IsOutside};
 ghost use Rattle.memory_host.specs.Host.{memory_session};
 ghost use Rattle.at_day.specs.Days.{IsReady};
 ghost use Rattle.at_day.specs.Machines.{machine};
+ghost use Rattle.day_trials.specs.Troubles.{day_watch};
 
-use crate::alike::{are_alike, is_same_spool};
-use crate::opening::{Opening, Trouble, open_day};
-use crate::reports::{ends_in_fault, is_busy};
+use crate::opening::{EVENTS, Opening, Trouble, open_day};
 use crate::rule::Rule;
-use crate::rules::{broken_rule, of_reboot};
+use crate::rules::of_reboot;
 use at_day::{DayReport, day, one_event};
 use daemon_turn::Daemon;
 use day_events::{Event, EventReport, EventReports};
@@ -20,15 +20,15 @@ use std::alloc::{AllocError, Global};
 /// The event before which the machine comes up again.
 pub const REBOOT_BEFORE: usize = 16;
 
-/// The limit and the interval of the daemon of a day.
-pub const LIMIT: u32 = 150;
+// The limit and the interval of the daemon of a day, which at_day keeps to itself: `day_watch` has its own.
+const LIMIT: u32 = 150;
 
-pub const INTERVAL: u32 = 60;
+const INTERVAL: u32 = 60;
 
 /// The day on which the machine crashes behind event 15, and comes up with the image that the pick names.
 pub fn with_reboot(alloc: Global, pick: u64) -> Result<Option<Rule>, AllocError> {
-    let Opening { events, mut host } = open_day(alloc, Trouble::Nothing)?;
-    let mut daemon = Daemon::new(alloc, LIMIT, INTERVAL);
+    let Opening { events, mut host } = ready_day(alloc, Trouble::Nothing)?;
+    let mut daemon = day_daemon(alloc);
     let mut reports = Vec::new(alloc);
     for (number, event) in events.as_slice().iter().enumerate() {
         crash_before(alloc, number, pick, &mut host, &mut daemon, &mut reports)?;
@@ -63,9 +63,11 @@ fn crash_before(
 }
 
 /// How many calls there were before each event of the day.
-pub fn calls_before(alloc: Global) -> Result<Vec<u64>, AllocError> {
-    let Opening { events, mut host } = open_day(alloc, Trouble::Nothing)?;
-    let mut daemon = Daemon::new(alloc, LIMIT, INTERVAL);
+pub fn calls_before(alloc: Global) -> Result<Vec<u64>, AllocError>
+    ensures { IfOk result (λ calls. vec_len calls ≡ EVENTS) }
+{
+    let Opening { events, mut host } = ready_day(alloc, Trouble::Nothing)?;
+    let mut daemon = day_daemon(alloc);
     let mut calls = Vec::new(alloc);
     for event in events.as_slice() {
         calls.push(host.calls())?;
@@ -74,61 +76,24 @@ pub fn calls_before(alloc: Global) -> Result<Vec<u64>, AllocError> {
     Ok(calls)
 }
 
-/// The first rule that breaks where the event of this number finds the lock taken, at this call: it is busy, and all is
-/// as on the day without it.
-pub fn with_taken_lock(
-    alloc: Global,
-    number: usize,
-    call: u64,
-) -> Result<Option<Rule>, AllocError> {
-    let Opening { events, mut host } = open_day(alloc, Trouble::Lock(call))?;
-    let Opening {
-        host: mut other,
-        ..
-    } = open_day(alloc, Trouble::Nothing)?;
-    let mut daemon = Daemon::new(alloc, LIMIT, INTERVAL);
-    let mut other_daemon = Daemon::new(alloc, LIMIT, INTERVAL);
-    for (index, event) in events.as_slice().iter().enumerate() {
-        let report = next_event(alloc, event, &mut host, &mut daemon)?;
-        if index == number {
-            if !is_busy(&report) {
-                return Ok(Some(Rule::Busy));
-            }
-        } else {
-            let without = next_event(alloc, event, &mut other, &mut other_daemon)?;
-            if ends_in_fault(&report) {
-                return Ok(Some(Rule::NoFault));
-            }
-            if !are_alike(&report, &without) {
-                return Ok(Some(Rule::Alike));
-            }
-        }
-        if !is_same_spool(alloc, &host, &other)? {
-            return Ok(Some(Rule::Alike));
-        }
-    }
-    behind(alloc, &mut host, &mut other)
-}
-
-// The first rule that is broken behind the last event.
-fn behind(
-    alloc: Global,
-    host: &mut MemoryHost,
-    other: &mut MemoryHost,
-) -> Result<Option<Rule>, AllocError>
-    requires with_lock { IsOutside (memory_session host.old) }
-    requires without { IsOutside (memory_session other.old) }
+/// The made day before its first event, to be made event by event.
+pub fn ready_day(alloc: Global, trouble: Trouble) -> Result<Opening, AllocError>
+    ensures of_day { IfOk result (λ opening. list_all is_day_event opening.events ≡ true) }
+    ensures count { IfOk result (λ opening. length opening.events ≡ EVENTS) }
+    ensures outside { IfOk result (λ opening. IsOutside (memory_session opening.host)) }
 {
-    let report = day(alloc, &[], host)?;
-    let without = day(alloc, &[], other)?;
-    match (&report.counts, &without.counts) {
-        (Ok(counts), Ok(others)) if counts == others => Ok(broken_rule(&report, host, false)),
-        _ => Ok(Some(Rule::Alike)),
-    }
+    open_day(alloc, trouble)
 }
 
-// Makes the event happen on a machine on which one can.
-fn next_event(
+/// The daemon of a day before its first event.
+pub fn day_daemon(alloc: Global) -> Daemon
+    ensures { result ≡ day_watch }
+{
+    Daemon::new(alloc, LIMIT, INTERVAL)
+}
+
+/// Makes the event happen on a machine on which one can.
+pub fn next_event(
     alloc: Global,
     event: &Event,
     host: &mut MemoryHost,

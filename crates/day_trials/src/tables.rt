@@ -4,7 +4,8 @@ ghost use Rattle.day_trials.specs.Outcomes.{AreAllTried, AreTried};
 ghost use Rattle.day_trials.specs.Tried.{TriesCall, TriesFuse, TriesStart};
 
 use crate::rule::Rule;
-use crate::stepped::{calls_before, with_reboot, with_taken_lock};
+use crate::stepped::{calls_before, with_reboot};
+use crate::taken::with_taken_lock;
 use crate::tried::{STARTS, with_failing_call, with_failing_start, with_fuse};
 use memory_host::Part;
 use std::alloc::{AllocError, Global};
@@ -56,20 +57,25 @@ pub fn failing_starts(alloc: Global) -> Result<Vec<Option<Rule>>, AllocError>
 }
 
 /// The machine crashes behind event 15, at three picks of what survived.
-pub fn reboots(alloc: Global) -> Result<Vec<Option<Rule>>, AllocError> {
+pub fn reboots(alloc: Global) -> Result<Vec<Option<Rule>>, AllocError>
+    ensures { IfOk result (λ outcomes. vec_len outcomes ≡ 3) }
+{
+    let picks = [0, 1, u64::MAX];
     let mut outcomes = Vec::new(alloc);
-    for pick in [0, 1, u64::MAX] {
-        outcomes.push(with_reboot(alloc, pick)?)?;
+    for pick in &picks {
+        outcomes.push(with_reboot(alloc, *pick)?)?;
     }
     Ok(outcomes)
 }
 
 /// Each event but the last finds the lock taken.
-pub fn taken_locks(alloc: Global) -> Result<Vec<Option<Rule>>, AllocError> {
+pub fn taken_locks(alloc: Global) -> Result<Vec<Option<Rule>>, AllocError>
+    ensures { IfOk result (λ outcomes. vec_len outcomes ≡ ENTERING) }
+{
     let mut outcomes = Vec::new(alloc);
     let calls = calls_before(alloc)?;
-    for (number, call) in calls.iter().take(ENTERING).enumerate() {
-        outcomes.push(with_taken_lock(alloc, number, *call)?)?;
+    for number in 0..ENTERING {
+        outcomes.push(with_taken_lock(alloc, number, calls[number])?)?;
     }
     Ok(outcomes)
 }

@@ -1,6 +1,6 @@
 use Rattle.at_day.specs.Days.{IsReady}
 use Rattle.at_day.specs.Machines.{machine}
-use Rattle.day_trials.proofs.stepped.with_taken_lock.Given as goal
+use Rattle.day_trials.proofs.taken.with_taken_lock.Given as goal
 
 -- the next event can happen on both machines
 abbrev pub invariant-loop-index : goal.invariant-loop-index
