@@ -1,5 +1,5 @@
 -- The made day, and a machine on which an event can happen.
-use Rattle.std.proofs.Common.{◌≡◌, ◌∙◌, [], true, refl, ap, length}
+use Rattle.std.proofs.Common.{◌≡◌, ◌∙◌, [], true, refl, ap, arith, length}
 use Rattle.std.specs.Prelude.{Result, Ok, Err, IfOk, OnOk}
 use Rattle.std.specs.List.{list_all}
 use Rattle.daemon_turn.specs.Daemons.{Watch}
@@ -7,21 +7,21 @@ use Rattle.day_events.specs.Days.{is_day_event}
 use Rattle.day_events.specs.declared.event.Event.{Event}
 use Rattle.day_events.specs.declared.report.EventReport.{EventReport}
 use Rattle.host_calls.specs.Session.{IsOutside}
-use Rattle.made_events.specs.Made.{made_event, made_events}
+use Rattle.made_events.specs.Made.{made_events}
 use Rattle.memory_host.specs.Host.{memory_session}
 use Rattle.memory_host.specs.declared.memory_host.MemoryHost.{MemoryHost}
 use Rattle.at_day.specs.Days.{IsReady}
 use Rattle.at_day.specs.Happening.{Happens}
 use Rattle.at_day.specs.Machines.{Machine, machine}
 use Rattle.at_day.proofs.DeedLemmas.{ready_after, so_far_at_first}
+use Rattle.at_day.proofs.MadeLemmas.{made_events_of_day}
 use Rattle.day_trials.specs.declared.opening.Opening.{Opening}
 use Rattle.day_trials.specs.declared.opening.Trouble.{Trouble}
 use Rattle.day_trials.specs.Troubles.{IsOpening, day_watch}
 
 -- a day can have each of its events
 pub made_are_day_events : list_all is_day_event (made_events 32) ≡ true
-unfolding made_event made_events
-made_are_day_events = refl
+made_are_day_events = made_events_of_day 32 (omega arith)
 
 -- there are so many
 made_are_counted : length (made_events 32) ≡ 32
