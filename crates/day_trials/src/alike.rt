@@ -8,8 +8,8 @@ use host_calls::Handed;
 use memory_host::MemoryHost;
 use std::alloc::{AllocError, Global};
 
-/// Whether both are reports of a command with one status that put the same, of a turn that was done with the same steps,
-/// or of a reboot.
+/// Whether both are reports of a command with one status that put the same, of a turn that was done, or of a reboot. The
+/// steps of two turns are compared too, of which the clause says nothing.
 pub fn are_alike(one: &EventReport, other: &EventReport) -> bool
     ensures { result ≡ true → AreAlike one.now other.now }
 {

@@ -36,7 +36,7 @@ pub fn with_reboot(alloc: Global, pick: u64) -> Result<Option<Rule>, AllocError>
     }
     let report = DayReport {
         events: EventReports::from(reports),
-        counts: day(alloc, &[], &mut host)?.counts,
+        counts: end_of_day(alloc, &mut host)?.counts,
     };
     Ok(of_reboot(&report, &host))
 }
@@ -104,4 +104,11 @@ pub fn next_event(
     ensures { OnOk result (IsReady (machine host.new daemon.new)) }
 {
     one_event(alloc, event, host, daemon)
+}
+
+/// The report of a day without events, behind those that happened one by one.
+pub fn end_of_day(alloc: Global, host: &mut MemoryHost) -> Result<DayReport, AllocError>
+    requires { IsOutside (memory_session host.old) }
+{
+    day(alloc, &[], host)
 }

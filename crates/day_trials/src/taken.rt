@@ -10,11 +10,12 @@ use crate::alike::is_same_spool;
 use crate::opening::{Opening, Trouble};
 use crate::rule::Rule;
 use crate::rules::{alike_rule, broken_rule, busy_rule};
-use crate::stepped::{day_daemon, next_event, ready_day};
-use at_day::day;
+use crate::stepped::{day_daemon, end_of_day, next_event, ready_day};
+use at_day::Counts;
 use daemon_turn::Daemon;
 use day_events::Event;
 use memory_host::MemoryHost;
+use spool_store::StoreFault;
 use std::alloc::{AllocError, Global};
 
 /// The first rule that breaks where the event of this number finds the lock taken, at this call: it is busy, and all is
@@ -116,10 +117,19 @@ fn behind(
     requires with_lock { IsOutside (memory_session host.old) }
     requires without { IsOutside (memory_session other.old) }
 {
-    let report = day(alloc, &[], host)?;
-    let without = day(alloc, &[], other)?;
-    match (&report.counts, &without.counts) {
-        (Ok(counts), Ok(others)) if counts == others => Ok(broken_rule(&report, host, false)),
-        _ => Ok(Some(Rule::Alike)),
+    let report = end_of_day(alloc, host)?;
+    let without = end_of_day(alloc, other)?;
+    if are_same_counts(&report.counts, &without.counts) {
+        Ok(broken_rule(&report, host, false))
+    } else {
+        Ok(Some(Rule::Alike))
+    }
+}
+
+// Whether both count, and the same.
+fn are_same_counts(one: &Result<Counts, StoreFault>, other: &Result<Counts, StoreFault>) -> bool {
+    match (one, other) {
+        (Ok(counts), Ok(others)) => counts == others,
+        _ => false,
     }
 }

@@ -8,7 +8,7 @@ use Rattle.made_events.specs.Made.{made_events}
 use Rattle.made_events.specs.declared.made.Made.{Made}
 use Rattle.memory_host.specs.declared.plan.Plan.{Plan}
 use Rattle.memory_host.specs.Host.{IsNew}
-use Rattle.day_trials.specs.Troubles.{only_deny, plan_against}
+use Rattle.day_trials.specs.Troubles.{only_deny}
 use Rattle.day_trials.proofs.DayLemmas.{made_are_day_events}
 use Rattle.day_trials.proofs.opening.open_day.Goals as goal
 

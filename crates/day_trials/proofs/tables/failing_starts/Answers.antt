@@ -1,4 +1,4 @@
-use Rattle.std.proofs.Common.{◌≡◌, ◌+◌, ◌∷◌, [], ◌++◌, length, arith, length-append}
+use Rattle.std.proofs.Common.{◌≡◌, ◌∷◌, [], ◌++◌, arith, length-append}
 use Rattle.day_trials.specs.Tried.{TriesStart}
 use Rattle.day_trials.proofs.OutcomeLemmas.{one_more_tried}
 use Rattle.day_trials.proofs.tables.failing_starts.Goals as goal

@@ -1,4 +1,4 @@
-use Rattle.std.proofs.Common.{◌≡◌, ◌+◌, ◌∷◌, [], ◌++◌, ℕ, inl, sym, subst, length, arith, length-append}
+use Rattle.std.proofs.Common.{◌≡◌, ◌∷◌, [], ◌++◌, ℕ, inl, sym, subst, arith, length-append}
 use Rattle.day_trials.specs.Tried.{TriesFuse}
 use Rattle.day_trials.proofs.OutcomeLemmas.{one_more_tried}
 use Rattle.day_trials.proofs.tables.fuses.Goals as goal
