@@ -35,7 +35,8 @@ use Rattle.at_commands.specs.inside.Session.{IsNoOutput, IsOfSpool}
 use Rattle.at_commands.specs.inside.Sessions.{Lists, Shows, lists_alone}
 use Rattle.command_answers.proofs.CheckLemmas.{refused_up_to}
 use Rattle.at_commands.proofs.CarryLemmas.{carries_no_memory, carries_unsaid, done_allowed, no_true}
-use Rattle.at_commands.proofs.EndsLemmas.{ends_carried, ends_early, silent}
+use Rattle.at_commands.proofs.EndsLemmas.{ends_carried, ends_early}
+use Rattle.at_commands.proofs.UnreadLemmas.{silent}
 use Rattle.at_commands.proofs.ForLemmas.{carries_unentered, carries_unopened, keeps_lists, listing_lacks, listing_made, showing_done, showing_stopped}
 use Rattle.at_commands.proofs.SessionLemmas.{entry_of_spool, not_opened_of_spool}
 use Rattle.at_commands.proofs.UserLemmas.{alone_is, user_fails, user_passes, zone_fails, zone_passes}

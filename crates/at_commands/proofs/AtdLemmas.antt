@@ -1,8 +1,7 @@
 -- A command that asks for a daemon.
-use Rattle.std.proofs.Common.{◌≡◌, ◌≤◌, Bool, true, false, List, [], ℕ, sym, subst, ap, ◌∙◌, refl, append-nil, arith}
+use Rattle.std.proofs.Common.{◌≡◌, Bool, false, [], ℕ, sym, subst, refl, append-nil, arith}
 use Rattle.std.specs.Prelude.{Ok, Err, codes}
 use Rattle.at_words.specs.Answers.{Answers}
-use Rattle.at_words.specs.Requests.{request_of}
 use Rattle.at_words.specs.declared.fault.WordsFault.{WordsFault}
 use Rattle.at_words.specs.declared.fault.WordsFault.TheVariants as words
 use Rattle.at_words.specs.declared.tool_request.ToolRequest.TheVariants as request

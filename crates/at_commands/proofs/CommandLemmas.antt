@@ -1,5 +1,5 @@
 -- A command, from its words to its last line.
-use Rattle.std.proofs.Common.{Bool, ◌≡◌, ◌≢◌, ◌⊎◌, ◌≤◌, List, ℕ, sym, subst, ◌∙◌, refl, inl, inr}
+use Rattle.std.proofs.Common.{◌≡◌, ◌≢◌, ◌⊎◌, ◌≤◌, List, ℕ, sym, subst, ◌∙◌, refl, inl, inr}
 use Rattle.std.proofs.Math.Nat.{le_trans}
 use Rattle.std.specs.Prelude.{Ok, Err}
 use Rattle.at_words.specs.Answers.{Answers}
@@ -17,7 +17,7 @@ use Rattle.command_answers.specs.Found.{Asked}
 use Rattle.command_answers.specs.Sinks.{NotesBy, SinkAt}
 use Rattle.command_answers.specs.Verdict.{verdict_of}
 use Rattle.at_commands.specs.inside.Wording.{words_cause}
-use Rattle.at_commands.proofs.EndsLemmas.{ends_at_words}
+use Rattle.at_commands.proofs.UnreadLemmas.{ends_at_words}
 use Rattle.at_commands.proofs.LateLemmas.{any_memory}
 
 -- words are refused, or there is no memory to read them

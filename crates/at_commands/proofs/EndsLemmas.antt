@@ -1,15 +1,11 @@
 -- How a command ends, put together from its parts.
-use Rattle.std.proofs.Common.{◌≡◌, ◌++◌, Bool, true, false, ℕ, ℤ, pos, List, [], ◌∷◌, length, sym, ap, subst, ◌∙◌, refl, inl, inr, arith, nat_lt}
+use Rattle.std.proofs.Common.{◌≡◌, ◌++◌, Bool, true, false, ℕ, List, [], ◌∷◌, length, sym, ap, subst, ◌∙◌, refl, inl, inr, arith, nat_lt}
 use Rattle.std.proofs.lemmas.Bool.Decides.{nat_tests}
-use Rattle.std.specs.Prelude.{Option, Some, None, Result, Ok, Err, MatchBool}
+use Rattle.std.specs.Prelude.{Option, Some, None, Result, Ok, MatchBool}
 use Rattle.std.specs.FinMap as finite
 use Rattle.std.proofs.Math.Seq.{take-length}
 use Rattle.std.proofs.lemmas.List.{append-nil}
 use Rattle.at_words.specs.declared.tool_request.ToolRequest.{ToolRequest}
-use Rattle.at_words.specs.declared.tool_request.ToolRequest.TheVariants as request
-use Rattle.civil_minute.specs.declared.zone.Zone.{Zone}
-use Rattle.host_calls.specs.Clock.{Answers}
-use Rattle.host_calls.specs.Inputs.{Contents}
 use Rattle.host_calls.specs.declared.damage.Damage.{Damage}
 use Rattle.host_calls.specs.World.{World, reading}
 use Rattle.listing_text.specs.declared.cause.Cause.{Cause}
@@ -21,9 +17,9 @@ use Rattle.spool_model.specs.JobTable.{JobTable}
 use Rattle.spool_shows.specs.Shown.{shown_by}
 use Rattle.job_runs.specs.Attempts.{Achieves}
 use Rattle.command_answers.specs.declared.caller.Caller.{Caller}
-use Rattle.command_answers.specs.Checks.{Check, ComesUpTo, check_of, is_before, of_access, of_clock, of_date, of_directory, of_folder, of_input, of_jobs, of_length, of_lists, of_lock, of_number, of_output, of_room, of_spelling, of_steps, of_user, of_variables, of_words, of_zone, place_of}
+use Rattle.command_answers.specs.Checks.{Check, ComesUpTo, check_of, is_before, of_lock, place_of}
 use Rattle.command_answers.specs.Ends.{Ends, Holding, IsNoRefusal, KeepsOrder, Reaches, Telling}
-use Rattle.command_answers.specs.Found.{Asked, Finds, Found, allow_file, answers_read, deny_file, found_of}
+use Rattle.command_answers.specs.Found.{Asked, Finds, Found, allow_file, answers_read, deny_file}
 use Rattle.command_answers.specs.inside.Carrying.{AreSessionSteps, Carries, Finding, IsSessionLine, IsSessionText}
 use Rattle.command_answers.specs.Requested.{AreAskedSteps, AreNoSteps, IsAskedLine, IsAskedText}
 use Rattle.command_answers.specs.Sinks.{EndsLine, IsPutInPart, IsPutOrCut, IsSilent, NotesBy, PrintsBy, PutsCut, PutsPart, SaysBy, SinkAt}
@@ -145,7 +141,7 @@ up_to_early None asked caller found shown reached ahead up_to =
     subst (λ (of : Option Refusal). ComesUpTo of reached) (sym (alone (spool_verdict asked caller found shown)))
     (late_up_to (spool_verdict asked caller found shown) reached (spool_late asked caller found shown) ahead)
 
-no_true : false ≡ true → ⊥
+pub no_true : false ≡ true → ⊥
 no_true is = cc
 
 -- a check before the lock is not behind the folder
@@ -153,7 +149,7 @@ before_folder : (place : ℕ) → nat_lt place 11 ≡ true → nat_lt 14 place �
 before_folder place is = grind (arith, nat_tests)
 
 -- a command that stopped before the spool was entered leaves it as it was
-untouched : (AreSteps : JobTable → List Step → Type 0) (old new : World) (cause : Cause) (reached : Check) → IsEarly cause → Reaches cause reached →
+pub untouched : (AreSteps : JobTable → List Step → Type 0) (old new : World) (cause : Cause) (reached : Check) → IsEarly cause → Reaches cause reached →
     is_before reached of_lock ≡ true → new ≡ old → SpoolEnds AreSteps old new cause
 untouched AreSteps old new (Refused refusal) reached early reach before same =
     subst (λ (behind : Bool). MatchBool behind (Achieves AreNoSteps old new) (new ≡ old))
@@ -168,7 +164,7 @@ untouched AreSteps old new (Damaged damage) reached early reach before same = ab
 untouched AreSteps old new StillRunning reached early reach before same = absurd early
 
 -- nothing was put where nothing changed
-silent_prints : (cause : Cause) (IsText : List ℕ → Type 0) (old new : SinkAt) → IsEarly cause → IsSilent old new → PrintsBy cause IsText old new
+pub silent_prints : (cause : Cause) (IsText : List ℕ → Type 0) (old new : SinkAt) → IsEarly cause → IsSilent old new → PrintsBy cause IsText old new
 silent_prints (Refused refusal) IsText old new early silent = silent
 silent_prints InputFault IsText old new early silent = silent
 silent_prints Memory IsText old new early silent = inl silent
@@ -179,7 +175,7 @@ silent_prints Busy IsText old new early silent = absurd early
 silent_prints (Damaged damage) IsText old new early silent = absurd early
 silent_prints StillRunning IsText old new early silent = absurd early
 
-silent_notes : (cause : Cause) (IsLine : List ℕ → Type 0) (old new : SinkAt) → IsEarly cause → IsSilent old new → NotesBy cause IsLine old new
+pub silent_notes : (cause : Cause) (IsLine : List ℕ → Type 0) (old new : SinkAt) → IsEarly cause → IsSilent old new → NotesBy cause IsLine old new
 silent_notes (Refused refusal) IsLine old new early silent = silent
 silent_notes InputFault IsLine old new early silent = silent
 silent_notes Memory IsLine old new early silent = inl silent
@@ -324,79 +320,3 @@ module _ (tool : List ℕ) (asked : Asked) (caller : Caller) (tells : Telling) (
     | inl as_is ↦ subst (λ (of : Cause). Ends (SaysBy tool) asked caller tells before after of) (sym as_is.0) (ends_as_is as_is.1)
     | inr lacks ↦ subst (λ (of : Cause). Ends (SaysBy tool) asked caller tells before after of) (sym lacks.1) (ends_no_memory lacks.0 lacks.2)
   ]
-
--- A command that stopped at its words.
-
--- no check comes before that of the words
-words_first : (check : Check) → is_before check of_words ≡ false
-words_first of_words = refl
-words_first of_user = refl
-words_first of_directory = refl
-words_first of_variables = refl
-words_first of_clock = refl
-words_first of_zone = refl
-words_first of_spelling = refl
-words_first of_date = refl
-words_first of_input = refl
-words_first of_length = refl
-words_first of_lock = refl
-words_first of_lists = refl
-words_first of_access = refl
-words_first of_folder = refl
-words_first of_room = refl
-words_first of_number = refl
-words_first of_jobs = refl
-words_first of_steps = refl
-words_first of_output = refl
-
-up_to_words : (verdict : Option Refusal) → ComesUpTo verdict of_words
-up_to_words None = tt
-up_to_words (Some refusal) = words_first (check_of refusal)
-
--- nothing was read yet
-answers_unread : (asked : Asked) (now : ℤ) (answers : Answers) → answers_read asked of_words now answers ≡ answers
-answers_unread (Ok (request.Submit queue mail file when)) now answers = refl
-answers_unread (Ok (request.List filter)) now answers = refl
-answers_unread (Ok (request.Remove numbers)) now answers = refl
-answers_unread (Ok (request.Show numbers)) now answers = refl
-answers_unread (Ok (request.Daemon limit interval once turns)) now answers = refl
-answers_unread (Ok (request.Make count)) now answers = refl
-answers_unread (Err fault) now answers = refl
-
-finds_unread : (tells : Bool) (asked : Asked) (zone : Zone) (contents : Contents) (found : Found) → Finds tells asked zone contents of_words found
-finds_unread tells (Ok (request.Submit queue mail file when)) zone contents found =
-    record { time = λ beyond. absurd (no_true beyond); commands = λ told beyond. absurd (no_true beyond) }
-finds_unread tells (Ok (request.List filter)) zone contents found = tt
-finds_unread tells (Ok (request.Remove numbers)) zone contents found = tt
-finds_unread tells (Ok (request.Show numbers)) zone contents found = tt
-finds_unread tells (Ok (request.Daemon limit interval once turns)) zone contents found = tt
-finds_unread tells (Ok (request.Make count)) zone contents found = tt
-finds_unread tells (Err fault) zone contents found = tt
-
--- nothing is put between a moment and itself
-pub silent : (at : SinkAt) → IsSilent at at
-silent at = record { content = refl; later = omega arith }
-
-pub ends_at_words : (asked : Asked) (caller : Caller) (tells : Telling) (at : Holding) (cause : Cause) → IsEarly cause → Reaches cause of_words →
-    ((found : Found) (shown : Result JobTable Damage) → KeepsOrder (verdict_of asked caller found shown) cause) →
-    Ends NotesBy asked caller tells at at cause
-ends_at_words asked caller tells at cause early reach order =
-    let allow : Option (List ℕ) = finite.get (reading at.spool) allow_file in
-    let deny : Option (List ℕ) = finite.get (reading at.spool) deny_file in
-    let found : Found = found_of (pos 0) (Ok 0) [] allow deny in
-    let shown : Result JobTable Damage = shown_by (reading at.spool) in
-    record {
-      found = found;
-      shown = shown;
-      reached = of_words;
-      reach = reach;
-      order = order found shown;
-      up_to = up_to_words (verdict_of asked caller found shown);
-      clock = λ told. sym (answers_unread asked (pos 0) at.answers);
-      finds = finds_unread tells.input asked caller.zone at.contents found;
-      folder = λ told is_alone. record { allow = refl; deny = refl; table = refl };
-      apart = λ told is_alone is. refl;
-      spool = λ told is_alone. untouched (AreAskedSteps asked caller found) at.spool at.spool cause of_words early reach refl refl;
-      prints = λ told is_alone tells_output. silent_prints cause (IsAskedText asked caller found shown) at.output at.output early (silent at.output);
-      notes = λ tells_errors. silent_notes cause (IsAskedLine asked caller found shown) at.errors at.errors early (silent at.errors);
-    }

@@ -11,4 +11,5 @@ pub mod PreparedLemmas
 pub mod ServedLemmas
 pub mod SessionLemmas
 pub mod SubmitLemmas
+pub mod UnreadLemmas
 pub mod UserLemmas

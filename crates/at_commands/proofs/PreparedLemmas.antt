@@ -30,7 +30,8 @@ use Rattle.at_commands.specs.inside.Saying.{Accepts}
 use Rattle.at_commands.specs.inside.Session.{IsNoOutput}
 use Rattle.at_commands.specs.inside.Storing.{AnswersJob, IsJobOf, Stores, StoresAndSays}
 use Rattle.at_commands.proofs.CarryLemmas.{KeepsLists, carries_no_memory, carries_unsaid, done_allowed}
-use Rattle.at_commands.proofs.EndsLemmas.{IsEarly, ends_carried, ends_early, silent}
+use Rattle.at_commands.proofs.EndsLemmas.{IsEarly, ends_carried, ends_early}
+use Rattle.at_commands.proofs.UnreadLemmas.{silent}
 use Rattle.at_commands.proofs.SubmitLemmas.{has_header}
 use Rattle.at_commands.proofs.UserLemmas.{first_passed, user_passed, zone_passed}
 use Rattle.at_commands.proofs.AnswerLemmas.{prints_nothing, spool_notes}

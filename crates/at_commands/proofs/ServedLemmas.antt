@@ -1,16 +1,16 @@
 -- Which words ask for a daemon, and what is served where they could not be read.
-use Rattle.std.proofs.Common.{◌≡◌, ◌≤◌, Bool, true, false, List, [], ◌∷◌, ℕ, sym, subst, ap, ◌∙◌, refl, append-nil, arith, lit≤}
+use Rattle.std.proofs.Common.{◌≡◌, ◌≤◌, Bool, true, false, List, [], ◌∷◌, ℕ, sym, subst, ap, refl, arith, lit≤}
 use Rattle.std.proofs.lemmas.Bool.Decides.{nat_tests}
 use Rattle.std.specs.Prelude.{◌-◌, ◌&&◌, Option, Some, None, Result, Ok, Err, codes, drop, if◌then◌else◌, nat_le, option_map}
 use Rattle.clap.specs.Kinds.{Kinds}
 use Rattle.clap.specs.Simple.{matches_of}
 use Rattle.clap.specs.Faults.{fault_of}
 use Rattle.clap.specs.Walk.{Row, Text, first_of}
-use Rattle.at_words.specs.Answers.{Answers, asked_of, if_taken, on_ok, or_usage}
-use Rattle.at_words.specs.Asked.{action_numbers, at_asked, atq_asked, atrm_asked, batch_asked, filter_asked, has_submission_words, has_two_actions, listing_asked, queue_asked, some_numbers, submission_asked, submit_request, when_asked}
+use Rattle.at_words.specs.Answers.{if_taken, on_ok, or_usage}
+use Rattle.at_words.specs.Asked.{action_numbers, at_asked, atq_asked, atrm_asked, batch_asked, filter_asked, has_submission_words, has_two_actions, listing_asked, queue_asked, submission_asked, submit_request, when_asked}
 use Rattle.at_words.specs.Commands.{at_app, atd_app, atday_app, atq_app, atrm_app, batch_app}
-use Rattle.at_words.specs.Daemons.{atd_asked, atday_asked, daemon_request, interval_asked, limit_asked, make_asked, turns_asked}
-use Rattle.at_words.specs.Digits.{are_decimal_digits, decimal_in, decimal_of, within}
+use Rattle.at_words.specs.Daemons.{atd_asked, atday_asked, daemon_request, interval_asked, limit_asked, turns_asked}
+use Rattle.at_words.specs.Digits.{are_decimal_digits, decimal_of, within}
 use Rattle.at_words.specs.Requests.{request_by, request_of, request_to}
 use Rattle.at_words.specs.Rows.{is_set, operands_of}
 use Rattle.at_words.specs.Tools.{tool_of_words}
@@ -19,11 +19,10 @@ use Rattle.at_words.specs.declared.fault.WordsFault.TheVariants as words
 use Rattle.at_words.specs.declared.filter.Filter.{Filter}
 use Rattle.at_words.specs.declared.tool.Tool.{Tool}
 use Rattle.at_words.specs.declared.tool.Tool.TheVariants.{At, Batch, Atq, Atrm, Atd, Atday}
-use Rattle.at_words.specs.declared.tool_request.ToolRequest.{ToolRequest}
 use Rattle.at_words.specs.declared.tool_request.ToolRequest.TheVariants as request
 use Rattle.at_words.specs.declared.when.When.{When}
 use Rattle.command_answers.specs.Found.{Asked}
-use Rattle.at_commands.specs.Served.{IsNotServed, WhereServed}
+use Rattle.at_commands.specs.Served.{IsNotServed}
 use Rattle.at_commands.specs.Tools.{name_or_at, tool_name_of}
 
 -- one of two

@@ -1,2 +1,3 @@
+pub mod ContextLemmas
 pub mod PreparingLemmas
 pub mod TimeLemmas

@@ -1,8 +1,7 @@
-use Rattle.std.proofs.Common.{refl, sym, subst, ap, ◌∙◌, List, ℕ, map, string_bytes}
-use Rattle.std.specs.Prelude.{codes}
+use Rattle.std.proofs.Common.{subst, ap, ◌∙◌, List, ℕ, map, string_bytes}
 use Rattle.at_words.specs.Requests.{request_of}
-use Rattle.command_answers.specs.Ends.{Ends, holding, telling}
-use Rattle.command_answers.specs.Sinks.{NotesBy, sink_at}
+use Rattle.command_answers.specs.Ends.{holding, telling}
+use Rattle.command_answers.specs.Sinks.{sink_at}
 use Rattle.listing_text.specs.declared.cause.Cause.{Cause}
 use Rattle.listing_text.specs.declared.cause.Cause.TheVariants.{Memory}
 use Rattle.serving.specs.Saying.{IsSaid}

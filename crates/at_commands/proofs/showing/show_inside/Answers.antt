@@ -4,7 +4,7 @@ use Rattle.at_words.specs.declared.tool_request.ToolRequest.TheVariants as reque
 use Rattle.command_answers.specs.Sinks.{sink_at}
 use Rattle.command_answers.proofs.SpoolLemmas.{goes_on_none, goes_on_then}
 use Rattle.at_commands.proofs.AnswerLemmas.{showing_of, showing_unopened}
-use Rattle.at_commands.proofs.EndsLemmas.{silent}
+use Rattle.at_commands.proofs.UnreadLemmas.{silent}
 use Rattle.at_commands.proofs.ForLemmas.{showing_refused}
 use Rattle.at_commands.proofs.JobsLemmas.{jobs_live_all}
 use Rattle.at_commands.proofs.SessionLemmas.{no_output_of_stopped, not_opened_comes, not_opened_of_spool, showing_comes}

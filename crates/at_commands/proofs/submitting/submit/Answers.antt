@@ -7,7 +7,7 @@ use Rattle.command_answers.specs.Sinks.{sink_at}
 use Rattle.command_answers.proofs.SpoolLemmas.{goes_on_none}
 use Rattle.at_commands.specs.inside.Answering.{held_by, tells_of}
 use Rattle.at_commands.proofs.PreparedLemmas.{prepared_header, prepared_named, prepared_zoned, submission_answered, submission_stopped}
-use Rattle.at_commands.proofs.EndsLemmas.{silent}
+use Rattle.at_commands.proofs.UnreadLemmas.{silent}
 use Rattle.at_commands.proofs.submitting.submit.Goals as goal
 
 pub returns-in-Err-clause-quiet : goal.returns-in-Err-clause-quiet

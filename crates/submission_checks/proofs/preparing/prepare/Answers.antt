@@ -2,7 +2,8 @@ use Rattle.std.proofs.Common.{◌∙◌, FitsSigned, refl, rules, sym, w64}
 use Rattle.std.proofs.lemmas.Int.{to_z-of_z}
 use Rattle.std.proofs.lemmas.Result.{err_from_is_err_and}
 use Rattle.host_calls.specs.declared.bytes.Bytes.{Bytes}
-use Rattle.submission_checks.proofs.PreparingLemmas.{clock_stops, context_passes, context_stops, input_stops, meant_at, meant_stops_at, prepared, same_second, script_stops_at, zone_stops}
+use Rattle.submission_checks.proofs.ContextLemmas.{context_passes}
+use Rattle.submission_checks.proofs.PreparingLemmas.{clock_stops, context_stops, input_stops, meant_at, meant_stops_at, prepared, same_second, script_stops_at, zone_stops}
 use Rattle.submission_checks.proofs.preparing.prepare.Goals as goal
 
 pub returns-in_err-check-clause-prepares : goal.returns-in_err-check-clause-prepares
