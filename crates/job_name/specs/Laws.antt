@@ -1,19 +1,19 @@
 -- What holds of every name of a job's file.
-use Rattle.std.specs.Prelude.{◌≡◌, ◌↔◌, ℕ, List, Some}
+use Rattle.std.specs.Prelude.{◌≡◌, ◌↔◌, ℕ, Bool, List, Some}
 use Rattle.job_name.specs.JobName.{NamedJob, SpellsJobName, job_named}
 
 -- the job of a name, as it computes, is the one whose name is spelled so
 abbrev pub JobsAreNamed : Type 0
 JobsAreNamed = (name : List ℕ) (job : NamedJob) →
-    (job_named name ≡ Some job) ↔ SpellsJobName name job.queue job.number job.minute
+    (job_named name ≡ Some job) ↔ SpellsJobName name job.queue job.number job.minute job.wide
 
--- a job has one name
+-- a job has one name in each form
 abbrev pub JobsHaveOneName : Type 0
-JobsHaveOneName = (first second : List ℕ) (queue number minute : ℕ) → SpellsJobName first queue number minute
-    → SpellsJobName second queue number minute → first ≡ second
+JobsHaveOneName = (first second : List ℕ) (queue number minute : ℕ) (wide : Bool)
+    → SpellsJobName first queue number minute wide → SpellsJobName second queue number minute wide → first ≡ second
 
--- a name is that of one job
+-- a name is that of one job, in one form
 abbrev pub NamesHaveOneJob : Type 0
-NamesHaveOneJob = (name : List ℕ) (queue number minute other_queue other_number other_minute : ℕ)
-    → SpellsJobName name queue number minute → SpellsJobName name other_queue other_number other_minute
-    → (other_queue ≡ queue) × (other_number ≡ number) × (other_minute ≡ minute)
+NamesHaveOneJob = (name : List ℕ) (queue number minute other_queue other_number other_minute : ℕ) (wide other_wide : Bool)
+    → SpellsJobName name queue number minute wide → SpellsJobName name other_queue other_number other_minute other_wide
+    → (other_queue ≡ queue) × (other_number ≡ number) × (other_minute ≡ minute) × (other_wide ≡ wide)

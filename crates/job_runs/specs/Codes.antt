@@ -7,10 +7,11 @@ use Rattle.start_journal.specs.contracts.mark.Mark as mark
 use Rattle.start_journal.specs.declared.mark.Mark.{Mark}
 use Rattle.job_runs.specs.Current.{Kept}
 
--- what is kept is stored as the table, the marks and the number of free slots
+-- what is kept is stored as the table, the marks, the number of free slots and the numbers of narrow names
 abbrev pub kept_code : Coded Kept
 kept_code =
-    code_by (JobTable × (List Mark × ℕ)) (coded× table_code (coded× (coded_list mark.the_row.coded) coded_ℕ))
-    (λ kept. (kept.table, (kept.journal.marks, kept.journal.free)))
-    (λ parts. record { table = parts.0; journal = record { marks = parts.1.0; free = parts.1.1 } })
+    code_by (JobTable × (List Mark × (ℕ × List ℕ)))
+    (coded× table_code (coded× (coded_list mark.the_row.coded) (coded× coded_ℕ (coded_list coded_ℕ))))
+    (λ kept. (kept.table, (kept.journal.marks, (kept.journal.free, kept.narrow))))
+    (λ parts. record { table = parts.0; journal = record { marks = parts.1.0; free = parts.1.1.0 }; narrow = parts.1.1.1 })
     (λ _. refl)

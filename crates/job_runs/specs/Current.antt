@@ -1,6 +1,7 @@
 -- What a store keeps of a folder, and when it is current (own).
-use Rattle.std.specs.Prelude.{◌≡◌, ◌⊎◌, ℕ, List, None, Some, IsSome, true}
+use Rattle.std.specs.Prelude.{◌≡◌, ◌⊎◌, ◌≤◌, ◌==◌, ℕ, Bool, List, None, Some, IsSome, true, false, not}
 use Rattle.std.specs.FinMap as map
+use Rattle.std.specs.List.{list_any}
 use Rattle.host_calls.specs.Folder.{Files, Folder, IsImage, reading_of}
 use Rattle.sequence_file.specs.Sequence.{sequence_file}
 use Rattle.whole_file.specs.Temporary.{temporary_file}
@@ -22,10 +23,21 @@ IsSpoolName name = (name ≡ sequence_file) ⊎ ((name ≡ journal_file) ⊎ ((n
 abbrev pub EachShows : Folder → JobTable → Type 0
 EachShows folder table = (image : Files) → IsImage folder image → Shows image table
 
--- what a store keeps: the table without scripts, and the journal
+-- what a store keeps: the table without scripts, the journal, and the numbers whose files have narrow names
 pub record Kept : Type 0 where
   pub table : JobTable
   pub journal : JournalRead
+  pub narrow : List ℕ
+
+-- the form of the name that is kept for a number: the wide one, but for these numbers
+abbrev pub is_wide : List ℕ → ℕ → Bool
+is_wide narrow number = not (list_any (λ other. other == number) narrow)
+
+-- each file of a job has its name in the form that is kept for its number, and each number of a narrow one was drawn
+pub record HaveForms (narrow : List ℕ) (last : ℕ) (files : Files) : Type 0 where
+  pub each : (name : List ℕ) (job : NamedJob) → job_named name ≡ Some job → IsSome (map.get files name)
+      → job.wide ≡ is_wide narrow job.number
+  pub drawn : (number : ℕ) → is_wide narrow number ≡ false → number ≤ last
 
 -- no file of a job whose number is decided is there
 abbrev pub HasNoDecidedFile : List Mark → Files → Type 0
@@ -33,10 +45,12 @@ HasNoDecidedFile marks files = (name : List ℕ) (job : NamedJob) →
     job_named name ≡ Some job → is_decided job.number marks ≡ true → map.get files name ≡ None
 
 -- What is kept is current: each image shows the table, the sequence file and the journal are the same in
--- each, no image has a file that is being made, and no file of a decided job is left.
+-- each, no image has a file that is being made, no file of a decided job is left, and the names of the others are
+-- kept.
 pub record IsCurrent (kept : Kept) (folder : Folder) (table : JobTable) : Type 0 where
   pub shows : EachShows folder table
   pub bare_is : kept.table ≡ bare table
   pub journal : HoldsJournal kept.journal folder
   pub sequence : (image : Files) → IsImage folder image → map.get image sequence_file ≡ map.get (reading_of folder) sequence_file
   pub decided : HasNoDecidedFile kept.journal.marks (reading_of folder)
+  pub forms : HaveForms kept.narrow table.last (reading_of folder)

@@ -1,10 +1,10 @@
 -- A number that is drawn.
-use Rattle.std.specs.Prelude.{◌⊎◌, ◌+◌, ℕ, List}
+use Rattle.std.specs.Prelude.{◌⊎◌, ◌+◌, ℕ, true, List}
 use Rattle.std.specs.FinMap as map
 use Rattle.host_calls.specs.Folder.{Files, Folder, IsImage}
 use Rattle.whole_file.specs.Others.{IsEither, LeavesOthers}
 use Rattle.whole_file.specs.Placing.{IsPlaced}
-use Rattle.sequence_file.specs.Sequence.{Gives, SpellsSequence, sequence_file}
+use Rattle.sequence_file.specs.Sequence.{Gives, SpellsIn, sequence_file}
 use Rattle.whole_file.specs.Temporary.{temporary_file}
 
 -- the sequence file gives the number in every image
@@ -16,8 +16,8 @@ pub record IsDrawing (last : ℕ) (start : Folder) (image : Files) : Type 0 wher
   pub alone : LeavesOthers (IsEither temporary_file sequence_file) start image
   pub gives : Gives (map.get image sequence_file) last ⊎ Gives (map.get image sequence_file) (last + 1)
 
--- the sequence file gives the number in every image, with the same bytes, and all else reads as before
+-- the sequence file gives the number in every image, with the same bytes in the wide form, and all else reads as before
 pub record IsDrawn (number : ℕ) (old new : Folder) : Type 0 where
   pub text : List ℕ
-  pub spelled : SpellsSequence text number
+  pub spelled : SpellsIn true text number
   pub placed : IsPlaced temporary_file sequence_file text old new

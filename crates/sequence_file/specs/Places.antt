@@ -1,13 +1,15 @@
 -- Which bytes may stand at which place of the sequence file.
 use Rattle.std.specs.Prelude.{◌≡◌, ◌≤◌, ◌<◌, ◌==◌, ◌&&◌, ℕ, Bool, true, false, List, length, slice_index, nat_lt, if◌then◌else◌}
 use Rattle.hex_digits.specs.Values.{is_digit}
+use Rattle.spool_model.specs.Numbers.{number_digits}
 
--- five digits, then a newline, and nothing behind it
-abbrev pub fits_at : ℕ → ℕ → Bool
-fits_at place byte = if nat_lt place 5 then is_digit byte else (place == 5 && byte == 10)
+-- the digits of the form, then a newline, and nothing behind it
+abbrev pub fits_at : Bool → ℕ → ℕ → Bool
+fits_at wide place byte =
+    if nat_lt place (number_digits wide) then is_digit byte else (place == number_digits wide && byte == 10)
 
 -- each of the first bytes may stand in its place, and the next one may not
-pub record IsFittingFront (bytes : List ℕ) (count : ℕ) : Type 0 where
+pub record IsFittingFront (wide : Bool) (bytes : List ℕ) (count : ℕ) : Type 0 where
   pub inside : count ≤ length bytes
-  pub each : (place : ℕ) → place < count → fits_at place (slice_index bytes place) ≡ true
-  pub next : count < length bytes → fits_at count (slice_index bytes count) ≡ false
+  pub each : (place : ℕ) → place < count → fits_at wide place (slice_index bytes place) ≡ true
+  pub next : count < length bytes → fits_at wide count (slice_index bytes count) ≡ false

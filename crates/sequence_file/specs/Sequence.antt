@@ -1,16 +1,21 @@
--- The sequence file (own): five hexadecimal digits and a newline.
-use Rattle.std.specs.Prelude.{◌≡◌, ◌≤◌, ℕ, List, Option, Some, None, codes, length, take, slice_get, slice_index}
+-- The sequence file (own): the hexadecimal digits of a number, eight or five, and a newline.
+use Rattle.std.specs.Prelude.{◌≡◌, ◌≤◌, ◌+◌, ℕ, Bool, List, Option, Some, None, codes, length, take, slice_get, slice_index}
 use Rattle.hex_digits.specs.Digits.{SpellsNumber}
+use Rattle.spool_model.specs.Numbers.{number_digits}
 
 -- the name of the sequence file
 abbrev pub sequence_file : List ℕ
 sequence_file = codes ".SEQ"
 
--- the bytes are five digits of the number and a newline
-pub record SpellsSequence (bytes : List ℕ) (number : ℕ) : Type 0 where
-  pub counted : length bytes ≡ 6
-  pub digits : SpellsNumber (take 5 bytes) number
-  pub newline : slice_index bytes 5 ≡ 10
+-- the bytes are the digits of the number in this form and a newline
+pub record SpellsIn (wide : Bool) (bytes : List ℕ) (number : ℕ) : Type 0 where
+  pub counted : length bytes ≡ 1 + number_digits wide
+  pub digits : SpellsNumber (take (number_digits wide) bytes) number
+  pub newline : slice_index bytes (number_digits wide) ≡ 10
+
+-- the bytes are those of the number in one of the two forms
+abbrev pub SpellsSequence : List ℕ → ℕ → Type 0
+SpellsSequence bytes number = (wide : Bool) × SpellsIn wide bytes number
 
 -- the file gives the number; without a file it is 0
 abbrev pub Gives : Option (List ℕ) → ℕ → Type 0

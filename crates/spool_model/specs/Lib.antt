@@ -2,5 +2,6 @@ pub mod Codes
 pub mod JobTable
 pub mod Laws
 pub mod Lists
+pub mod Numbers
 pub mod Steps
 pub mod Users

@@ -25,7 +25,7 @@ pub use laws::{
     fronts_are_legal, last_never_falls, no_step_leads_back_to_pending, numbers_are_accepted_once,
     steps_keep_the_table_sound,
 };
-pub use number::LAST_NUMBER;
+pub use number::{LAST_NUMBER, number_digits};
 pub use queue::is_batch;
 pub use row::Row;
 pub use state::State;

@@ -19,7 +19,7 @@ use Rattle.start_journal.specs.Marks.{IsLegalAfter, is_forgotten, kept_marks}
 use Rattle.whole_file.specs.Others.{IsEither}
 use Rattle.spool_shows.specs.ByName.{ShowsByName}
 use Rattle.spool_shows.specs.JobFiles.{counts}
-use Rattle.job_name.specs.JobName.{job_named}
+use Rattle.job_name.specs.JobName.{NamedJob, job_named}
 use Rattle.sequence_file.specs.LastNumber.{last_in}
 use Rattle.spool_shows.specs.Shown.{Shows, shown_by}
 
@@ -68,11 +68,11 @@ abbrev pub DrawsAreShown : Type 0
 DrawsAreShown = (before after : Files) (table : JobTable) → Shows before table → HasDrawn table before after →
     Shows after (after_step table Draw)
 
--- the next number was drawn, and the file of the job that has it was placed
+-- the next number was drawn, and the file of the job that has it was placed, under its name in the wide form
 pub record HasAccepted (table : JobTable) (job : Job) (before after : Files) : Type 0 where
   pub number : last_in (map.get after sequence_file) ≡ Ok (table.last + 1)
   pub name : List ℕ
-  pub named : job_named name ≡ Some (record { queue = job.queue; number = table.last + 1; minute = job.minute })
+  pub named : job_named name ≡ Some (record { queue = job.queue; number = table.last + 1; minute = job.minute; wide = true })
   pub mail : Bool
   pub header : header_in job.script ≡ Some (job.user, mail)
   pub placed : map.get after name ≡ Some job.script
@@ -118,9 +118,8 @@ LegalStepsAddLegalMarks = (files : Files) (table : JobTable) (step : Step) (adde
 
 -- no file of a job has a number that is forgotten
 abbrev pub HasNoForgotten : List Mark → Files → Type 0
-HasNoForgotten marks files = (name : List ℕ) (number queue minute : ℕ) →
-    job_named name ≡ Some (record { queue = queue; number = number; minute = minute }) →
-    is_forgotten number marks ≡ true → map.get files name ≡ None
+HasNoForgotten marks files = (name : List ℕ) (job : NamedJob) → job_named name ≡ Some job →
+    is_forgotten job.number marks ≡ true → map.get files name ≡ None
 
 -- the journal was compacted
 pub record HasCompacted (table : JobTable) (before after : Files) : Type 0 where

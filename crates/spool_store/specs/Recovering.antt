@@ -2,6 +2,7 @@
 use Rattle.std.specs.Prelude.{◌≡◌, Result, Ok, Err}
 use Rattle.host_calls.specs.Folder.{Folder, reading_of}
 use Rattle.spool_model.specs.JobTable.{JobTable}
+use Rattle.spool_shows.specs.NarrowForm.{HasNoWideName, ShowsNarrow}
 use Rattle.spool_shows.specs.Shown.{shown_by}
 use Rattle.job_runs.specs.Calls.{KeepsOthers}
 use Rattle.job_runs.specs.Current.{IsCurrent, Kept}
@@ -14,6 +15,12 @@ pub record IsRecovered (old new : Folder) (kept : Kept) : Type 0 where
   pub shown : shown_by (reading_of old) ≡ Ok table
   pub current : IsCurrent kept new table
   pub others : KeepsOthers old new
+
+-- where no file of the reading had a name of the wide form, and it showed a table by the narrow form alone, what is kept
+-- is current with that table
+abbrev pub ShowsAsBeforeWideNames : Folder → Folder → Kept → Type 0
+ShowsAsBeforeWideNames old new kept = (table : JobTable) → HasNoWideName (reading_of old) →
+    ShowsNarrow (reading_of old) table → IsCurrent kept new table
 
 -- the reading shows what it showed: the same table, or the same damage
 abbrev pub ShowsTheSame : Folder → Folder → Type 0

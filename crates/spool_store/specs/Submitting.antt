@@ -1,6 +1,8 @@
 -- A submission (own): whether there is room for its job, and the steps that it makes.
-use Rattle.std.specs.Prelude.{◌≡◌, ◌≤◌, ◌<◌, ◌+◌, [], ◌∷◌, ℕ, List, Result, Ok, Err}
-use Rattle.host_calls.specs.Folder.{Folder}
+use Rattle.std.specs.Prelude.{◌≡◌, ◌≤◌, ◌<◌, ◌+◌, [], ◌∷◌, ℕ, true, List, Some, Result, Ok, Err}
+use Rattle.std.specs.FinMap as finite
+use Rattle.host_calls.specs.Folder.{Folder, reading_of}
+use Rattle.job_name.specs.JobName.{SpellsJobName}
 use Rattle.job_script.specs.HeaderIn.{header_in}
 use Rattle.spool_model.specs.declared.job.Job.{Job}
 use Rattle.spool_model.specs.declared.number.TheConstants.{LAST_NUMBER}
@@ -60,7 +62,17 @@ pub record IsNextOn (kept : Kept) (folder : Folder) (table : JobTable) (number :
 
 -- what is kept, with one job more
 abbrev pub with_job : Kept → Job → Kept
-with_job kept job = record { table = after_steps kept.table (submission kept.table (bare_job job)); journal = kept.journal }
+with_job kept job = record {
+  table = after_steps kept.table (submission kept.table (bare_job job));
+  journal = kept.journal;
+  narrow = kept.narrow;
+}
+
+-- the script is in the file of the job's wide name
+pub record HasWideFile (folder : Folder) (queue minute : ℕ) (script : List ℕ) (number : ℕ) : Type 0 where
+  pub name : List ℕ
+  pub spelled : SpellsJobName name queue number minute true
+  pub held : finite.get (reading_of folder) name ≡ Some script
 
 -- what is kept with one job more, where the call that files it succeeded
 abbrev pub with_job_if : {E : Type 0} → Kept → Job → Result (Unit {0}) E → Result Kept E

@@ -18,27 +18,28 @@ use Rattle.job_runs.specs.Bare.{bare}
 use Rattle.job_runs.specs.Current.{EachShows, HasNoDecidedFile, IsCurrent, Kept}
 use Rattle.spool_store.specs.Scripts.{IsFileOf}
 
--- what is kept of a table: the table without scripts, and the journal
-abbrev pub kept_with : JournalRead → JobTable → Kept
-kept_with journal table = record { table = bare table; journal = journal }
+-- what is kept of a table: the table without scripts, the journal, and the numbers of narrow names
+abbrev pub kept_with : List ℕ → JournalRead → JobTable → Kept
+kept_with narrow journal table = record { table = bare table; journal = journal; narrow = narrow }
 
 -- no slot is free, or the journal is worn: then it is compacted before a mark is added
 abbrev pub needs_room : JournalRead → Bool
 needs_room journal = journal.free == 0 || is_worn journal.marks
 
 -- the mark is that of a legal step on the table that the folder shows
-pub record IsMarkOf (journal : JournalRead) (folder : Folder) (table : JobTable) (step : Step) (mark : Mark) : Type 0 where
-  pub current : IsCurrent (kept_with journal table) folder table
+pub record IsMarkOf (narrow : List ℕ) (journal : JournalRead) (folder : Folder) (table : JobTable) (step : Step)
+    (mark : Mark) : Type 0 where
+  pub current : IsCurrent (kept_with narrow journal table) folder table
   pub legal : IsLegal table step
   pub adds : AddsMark table step mark
 
 -- The mark decides a job, whose file has this name.
-pub record IsDecisionOf (journal : JournalRead) (folder : Folder) (table : JobTable) (step : Step)
+pub record IsDecisionOf (narrow : List ℕ) (journal : JournalRead) (folder : Folder) (table : JobTable) (step : Step)
     (mark : Mark) (name : List ℕ) : Type 0 where
-  pub is_mark : IsMarkOf journal folder table step mark
+  pub is_mark : IsMarkOf narrow journal folder table step mark
   pub number : ℕ
   pub decided : decides number mark ≡ true
-  pub file : IsFileOf table number name
+  pub file : IsFileOf table narrow number name
 
 -- the same marks, or what a compaction keeps of them
 abbrev pub AreSameOrKept : List Mark → List Mark → Type 0

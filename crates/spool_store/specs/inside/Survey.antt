@@ -19,7 +19,7 @@ use Rattle.spool_store.specs.declared.findings.Findings.{Findings}
 use Rattle.spool_store.specs.declared.findings.Kind.{Kind}
 use Rattle.spool_store.specs.declared.findings.Kind.TheVariants.{Counts, LeftOver, Other}
 use Rattle.spool_store.specs.declared.survey.Survey.{Survey}
-use Rattle.spool_store.specs.inside.FoundJobs.{files_found, job_of_name}
+use Rattle.spool_store.specs.inside.FoundJobs.{files_found, job_of_name, narrow_numbers}
 
 -- a mark decides the number of the job, if there is one
 abbrev pub is_decided_job : List Mark → Option NamedJob → Bool
@@ -47,11 +47,12 @@ pub record AreFindings (marks : List Mark) (files : List (List ℕ × List ℕ))
   pub seen : files_found findings.seen.items ≡ job_files marks (map front_of files)
   pub leftover : findings.leftover.items ≡ filter (is_left_over marks) (map (λ file. file.0) files)
 
--- The folder shows a table. These are its jobs without scripts, its journal, and the names of the files that
--- count no more, each once.
+-- The folder shows a table. These are its jobs without scripts, its journal, the numbers of the files with narrow
+-- names, and the names of the files that count no more, each once.
 pub record IsSurvey (files : Files) (look : Survey) : Type 0 where
   pub table : JobTable
   pub shows : Shows files table
   pub jobs : look.jobs ≡ bare table
   pub journal : journal_in table.last (finite.get files journal_file) ≡ Ok look.journal
+  pub narrow : look.narrow.items ≡ narrow_numbers (job_files look.journal.marks (finite.entries files))
   pub leftover : look.leftover.items ≡ filter (is_left_over look.journal.marks) (finite.keys files)
