@@ -1,79 +1,136 @@
 -- Names of jobs, and the jobs that they name.
 use borrow.Rule.Slice.PartMut.{put_mid}
-use Rattle.std.proofs.Common.{◌≡◌, ℕ, ◌+◌, ◌≤◌, Bool, true, List, [], ◌∷◌, ◌++◌, length, take, drop, sym, ap, subst, ◌∙◌, refl, arith, rules, IsTrue, length-append, length-drop, drop-cons, get_or-take}
+use Rattle.std.proofs.Common.{◌≡◌, ℕ, ◌+◌, ◌-◌, ◌≤◌, Bool, true, false, List, [], ◌∷◌, ◌++◌, length, take, drop, sym, ap, subst, ◌∙◌, refl, arith, rules, IsTrue, length-append, length-drop, drop-cons, get_or-take}
 use Rattle.std.specs.Char.{is_ascii_alphabetic, is_ascii_alphanumeric}
 use Rattle.std.specs.List.{list_all}
-use Rattle.std.specs.Prelude.{slice_index, slice_range}
+use Rattle.std.specs.Prelude.{◌==◌, slice_index, slice_range}
 use Rattle.std.proofs.lemmas.Bool.Decides.{nat_tests}
-use Rattle.std.proofs.lemmas.List.{drop-drop, take-append-drop, take_all, length-take, length-take-le}
+use Rattle.std.proofs.lemmas.List.{drop-drop, take-append-drop, take_all, take-take, length-take, length-take-le}
 use Rattle.std.proofs.lemmas.List.Folds.{list_all-append}
 use Rattle.std.proofs.lemmas.Slice.{between_is, between-put_mid, take-put_mid_below}
 use Rattle.hex_digits.specs.Digits.{SpellsNumber}
 use Rattle.hex_digits.proofs.DigitLemmas.{are_alphanumeric, one_number, one_spelling}
 use Rattle.host_calls.specs.Names.{IsName, is_name_byte}
+use Rattle.spool_model.specs.Numbers.{number_digits}
 use Rattle.job_name.specs.JobName.{IsInRange, SpellsJobName}
 
+-- a number has at most eight digits
+pub few_digits : (wide : Bool) → number_digits wide ≤ 8
+few_digits true = omega arith
+few_digits false = omega arith
+
+-- the form is told by how many digits the number has
+one_form : (wide other : Bool) → number_digits wide ≡ number_digits other → other ≡ wide
+one_form true true same = refl
+one_form true false same = absurd (omega (arith, same))
+one_form false true same = absurd (omega (arith, same))
+one_form false false same = refl
+
 -- the digits of a name spell the number and the minute of the one job that it names
-pub one_job : (bytes : List ℕ) (queue number minute other_number other_minute : ℕ) → SpellsJobName bytes queue number minute → SpellsNumber (slice_range bytes 1 6) other_number → SpellsNumber (slice_range bytes 6 14) other_minute → (slice_index bytes 0 ≡ queue) × (other_number ≡ number) × (other_minute ≡ minute)
-one_job bytes queue number minute other_number other_minute spelled five eight =
-    (spelled.first, one_number (slice_range bytes 1 6) other_number number five spelled.next_five, one_number (slice_range bytes 6 14) other_minute minute eight spelled.last_eight)
+pub one_job : (bytes : List ℕ) (queue number minute other_number other_minute : ℕ) (wide : Bool) → SpellsJobName bytes queue number minute wide → SpellsNumber (slice_range bytes 1 (1 + number_digits wide)) other_number → SpellsNumber (slice_range bytes (1 + number_digits wide) (9 + number_digits wide)) other_minute → (slice_index bytes 0 ≡ queue) × (other_number ≡ number) × (other_minute ≡ minute)
+one_job bytes queue number minute other_number other_minute wide spelled digits eight =
+    (spelled.first, one_number (slice_range bytes 1 (1 + number_digits wide)) other_number number digits spelled.next_digits, one_number (slice_range bytes (1 + number_digits wide) (9 + number_digits wide)) other_minute minute eight spelled.last_eight)
 
 -- what is read of the name of a job is in range
-pub in_range_of : (bytes : List ℕ) (queue number minute other_number other_minute : ℕ) → SpellsJobName bytes queue number minute → SpellsNumber (slice_range bytes 1 6) other_number → SpellsNumber (slice_range bytes 6 14) other_minute → IsInRange (slice_index bytes 0) other_number other_minute
-in_range_of bytes queue number minute other_number other_minute spelled five eight =
-    let same : (slice_index bytes 0 ≡ queue) × (other_number ≡ number) × (other_minute ≡ minute) = one_job bytes queue number minute other_number other_minute spelled five eight in
+pub in_range_of : (bytes : List ℕ) (queue number minute other_number other_minute : ℕ) (wide : Bool) → SpellsJobName bytes queue number minute wide → SpellsNumber (slice_range bytes 1 (1 + number_digits wide)) other_number → SpellsNumber (slice_range bytes (1 + number_digits wide) (9 + number_digits wide)) other_minute → IsInRange (slice_index bytes 0) other_number other_minute
+in_range_of bytes queue number minute other_number other_minute wide spelled digits eight =
+    let same : (slice_index bytes 0 ≡ queue) × (other_number ≡ number) × (other_minute ≡ minute) = one_job bytes queue number minute other_number other_minute wide spelled digits eight in
     rw (same.0, same.1, same.2) spelled.in_range
 
--- a name names one job
-pub one_name : (bytes : List ℕ) (queue number minute other_queue other_number other_minute : ℕ) → SpellsJobName bytes queue number minute → SpellsJobName bytes other_queue other_number other_minute → (other_queue ≡ queue) × (other_number ≡ number) × (other_minute ≡ minute)
-one_name bytes queue number minute other_queue other_number other_minute spelled other =
-    let same : (slice_index bytes 0 ≡ queue) × (other_number ≡ number) × (other_minute ≡ minute) = one_job bytes queue number minute other_number other_minute spelled other.next_five other.last_eight in
-    (sym other.first ∙ same.0, same.1, same.2)
+-- the form is told by the length
+pub form_told : (bytes : List ℕ) (queue number minute : ℕ) (wide : Bool) → SpellsJobName bytes queue number minute wide → (length bytes == 17) ≡ wide
+form_told bytes queue number minute true spelled = ap (λ count. count == 17) spelled.counted
+form_told bytes queue number minute false spelled = ap (λ count. count == 17) spelled.counted
 
--- 14 bytes by the places of a name
-parts : (bytes : List ℕ) → length bytes ≡ 14 → bytes ≡ slice_index bytes 0 ∷ (slice_range bytes 1 6 ++ slice_range bytes 6 14)
-parts bytes counted =
-    let tail : drop 5 (drop 1 bytes) ≡ slice_range bytes 6 14 = drop-drop 5 1 bytes ∙ sym (take_all 8 (drop 6 bytes) (omega (arith, length-drop 6 bytes))) in
+-- a name names one job, in one form
+pub one_name : (bytes : List ℕ) (queue number minute other_queue other_number other_minute : ℕ) (wide other_wide : Bool) → SpellsJobName bytes queue number minute wide → SpellsJobName bytes other_queue other_number other_minute other_wide → (other_queue ≡ queue) × (other_number ≡ number) × (other_minute ≡ minute) × (other_wide ≡ wide)
+one_name bytes queue number minute other_queue other_number other_minute wide other_wide spelled other =
+    let form : other_wide ≡ wide = one_form wide other_wide (omega (arith, spelled.counted, other.counted)) in
+    let as_one : SpellsJobName bytes other_queue other_number other_minute wide = subst (SpellsJobName bytes other_queue other_number other_minute) form other in
+    let same : (slice_index bytes 0 ≡ queue) × (other_number ≡ number) × (other_minute ≡ minute) = one_job bytes queue number minute other_number other_minute wide spelled as_one.next_digits as_one.last_eight in
+    (sym other.first ∙ same.0, same.1, same.2, form)
+
+-- the bytes of a name by its places
+parts : (bytes : List ℕ) (digits : ℕ) → length bytes ≡ 9 + digits → bytes ≡ slice_index bytes 0 ∷ (slice_range bytes 1 (1 + digits) ++ slice_range bytes (1 + digits) (9 + digits))
+parts bytes digits counted =
+    let count : 1 + digits - 1 ≡ digits = omega arith in
+    let eight : 9 + digits - (1 + digits) ≡ 8 = omega arith in
+    let rest : drop digits (drop 1 bytes) ≡ slice_range bytes (1 + digits) (9 + digits) =
+    drop-drop digits 1 bytes ∙ sym (ap (λ some. take some (drop (1 + digits) bytes)) eight ∙ take_all 8 (drop (1 + digits) bytes) (omega (arith, length-drop (1 + digits) bytes))) in
     drop-cons bytes 0 0 (omega arith)
-    ∙ ap (λ rest. slice_index bytes 0 ∷ rest) (sym (take-append-drop 5 (drop 1 bytes)) ∙ ap (λ rest. take 5 (drop 1 bytes) ++ rest) tail)
+    ∙ ap (λ rest. slice_index bytes 0 ∷ rest) (
+    sym (take-append-drop digits (drop 1 bytes))
+    ∙ ap (λ rest. take digits (drop 1 bytes) ++ rest) rest
+    ∙ ap (λ some. take some (drop 1 bytes) ++ slice_range bytes (1 + digits) (9 + digits)) (sym count))
 
--- a part of a name has as many bytes as its places
-part_counted : (bytes : List ℕ) (from count : ℕ) → from + count ≤ length bytes → length (take count (drop from bytes)) ≡ count
-part_counted bytes from count inside = length-take-le count (drop from bytes) (omega (arith, length-drop from bytes))
+-- the digits of a name's number are as many as its places
+digits_counted : (bytes : List ℕ) (digits : ℕ) → length bytes ≡ 9 + digits → length (slice_range bytes 1 (1 + digits)) ≡ digits
+digits_counted bytes digits counted =
+    let count : 1 + digits - 1 ≡ digits = omega arith in
+    ap (λ some. length (take some (drop 1 bytes))) count ∙ length-take-le digits (drop 1 bytes) (omega (arith, length-drop 1 bytes))
 
--- a job has one name
-pub one_text : (first second : List ℕ) (queue number minute : ℕ) → SpellsJobName first queue number minute → SpellsJobName second queue number minute → first ≡ second
-one_text first second queue number minute of_first of_second =
-    let first_long : 14 ≤ length first = omega (arith, of_first.counted) in
-    let second_long : 14 ≤ length second = omega (arith, of_second.counted) in
-    let five : slice_range first 1 6 ≡ slice_range second 1 6 = one_spelling _ _ number (part_counted first 1 5 (omega arith) ∙ sym (part_counted second 1 5 (omega arith))) of_first.next_five of_second.next_five in
-    let eight : slice_range first 6 14 ≡ slice_range second 6 14 = one_spelling _ _ minute (part_counted first 6 8 (omega arith) ∙ sym (part_counted second 6 8 (omega arith))) of_first.last_eight of_second.last_eight in
-    parts first of_first.counted
-    ∙ ap (λ byte. byte ∷ (slice_range first 1 6 ++ slice_range first 6 14)) (of_first.first ∙ sym of_second.first)
-    ∙ ap (λ digits. slice_index second 0 ∷ (digits ++ slice_range first 6 14)) five
-    ∙ ap (λ digits. slice_index second 0 ∷ (slice_range second 1 6 ++ digits)) eight
-    ∙ sym (parts second of_second.counted)
+-- and those of its minute are eight
+eight_counted : (bytes : List ℕ) (digits : ℕ) → length bytes ≡ 9 + digits → length (slice_range bytes (1 + digits) (9 + digits)) ≡ 8
+eight_counted bytes digits counted =
+    let eight : 9 + digits - (1 + digits) ≡ 8 = omega arith in
+    ap (λ some. length (take some (drop (1 + digits) bytes))) eight ∙ length-take-le 8 (drop (1 + digits) bytes) (omega (arith, length-drop (1 + digits) bytes))
 
--- the text of a job: bytes that begin with its queue, with five digits and eight written over them
-pub spelled_text : (queue number minute : ℕ) (start five eight : List ℕ) → IsInRange queue number minute → length start ≡ 14 → slice_index start 0 ≡ queue → length five ≡ 5 → length eight ≡ 8 → SpellsNumber five number → SpellsNumber eight minute → SpellsJobName (put_mid 6 8 (put_mid 1 5 start five) eight) queue number minute
-spelled_text queue number minute start five eight in_range counted begins counted_five counted_eight number_spelled minute_spelled =
-    let once : List ℕ = put_mid 1 5 start five in
-    let counted_once : length once ≡ 14 = simp (length-append, length-drop, length-take) (omega arith) in
-    let twice : List ℕ = put_mid 6 8 once eight in
-    let counted_twice : length twice ≡ 14 = simp (length-append, length-drop, length-take) (omega (arith, counted_once)) in
-    let front : take 6 twice ≡ take 6 once = take-put_mid_below 6 8 once eight 6 (omega arith) (omega arith) in
+-- a job has one name in each form
+pub one_text : (first second : List ℕ) (queue number minute : ℕ) (wide : Bool) → SpellsJobName first queue number minute wide → SpellsJobName second queue number minute wide → first ≡ second
+one_text first second queue number minute wide of_first of_second =
+    let digits : slice_range first 1 (1 + number_digits wide) ≡ slice_range second 1 (1 + number_digits wide) = one_spelling _ _ number (digits_counted first (number_digits wide) of_first.counted ∙ sym (digits_counted second (number_digits wide) of_second.counted)) of_first.next_digits of_second.next_digits in
+    let eight : slice_range first (1 + number_digits wide) (9 + number_digits wide) ≡ slice_range second (1 + number_digits wide) (9 + number_digits wide) = one_spelling _ _ minute (eight_counted first (number_digits wide) of_first.counted ∙ sym (eight_counted second (number_digits wide) of_second.counted)) of_first.last_eight of_second.last_eight in
+    parts first (number_digits wide) of_first.counted
+    ∙ ap (λ byte. byte ∷ (slice_range first 1 (1 + number_digits wide) ++ slice_range first (1 + number_digits wide) (9 + number_digits wide))) (of_first.first ∙ sym of_second.first)
+    ∙ ap (λ some. slice_index second 0 ∷ (some ++ slice_range first (1 + number_digits wide) (9 + number_digits wide))) digits
+    ∙ ap (λ some. slice_index second 0 ∷ (slice_range second 1 (1 + number_digits wide) ++ some)) eight
+    ∙ sym (parts second (number_digits wide) of_second.counted)
+
+-- the text of a job: bytes that begin with its queue, with the digits of its number and minute written over them, as
+-- far as its name goes
+pub spelled_text : (queue number minute : ℕ) (wide : Bool) (start some eight : List ℕ) → IsInRange queue number minute → length start ≡ 17 → slice_index start 0 ≡ queue → length some ≡ number_digits wide → length eight ≡ 8 → SpellsNumber some number → SpellsNumber eight minute → SpellsJobName (take (9 + number_digits wide) (put_mid (1 + number_digits wide) 8 (put_mid 1 (number_digits wide) start some) eight)) queue number minute wide
+spelled_text queue number minute wide start some eight in_range counted begins counted_some counted_eight number_spelled minute_spelled =
+    let few : number_digits wide ≤ 8 = few_digits wide in
+    let count : 1 + number_digits wide - 1 ≡ number_digits wide = omega arith in
+    let last : 9 + number_digits wide - (1 + number_digits wide) ≡ 8 = omega arith in
+    let once : List ℕ = put_mid 1 (number_digits wide) start some in
+    let counted_once : length once ≡ 17 = simp (length-append, length-drop, length-take) (omega arith) in
+    let twice : List ℕ = put_mid (1 + number_digits wide) 8 once eight in
+    let counted_twice : length twice ≡ 17 = simp (length-append, length-drop, length-take) (omega (arith, counted_once)) in
+    let whole : List ℕ = take (9 + number_digits wide) twice in
+    let front : take (1 + number_digits wide) twice ≡ take (1 + number_digits wide) once = take-put_mid_below (1 + number_digits wide) 8 once eight (1 + number_digits wide) (omega arith) (omega arith) in
     let begin : take 1 twice ≡ take 1 start =
-    take-put_mid_below 6 8 once eight 1 (omega arith) (omega arith) ∙ take-put_mid_below 1 5 start five 1 (omega arith) (omega arith) in
-    let of_five : slice_range twice 1 6 ≡ five =
-    between_is twice 1 6 ∙ ap (drop 1) front ∙ sym (between_is once 1 6) ∙ between-put_mid 1 5 start five 6 (omega arith) counted_five in
-    let of_eight : slice_range twice 6 14 ≡ eight = between-put_mid 6 8 once eight 14 (omega arith) counted_eight in
+    take-put_mid_below (1 + number_digits wide) 8 once eight 1 (omega arith) (omega arith) ∙ take-put_mid_below 1 (number_digits wide) start some 1 (omega arith) (omega arith) in
+    let cut : take (1 + number_digits wide) whole ≡ take (1 + number_digits wide) twice = take-take (1 + number_digits wide) (9 + number_digits wide) twice (omega arith) in
+    let of_some : slice_range whole 1 (1 + number_digits wide) ≡ some =
+    between_is whole 1 (1 + number_digits wide) ∙ ap (drop 1) (cut ∙ front) ∙ sym (between_is once 1 (1 + number_digits wide)) ∙ between-put_mid 1 (number_digits wide) start some (1 + number_digits wide) (omega arith) (counted_some ∙ sym count) in
+    let of_eight : slice_range whole (1 + number_digits wide) (9 + number_digits wide) ≡ eight = between_is whole (1 + number_digits wide) (9 + number_digits wide) ∙ ap (drop (1 + number_digits wide)) (take-take (9 + number_digits wide) (9 + number_digits wide) twice (omega arith)) ∙ sym (between_is twice (1 + number_digits wide) (9 + number_digits wide)) ∙ between-put_mid (1 + number_digits wide) 8 once eight (9 + number_digits wide) (omega arith) (counted_eight ∙ sym last) in
     record {
-      counted = counted_twice;
+      counted = length-take-le (9 + number_digits wide) twice (omega arith);
       in_range = in_range;
-      first = sym (get_or-take 1 twice 0 0 (omega arith)) ∙ ap (λ bytes. slice_index bytes 0) begin ∙ get_or-take 1 start 0 0 (omega arith) ∙ begins;
-      next_five = subst (λ digits. SpellsNumber digits number) (sym of_five) number_spelled;
+      first = sym (get_or-take 1 whole 0 0 (omega arith)) ∙ ap (λ bytes. slice_index bytes 0) (take-take 1 (9 + number_digits wide) twice (omega arith) ∙ begin) ∙ get_or-take 1 start 0 0 (omega arith) ∙ begins;
+      next_digits = subst (λ digits. SpellsNumber digits number) (sym of_some) number_spelled;
       last_eight = subst (λ digits. SpellsNumber digits minute) (sym of_eight) minute_spelled;
     }
+
+-- the same, where the digits are counted otherwise
+pub written_text : (queue number minute digits : ℕ) (wide : Bool) (start some eight text : List ℕ) → digits ≡ number_digits wide → IsInRange queue number minute → length start ≡ 17 → slice_index start 0 ≡ queue → length some ≡ length (take (1 + digits - 1) (drop 1 start)) → length eight ≡ length (take (9 + digits - (1 + digits)) (drop (1 + digits) (put_mid 1 (1 + digits - 1) start some))) → SpellsNumber some number → SpellsNumber eight minute → text ≡ take (9 + digits) (put_mid (1 + digits) (9 + digits - (1 + digits)) (put_mid 1 (1 + digits - 1) start some) eight) → SpellsJobName text queue number minute wide
+written_text queue number minute digits wide start some eight text digits_is in_range counted begins counted_some counted_eight number_spelled minute_spelled text_is =
+    let count : 1 + digits - 1 ≡ digits = omega arith in
+    let last : 9 + digits - (1 + digits) ≡ 8 = omega arith in
+    let few : number_digits wide ≤ 8 = few_digits wide in
+    let some_is : length some ≡ digits =
+    counted_some ∙ ap (λ n. length (take n (drop 1 start))) count ∙ length-take-le digits (drop 1 start) (omega (arith, length-drop 1 start)) in
+    let once : List ℕ = put_mid 1 digits start some in
+    let counted_once : length once ≡ 17 = simp (length-append, length-drop, length-take) (omega arith) in
+    let eight_is : length eight ≡ 8 =
+    counted_eight ∙ ap (λ n. length (take (9 + digits - (1 + digits)) (drop (1 + digits) (put_mid 1 n start some)))) count
+    ∙ ap (λ n. length (take n (drop (1 + digits) once))) last ∙ length-take-le 8 (drop (1 + digits) once) (omega (arith, length-drop (1 + digits) once)) in
+    let written : text ≡ take (9 + digits) (put_mid (1 + digits) 8 (put_mid 1 digits start some) eight) =
+    text_is ∙ ap (λ n. take (9 + digits) (put_mid (1 + digits) (9 + digits - (1 + digits)) (put_mid 1 n start some) eight)) count ∙ ap (λ n. take (9 + digits) (put_mid (1 + digits) n (put_mid 1 digits start some) eight)) last in
+    let same : take (9 + number_digits wide) (put_mid (1 + number_digits wide) 8 (put_mid 1 (number_digits wide) start some) eight) ≡ text =
+    ap (λ n. take (9 + n) (put_mid (1 + n) 8 (put_mid 1 n start some) eight)) (sym digits_is) ∙ sym written in
+    subst (λ bytes. SpellsJobName bytes queue number minute wide) same (spelled_text queue number minute wide start some eight in_range counted begins (some_is ∙ digits_is) eight_is number_spelled minute_spelled)
 
 -- letters and digits may stand in a name
 name_byte : (byte : ℕ) → is_ascii_alphanumeric byte ≡ true → is_name_byte byte ≡ true
@@ -91,15 +148,16 @@ letter_is_alphanumeric : (byte : ℕ) → IsTrue (is_ascii_alphabetic byte) → 
 letter_is_alphanumeric byte letter = grind (arith, nat_tests)
 
 -- the name of a job is a name
-pub job_is_name : (bytes : List ℕ) (queue number minute : ℕ) → SpellsJobName bytes queue number minute → IsName bytes
-job_is_name bytes queue number minute spelled =
+pub job_is_name : (bytes : List ℕ) (queue number minute : ℕ) (wide : Bool) → SpellsJobName bytes queue number minute wide → IsName bytes
+job_is_name bytes queue number minute wide spelled =
     let first : is_name_byte queue ≡ true = name_byte queue (letter_is_alphanumeric queue spelled.in_range.letter) in
-    let five : list_all is_name_byte (slice_range bytes 1 6) ≡ true = all_wider is_ascii_alphanumeric is_name_byte (slice_range bytes 1 6) name_byte (are_alphanumeric (slice_range bytes 1 6) number spelled.next_five) in
-    let eight : list_all is_name_byte (slice_range bytes 6 14) ≡ true = all_wider is_ascii_alphanumeric is_name_byte (slice_range bytes 6 14) name_byte (are_alphanumeric (slice_range bytes 6 14) minute spelled.last_eight) in
+    let digits : list_all is_name_byte (slice_range bytes 1 (1 + number_digits wide)) ≡ true = all_wider is_ascii_alphanumeric is_name_byte (slice_range bytes 1 (1 + number_digits wide)) name_byte (are_alphanumeric (slice_range bytes 1 (1 + number_digits wide)) number spelled.next_digits) in
+    let eight : list_all is_name_byte (slice_range bytes (1 + number_digits wide) (9 + number_digits wide)) ≡ true = all_wider is_ascii_alphanumeric is_name_byte (slice_range bytes (1 + number_digits wide) (9 + number_digits wide)) name_byte (are_alphanumeric (slice_range bytes (1 + number_digits wide) (9 + number_digits wide)) minute spelled.last_eight) in
+    let few : number_digits wide ≤ 8 = few_digits wide in
     record {
       some = omega (arith, spelled.counted);
       few = omega (arith, spelled.counted);
-      each = rw (parts bytes spelled.counted) (rw (list_all-append is_name_byte, spelled.first, first, five, eight) refl);
-      no_point = λ is. let counted : 14 ≡ 1 = sym spelled.counted ∙ ap length is in absurd (omega arith);
-      no_points = λ is. let counted : 14 ≡ 2 = sym spelled.counted ∙ ap length is in absurd (omega arith);
+      each = rw (parts bytes (number_digits wide) spelled.counted) (rw (list_all-append is_name_byte, spelled.first, first, digits, eight) refl);
+      no_point = λ is. let counted : 9 + number_digits wide ≡ 1 = sym spelled.counted ∙ ap length is in absurd (omega arith);
+      no_points = λ is. let counted : 9 + number_digits wide ≡ 2 = sym spelled.counted ∙ ap length is in absurd (omega arith);
     }

@@ -1,44 +1,61 @@
 //! What the name of a job's file says.
-ghost use Rattle.std.specs.Prelude.{◌≡◌, ◌≤◌, ◌↔◌, ℕ, IsTrue};
+ghost use Rattle.std.specs.Prelude.{◌≡◌, ◌≤◌, ◌<◌, ◌^◌, ◌↔◌, ℕ, IsTrue};
 ghost use Rattle.std.specs.Char.{is_ascii_alphabetic};
 ghost use Rattle.clock_range.specs.ClockRange.{IsClockMinute};
-ghost use Rattle.spool_model.specs.declared.number.TheConstants.{LAST_NUMBER};
+ghost use Rattle.spool_model.specs.Numbers.{number_digits};
 ghost use Rattle.job_name.specs.JobName.{IsInRange};
 
+use arrayvec::ArrayVec;
 use clock_range::LAST_MINUTE;
 use host_calls::Name;
+use spool_model::number_digits;
 
-/// How many bytes a job's name has.
-pub const LENGTH: usize = 14;
+/// How many bytes a job's name has in the wide form.
+pub const LENGTH: usize = 17;
 
-/// The queue, number and minute of a job, as its file's name has them.
+/// The queue, number and minute of a job, as its file's name has them. The wide form has eight digits of the number,
+/// the narrow one of older spools has five.
 #[derive(Clone, Copy, Debug, PartialEq, Eq)]
 pub struct JobName {
     pub queue: u8,
     pub number: u32,
     pub minute: u32,
+    pub wide: bool,
     pub ghost letter: { IsTrue (is_ascii_alphabetic queue) },
     pub ghost drawn: { 1 ≤ number },
-    pub ghost few: { number ≤ LAST_NUMBER },
+    pub ghost fits: { number < 16 ^ number_digits wide },
     pub ghost in_calendar: { IsClockMinute minute },
 }
 
 impl JobName {
-    ghost use Rattle.std.specs.Prelude.{IfSome, IsSomeAnd};
+    ghost use Rattle.std.specs.Prelude.{Bool, IfSome, IsSomeAnd};
     ghost use Rattle.job_name.specs.JobName.{SpellsJobName};
 
     /// The job that these bytes name, if they are the name of one.
     pub fn read(bytes: &[u8]) -> Option<JobName>
-        ensures spelled { IfSome result (λ job. SpellsJobName bytes.now job.queue job.number job.minute) }
-        ensures found { (queue number minute : ℕ) → SpellsJobName bytes.now queue number minute
+        ensures spelled { IfSome result
+            (λ job. SpellsJobName bytes.now job.queue job.number job.minute job.wide) }
+        ensures found { (queue number minute : ℕ) (wide : Bool) → SpellsJobName bytes.now queue number minute wide
+            → IsSomeAnd result (λ job. (job.queue ≡ queue) × (job.number ≡ number) × (job.minute ≡ minute)
+            × (job.wide ≡ wide)) }
+    {
+        JobName::read_as(bytes, bytes.len() == LENGTH)
+    }
+
+    // The job that these bytes name in this form, if they do.
+    fn read_as(bytes: &[u8], wide: bool) -> Option<JobName>
+        ensures form { IfSome result (λ job. job.wide ≡ wide) }
+        ensures spelled { IfSome result (λ job. SpellsJobName bytes.now job.queue job.number job.minute wide) }
+        ensures found { (queue number minute : ℕ) → SpellsJobName bytes.now queue number minute wide
             → IsSomeAnd result (λ job. (job.queue ≡ queue) × (job.number ≡ number) × (job.minute ≡ minute)) }
     {
-        if bytes.len() != LENGTH {
+        let digits = number_digits(wide);
+        if bytes.len() != 9 + digits {
             return None;
         }
         let queue = bytes[0];
-        let number = hex_digits::read(&bytes[1..6])? as u32;
-        let minute = hex_digits::read(&bytes[6..14])? as u32;
+        let number = hex_digits::read(&bytes[1..1 + digits])? as u32;
+        let minute = hex_digits::read(&bytes[1 + digits..9 + digits])? as u32;
         if !is_in_range(queue, number, minute) {
             return None;
         }
@@ -46,24 +63,28 @@ impl JobName {
             queue,
             number,
             minute,
+            wide,
         })
     }
 
-    /// The bytes of the name.
-    pub fn text(&self) -> [u8; LENGTH]
-        ensures { SpellsJobName result self.now.queue self.now.number self.now.minute }
+    /// The bytes of the name: 17 in the wide form, 14 in the narrow one.
+    pub fn text(&self) -> ArrayVec<u8, LENGTH>
+        ensures { SpellsJobName result.items self.now.queue self.now.number self.now.minute self.now.wide }
     {
-        let mut text = [self.queue; LENGTH];
-        hex_digits::write(&mut text[1..6], self.number as u64);
-        hex_digits::write(&mut text[6..], self.minute as u64);
+        let digits = number_digits(self.wide);
+        let mut bytes = [self.queue; LENGTH];
+        hex_digits::write(&mut bytes[1..1 + digits], self.number as u64);
+        hex_digits::write(&mut bytes[1 + digits..9 + digits], self.minute as u64);
+        let mut text = ArrayVec::from(bytes);
+        text.truncate(9 + digits);
         text
     }
 
     /// The name of the job's file.
     pub fn name(&self) -> Name
-        ensures { SpellsJobName result self.now.queue self.now.number self.now.minute }
+        ensures { SpellsJobName result self.now.queue self.now.number self.now.minute self.now.wide }
     {
-        Name::of(&self.text()).unwrap()
+        Name::of(self.text().as_slice()).unwrap()
     }
 }
 

@@ -7,25 +7,44 @@ use Rattle.hex_digits.specs.Values.{number_in}
 use Rattle.std.proofs.lemmas.Bool.{and_from, and_parts, eqb-true}
 use Rattle.hex_digits.proofs.ValueLemmas.{number_given, number_spelled}
 use Rattle.sequence_file.specs.Faults.{IsDamage}
-use Rattle.sequence_file.specs.LastNumber.{fitting, last_in, number_or_damage, sequence_in}
+use Rattle.sequence_file.specs.LastNumber.{fitting, last_in, longest_fitting, number_or_damage, sequence_as, sequence_in}
 use Rattle.sequence_file.specs.Laws.{LastNumbersAreGiven, LastNumbersAreDamaged}
 use Rattle.sequence_file.specs.Places.{IsFittingFront, fits_at}
-use Rattle.sequence_file.specs.Sequence.{Gives, IsFaultAt, SpellsSequence, sequence_file}
+use Rattle.sequence_file.specs.Sequence.{Gives, IsFaultAt, SpellsIn, SpellsSequence, sequence_file}
 use Rattle.sequence_file.proofs.SequenceLemmas.{fault_at}
+use Rattle.spool_model.specs.Numbers.{number_digits}
+use Rattle.std.specs.Option.{option_or}
+
+-- the bytes that are of a form give their number
+given_as : (wide : Bool) (bytes : List ℕ) (number : ℕ) → SpellsIn wide bytes number → sequence_as wide bytes ≡ Some number
+given_as wide bytes number spelled =
+    let tests : (length bytes == 1 + number_digits wide && slice_index bytes (number_digits wide) == 10) ≡ true =
+    and_from (length bytes == 1 + number_digits wide) (slice_index bytes (number_digits wide) == 10) (eq-eqb (length bytes) (1 + number_digits wide) spelled.counted) (eq-eqb (slice_index bytes (number_digits wide)) 10 spelled.newline) in
+    ap (λ b. if b then number_in (take (number_digits wide) bytes) else None) tests ∙ number_given (take (number_digits wide) bytes) number spelled.digits
+
+pub spelled_as : (wide : Bool) (bytes : List ℕ) (number : ℕ) → sequence_as wide bytes ≡ Some number → SpellsIn wide bytes number
+spelled_as wide bytes number is = by_test (length bytes == 1 + number_digits wide && slice_index bytes (number_digits wide) == 10) refl is where
+  by_test : (passes : Bool) → (length bytes == 1 + number_digits wide && slice_index bytes (number_digits wide) == 10) ≡ passes → (if passes then number_in (take (number_digits wide) bytes) else None) ≡ Some number → SpellsIn wide bytes number
+  by_test true passes found =
+      let tests : ((length bytes == 1 + number_digits wide) ≡ true) × ((slice_index bytes (number_digits wide) == 10) ≡ true) = and_parts (length bytes == 1 + number_digits wide) (slice_index bytes (number_digits wide) == 10) passes in
+      record { counted = eqb-true (length bytes) (1 + number_digits wide) tests.0; digits = number_spelled (take (number_digits wide) bytes) number found; newline = eqb-true (slice_index bytes (number_digits wide)) 10 tests.1 }
+  by_test false passes found = cc
 
 -- the sequence file gives the number that it spells
 sequence_given : (bytes : List ℕ) (number : ℕ) → SpellsSequence bytes number → sequence_in bytes ≡ Some number
-sequence_given bytes number spelled =
-    let tests : (length bytes == 6 && slice_index bytes 5 == 10) ≡ true = and_from (length bytes == 6) (slice_index bytes 5 == 10) (eq-eqb (length bytes) 6 spelled.counted) (eq-eqb (slice_index bytes 5) 10 spelled.newline) in
-    ap (λ b. if b then number_in (take 5 bytes) else None) tests ∙ number_given (take 5 bytes) number spelled.digits
+sequence_given bytes number spelled = by_form spelled.0 spelled.1 where
+  by_form : (wide : Bool) → SpellsIn wide bytes number → sequence_in bytes ≡ Some number
+  by_form true is = ap (λ found. option_or found (sequence_as false bytes)) (given_as true bytes number is)
+  by_form false is = ap (option_or (sequence_as true bytes)) (given_as false bytes number is) ∙ no_wide (sequence_as true bytes) refl where
+    no_wide : (found : Option ℕ) → sequence_as true bytes ≡ found → option_or found (Some number) ≡ Some number
+    no_wide None none = refl
+    no_wide (Some other) some = absurd (omega (arith, is.counted, (spelled_as true bytes other some).counted))
 
 sequence_spelled : (bytes : List ℕ) (number : ℕ) → sequence_in bytes ≡ Some number → SpellsSequence bytes number
-sequence_spelled bytes number is = by_test (length bytes == 6 && slice_index bytes 5 == 10) refl is where
-  by_test : (passes : Bool) → (length bytes == 6 && slice_index bytes 5 == 10) ≡ passes → (if passes then number_in (take 5 bytes) else None) ≡ Some number → SpellsSequence bytes number
-  by_test true passes found =
-      let tests : ((length bytes == 6) ≡ true) × ((slice_index bytes 5 == 10) ≡ true) = and_parts (length bytes == 6) (slice_index bytes 5 == 10) passes in
-      record { counted = eqb-true (length bytes) 6 tests.0; digits = number_spelled (take 5 bytes) number found; newline = eqb-true (slice_index bytes 5) 10 tests.1 }
-  by_test false passes found = cc
+sequence_spelled bytes number is = by_found (sequence_as true bytes) refl is where
+  by_found : (found : Option ℕ) → sequence_as true bytes ≡ found → option_or found (sequence_as false bytes) ≡ Some number → SpellsSequence bytes number
+  by_found (Some other) some same = (true, spelled_as true bytes number (some ∙ same))
+  by_found None none same = (false, spelled_as false bytes number same)
 
 pub last_given : (content : Option (List ℕ)) (number : ℕ) → Gives content number → last_in content ≡ Ok number
 last_given None number is = ap Ok (sym is)
@@ -38,45 +57,49 @@ last_spelled (Some bytes) number is = sequence_spelled bytes number (given_numbe
   given_number (Some other) same = cc
   given_number None same = cc
 
-fitting_front : (place : ℕ) (bytes : List ℕ) → fitting place bytes ≤ length bytes
-fitting_front place [] = omega arith
-fitting_front place (byte ∷ rest) = by_test (fits_at place byte) (fitting_front (place + 1) rest) where
-  by_test : (b : Bool) → fitting (place + 1) rest ≤ length rest → cond b (1 + fitting (place + 1) rest) 0 ≤ length (byte ∷ rest)
+fitting_front : (wide : Bool) (place : ℕ) (bytes : List ℕ) → fitting wide place bytes ≤ length bytes
+fitting_front wide place [] = omega arith
+fitting_front wide place (byte ∷ rest) = by_test (fits_at wide place byte) (fitting_front wide (place + 1) rest) where
+  by_test : (b : Bool) → fitting wide (place + 1) rest ≤ length rest → cond b (1 + fitting wide (place + 1) rest) 0 ≤ length (byte ∷ rest)
   by_test true few = omega arith
   by_test false few = omega arith
 
-fitting_each : (place : ℕ) (bytes : List ℕ) (at : ℕ) → at < fitting place bytes → fits_at (place + at) (slice_index bytes at) ≡ true
-fitting_each place [] at few = absurd (omega arith)
-fitting_each place (byte ∷ rest) at few = by_test (fits_at place byte) refl at few (λ other less. fitting_each (place + 1) rest other less) where
-  by_test : (b : Bool) → fits_at place byte ≡ b → (at : ℕ) → at < cond b (1 + fitting (place + 1) rest) 0 → ((other : ℕ) → other < fitting (place + 1) rest → fits_at (place + 1 + other) (slice_index rest other) ≡ true) → fits_at (place + at) (slice_index (byte ∷ rest) at) ≡ true
-  by_test true is zero less later = let here : place + 0 ≡ place = omega arith in ap (λ p. fits_at p byte) here ∙ is
-  by_test true is (suc other) less later = let here : place + suc other ≡ place + 1 + other = omega arith in ap (λ p. fits_at p (slice_index rest other)) here ∙ later other (omega arith)
+fitting_each : (wide : Bool) (place : ℕ) (bytes : List ℕ) (at : ℕ) → at < fitting wide place bytes → fits_at wide (place + at) (slice_index bytes at) ≡ true
+fitting_each wide place [] at few = absurd (omega arith)
+fitting_each wide place (byte ∷ rest) at few = by_test (fits_at wide place byte) refl at few (λ other less. fitting_each wide (place + 1) rest other less) where
+  by_test : (b : Bool) → fits_at wide place byte ≡ b → (at : ℕ) → at < cond b (1 + fitting wide (place + 1) rest) 0 → ((other : ℕ) → other < fitting wide (place + 1) rest → fits_at wide (place + 1 + other) (slice_index rest other) ≡ true) → fits_at wide (place + at) (slice_index (byte ∷ rest) at) ≡ true
+  by_test true is zero less later = let here : place + 0 ≡ place = omega arith in ap (λ p. fits_at wide p byte) here ∙ is
+  by_test true is (suc other) less later = let here : place + suc other ≡ place + 1 + other = omega arith in ap (λ p. fits_at wide p (slice_index rest other)) here ∙ later other (omega arith)
   by_test false is other less later = absurd (omega arith)
 
-fitting_next : (place : ℕ) (bytes : List ℕ) → fitting place bytes < length bytes → fits_at (place + fitting place bytes) (slice_index bytes (fitting place bytes)) ≡ false
-fitting_next place [] few = absurd (omega arith)
-fitting_next place (byte ∷ rest) few = by_test (fits_at place byte) refl few (fitting_next (place + 1) rest) where
-  by_test : (b : Bool) → fits_at place byte ≡ b → cond b (1 + fitting (place + 1) rest) 0 < length (byte ∷ rest) → (fitting (place + 1) rest < length rest → fits_at (place + 1 + fitting (place + 1) rest) (slice_index rest (fitting (place + 1) rest)) ≡ false) → fits_at (place + cond b (1 + fitting (place + 1) rest) 0) (slice_index (byte ∷ rest) (cond b (1 + fitting (place + 1) rest) 0)) ≡ false
+fitting_next : (wide : Bool) (place : ℕ) (bytes : List ℕ) → fitting wide place bytes < length bytes → fits_at wide (place + fitting wide place bytes) (slice_index bytes (fitting wide place bytes)) ≡ false
+fitting_next wide place [] few = absurd (omega arith)
+fitting_next wide place (byte ∷ rest) few = by_test (fits_at wide place byte) refl few (fitting_next wide (place + 1) rest) where
+  by_test : (b : Bool) → fits_at wide place byte ≡ b → cond b (1 + fitting wide (place + 1) rest) 0 < length (byte ∷ rest) → (fitting wide (place + 1) rest < length rest → fits_at wide (place + 1 + fitting wide (place + 1) rest) (slice_index rest (fitting wide (place + 1) rest)) ≡ false) → fits_at wide (place + cond b (1 + fitting wide (place + 1) rest) 0) (slice_index (byte ∷ rest) (cond b (1 + fitting wide (place + 1) rest) 0)) ≡ false
   by_test true is less later =
-      let more : 1 + fitting (place + 1) rest ≡ suc (fitting (place + 1) rest) = omega arith in
-      let here : place + (1 + fitting (place + 1) rest) ≡ place + 1 + fitting (place + 1) rest = omega arith in
-      (λ i. fits_at (here i) (slice_index (byte ∷ rest) (more i))) ∙ later (omega arith)
-  by_test false is less later = let here : place + 0 ≡ place = omega arith in ap (λ p. fits_at p byte) here ∙ is
+      let more : 1 + fitting wide (place + 1) rest ≡ suc (fitting wide (place + 1) rest) = omega arith in
+      let here : place + (1 + fitting wide (place + 1) rest) ≡ place + 1 + fitting wide (place + 1) rest = omega arith in
+      (λ i. fits_at wide (here i) (slice_index (byte ∷ rest) (more i))) ∙ later (omega arith)
+  by_test false is less later = let here : place + 0 ≡ place = omega arith in ap (λ p. fits_at wide p byte) here ∙ is
 
-fits_so : (bytes : List ℕ) → IsFittingFront bytes (fitting 0 bytes)
-fits_so bytes = record {
-  inside = fitting_front 0 bytes;
-  each = λ at few. let here : 0 + at ≡ at = omega arith in ap (λ p. fits_at p (slice_index bytes at)) (sym here) ∙ fitting_each 0 bytes at few;
-  next = λ few. let here : 0 + fitting 0 bytes ≡ fitting 0 bytes = omega arith in ap (λ p. fits_at p (slice_index bytes (fitting 0 bytes))) (sym here) ∙ fitting_next 0 bytes few;
+fits_so : (wide : Bool) (bytes : List ℕ) → IsFittingFront wide bytes (fitting wide 0 bytes)
+fits_so wide bytes = record {
+  inside = fitting_front wide 0 bytes;
+  each = λ at few. let here : 0 + at ≡ at = omega arith in ap (λ p. fits_at wide p (slice_index bytes at)) (sym here) ∙ fitting_each wide 0 bytes at few;
+  next = λ few. let here : 0 + fitting wide 0 bytes ≡ fitting wide 0 bytes = omega arith in ap (λ p. fits_at wide p (slice_index bytes (fitting wide 0 bytes))) (sym here) ∙ fitting_next wide 0 bytes few;
 }
 
-one_fault : (bytes : List ℕ) (damage : Damage) → damage.name ≡ sequence_file → IsFaultAt bytes damage.offset damage.byte → damage_at sequence_file bytes (fitting 0 bytes) ≡ damage
+-- behind the longer front that fits, bytes that are no right file break its form
+fault_behind : (bytes : List ℕ) → ((number : ℕ) → ¬ (SpellsSequence bytes number)) → IsFaultAt bytes (longest_fitting bytes) (slice_get bytes (longest_fitting bytes))
+fault_behind bytes wrong = fault_at bytes (fitting true 0 bytes) (fitting false 0 bytes) _ wrong (fits_so true bytes) (fits_so false bytes) refl
+
+one_fault : (bytes : List ℕ) (damage : Damage) → damage.name ≡ sequence_file → IsFaultAt bytes damage.offset damage.byte → damage_at sequence_file bytes (longest_fitting bytes) ≡ damage
 one_fault bytes damage name fault =
-    let other : IsFaultAt bytes (fitting 0 bytes) (slice_get bytes (fitting 0 bytes)) = fault_at bytes (fitting 0 bytes) _ fault.wrong (fits_so bytes) refl in
-    let one = fault.longest (fitting 0 bytes) other.front in
+    let other : IsFaultAt bytes (longest_fitting bytes) (slice_get bytes (longest_fitting bytes)) = fault_behind bytes fault.wrong in
+    let one = fault.longest (longest_fitting bytes) other.front in
     let two = other.longest damage.offset fault.front in
-    let same : fitting 0 bytes ≡ damage.offset = omega (arith, one, two) in
-    let byte : slice_get bytes (fitting 0 bytes) ≡ damage.byte = ap (slice_get bytes) same ∙ fault.there in
+    let same : longest_fitting bytes ≡ damage.offset = omega (arith, one, two) in
+    let byte : slice_get bytes (longest_fitting bytes) ≡ damage.byte = ap (slice_get bytes) same ∙ fault.there in
     λ i. record { name = sym name i; offset = same i; byte = byte i }
 
 pub last_damage : (content : Option (List ℕ)) (damage : Damage) → IsDamage content damage → last_in content ≡ Err damage
@@ -94,15 +117,15 @@ damage_given (Some bytes) damage is = by_number (sequence_in bytes) refl where
       let given : Ok number ≡ Err damage = sym (ap (number_or_damage bytes) found) ∙ is in
       cc
   by_number None found =
-      let whole : Err (damage_at sequence_file bytes (fitting 0 bytes)) ≡ Err damage = sym (ap (number_or_damage bytes) found) ∙ is in
-      let same : damage_at sequence_file bytes (fitting 0 bytes) ≡ damage = cc in
+      let whole : Err (damage_at sequence_file bytes (longest_fitting bytes)) ≡ Err damage = sym (ap (number_or_damage bytes) found) ∙ is in
+      let same : damage_at sequence_file bytes (longest_fitting bytes) ≡ damage = cc in
       let wrong : (number : ℕ) → ¬ (SpellsSequence bytes number) = λ number spelled.
       let here : None ≡ Some number = sym found ∙ sequence_given bytes number spelled in cc in
       subst (IsDamage (Some bytes)) same (record {
         bytes = bytes;
         held = refl;
         name_is = refl;
-        fault = fault_at bytes (fitting 0 bytes) _ wrong (fits_so bytes) refl;
+        fault = fault_behind bytes wrong;
       })
 
 pub last_numbers_are_given : LastNumbersAreGiven

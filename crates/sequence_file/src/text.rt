@@ -1,23 +1,19 @@
 //! The bytes of the sequence file.
-ghost use Rattle.std.specs.Prelude.{◌≡◌, ◌≤◌, ℕ, IfOk, IfErr, IfSome, IfNone};
-ghost use Rattle.spool_model.specs.declared.number.TheConstants.{LAST_NUMBER};
-ghost use Rattle.sequence_file.specs.Sequence.{SpellsSequence, IsFaultAt, sequence_file};
+ghost use Rattle.std.specs.Prelude.{◌≡◌, ℕ, true, IfOk, IfErr, IfSome, IfNone};
+ghost use Rattle.sequence_file.specs.Sequence.{SpellsIn, SpellsSequence, IsFaultAt, sequence_file};
 ghost use Rattle.sequence_file.specs.Places.{IsFittingFront, fits_at};
 
 use crate::names::sequence_name;
 use hex_digits::is_digit;
 use host_calls::Damage;
+use spool_model::number_digits;
 
-// How many digits the file has.
-const DIGITS: usize = 5;
-
-/// The file of a number.
-pub fn text_of(number: u32) -> [u8; 6]
-    requires { number ≤ LAST_NUMBER }
-    ensures { SpellsSequence result number }
+/// The file of a number, in the wide form.
+pub fn text_of(number: u32) -> [u8; 9]
+    ensures { SpellsIn true result number }
 {
-    let mut text = *b"00000\n";
-    hex_digits::write(&mut text[..DIGITS], number as u64);
+    let mut text = *b"00000000\n";
+    hex_digits::write(&mut text[..number_digits(true)], number as u64);
     text
 }
 
@@ -27,20 +23,22 @@ pub fn read(bytes: &[u8]) -> Result<u32, Damage>
     ensures name { IfErr result (λ damage. damage.name ≡ sequence_file) }
     ensures damaged { IfErr result (λ damage. IsFaultAt bytes.now damage.offset damage.byte) }
 {
-    match number_of(bytes) {
+    match number_of(bytes, true).or(number_of(bytes, false)) {
         Some(number) => Ok(number),
         None => Err(damage_of(bytes)),
     }
 }
 
-fn number_of(bytes: &[u8]) -> Option<u32>
-    ensures number { IfSome result (SpellsSequence bytes.now) }
-    ensures none { IfNone result ((number : ℕ) → ¬ (SpellsSequence bytes.now number)) }
+// The number of the file, if it is of this form.
+fn number_of(bytes: &[u8], wide: bool) -> Option<u32>
+    ensures number { IfSome result (SpellsIn wide bytes.now) }
+    ensures none { IfNone result ((number : ℕ) → ¬ (SpellsIn wide bytes.now number)) }
 {
-    if bytes.len() != DIGITS + 1 || bytes[DIGITS] != b'\n' {
+    let digits = number_digits(wide);
+    if bytes.len() != 1 + digits || bytes[digits] != b'\n' {
         return None;
     }
-    let number = hex_digits::read(&bytes[..DIGITS])?;
+    let number = hex_digits::read(&bytes[..digits])?;
     Some(number as u32)
 }
 
@@ -49,27 +47,29 @@ fn damage_of(bytes: &[u8]) -> Damage
     ensures name { result.name ≡ sequence_file }
     ensures fault { IsFaultAt bytes.now result.offset result.byte }
 {
-    Damage::at(sequence_name(), bytes, fitting(bytes))
+    let offset = fitting(bytes, true).max(fitting(bytes, false));
+    Damage::at(sequence_name(), bytes, offset)
 }
 
-// How many of the first bytes may stand in their places.
-fn fitting(bytes: &[u8]) -> usize
-    ensures { IsFittingFront bytes.now result }
+// How many of the first bytes may stand in their places of this form.
+fn fitting(bytes: &[u8], wide: bool) -> usize
+    ensures { IsFittingFront wide bytes.now result }
 {
     for (place, byte) in bytes.iter().enumerate() {
-        if !fits(place, *byte) {
+        if !fits(wide, place, *byte) {
             return place;
         }
     }
     bytes.len()
 }
 
-fn fits(place: usize, byte: u8) -> bool
-    ensures { result ≡ fits_at place byte }
+fn fits(wide: bool, place: usize, byte: u8) -> bool
+    ensures { result ≡ fits_at wide place byte }
 {
-    if place < DIGITS {
+    let digits = number_digits(wide);
+    if place < digits {
         is_digit(byte)
     } else {
-        place == DIGITS && byte == b'\n'
+        place == digits && byte == b'\n'
     }
 }

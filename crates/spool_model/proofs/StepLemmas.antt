@@ -17,7 +17,7 @@ use Rattle.spool_model.specs.Laws.{LastNeverFalls, NoStepLeadsBackToPending, Num
 use Rattle.spool_model.proofs.TableLemmas.{other_choice, get-put, get-put_other, get-taken, some_after_put, some_after_taken}
 
 -- a step does not lower the last number
-last_rises : (last : ℕ) (step : Step) → last ≤ last_after last step
+pub last_rises : (last : ℕ) (step : Step) → last ≤ last_after last step
 last_rises last Draw = omega arith
 last_rises last (Accept number job) = omega arith
 last_rises last (Remove number) = omega arith

@@ -107,18 +107,6 @@ fn batch_starts_are_remembered(rt: HostRuntime) -> Result<(), Fail> {
 }
 
 #[test]
-fn no_number_is_drawn_past_the_last(rt: HostRuntime) -> Result<(), Fail> {
-    let mut table = Table::new(rt.alloc());
-    for _ in 0..1_048_575 {
-        assert!(rt; table.is_legal(&Step::Draw));
-        table.take(rt.alloc(), &Step::Draw)?;
-    }
-    assert_eq!(rt; table.last(), 1_048_575);
-    assert!(rt; !table.is_legal(&Step::Draw));
-    Ok(())
-}
-
-#[test]
 fn user_names_are_told_from_other_bytes(rt: HostRuntime) {
     for good in ["ann", "a", "_apt", "x.y-z", "web$", "a+b@c", "7"] {
         assert!(rt; UserName::of(good.as_bytes()).is_some(), "{good}");

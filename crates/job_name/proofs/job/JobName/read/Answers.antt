@@ -1,19 +1,15 @@
-use Rattle.std.proofs.Common.{◌≡◌, true, false, sym, ◌∙◌}
-use Rattle.job_name.proofs.JobNameLemmas.{in_range_of, one_job}
-use Rattle.job_name.specs.JobName.{IsInRange}
+use Rattle.std.proofs.Common.{◌≡◌, ◌∙◌, ℕ, Bool, Option, Some, None, IfSome, IsSomeAnd, sym, subst}
+use Rattle.job_name.specs.declared.job.JobName.{JobName}
+use Rattle.job_name.specs.JobName.{SpellsJobName}
+use Rattle.job_name.proofs.JobNameLemmas.{form_told}
 use Rattle.job_name.proofs.job.JobName.read.Goals as goal
 
-pub returns-in_err-number-clause-found : goal.returns-in_err-number-clause-found
-returns-in_err-number-clause-found c = λ queue number minute spelled. absurd (c.in_err-number.ensures.none number spelled.next_five)
-
-pub returns-in_err-minute-clause-found : goal.returns-in_err-minute-clause-found
-returns-in_err-minute-clause-found c = λ queue number minute spelled. absurd (c.in_err-minute.ensures.none minute spelled.last_eight)
+-- what is found, and in which form
+in_form : (found : Option JobName) (queue number minute : ℕ) (told wide : Bool) → told ≡ wide → IfSome found (λ job. job.wide ≡ told) → IsSomeAnd found (λ job. (job.queue ≡ queue) × (job.number ≡ number) × (job.minute ≡ minute)) → IsSomeAnd found (λ job. (job.queue ≡ queue) × (job.number ≡ number) × (job.minute ≡ minute) × (job.wide ≡ wide))
+in_form (Some job) queue number minute told wide same form is = (is.0, is.1, is.2, form ∙ same)
+in_form None queue number minute told wide same form is = is
 
 pub returns-clause-found : goal.returns-clause-found
-returns-clause-found c = λ queue number minute spelled. one_job c.args.bytes.now queue number minute c.in_ok-number.field-0 c.in_ok-minute.field-0 spelled c.in_ok-number.ensures.number c.in_ok-minute.ensures.number
-
-pub returns-then-not-is_in_range-clause-found : goal.returns-then-not-is_in_range-clause-found
-returns-then-not-is_in_range-clause-found c = λ queue number minute spelled.
-    let within : IsInRange _ _ _ = in_range_of c.args.bytes.now queue number minute c.in_ok-number.field-0 c.in_ok-minute.field-0 spelled c.in_ok-number.ensures.number c.in_ok-minute.ensures.number in
-    let impossible : true ≡ false = sym (c.is_in_range.ensures.1 within) ∙ c.if-not-is_in_range.true in
-    cc
+returns-clause-found c = λ queue number minute wide spelled.
+    in_form _ queue number minute _ wide (form_told c.args.bytes.now queue number minute wide spelled) c.read_as.ensures.form
+    (c.read_as.ensures.found queue number minute (subst (SpellsJobName c.args.bytes.now queue number minute) (sym (form_told c.args.bytes.now queue number minute wide spelled)) spelled))
