@@ -65,7 +65,7 @@ record IsCompacted (marks : List Mark) (before after : Files) : Type 0 where
 no_file : (marks : List Mark) (before after : Files) (number : ℕ) → IsCompacted marks before after → is_forgotten number marks ≡ true → ShowsLive (kept_marks marks) after number None
 no_file marks before after number compacted forgotten = λ file is number_is.
     let held : map.get before file.name ≡ Some file.bytes = sym (compacted.same file.name file.job is.named) ∙ is.held in
-    let none : map.get before file.name ≡ None = compacted.none file.name file.job.number file.job.queue file.job.minute is.named (ap (λ n. is_forgotten n marks) number_is ∙ forgotten) in
+    let none : map.get before file.name ≡ None = compacted.none file.name file.job is.named (ap (λ n. is_forgotten n marks) number_is ∙ forgotten) in
     let impossible : Some file.bytes ≡ None = sym held ∙ none in
     cc
 

@@ -14,6 +14,7 @@ pub mod FreshNumbers
 pub mod MarkTests
 pub mod Membership
 pub mod NameLemmas
+pub mod NarrowLemmas
 pub mod OneMark
 pub mod OtherLemmas
 pub mod RewriteLemmas

@@ -8,8 +8,9 @@ use Rattle.std.proofs.lemmas.List.{length-take-le}
 use Rattle.std.proofs.lemmas.Bool.Decides.{nat_tests}
 use Rattle.host_calls.specs.Folder.{Files}
 use Rattle.job_name.proofs.NamedJobs.{name_spelled}
-use Rattle.sequence_file.specs.Sequence.{Gives, sequence_file}
+use Rattle.sequence_file.specs.Sequence.{Gives, SpellsIn, sequence_file}
 use Rattle.spool_model.specs.declared.number.TheConstants.{LAST_NUMBER}
+use Rattle.spool_model.specs.Numbers.{number_digits}
 use Rattle.spool_model.specs.JobTable.{JobEntry, JobTable, entry_at}
 use Rattle.start_journal.specs.declared.mark.Mark.{Mark}
 use Rattle.start_journal.specs.declared.mark.Mark.TheVariants.{Removed, Started, Ended, Interrupted, Forgotten, Batch}
@@ -25,14 +26,19 @@ use Rattle.spool_shows.proofs.ByNameLemmas.{folders_are_shown_by_name}
 use Rattle.spool_shows.proofs.EntryLemmas.{done_decides}
 use Rattle.spool_shows.proofs.Membership.{Has, has_contained}
 
--- five digits spell a number of a job
+-- the digits of either form spell a number of a job
+few_digits : (wide : Bool) (number : ℕ) → number < 16 ^ number_digits wide → number ≤ LAST_NUMBER
+few_digits true number fits = omega arith
+few_digits false number fits = omega arith
+
+few_in : (wide : Bool) (bytes : List ℕ) (number : ℕ) → SpellsIn wide bytes number → number ≤ LAST_NUMBER
+few_in wide bytes number spelled =
+    let counted : length (take (number_digits wide) bytes) ≡ number_digits wide = length-take-le (number_digits wide) bytes (omega (arith, spelled.counted)) in
+    few_digits wide number (subst (λ count. number < 16 ^ count) counted spelled.digits.fits)
+
 few_of : (content : Option (List ℕ)) (number : ℕ) → Gives content number → number ≤ LAST_NUMBER
 few_of None number is = omega (arith, is)
-few_of (Some bytes) number spelled =
-    let all : length bytes ≡ 6 = spelled.counted in
-    let counted : length (take 5 bytes) ≡ 5 = length-take-le 5 bytes (omega arith) in
-    let fits : number < 16 ^ 5 = subst (λ count. number < 16 ^ count) counted spelled.digits.fits in
-    omega arith
+few_of (Some bytes) number spelled = few_in spelled.0 bytes number spelled.1
 
 -- a mark's number lies within those that were drawn
 in_range : (last number other : ℕ) → 1 ≤ other → nat_le other last ≡ true → (other == number) ≡ true → (1 ≤ number) × (number ≤ last)

@@ -6,6 +6,6 @@ mod laws;
 
 pub use laws::{
     accepts_are_shown, compactions_are_shown, draws_are_shown, folders_are_shown_by_name,
-    folders_show_their_first_damage, marks_are_shown, other_files_count_for_nothing,
-    rewrites_are_shown, shown_tables_are_sound, small_folders,
+    folders_show_their_first_damage, marks_are_shown, narrow_folders_show_the_same,
+    other_files_count_for_nothing, rewrites_are_shown, shown_tables_are_sound, small_folders,
 };

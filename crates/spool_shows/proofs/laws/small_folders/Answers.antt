@@ -14,6 +14,12 @@ returns-clause-show c = record {
   done = refl;
   done_with_file = refl;
   free = refl;
+  wide_drawn = refl;
+  wide_pending = refl;
+  wide_running = refl;
+  both_forms = refl;
+  both_forms_running = refl;
+  wide_name_alone = refl;
   other_names = refl;
 }
 
@@ -24,6 +30,11 @@ returns-clause-damaged c = record {
   sequence_short = refl;
   sequence_long = refl;
   sequence_empty = refl;
+  six_digits = refl;
+  six_digits_alone = refl;
+  wide_sequence_digit = refl;
+  wide_sequence_short = refl;
+  wide_sequence_long = refl;
   rest = refl;
   start_without_file = refl;
   start_in_another_queue = refl;
@@ -36,4 +47,17 @@ returns-clause-damaged c = record {
   long_user = refl;
   empty_file = refl;
   two_files = refl;
+  narrow_behind_wide = refl;
+  wide_behind_narrow = refl;
+  wide_not_drawn = refl;
+}
+
+pub returns-clause-narrow : goal.returns-clause-narrow
+unfolding alike flag_alike has_user header_in header_place name_front user_in free_slot journal_in mark_in may_stand right_front
+returns-clause-narrow c = record {
+  nothing = refl;
+  pending = refl;
+  running = refl;
+  wide_name = refl;
+  wide_sequence = refl;
 }
