@@ -19,7 +19,7 @@ use Rattle.spool_model.specs.Steps.{IsLegal, after_step, with_state}
 use Rattle.spool_model.proofs.TableLemmas.{get-put_same}
 use Rattle.job_runs.specs.Bare.{bare, bare_entry, bare_job}
 use Rattle.job_runs.specs.Calls.{StoreCall}
-use Rattle.job_runs.specs.Current.{IsCurrent, Kept}
+use Rattle.job_runs.specs.Current.{IsCurrent, Kept, is_wide}
 use Rattle.job_runs.specs.Made.{IsScriptFile, StartEnds}
 use Rattle.job_runs.proofs.BareLemmas.{entries_are_bare}
 use Rattle.job_runs.proofs.MadeLemmas.{calls_stop_at_their_step}
@@ -48,7 +48,7 @@ same_job : (one other : Job) (state since : JobState) → ◌≡◌ {A = Option 
 same_job one other state since is = cc
 
 -- the file of a live job has its script, and the niceness of its name's queue is that of the job's
-pub script_is : (kept : Kept) (folder : Folder) (table : JobTable) (number : ℕ) (name : List ℕ) (queue nice : ℕ) (file : IsFileOf kept.table number name) →
+pub script_is : (kept : Kept) (folder : Folder) (table : JobTable) (number : ℕ) (name : List ℕ) (queue nice : ℕ) (file : IsFileOf kept.table kept.narrow number name) →
     queue ≡ file.job.queue → nice ≡ niceness_of queue → IsCurrent kept folder table → HoldsScript table folder number name →
     IsScriptFile table (reading_of folder) number name nice
 script_is kept folder table number name queue nice file queue_is nice_is current holds =
@@ -114,8 +114,8 @@ pub and_some : {X : Type 0} (P : X → Type 0) (found : Option X) (value : X) �
 and_some {X = X} P found value is holds = subst (λ (some : Option X). IsSomeAnd some P) is holds
 
 -- the name of a live job's file is that of its queue
-pub named : (table : JobTable) (number : ℕ) (name bytes : List ℕ) → bytes ≡ name → (file : IsFileOf table number name) → SpellsJobName bytes file.job.queue number file.job.minute
-named table number name bytes same file = subst (λ (of : List ℕ). SpellsJobName of file.job.queue number file.job.minute) (sym same) file.spelled
+pub named : (table : JobTable) (narrow : List ℕ) (number : ℕ) (name bytes : List ℕ) → bytes ≡ name → (file : IsFileOf table narrow number name) → SpellsJobName bytes file.job.queue number file.job.minute (is_wide narrow number)
+named table narrow number name bytes same file = subst (λ (of : List ℕ). SpellsJobName of file.job.queue number file.job.minute (is_wide narrow number)) (sym same) file.spelled
 
 -- the host's files have the script
 pub script_held : (table : JobTable) (files : Files) (number : ℕ) (name : List ℕ) (nice : ℕ) → IsScriptFile table files number name nice → IsSome (finite.get files name)

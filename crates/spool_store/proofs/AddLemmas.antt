@@ -1,5 +1,5 @@
 -- One mark more in the journal: each image shows the table before the step of that mark or after it.
-use Rattle.std.proofs.Common.{◌≡◌, List, [], ◌∷◌, sym, subst, inl, inr, Result, Ok, Err}
+use Rattle.std.proofs.Common.{◌≡◌, ℕ, List, [], ◌∷◌, sym, subst, ◌∙◌, inl, inr, Result, Ok, Err}
 use Rattle.std.specs.Prelude.{IfOk, OnOk}
 use Rattle.std.specs.FinMap as finite
 use Rattle.host_calls.specs.declared.fault.HostFault.{HostFault}
@@ -29,15 +29,20 @@ pub legal_still : (before after : List Mark) (mark : Mark) → AreLegal before �
 legal_still before after mark legal is (inl same) = subst (λ marks. IsLegalAfter marks mark) (sym same) is
 legal_still before after mark legal is (inr kept) = subst (λ marks. IsLegalAfter marks mark) (sym kept) (legal_when_kept before mark legal is)
 
+-- what both runs keep
+pub keeps_through : (start middle third : Folder) (after : JournalRead) (result : Result JournalRead HostFault) → KeepsFiles start middle → OnOk result (IsChanged after middle third) → OnOk result (KeepsFiles start third)
+keeps_through start middle third after (Err fault) keeps changed = tt
+keeps_through start middle third after (Ok new) keeps changed = λ name other. changed.others name other ∙ keeps name other
+
 -- The journal was given room in a first run, and in a second one the mark of the step is added.
-pub record IsAdding (journal room : JournalRead) (table : JobTable) (step : Step) (mark : Mark) (first second third : World) : Type 0 where
-  pub is_mark : IsMarkOf journal first.now.folder table step mark
-  pub current : IsCurrent (kept_with room table) second.now.folder table
+pub record IsAdding (narrow : List ℕ) (journal room : JournalRead) (table : JobTable) (step : Step) (mark : Mark) (first second third : World) : Type 0 where
+  pub is_mark : IsMarkOf narrow journal first.now.folder table step mark
+  pub current : IsCurrent (kept_with narrow room table) second.now.folder table
   pub keeps : KeepsFiles first.now.folder second.now.folder
   pub makes_room : ChangesFiles (IsSteppingOn table [] first.now.folder) first second
   pub adds : ChangesFiles (IsChanging room (added room mark) second.now.folder) second third
 
-module _ (journal room : JournalRead) (table : JobTable) (step : Step) (mark : Mark) (first second third : World) (adding : IsAdding journal room table step mark first second third) where
+module _ (narrow : List ℕ) (journal room : JournalRead) (table : JobTable) (step : Step) (mark : Mark) (first second third : World) (adding : IsAdding narrow journal room table step mark first second third) where
   abbrev start : Folder
   start = first.now.folder
 
@@ -46,7 +51,7 @@ module _ (journal room : JournalRead) (table : JobTable) (step : Step) (mark : M
 
   -- what an image is of which this one differs at the journal
   shown_before : (image : Files) (changing : IsChanging room (added room mark) middle image) → IsShownWith room table changing.alone.from
-  shown_before image changing = shown_with room middle table adding.current changing.alone.from changing.alone.was
+  shown_before image changing = shown_with narrow room middle table adding.current changing.alone.from changing.alone.was
 
   -- with the mark in its journal it shows the table after the step
   shows_after : (image : Files) → IsChanging room (added room mark) middle image → Gives (finite.get image journal_file) (added room mark) → Shows image (after_step table step)
@@ -81,7 +86,7 @@ module _ (journal room : JournalRead) (table : JobTable) (step : Step) (mark : M
       record {
         shows = λ image is. shows_after image (each image is) (subst (λ content. Gives content (added room mark)) (sym (changed.holds.same image is)) changed.holds.gives);
         holds = changed.holds;
-        sequence = λ image is. sequence_still room (added room mark) (kept_with room table) table middle third.now.folder image adding.current changed.others (each image is);
+        sequence = λ image is. sequence_still room (added room mark) (kept_with narrow room table) table middle third.now.folder image adding.current changed.others (each image is);
         decided = decided_still journal.marks middle third.now.folder changed.others
             (decided_still journal.marks start middle adding.keeps adding.is_mark.current.decided);
       }

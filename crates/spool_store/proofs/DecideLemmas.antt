@@ -1,6 +1,6 @@
 -- A job is decided: its mark is added, and then its file is removed, which counts for nothing by then.
-use Rattle.std.proofs.Common.{◌≡◌, ◌⊎◌, ℕ, true, false, List, [], ◌∷◌, Contains, sym, ap, subst, ◌∙◌, refl, arith, inl, inr}
-use Rattle.std.specs.Prelude.{Some}
+use Rattle.std.proofs.Common.{◌≡◌, ◌≤◌, ◌⊎◌, ℕ, true, false, List, [], ◌∷◌, Contains, sym, ap, subst, ◌∙◌, refl, arith, inl, inr}
+use Rattle.std.specs.Prelude.{Some, IsSome}
 use Rattle.std.specs.FinMap as map
 use Rattle.host_calls.specs.Folder.{Files, Folder, reading_of}
 use Rattle.host_calls.proofs.FolderLemmas.{reading_is_image}
@@ -8,6 +8,8 @@ use Rattle.whole_file.specs.Temporary.{temporary_file}
 use Rattle.spool_model.specs.declared.job.Job.{Job}
 use Rattle.spool_model.specs.declared.step.Step.{Step}
 use Rattle.spool_model.specs.JobTable.{JobTable}
+use Rattle.spool_model.specs.Steps.{after_step}
+use Rattle.spool_model.proofs.StepLemmas.{last_rises}
 use Rattle.start_journal.specs.declared.mark.Mark.{Mark}
 use Rattle.start_journal.specs.declared.mark.Mark.TheVariants.{Removed, Ended, Interrupted}
 use Rattle.start_journal.specs.Journals.{JournalRead, journal_file}
@@ -24,11 +26,16 @@ use Rattle.spool_shows.proofs.ShownStates.{IsLiveBy}
 use Rattle.job_name.proofs.NamedJobs.{name_given, one_job_name}
 use Rattle.spool_shows.proofs.StepLaws.{by_name}
 use Rattle.spool_shows.proofs.StepMarks.{live_in}
+use Rattle.job_runs.specs.Current.{HaveForms, is_wide}
 use Rattle.spool_store.specs.inside.Marking.{HaveOneMore, IsDecisionOf, KeepsFiles}
 use Rattle.spool_store.specs.Scripts.{IsFileOf}
 use Rattle.spool_store.proofs.KeptMarks.{kept_decided}
 use Rattle.spool_store.proofs.MarkingLemmas.{IsShownWith, reads_as}
 use Rattle.spool_store.proofs.RoomLemmas.{shown_with}
+
+-- a number that was drawn was drawn behind a step too
+pub still_drawn : (table : JobTable) (step : Step) (number : ℕ) → number ≤ table.last → number ≤ (after_step table step).last
+still_drawn table step number few = omega (arith, last_rises table.last step)
 
 -- The file of a live job.
 
@@ -43,17 +50,19 @@ pub record IsItsFile (marks : List Mark) (files : Files) (number : ℕ) (name : 
   pub alone : (other : JobFile) → IsJobFile marks files other → other.job.number ≡ number → other.name ≡ name
 
 -- a job's file is the one that has the name of it
-same_job : (one other : NamedJob) → one.queue ≡ other.queue → one.number ≡ other.number → one.minute ≡ other.minute → one ≡ other
-same_job one other queue number minute = λ i. record { queue = queue i; number = number i; minute = minute i }
+same_job : (one other : NamedJob) → one.queue ≡ other.queue → one.number ≡ other.number → one.minute ≡ other.minute → one.wide ≡ other.wide → one ≡ other
+same_job one other queue number minute wide = λ i. record { queue = queue i; number = number i; minute = minute i; wide = wide i }
 
 -- a live job has its file, in a folder that is shown by name
-file_by_name : (files : Files) (table : JobTable) (number : ℕ) (name : List ℕ) (shows : ShowsByName files table) → IsFileOf table number name → IsItsFile shows.read.marks files number name
-file_by_name files table number name shows of =
+file_by_name : (narrow : List ℕ) (files : Files) (table : JobTable) (number : ℕ) (name : List ℕ) (shows : ShowsByName files table) → HaveForms narrow table.last files → IsFileOf table narrow number name → IsItsFile shows.read.marks files number name
+file_by_name narrow files table number name shows forms of =
     let marks : List Mark = shows.read.marks in
     let live : IsLiveBy marks files number of.job of.state = live_in files table number of.job of.state shows of.lives in
-    let job : NamedJob = record { queue = of.job.queue; number = number; minute = of.job.minute } in
-    let named : job_named name ≡ Some job = name_given name of.job.queue number of.job.minute of.spelled in
-    let its_job : live.file.job ≡ job = same_job live.file.job job (ap (λ (j : Job). j.queue) live.job_is) live.number_is (ap (λ (j : Job). j.minute) live.job_is) in
+    let job : NamedJob = record { queue = of.job.queue; number = number; minute = of.job.minute; wide = is_wide narrow number } in
+    let named : job_named name ≡ Some job = name_given name of.job.queue number of.job.minute (is_wide narrow number) of.spelled in
+    let wide_is : live.file.job.wide ≡ is_wide narrow number =
+    forms.each live.file.name live.file.job live.is.named (subst IsSome (sym live.is.held) refl) ∙ ap (is_wide narrow) live.number_is in
+    let its_job : live.file.job ≡ job = same_job live.file.job job (ap (λ (j : Job). j.queue) live.job_is) live.number_is (ap (λ (j : Job). j.minute) live.job_is) wide_is in
     let its_name : live.file.name ≡ name = one_job_name live.file.name name job (live.is.named ∙ ap Some its_job) named in
     record {
       job = job;
@@ -66,16 +75,16 @@ file_by_name files table number name shows of =
     }
 
 -- and in one that shows the table with the journal
-its_file : (journal : JournalRead) (table : JobTable) (files : Files) (number : ℕ) (name : List ℕ) → IsShownWith journal table files → IsFileOf table number name → IsItsFile journal.marks files number name
-its_file journal table files number name is of =
+its_file : (narrow : List ℕ) (journal : JournalRead) (table : JobTable) (files : Files) (number : ℕ) (name : List ℕ) → IsShownWith journal table files → HaveForms narrow table.last files → IsFileOf table narrow number name → IsItsFile journal.marks files number name
+its_file narrow journal table files number name is forms of =
     subst (λ (read : JournalRead). IsItsFile read.marks files number name) (reads_as journal table files is)
-    (file_by_name files table number name (by_name files table is.shows) of)
+    (file_by_name narrow files table number name (by_name files table is.shows) forms of)
 
 -- the file of the job that is decided
-pub decided_file : (journal : JournalRead) (folder : Folder) (table : JobTable) (step : Step) (mark : Mark) (name : List ℕ) (decision : IsDecisionOf journal folder table step mark name) → IsItsFile journal.marks (reading_of folder) decision.number name
-decided_file journal folder table step mark name decision =
-    its_file journal table (reading_of folder) decision.number name
-    (shown_with journal folder table decision.is_mark.current (reading_of folder) (reading_is_image folder)) decision.file
+pub decided_file : (narrow : List ℕ) (journal : JournalRead) (folder : Folder) (table : JobTable) (step : Step) (mark : Mark) (name : List ℕ) (decision : IsDecisionOf narrow journal folder table step mark name) → IsItsFile journal.marks (reading_of folder) decision.number name
+decided_file narrow journal folder table step mark name decision =
+    its_file narrow journal table (reading_of folder) decision.number name
+    (shown_with narrow journal folder table decision.is_mark.current (reading_of folder) (reading_is_image folder)) decision.is_mark.current.forms decision.file
 
 -- One name alone.
 
@@ -95,9 +104,9 @@ pub apart_from : (name other : List ℕ) → ¬ (other ≡ name) → ¬ (Contain
 apart_from name other differ is = differ (only_one name other is)
 
 -- it is a file still, once the mark stands
-pub decided_held : (journal : JournalRead) (first second : Folder) (table : JobTable) (step : Step) (mark : Mark) (name : List ℕ) → IsDecisionOf journal first table step mark name → KeepsFiles first second → AreFiles (name ∷ []) (reading_of second)
-decided_held journal first second table step mark name decision keeps =
-    let file : IsItsFile journal.marks (reading_of first) decision.number name = decided_file journal first table step mark name decision in
+pub decided_held : (narrow : List ℕ) (journal : JournalRead) (first second : Folder) (table : JobTable) (step : Step) (mark : Mark) (name : List ℕ) → IsDecisionOf narrow journal first table step mark name → KeepsFiles first second → AreFiles (name ∷ []) (reading_of second)
+decided_held narrow journal first second table step mark name decision keeps =
+    let file : IsItsFile journal.marks (reading_of first) decision.number name = decided_file narrow journal first table step mark name decision in
     let held : map.get (reading_of second) name ≡ Some file.bytes =
     keeps name (job_name_apart temporary_file journal_file name file.job temporary_no_job journal_no_job file.named) ∙ file.held in
     record {

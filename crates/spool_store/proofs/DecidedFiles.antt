@@ -1,6 +1,6 @@
 -- The file of a job that is decided: without it each image shows the same table, and then none of a decided number is left.
 use Rattle.std.proofs.Common.{◌≡◌, ℕ, true, false, not, List, [], ◌∷◌, Contains, sym, ap, subst, ◌∙◌, refl, inl, inr}
-use Rattle.std.specs.Prelude.{Option, Some, None}
+use Rattle.std.specs.Prelude.{Option, Some, None, IsSome, is_some}
 use Rattle.std.specs.FinMap as finite
 use Rattle.host_calls.specs.Folder.{Files, Folder, IsImage, reading_of}
 use Rattle.host_calls.specs.World.{World}
@@ -18,7 +18,7 @@ use Rattle.whole_file.specs.Clearing.{AreCleared}
 use Rattle.whole_file.specs.Others.{ChangesFiles, LeavesOthers}
 use Rattle.whole_file.proofs.OthersLemmas.{one_or_other}
 use Rattle.job_runs.specs.Calls.{IsSteppingOn, KeepsOthers}
-use Rattle.job_runs.specs.Current.{HasNoDecidedFile, IsCurrent, IsSpoolName}
+use Rattle.job_runs.specs.Current.{HasNoDecidedFile, HaveForms, IsCurrent, IsSpoolName}
 use Rattle.spool_shows.specs.JobFiles.{counts, counts_as}
 use Rattle.job_name.specs.JobName.{NamedJob, job_named}
 use Rattle.spool_shows.specs.Laws.{HasMarks}
@@ -28,14 +28,14 @@ use Rattle.spool_shows.proofs.OneMark.{had_same}
 use Rattle.spool_shows.proofs.OtherLemmas.{other_files_count_for_nothing}
 use Rattle.spool_shows.proofs.StepLaws.{by_name}
 use Rattle.spool_store.specs.inside.Marking.{HaveOneMore, IsDecisionOf, IsMarked, KeepsFiles, kept_with}
-use Rattle.spool_store.proofs.DecideLemmas.{IsItsFile, apart_from, decided_before_or_by_it, decided_by_it, decided_file, is_the_one, one_decided, only_one}
+use Rattle.spool_store.proofs.DecideLemmas.{IsItsFile, apart_from, decided_before_or_by_it, decided_by_it, decided_file, is_the_one, one_decided, only_one, still_drawn}
 use Rattle.spool_store.proofs.MarkingLemmas.{IsShownWith, reads_as}
 use Rattle.whole_file.proofs.ChangesJoined.{changes_end, changes_join}
 use Rattle.spool_store.proofs.MarkingCalls.{journal_is_spool, leaves_through, stepping_one, stepping_start}
 
 -- The mark of a decision was added in a first run, and in a second one the job's file is removed.
-pub record IsDeciding (journal new : JournalRead) (table : JobTable) (step : Step) (mark : Mark) (name : List ℕ) (first second third : World) : Type 0 where
-  pub decision : IsDecisionOf journal first.now.folder table step mark name
+pub record IsDeciding (narrow : List ℕ) (journal new : JournalRead) (table : JobTable) (step : Step) (mark : Mark) (name : List ℕ) (first second third : World) : Type 0 where
+  pub decision : IsDecisionOf narrow journal first.now.folder table step mark name
   pub legal : AreLegal journal.marks
   pub more : HaveOneMore journal.marks mark new.marks
   pub marked : IsMarked journal.marks new second.now.folder (after_step table step)
@@ -43,7 +43,7 @@ pub record IsDeciding (journal new : JournalRead) (table : JobTable) (step : Ste
   pub adds : ChangesFiles (IsSteppingOn table (step ∷ []) first.now.folder) first second
   pub clears : ChangesFiles (LeavesOthers (Contains (name ∷ [])) second.now.folder) second third
 
-module _ (journal new : JournalRead) (table : JobTable) (step : Step) (mark : Mark) (name : List ℕ) (first second third : World) (deciding : IsDeciding journal new table step mark name first second third) where
+module _ (narrow : List ℕ) (journal new : JournalRead) (table : JobTable) (step : Step) (mark : Mark) (name : List ℕ) (first second third : World) (deciding : IsDeciding narrow journal new table step mark name first second third) where
   abbrev start : Folder
   start = first.now.folder
 
@@ -56,7 +56,7 @@ module _ (journal new : JournalRead) (table : JobTable) (step : Step) (mark : Ma
 
   -- and the job's file was there at the start
   file : IsItsFile journal.marks (reading_of start) deciding.decision.number name
-  file = decided_file journal start table step mark name deciding.decision
+  file = decided_file narrow journal start table step mark name deciding.decision
 
   -- names that are not those of jobs are other ones
   elsewhere : (other : List ℕ) → job_named other ≡ None → ¬ (Contains (name ∷ []) other)
@@ -130,8 +130,23 @@ module _ (journal new : JournalRead) (table : JobTable) (step : Step) (mark : Ma
     | inr differ ↦ cleared.others other (apart_from name other differ) ∙ only_file other job named decided differ
   ]
 
+  -- each file that is there was there at the start, so its name has the form that is kept
+  forms_left : AreCleared (name ∷ []) middle third.now.folder → HaveForms narrow (after_step table step).last (reading_of third.now.folder)
+  forms_left cleared = record {
+    each = λ other job named there. elim (one_or_other other name) [
+      | inl same ↦
+          let gone : finite.get (reading_of third.now.folder) other ≡ None =
+          cleared.gone other (subst (Contains (name ∷ [])) (sym same) (is_the_one name)) (reading_of third.now.folder) (reading_is_image third.now.folder) in
+          let impossible : false ≡ true = sym (ap is_some gone) ∙ there in
+          cc
+      | inr differ ↦ deciding.decision.is_mark.current.forms.each other job named (subst IsSome
+          (cleared.others other (apart_from name other differ) ∙ deciding.keeps other (job_name_apart temporary_file journal_file other job temporary_no_job journal_no_job named)) there)
+    ];
+    drawn = λ number is. still_drawn table step number (deciding.decision.is_mark.current.forms.drawn number is);
+  }
+
   -- and what is kept is current
-  pub decided_current : AreCleared (name ∷ []) middle third.now.folder → IsCurrent (kept_with new (after_step table step)) third.now.folder (after_step table step)
+  pub decided_current : AreCleared (name ∷ []) middle third.now.folder → IsCurrent (kept_with narrow new (after_step table step)) third.now.folder (after_step table step)
   decided_current cleared =
       let each : (image : Files) → IsImage third.now.folder image → LeavesOthers (Contains (name ∷ [])) middle image =
       changes_end _ second third deciding.clears (λ image is. record { from = image; was = is; others = λ other apart. refl }) in
@@ -151,6 +166,7 @@ module _ (journal new : JournalRead) (table : JobTable) (step : Step) (mark : Ma
         sequence = λ image is. (each image is).others sequence_file no_sequence
             ∙ marked.sequence (each image is).from (each image is).was ∙ sym (cleared.others sequence_file no_sequence);
         decided = none_left cleared;
+        forms = forms_left cleared;
       }
 
   -- other files than those of the spool read as before

@@ -1,5 +1,5 @@
 -- Images of a folder in which a number is drawn, and the file of the job that has it is placed.
-use Rattle.std.proofs.Common.{◌≡◌, ◌+◌, ℕ, Bool, List, [], ◌∷◌, sym, ap, subst, ◌∙◌, refl, inl, inr, arith}
+use Rattle.std.proofs.Common.{◌≡◌, ◌+◌, ℕ, Bool, true, List, [], ◌∷◌, sym, ap, subst, ◌∙◌, refl, inl, inr, arith}
 use Rattle.std.specs.Prelude.{Ok, Some, IsSome}
 use Rattle.std.specs.FinMap as finite
 use Rattle.host_calls.specs.Folder.{Files, Folder, IsImage}
@@ -81,7 +81,7 @@ pub record IsAfterDraw (table : JobTable) (start : Folder) (image : Files) : Typ
 
 -- the name is that of the job's file under the next number, and the script begins with the header of its user
 pub record IsFileOfNext (table : JobTable) (job : Job) (name : List ℕ) : Type 0 where
-  pub named : job_named name ≡ Some (record { queue = job.queue; number = table.last + 1; minute = job.minute })
+  pub named : job_named name ≡ Some (record { queue = job.queue; number = table.last + 1; minute = job.minute; wide = true })
   pub mail : Bool
   pub header : header_in job.script ≡ Some (job.user, mail)
 

@@ -17,6 +17,7 @@ pub mod MarkingCalls
 pub mod MarkingLemmas
 pub mod Places
 pub mod RecoveryEntries
+pub mod RecoveryForms
 pub mod RecoveryLemmas
 pub mod RecoveryNames
 pub mod RoomLemmas

@@ -24,7 +24,7 @@ use Rattle.job_runs.specs.Bare.{bare, bare_entry, bare_job}
 use Rattle.spool_store.specs.declared.found_job.FoundJob.{FoundJob}
 use Rattle.spool_store.specs.inside.Lifecycles.{fate_at, remembered_at}
 use Rattle.spool_store.specs.inside.FoundJobs.{file_found, files_found}
-use Rattle.spool_store.specs.Stored.{IsEntryBy, IsLiveBy, IsStateBy, IsStored, RunsSince}
+use Rattle.spool_store.specs.Stored.{AreNarrow, IsEntryBy, IsLiveBy, IsStateBy, IsStored, RunsSince}
 use Rattle.spool_store.specs.inside.Tables.{AreUndecided, IsDrawn, IsTableShown}
 use Rattle.spool_store.proofs.FrontLemmas.{at_shown}
 use Rattle.spool_store.proofs.ListLemmas.{number_drawn}
@@ -159,10 +159,10 @@ module _ (last : ℕ) (marks : List Mark) (files : List JobFile) (seen : HasSeen
   under number = at_shown last marks files number ∙ ap (option_map bare_entry) (found_shown number marks files)
 
   -- what was seen is what a store keeps
-  pub is_stored : (table : JobTable) → IsTableShown last marks files table → (free : ℕ) → IsStored (record { table = table; journal = record { marks = marks; free = free } })
+  pub is_stored : (table : JobTable) → IsTableShown last marks files table → (free : ℕ) (narrow : List ℕ) → AreNarrow narrow → IsStored (record { table = table; journal = record { marks = marks; free = free }; narrow = narrow })
   unfolding bare
-  is_stored table shown free = subst (λ one. IsStored (record { table = one; journal = record { marks = marks; free = free } })) (sym shown.1) stored where
-    stored : IsStored (record { table = bare (table_shown last marks files); journal = record { marks = marks; free = free } })
+  is_stored table shown free narrow are_narrow = subst (λ one. IsStored (record { table = one; journal = record { marks = marks; free = free }; narrow = narrow })) (sym shown.1) stored where
+    stored : IsStored (record { table = bare (table_shown last marks files); journal = record { marks = marks; free = free }; narrow = narrow })
     stored = record {
       sound = record {
         few = seen.few;
@@ -173,4 +173,5 @@ module _ (last : ℕ) (marks : List Mark) (files : List JobFile) (seen : HasSeen
       drawn = seen.drawn;
       entries = λ number. subst (IsEntryBy marks number) (sym (under number)) (entry_by number (file_of number files) (remembered_at number marks) refl refl);
       batch = last_batch_in_range marks seen.writable;
+      narrow = are_narrow;
     }

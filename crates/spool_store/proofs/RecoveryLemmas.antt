@@ -22,19 +22,21 @@ use Rattle.spool_shows.specs.ByName.{ShowsByName}
 use Rattle.spool_shows.specs.Laws.{HasMarks}
 use Rattle.spool_shows.specs.Shown.{shown_by}
 use Rattle.spool_shows.proofs.ByNameReads.{last_read}
-use Rattle.spool_shows.proofs.OneMark.{had_same}
+use Rattle.spool_shows.proofs.NarrowLemmas.{narrow_tables_are_shown}
+use Rattle.spool_shows.proofs.OneMark.{had_same, ok_same}
 use Rattle.spool_shows.proofs.OtherLemmas.{other_files_count_for_nothing}
 use Rattle.spool_shows.proofs.StepLaws.{by_name}
 use Rattle.job_runs.specs.Calls.{ShowsAsBefore}
-use Rattle.job_runs.specs.Current.{IsCurrent, IsSpoolName, Kept}
+use Rattle.job_runs.specs.Current.{HaveForms, IsCurrent, IsSpoolName, Kept}
 use Rattle.spool_store.specs.declared.fault.StoreFault.{StoreFault}
 use Rattle.spool_store.specs.declared.fault.StoreFault.TheVariants.{Damaged, FileFault, Memory, NumbersUsedUp, QueueFull}
 use Rattle.spool_store.specs.declared.survey.Survey.{Survey}
 use Rattle.host_calls.specs.Damages.{IfDamaged}
 use Rattle.spool_store.specs.Faults.{IsOfReading, fault_of}
 use Rattle.spool_store.specs.inside.Survey.{IsSurvey, is_left_over}
-use Rattle.spool_store.specs.Recovering.{IsRecovered, Recovered, ShowsTheSame}
+use Rattle.spool_store.specs.Recovering.{IsRecovered, Recovered, ShowsAsBeforeWideNames, ShowsTheSame}
 use Rattle.whole_file.proofs.ChangesJoined.{changes_join}
+use Rattle.spool_store.proofs.RecoveryForms.{forms_found}
 use Rattle.spool_store.proofs.RecoveryNames.{are_files, counting_stays, decided_left, journal_stays, left_among, left_is_spool, left_there, sequence_stays, stays_apart, temporary_left}
 
 -- Settling.
@@ -64,6 +66,13 @@ settling_reads old new (Err host.Memory) call = ap reading call.outcome
 
 settling_shows : {T : Type 0} (old new : World) (result : Result T HostFault) → FileCall IsSettled IsSyncedInPart old new result → ShowsTheSame old.now.folder new.now.folder
 settling_shows old new result call = ap shown_by (settling_reads old new result call)
+
+-- What a folder showed by the narrow form alone.
+
+-- what is kept is current with it
+pub narrow_recovered : (old new : Folder) (kept : Kept) → IsRecovered old new kept → ShowsAsBeforeWideNames old new kept
+narrow_recovered old new kept recovered = λ table none shown.
+    subst (IsCurrent kept new) (ok_same (shown_by (reading_of old)) recovered.shown (narrow_tables_are_shown (reading_of old) table none shown)) recovered.current
 
 -- The look at the settled folder.
 
@@ -229,8 +238,13 @@ module _ (old looked : World) (look : Survey) (at : HasSettled old looked look) 
     same_in_each : (name : List ℕ) → is_left_over marks name ≡ false → (image : Files) → IsImage new.now.folder image → finite.get image name ≡ finite.get (reading_of new.now.folder) name
     same_in_each name over image is = stays image (end_left image is) name over ∙ sym (end_reads name over)
 
+    -- the name of each file that is left has the form that was found
+    forms : HaveForms look.narrow.items at.found.table.last (reading_of new.now.folder)
+    forms = forms_found files look at.found (reading_of new.now.folder)
+        (λ name over. end_reads name over) (λ name over. gone name over (reading_of new.now.folder) (reading_is_image new.now.folder))
+
     -- so what is kept is current
-    current : IsCurrent (record { table = look.jobs; journal = look.journal }) new.now.folder at.found.table
+    current : IsCurrent (record { table = look.jobs; journal = look.journal; narrow = look.narrow.items }) new.now.folder at.found.table
     current = record {
       shows = λ image is. shows_same image (end_left image is) ∙ at.found.shows;
       bare_is = at.found.jobs;
@@ -242,10 +256,11 @@ module _ (old looked : World) (look : Survey) (at : HasSettled old looked look) 
       };
       sequence = same_in_each sequence_file (sequence_stays marks);
       decided = λ name job named decided. gone name (decided_left marks name job named decided) (reading_of new.now.folder) (reading_is_image new.now.folder);
+      forms = forms;
     }
 
     -- and the folder is recovered
-    pub recovered : IsRecovered old.now.folder new.now.folder (record { table = look.jobs; journal = look.journal })
+    pub recovered : IsRecovered old.now.folder new.now.folder (record { table = look.jobs; journal = look.journal; narrow = look.narrow.items })
     recovered = record {
       table = at.found.table;
       shown = at.found.shows;

@@ -25,8 +25,9 @@ use Rattle.host_calls.specs.Damages.{IfDamaged}
 use Rattle.spool_store.specs.Faults.{IsFound, fault_of_journal, fault_of_sequence}
 use Rattle.std.specs.List.{filter}
 use Rattle.spool_store.specs.inside.Survey.{AreFindings, IsSurvey, is_left_over}
-use Rattle.spool_store.specs.inside.FoundJobs.{files_found}
+use Rattle.spool_store.specs.inside.FoundJobs.{files_found, narrow_numbers}
 use Rattle.spool_store.specs.inside.Tables.{IsTableShown}
+use Rattle.spool_store.proofs.RecoveryForms.{narrow_same}
 use Rattle.spool_store.proofs.FrontLemmas.{cut, damage_of_jobs_same, files_cut, table_same}
 
 -- Answers that are a damage.
@@ -83,11 +84,13 @@ module _ (files : Files) (last : ℕ) (journal : JournalRead) (findings : Findin
   pub jobs_damage : (damage : Damage) → damage_of_jobs last marks (files_found slice) ≡ Some damage → shown_by files ≡ Err damage
   jobs_damage damage is = shown_of ∙ ap (table_or_damage last journal.marks (job_files journal.marks (entries files))) (sym damage_is ∙ is)
 
-  pub is_survey : (look : Survey) → look.journal ≡ journal → look.leftover.items ≡ findings.leftover.items → IsTableShown last marks (files_found slice) look.jobs → IsSurvey files look
-  is_survey look journal_same left shown = record {
+  pub is_survey : (look : Survey) → look.journal ≡ journal → look.narrow.items ≡ narrow_numbers (files_found slice) → look.leftover.items ≡ findings.leftover.items → IsTableShown last marks (files_found slice) look.jobs → IsSurvey files look
+  is_survey look journal_same narrow left shown = record {
     table = table_shown last journal.marks (job_files journal.marks (entries files));
     shows = shown_of ∙ ap (table_or_damage last journal.marks (job_files journal.marks (entries files))) (sym damage_is ∙ shown.0);
     jobs = shown.1 ∙ (λ i. bare (table_shown last (marks_is i) (seen_is i))) ∙ table_same last journal.marks (job_files journal.marks (entries files));
     journal = read ∙ ap Ok (sym journal_same);
+    narrow = narrow ∙ ap narrow_numbers seen_is ∙ narrow_same cut (λ file. refl) (job_files journal.marks (entries files))
+        ∙ ap (λ (one : JournalRead). narrow_numbers (job_files one.marks (entries files))) (sym journal_same);
     leftover = left ∙ are.leftover ∙ ap (λ (one : JournalRead). filter (is_left_over one.marks) (finite.keys files)) (sym journal_same);
   }

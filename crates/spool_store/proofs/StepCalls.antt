@@ -1,7 +1,7 @@
 -- What a call of the store leaves that makes one step by its mark.
 use Rattle.std.proofs.Common.{◌≡◌, ℕ, true, false, List, [], ◌∷◌, sym, ap, subst, ◌∙◌, refl, inl, inr, Result, Ok, Err}
 use Rattle.std.specs.Prelude.{Option, Some, None, IfSome, IsErr, option_map}
-use Rattle.host_calls.specs.Folder.{Folder}
+use Rattle.host_calls.specs.Folder.{Folder, reading_of}
 use Rattle.host_calls.specs.World.{World}
 use Rattle.job_name.specs.JobName.{SpellsJobName}
 use Rattle.spool_model.specs.declared.entry.Entry.TheVariants.{Live, Done}
@@ -18,16 +18,17 @@ use Rattle.start_journal.specs.Marks.{AreLegal, decides, is_ended, is_started}
 use Rattle.whole_file.specs.Others.{ChangesFiles}
 use Rattle.job_runs.specs.Bare.{bare, bare_entry, bare_job, bare_step}
 use Rattle.job_runs.specs.Calls.{IsSteppingOn, KeepsOthers, StoreCall}
-use Rattle.job_runs.specs.Current.{IsCurrent, Kept}
+use Rattle.job_runs.specs.Current.{HaveForms, IsCurrent, Kept, is_wide}
 use Rattle.job_runs.proofs.BareLemmas.{entries_are_bare, legal_as_on_the_table, steps_as_on_the_table}
 use Rattle.spool_shows.specs.Laws.{AddsMark}
 use Rattle.spool_store.specs.declared.fault.StoreFault.{StoreFault}
 use Rattle.spool_store.specs.inside.Marking.{HaveOneMore, IsDecisionOf, IsMarkOf, IsMarked, KeepsFiles, kept_with}
 use Rattle.spool_store.specs.Scripts.{IsFileOf}
 use Rattle.spool_store.specs.Stored.{IsStored}
-use Rattle.spool_store.proofs.DecideLemmas.{decided_before_or_by_it}
+use Rattle.spool_store.proofs.DecideLemmas.{decided_before_or_by_it, still_drawn}
 use Rattle.spool_store.proofs.MarkingCalls.{journal_is_spool}
-use Rattle.spool_store.proofs.StoredSteps.{IsStartInRange, running_unended, stored, stored_with}
+use Rattle.spool_store.proofs.RoomLemmas.{forms_still}
+use Rattle.spool_store.proofs.StoredSteps.{IsStartInRange, none_narrow, running_unended, stored, stored_with}
 
 -- From the table without scripts to the table.
 
@@ -50,14 +51,14 @@ live_on table number job state is = by_entry (entry_at table number) refl where
       record { whole = whole; held = held ∙ ap (λ s. Some (Live whole s)) same_state; same = same_job }
 
 -- the file of a job of the table without scripts is that of the table's job
-file_on : (table : JobTable) (number : ℕ) (name : List ℕ) → IsFileOf (bare table) number name → IsFileOf table number name
-file_on table number name of =
+file_on : (table : JobTable) (narrow : List ℕ) (number : ℕ) (name : List ℕ) → IsFileOf (bare table) narrow number name → IsFileOf table narrow number name
+file_on table narrow number name of =
     let live : IsLiveOn table number of.job of.state = live_on table number of.job of.state of.lives in
     record {
       job = live.whole;
       state = of.state;
       lives = live.held;
-      spelled = subst (λ (job : Job). SpellsJobName name job.queue number job.minute) (sym live.same) of.spelled;
+      spelled = subst (λ (job : Job). SpellsJobName name job.queue number job.minute (is_wide narrow number)) (sym live.same) of.spelled;
     }
 
 -- the mark of a step there is its mark on the table
@@ -90,11 +91,11 @@ current_inside : (inside seen : Kept) (folder : Folder) (table : JobTable) → i
 current_inside inside seen folder table view current = subst (λ (kept : Kept). IsCurrent kept folder table) (sym view) current
 
 -- it is a step on the table too
-pub mark_of_step : (inside seen : Kept) (folder : Folder) (table : JobTable) (step : Step) (mark : Mark) → IsStepOf inside seen step mark → IsCurrent seen folder table → IsMarkOf inside.journal folder table step mark
+pub mark_of_step : (inside seen : Kept) (folder : Folder) (table : JobTable) (step : Step) (mark : Mark) → IsStepOf inside seen step mark → IsCurrent seen folder table → IsMarkOf inside.narrow inside.journal folder table step mark
 mark_of_step inside seen folder table step mark of current =
     let now : IsCurrent inside folder table = current_inside inside seen folder table of.view current in
     record {
-      current = record { shows = now.shows; bare_is = refl; journal = now.journal; sequence = now.sequence; decided = now.decided };
+      current = record { shows = now.shows; bare_is = refl; journal = now.journal; sequence = now.sequence; decided = now.decided; forms = now.forms };
       legal = (legal_as_on_the_table table step).0
           (subst (IsLegal (bare table)) (sym of.bare) (subst (λ t. IsLegal t step) now.bare_is (legal_inside inside seen step mark of)));
       adds = adds_on table step mark (subst (λ t. AddsMark t step mark) now.bare_is of.adds);
@@ -109,32 +110,34 @@ pub record IsDecidingStep (inside seen : Kept) (step : Step) (mark : Mark) (name
   pub step_of : IsStepOf inside seen step mark
   pub number : ℕ
   pub decided : decides number mark ≡ true
-  pub file : IsFileOf seen.table number name
+  pub file : IsFileOf seen.table seen.narrow number name
 
 -- it is a decision on the table too
-pub decision_of_step : (inside seen : Kept) (folder : Folder) (table : JobTable) (step : Step) (mark : Mark) (name : List ℕ) → IsDecidingStep inside seen step mark name → IsCurrent seen folder table → IsDecisionOf inside.journal folder table step mark name
+pub decision_of_step : (inside seen : Kept) (folder : Folder) (table : JobTable) (step : Step) (mark : Mark) (name : List ℕ) → IsDecidingStep inside seen step mark name → IsCurrent seen folder table → IsDecisionOf inside.narrow inside.journal folder table step mark name
 decision_of_step inside seen folder table step mark name of current = record {
   is_mark = mark_of_step inside seen folder table step mark of.step_of current;
   number = of.number;
   decided = of.decided;
-  file = file_on table of.number name (subst (λ t. IsFileOf t of.number name) current.bare_is of.file);
+  file = file_on table inside.narrow of.number name
+      (subst (λ (kept : Kept). IsFileOf (bare table) kept.narrow of.number name) (sym of.step_of.view)
+      (subst (λ t. IsFileOf t seen.narrow of.number name) current.bare_is of.file));
 }
 
 -- what is kept then is as it should be
-pub stored_step : (inside seen : Kept) (jobs : JobTable) (new : JournalRead) (step : Step) (mark : Mark) → IsStepOf inside seen step mark → IsStored inside → AreLegal inside.journal.marks → IsStartInRange step → HaveOneMore inside.journal.marks mark new.marks → jobs ≡ after_step inside.table step → IsStored (record { table = jobs; journal = new })
+pub stored_step : (inside seen : Kept) (jobs : JobTable) (new : JournalRead) (step : Step) (mark : Mark) → IsStepOf inside seen step mark → IsStored inside → AreLegal inside.journal.marks → IsStartInRange step → HaveOneMore inside.journal.marks mark new.marks → jobs ≡ after_step inside.table step → IsStored (record { table = jobs; journal = new; narrow = inside.narrow })
 stored_step inside seen jobs new step mark of is legal range more after =
     let whole : IsStored (stored (after_step inside.table step) new.marks) =
     stored_with inside.table inside.journal.marks new.marks step mark
-    (record { sound = is.sound; drawn = is.drawn; entries = is.entries; batch = is.batch })
+    (record { sound = is.sound; drawn = is.drawn; entries = is.entries; batch = is.batch; narrow = none_narrow })
     legal (legal_inside inside seen step mark of) of.adds range more in
-    subst (λ table. IsStored (record { table = table; journal = new })) (sym after)
-    (record { sound = whole.sound; drawn = whole.drawn; entries = whole.entries; batch = whole.batch })
+    subst (λ table. IsStored (record { table = table; journal = new; narrow = inside.narrow })) (sym after)
+    (record { sound = whole.sound; drawn = whole.drawn; entries = whole.entries; batch = whole.batch; narrow = is.narrow })
 
 -- a mark that ends a running job may follow
 pub running_legal : (inside seen : Kept) (number : ℕ) → inside ≡ seen → IsRunning seen.table number → IsStored inside → (is_started number inside.journal.marks ≡ true) × (is_ended number inside.journal.marks ≡ false)
 running_legal inside seen number view running is =
     let here : IsRunning inside.table number = subst (λ (kept : Kept). IsRunning kept.table number) (sym view) running in
-    running_unended inside.table inside.journal.marks (record { sound = is.sound; drawn = is.drawn; entries = is.entries; batch = is.batch }) number here.0 here.1 here.2
+    running_unended inside.table inside.journal.marks (record { sound = is.sound; drawn = is.drawn; entries = is.entries; batch = is.batch; narrow = none_narrow }) number here.0 here.1 here.2
 
 -- The call.
 
@@ -158,16 +161,20 @@ module _ (inside seen : Kept) (jobs : JobTable) (new : JournalRead) (table : Job
       ∙ ap (after_step (bare table)) (sym made.step_of.bare) ∙ sym (steps_as_on_the_table table step)
 
   -- a call whose journal is current behind the step
-  pub current_call : IsCurrent (kept_with new (after_step table step)) after.now.folder (after_step table step) → KeepsOthers before.now.folder after.now.folder → StoreCall {E = StoreFault} table (step ∷ []) before after (Ok (record { table = jobs; journal = new }))
+  pub current_call : IsCurrent (kept_with inside.narrow new (after_step table step)) after.now.folder (after_step table step) → KeepsOthers before.now.folder after.now.folder → StoreCall {E = StoreFault} table (step ∷ []) before after (Ok (record { table = jobs; journal = new; narrow = inside.narrow }))
   current_call now others = record {
     files = made.files;
-    current = record { shows = now.shows; bare_is = bare_after; journal = now.journal; sequence = now.sequence; decided = now.decided };
+    current = record { shows = now.shows; bare_is = bare_after; journal = now.journal; sequence = now.sequence; decided = now.decided; forms = now.forms };
     others = others;
   }
 
+  -- names that have the forms that are kept have them behind the step
+  forms_on : HaveForms inside.narrow table.last (reading_of after.now.folder) → HaveForms inside.narrow (after_step table step).last (reading_of after.now.folder)
+  forms_on forms = record { each = forms.each; drawn = λ number is. still_drawn table step number (forms.drawn number is) }
+
   -- a mark that decides nothing leaves no file of a decided number
-  marked_current : AreLegal inside.journal.marks → HaveOneMore inside.journal.marks mark new.marks → ((number : ℕ) → decides number mark ≡ false) → IsMarked inside.journal.marks new after.now.folder (after_step table step) → IsCurrent (kept_with new (after_step table step)) after.now.folder (after_step table step)
-  marked_current legal more silent marked = record {
+  marked_current : AreLegal inside.journal.marks → HaveOneMore inside.journal.marks mark new.marks → ((number : ℕ) → decides number mark ≡ false) → IsMarked inside.journal.marks new after.now.folder (after_step table step) → KeepsFiles before.now.folder after.now.folder → IsCurrent (kept_with inside.narrow new (after_step table step)) after.now.folder (after_step table step)
+  marked_current legal more silent marked keeps = record {
     shows = marked.shows;
     bare_is = refl;
     journal = marked.holds;
@@ -176,9 +183,11 @@ module _ (inside seen : Kept) (jobs : JobTable) (new : JournalRead) (table : Job
       | inl old ↦ marked.decided name job named old
       | inr now ↦ let impossible : true ≡ false = sym now ∙ silent job.number in cc
     ];
+    forms = forms_on (forms_still inside.narrow table.last before.now.folder after.now.folder keeps
+        (current_inside inside seen before.now.folder table made.step_of.view made.current).forms);
   }
 
   -- so a call of such a mark is current behind it too
-  pub marked_call : AreLegal inside.journal.marks → HaveOneMore inside.journal.marks mark new.marks → ((number : ℕ) → decides number mark ≡ false) → IsMarked inside.journal.marks new after.now.folder (after_step table step) → KeepsFiles before.now.folder after.now.folder → StoreCall {E = StoreFault} table (step ∷ []) before after (Ok (record { table = jobs; journal = new }))
+  pub marked_call : AreLegal inside.journal.marks → HaveOneMore inside.journal.marks mark new.marks → ((number : ℕ) → decides number mark ≡ false) → IsMarked inside.journal.marks new after.now.folder (after_step table step) → KeepsFiles before.now.folder after.now.folder → StoreCall {E = StoreFault} table (step ∷ []) before after (Ok (record { table = jobs; journal = new; narrow = inside.narrow }))
   marked_call legal more silent marked keeps =
-      current_call (marked_current legal more silent marked) (λ name other. keeps name (λ either. other (journal_is_spool name either)))
+      current_call (marked_current legal more silent marked keeps) (λ name other. keeps name (λ either. other (journal_is_spool name either)))

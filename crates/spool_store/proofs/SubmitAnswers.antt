@@ -59,7 +59,7 @@ call_done table steps old new kept after same call = record {
   others = call.others;
 }
 
-module _ (kept : Kept) (jobs : JobTable) (journal : JournalRead) (view : ◌≡◌ {A = Kept} (record { table = jobs; journal = journal }) kept) where
+module _ (kept : Kept) (jobs : JobTable) (journal : JournalRead) (narrow : List ℕ) (view : ◌≡◌ {A = Kept} (record { table = jobs; journal = journal; narrow = narrow }) kept) where
   jobs_are : jobs ≡ kept.table
   jobs_are = ap (λ (at : Kept). at.table) view
 
@@ -70,7 +70,7 @@ module _ (kept : Kept) (jobs : JobTable) (journal : JournalRead) (view : ◌≡�
   room : (rows : List Row) → ListsLive jobs rows → length rows < MAX_LIVE → live_count kept.table < MAX_LIVE
   room rows lists few = subst (λ table. live_count table < MAX_LIVE) jobs_are (subst (λ count. count < MAX_LIVE) (rows_counted jobs rows lists) few)
 
-  pub no_number : IsStored (record { table = jobs; journal = journal }) → (rows : List Row) (last : ℕ) → ListsLive jobs rows → length rows < MAX_LIVE → last ≡ jobs.last → LAST_NUMBER ≤ last → IsUsedUp kept.table
+  pub no_number : IsStored (record { table = jobs; journal = journal; narrow = narrow }) → (rows : List Row) (last : ℕ) → ListsLive jobs rows → length rows < MAX_LIVE → last ≡ jobs.last → LAST_NUMBER ≤ last → IsUsedUp kept.table
   no_number stored rows last lists few is greatest =
       let most : jobs.last ≤ LAST_NUMBER = stored.sound.few in
       let all : jobs.last ≡ LAST_NUMBER = omega arith in
@@ -85,7 +85,7 @@ module _ (kept : Kept) (jobs : JobTable) (journal : JournalRead) (view : ◌≡�
       }
 
   -- the next number, of the table of the folder
-  pub is_next : IsStored (record { table = jobs; journal = journal }) → (folder : Folder) (table : JobTable) (number : ℕ) → IsNextNumber kept.table number → IsCurrent kept folder table → IsNextOn kept folder table number
+  pub is_next : IsStored (record { table = jobs; journal = journal; narrow = narrow }) → (folder : Folder) (table : JobTable) (number : ℕ) → IsNextNumber kept.table number → IsCurrent kept folder table → IsNextOn kept folder table number
   is_next stored folder table number next current = record {
     stored = subst IsStored view stored;
     current = current;
@@ -99,5 +99,5 @@ module _ (kept : Kept) (jobs : JobTable) (journal : JournalRead) (view : ◌≡�
       ∙ ap (λ at. after_step at (Accept number (record { queue = queue; minute = minute; user = header.user; script = [] }))) drawn_is
       ∙ (λ i. after_step (after_step (jobs_are i) Draw) (Accept (next.next i) (record { queue = queue; minute = minute; user = sym (header_user script found header read is) i; script = [] })))
 
-  pub submitted_kept : (after : JobTable) (job : Job) → after ≡ after_steps kept.table (submission kept.table (bare_job job)) → ◌≡◌ {A = Kept} (record { table = after; journal = journal }) (with_job kept job)
-  submitted_kept after job is = λ i. record { table = is i; journal = (view i).journal }
+  pub submitted_kept : (after : JobTable) (job : Job) → after ≡ after_steps kept.table (submission kept.table (bare_job job)) → ◌≡◌ {A = Kept} (record { table = after; journal = journal; narrow = narrow }) (with_job kept job)
+  submitted_kept after job is = λ i. record { table = is i; journal = (view i).journal; narrow = (view i).narrow }

@@ -4,7 +4,8 @@ use Rattle.std.specs.Prelude.{Option, Some, None, IsSome, OnOk, Result, Ok, Err}
 use Rattle.std.specs.Result.{IsErr}
 use Rattle.std.specs.FinMap as finite
 use Rattle.host_calls.specs.declared.fault.HostFault.{HostFault}
-use Rattle.host_calls.specs.Folder.{Files, IsImage}
+use Rattle.host_calls.specs.Folder.{Files, Folder, IsImage, reading_of}
+use Rattle.host_calls.proofs.FolderLemmas.{reading_is_image}
 use Rattle.host_calls.specs.World.{World}
 use Rattle.job_name.specs.JobName.{SpellsJobName}
 use Rattle.job_script.specs.HeaderIn.{header_in}
@@ -20,7 +21,7 @@ use Rattle.sequence_file.proofs.LastNumbers.{last_given}
 use Rattle.job_name.proofs.NamedJobs.{name_given}
 use Rattle.job_runs.specs.Calls.{IsSteppingOn, StoreCall}
 use Rattle.job_runs.specs.Current.{EachShows, Kept}
-use Rattle.spool_store.specs.Submitting.{IsNextOn, job_of_script, submission, with_job_if}
+use Rattle.spool_store.specs.Submitting.{HasWideFile, IsNextOn, job_of_script, submission, with_job_if}
 use Rattle.whole_file.proofs.ChangesJoined.{changes_end, changes_on, changes_weaker, left_alone}
 use Rattle.spool_store.proofs.DrawnFolders.{IsAfterDraw, IsFileOfNext, drawing_steps, each_gives, placing_steps}
 use Rattle.spool_store.proofs.SubmittedFolders.{IsSubmitted, keeps_others, submitted_current}
@@ -36,7 +37,7 @@ drawn_images table old middle shows changes drawn image is =
       from = drawing.alone.from;
       was = drawing.alone.was;
       drawn = record {
-        number = last_given (finite.get image sequence_file) (table.last + 1) (subst (λ content. GivesNumber content (table.last + 1)) (sym (drawn.placed.placed image is)) drawn.spelled);
+        number = last_given (finite.get image sequence_file) (table.last + 1) (subst (λ content. GivesNumber content (table.last + 1)) (sym (drawn.placed.placed image is)) (true, drawn.spelled));
         others = drawing.alone.others;
       };
     }
@@ -51,6 +52,11 @@ placing_images name script middle new changes =
 header_of : (found : Option (List ℕ × Bool)) → IsSome found → (mail : Bool) × (found ≡ Some (user_of found, mail))
 header_of None some = let impossible : false ≡ true = some in cc
 header_of (Some header) some = (header.1, refl)
+
+-- a script that was placed under a wide name is in the file of that name
+pub placed_wide : (name script : List ℕ) (queue minute number : ℕ) (temp : List ℕ) (middle new : Folder) (result : Result (Unit {0}) HostFault) → SpellsJobName name queue number minute true → OnOk result (IsPlaced temp name script middle new) → OnOk result (HasWideFile new queue minute script number)
+placed_wide name script queue minute number temp middle new (Ok done) spelled placed = record { name = name; spelled = spelled; held = placed.placed (reading_of new) (reading_is_image new) }
+placed_wide name script queue minute number temp middle new (Err fault) spelled placed = tt
 
 module _ (kept : Kept) (table : JobTable) (queue number minute : ℕ) (script : List ℕ) (old : World) (next : IsNextOn kept old.now.folder table number) where
   last_is : number - 1 ≡ table.last
@@ -72,17 +78,17 @@ module _ (kept : Kept) (table : JobTable) (queue number minute : ℕ) (script : 
   }
 
   -- the file that is placed behind a draw is that of the job
-  file_of_next : (name : List ℕ) → SpellsJobName name queue number minute → IsSome (header_in script) → IsFileOfNext table (job_of_script queue minute script) name
+  file_of_next : (name : List ℕ) → SpellsJobName name queue number minute true → IsSome (header_in script) → IsFileOfNext table (job_of_script queue minute script) name
   file_of_next name spelled header =
       let mail : (mail : Bool) × (header_in script ≡ Some (user_of (header_in script), mail)) = header_of (header_in script) header in
       record {
-        named = name_given name queue number minute spelled ∙ ap (λ at. Some (record { queue = queue; number = at; minute = minute })) next.number_is;
+        named = name_given name queue number minute true spelled ∙ ap (λ at. Some (record { queue = queue; number = at; minute = minute; wide = true })) next.number_is;
         mail = mail.0;
         header = mail.1;
       }
 
   -- a placing behind a draw
-  pub placing_done : (name : List ℕ) (middle new : World) (result : Result (Unit {0}) HostFault) → SpellsJobName name queue number minute → IsSome (header_in script) → ChangesFiles (IsDrawing (number - 1) old.now.folder) old middle → IsDrawn (number - 1 + 1) old.now.folder middle.now.folder → ChangesFiles (IsPlacing temporary_file name script middle.now.folder) middle new → OnOk result (IsPlaced temporary_file name script middle.now.folder new.now.folder) → StoreCall table (submission table (job_of_script queue minute script)) old new (with_job_if kept (job_of_script queue minute script) result)
+  pub placing_done : (name : List ℕ) (middle new : World) (result : Result (Unit {0}) HostFault) → SpellsJobName name queue number minute true → IsSome (header_in script) → ChangesFiles (IsDrawing (number - 1) old.now.folder) old middle → IsDrawn (number - 1 + 1) old.now.folder middle.now.folder → ChangesFiles (IsPlacing temporary_file name script middle.now.folder) middle new → OnOk result (IsPlaced temporary_file name script middle.now.folder new.now.folder) → StoreCall table (submission table (job_of_script queue minute script)) old new (with_job_if kept (job_of_script queue minute script) result)
   placing_done name middle new result spelled header draws drawn_at places placed = by_result result placed where
     job : Job
     job = job_of_script queue minute script

@@ -56,6 +56,7 @@ submitted_stored kept job stored more named = record {
   drawn = marks_drawn table.last marks stored.drawn;
   entries = by_number;
   batch = stored.batch;
+  narrow = stored.narrow;
 } where
   table : JobTable
   table = kept.table

@@ -1,5 +1,5 @@
 -- The folder once a number is drawn and the file of its job is placed.
-use Rattle.std.proofs.Common.{◌≡◌, ◌+◌, ℕ, true, false, List, sym, ap, subst, ◌∙◌, refl, inl, inr, arith}
+use Rattle.std.proofs.Common.{◌≡◌, ◌+◌, ◌≤◌, ℕ, Bool, true, false, List, sym, ap, subst, ◌∙◌, refl, inl, inr, arith}
 use Rattle.std.specs.Prelude.{Some, None, IsSome}
 use Rattle.std.specs.FinMap as finite
 use Rattle.host_calls.specs.Folder.{Files, Folder, IsImage, reading_of}
@@ -22,7 +22,7 @@ use Rattle.spool_shows.proofs.NameLemmas.{differ_by, job_name_apart, job_name_di
 use Rattle.spool_shows.proofs.StepLaws.{accepts_are_shown}
 use Rattle.job_runs.specs.Bare.{bare, bare_job}
 use Rattle.job_runs.specs.Calls.{KeepsOthers}
-use Rattle.job_runs.specs.Current.{EachShows, IsCurrent, Kept}
+use Rattle.job_runs.specs.Current.{EachShows, HaveForms, IsCurrent, Kept, is_wide}
 use Rattle.job_runs.proofs.BareLemmas.{steps_as_on_the_table}
 use Rattle.spool_store.specs.Submitting.{IsNextOn, submission, with_job}
 use Rattle.spool_store.proofs.DrawnFolders.{IsAfterDraw, IsFileOfNext, accepted, not_either, sequence_differs}
@@ -85,10 +85,33 @@ module _ (kept : Kept) (table : JobTable) (job : Job) (name : List ℕ) (file : 
   ] where
     not_new : ¬ (other ≡ name)
     not_new same =
-        let both : Some named ≡ Some (record { queue = job.queue; number = table.last + 1; minute = job.minute }) = sym of ∙ ap job_named same ∙ file.named in
+        let both : Some named ≡ Some (record { queue = job.queue; number = table.last + 1; minute = job.minute; wide = true }) = sym of ∙ ap job_named same ∙ file.named in
         let number_is : named.number ≡ table.last + 1 = cc in
         let impossible : true ≡ false = sym decided ∙ ap (λ n. is_decided n kept.journal.marks) number_is ∙ undecided in
         cc
+
+  -- the new number has no narrow name, since it was not drawn before
+  new_is_wide : is_wide kept.narrow (table.last + 1) ≡ true
+  new_is_wide = by_form (is_wide kept.narrow (table.last + 1)) refl where
+    by_form : (wide : Bool) → is_wide kept.narrow (table.last + 1) ≡ wide → is_wide kept.narrow (table.last + 1) ≡ true
+    by_form true form = form
+    by_form false form = absurd (omega (arith, next.current.forms.drawn (table.last + 1) form))
+
+  -- and no other name has come
+  forms : HaveForms kept.narrow (after_steps table (submission table job)).last (reading_of new)
+  forms = record {
+    each = λ other named of there. elim (one_or_other other name) [
+      | inl same ↦
+          let both : Some named ≡ Some (record { queue = job.queue; number = table.last + 1; minute = job.minute; wide = true }) = sym of ∙ ap job_named same ∙ file.named in
+          let number_is : named.number ≡ table.last + 1 = cc in
+          let wide_is : named.wide ≡ true = cc in
+          wide_is ∙ sym (ap (is_wide kept.narrow) number_is ∙ new_is_wide)
+      | inr differs ↦ next.current.forms.each other named of (subst IsSome
+          (is.placed.others other (neither temporary_file name other (job_name_differs other temporary_file named of temporary_no_job) differs)
+          ∙ is.drawn.placed.others other (job_name_apart temporary_file sequence_file other named temporary_no_job sequence_no_job of)) there)
+    ];
+    drawn = λ number form. let before : number ≤ table.last = next.current.forms.drawn number form in omega arith;
+  }
 
   pub submitted_current : IsCurrent (with_job kept job) new (after_steps table (submission table job))
   submitted_current = record {
@@ -102,6 +125,7 @@ module _ (kept : Kept) (table : JobTable) (job : Job) (name : List ℕ) (file : 
     };
     sequence = λ image of. sequence_is image of ∙ sym (sequence_is (reading_of new) (reading_is_image new));
     decided = none_decided;
+    forms = forms;
   }
 
   pub keeps_others : KeepsOthers old new

@@ -10,7 +10,7 @@ ghost use Rattle.start_journal.specs.declared.mark.Mark.{Mark};
 ghost use Rattle.job_script.specs.declared.headers.TheConstants.{MAX_HEADER};
 ghost use Rattle.spool_store.specs.inside.Lifecycles.{TellLifecycles};
 ghost use Rattle.spool_store.specs.inside.Survey.{AreFindings, IsKind, is_left_over};
-ghost use Rattle.spool_store.specs.inside.FoundJobs.{files_found};
+ghost use Rattle.spool_store.specs.inside.FoundJobs.{files_found, narrow_numbers};
 ghost use Rattle.spool_store.specs.inside.Tables.{AreUndecided};
 
 use crate::found_job::FoundJob;
@@ -115,6 +115,19 @@ fn find_file<H: Host>(
         Kind::Other => {}
     }
     Ok(())
+}
+
+// The numbers of the files that have narrow names.
+pub(crate) fn narrow_numbers(alloc: Global, seen: &[FoundJob]) -> Result<Vec<u32>, AllocError>
+    ensures { IfOk result (λ numbers. numbers.items ≡ narrow_numbers (files_found seen.now)) }
+{
+    let mut numbers = Vec::new(alloc);
+    for file in seen {
+        if !file.job.wide {
+            numbers.push(file.job.number)?;
+        }
+    }
+    Ok(numbers)
 }
 
 fn kind_of(lives: &Lifecycles, name: Name) -> Kind

@@ -1,5 +1,5 @@
 //! One mark more in the journal, and the file of a job that it decides.
-ghost use Rattle.std.specs.Prelude.{◌≡◌, ◌≤◌, [], ◌∷◌, true, false, IfOk, IsTrue, OnOk};
+ghost use Rattle.std.specs.Prelude.{◌≡◌, ◌≤◌, [], ◌∷◌, ℕ, List, true, false, IfOk, IsTrue, OnOk};
 ghost use Rattle.host_calls.specs.Session.{CallsInside, IsInside};
 ghost use Rattle.spool_model.specs.declared.step.Step.{Step};
 ghost use Rattle.spool_model.specs.JobTable.{JobTable};
@@ -27,19 +27,19 @@ pub(crate) fn add_mark<H: Host>(
     requires inside { IsInside (H.session host.old) }
     requires writable { IsWritable mark }
     requires legal { IsLegalAfter journal.marks mark }
-    requires current { IsTrue H.tells → (table : JobTable) × (step : Step)
-        × IsMarkOf journal (H.world host.old).now.folder table step mark }
+    requires current { IsTrue H.tells → (narrow : List ℕ) × (table : JobTable)
+        × (step : Step) × IsMarkOf narrow journal (H.world host.old).now.folder table step mark }
     ensures inside { CallsInside HostFault.Failed (H.session host.old) (H.session host.new) result }
     ensures legal { AreLegal journal.marks }
     ensures marks { IfOk result (λ new. HaveOneMore journal.marks mark new.marks) }
     ensures free { needs_room journal ≡ false → IfOk result (λ new. new ≡ added journal mark) }
     ensures compacted { needs_room journal ≡ true → IfOk result (λ new. new ≡ added (compacted journal) mark) }
-    ensures files { IsTrue H.tells → (table : JobTable) (step : Step)
-        → IsMarkOf journal (H.world host.old).now.folder table step mark
+    ensures files { IsTrue H.tells → (narrow : List ℕ) (table : JobTable) (step : Step)
+        → IsMarkOf narrow journal (H.world host.old).now.folder table step mark
         → ChangesFiles (IsSteppingOn table (step ∷ []) (H.world host.old).now.folder)
         (H.world host.old) (H.world host.new) }
-    ensures marked { IsTrue H.tells → (table : JobTable) (step : Step)
-        → IsMarkOf journal (H.world host.old).now.folder table step mark
+    ensures marked { IsTrue H.tells → (narrow : List ℕ) (table : JobTable) (step : Step)
+        → IsMarkOf narrow journal (H.world host.old).now.folder table step mark
         → IfOk result (λ new. IsMarked journal.marks new (H.world host.new).now.folder (after_step table step)) }
     ensures others { IsTrue H.tells
         → OnOk result (KeepsFiles (H.world host.old).now.folder (H.world host.new).now.folder) }
@@ -61,8 +61,8 @@ fn needs_room(alloc: Global, journal: &Journal) -> Result<bool, AllocError>
 // A journal with a free slot, of which what counts is not less than half.
 fn make_room<H: Host>(alloc: Global, host: &mut H, journal: Journal) -> Result<Journal, HostFault>
     requires inside { IsInside (H.session host.old) }
-    requires current { IsTrue H.tells → (table : JobTable)
-        × IsCurrent (kept_with journal table) (H.world host.old).now.folder table }
+    requires current { IsTrue H.tells → (narrow : List ℕ) × (table : JobTable)
+        × IsCurrent (kept_with narrow journal table) (H.world host.old).now.folder table }
     ensures inside { CallsInside HostFault.Failed (H.session host.old) (H.session host.new) result }
     ensures room { IfOk result (λ new. 1 ≤ new.free) }
     ensures free { needs_room journal ≡ false → IfOk result (λ new. new ≡ journal) }
@@ -70,12 +70,12 @@ fn make_room<H: Host>(alloc: Global, host: &mut H, journal: Journal) -> Result<J
     ensures compacted { needs_room journal ≡ true → IfOk result (λ new. new ≡ compacted journal) }
     ensures legal { AreLegal journal.marks }
     ensures marks { IfOk result (λ new. AreSameOrKept journal.marks new.marks) }
-    ensures files { IsTrue H.tells → (table : JobTable)
-        → IsCurrent (kept_with journal table) (H.world host.old).now.folder table
+    ensures files { IsTrue H.tells → (narrow : List ℕ) (table : JobTable)
+        → IsCurrent (kept_with narrow journal table) (H.world host.old).now.folder table
         → ChangesFiles (IsSteppingOn table [] (H.world host.old).now.folder) (H.world host.old) (H.world host.new) }
-    ensures current { IsTrue H.tells → (table : JobTable)
-        → IsCurrent (kept_with journal table) (H.world host.old).now.folder table
-        → IfOk result (λ new. IsCurrent (kept_with new table) (H.world host.new).now.folder table) }
+    ensures current { IsTrue H.tells → (narrow : List ℕ) (table : JobTable)
+        → IsCurrent (kept_with narrow journal table) (H.world host.old).now.folder table
+        → IfOk result (λ new. IsCurrent (kept_with narrow new table) (H.world host.new).now.folder table) }
     ensures others { IsTrue H.tells
         → OnOk result (KeepsFiles (H.world host.old).now.folder (H.world host.new).now.folder) }
 {
@@ -98,21 +98,21 @@ pub(crate) fn decide<H: Host>(
     requires inside { IsInside (H.session host.old) }
     requires writable { IsWritable mark }
     requires legal { IsLegalAfter journal.marks mark }
-    requires current { IsTrue H.tells → (table : JobTable) × (step : Step)
-        × IsDecisionOf journal (H.world host.old).now.folder table step mark file.now }
+    requires current { IsTrue H.tells → (narrow : List ℕ) × (table : JobTable)
+        × (step : Step) × IsDecisionOf narrow journal (H.world host.old).now.folder table step mark file.now }
     ensures inside { CallsInside HostFault.Failed (H.session host.old) (H.session host.new) result }
     ensures legal { AreLegal journal.marks }
     ensures marks { IfOk result (λ new. HaveOneMore journal.marks mark new.marks) }
-    ensures files { IsTrue H.tells → (table : JobTable) (step : Step)
-        → IsDecisionOf journal (H.world host.old).now.folder table step mark file.now
+    ensures files { IsTrue H.tells → (narrow : List ℕ) (table : JobTable) (step : Step)
+        → IsDecisionOf narrow journal (H.world host.old).now.folder table step mark file.now
         → ChangesFiles (IsSteppingOn table (step ∷ []) (H.world host.old).now.folder)
         (H.world host.old) (H.world host.new) }
-    ensures current { IsTrue H.tells → (table : JobTable) (step : Step)
-        → IsDecisionOf journal (H.world host.old).now.folder table step mark file.now
-        → IfOk result (λ new. IsCurrent (kept_with new (after_step table step))
+    ensures current { IsTrue H.tells → (narrow : List ℕ) (table : JobTable) (step : Step)
+        → IsDecisionOf narrow journal (H.world host.old).now.folder table step mark file.now
+        → IfOk result (λ new. IsCurrent (kept_with narrow new (after_step table step))
         (H.world host.new).now.folder (after_step table step)) }
-    ensures others { IsTrue H.tells → (table : JobTable) (step : Step)
-        → IsDecisionOf journal (H.world host.old).now.folder table step mark file.now
+    ensures others { IsTrue H.tells → (narrow : List ℕ) (table : JobTable) (step : Step)
+        → IsDecisionOf narrow journal (H.world host.old).now.folder table step mark file.now
         → OnOk result (KeepsOthers (H.world host.old).now.folder (H.world host.new).now.folder) }
 {
     let journal = add_mark(alloc, host, journal, mark)?;

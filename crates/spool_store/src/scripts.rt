@@ -15,7 +15,7 @@ use std::alloc::Global;
 impl Store {
     /// The name of the live job's file, which holds its script. None where no live job has the number.
     pub fn file(&self, number: u32) -> Option<Name>
-        ensures found { IfSome result (IsFileOf self.now.table number) }
+        ensures found { IfSome result (IsFileOf self.now.table self.now.narrow number) }
         ensures absent { IfNone result (IsLive self.now.table number → ⊥) }
         ensures holds { (folder : Folder) (table : JobTable) → IsCurrent self.now folder table
             → IfSome result (HoldsScript table folder number) }
@@ -25,6 +25,7 @@ impl Store {
             queue: row.queue,
             number,
             minute: row.minute,
+            wide: !self.narrow.contains(&number),
         };
         Some(job.name())
     }

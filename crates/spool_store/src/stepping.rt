@@ -22,10 +22,18 @@ impl Store {
             (H.world host.old) (H.world host.new) self (Remove number) result }
     {
         let file = self.file(number).unwrap();
-        let Store { mut jobs, journal } = self;
+        let Store {
+            mut jobs,
+            journal,
+            narrow,
+        } = self;
         jobs.remove(number)?;
         let journal = decide(alloc, host, journal, Mark::Removed(number), &file)?;
-        Ok(Store { jobs, journal })
+        Ok(Store {
+            jobs,
+            journal,
+            narrow,
+        })
     }
 
     /// Writes that the pending job of this number starts at this second. It hands nothing over: once this has
@@ -43,7 +51,11 @@ impl Store {
             (H.world host.old) (H.world host.new) self (Start number second) result }
     {
         let queue = self.jobs.row(number).unwrap().queue;
-        let Store { mut jobs, journal } = self;
+        let Store {
+            mut jobs,
+            journal,
+            narrow,
+        } = self;
         let mark = Mark::Started {
             number,
             queue,
@@ -51,7 +63,11 @@ impl Store {
         };
         let journal = add_mark(alloc, host, journal, mark)?;
         jobs.start(number, second);
-        Ok(Store { jobs, journal })
+        Ok(Store {
+            jobs,
+            journal,
+            narrow,
+        })
     }
 
     /// Writes how the running job of this number ended, and removes its file.
@@ -67,10 +83,18 @@ impl Store {
             (H.world host.old) (H.world host.new) self (End number ending) result }
     {
         let file = self.file(number).unwrap();
-        let Store { mut jobs, journal } = self;
+        let Store {
+            mut jobs,
+            journal,
+            narrow,
+        } = self;
         jobs.end(number, ending)?;
         let journal = decide(alloc, host, journal, Mark::Ended { number, ending }, &file)?;
-        Ok(Store { jobs, journal })
+        Ok(Store {
+            jobs,
+            journal,
+            narrow,
+        })
     }
 
     /// Gives the running job of this number up, and removes its file.
@@ -85,10 +109,18 @@ impl Store {
             (H.world host.old) (H.world host.new) self (Interrupt number) result }
     {
         let file = self.file(number).unwrap();
-        let Store { mut jobs, journal } = self;
+        let Store {
+            mut jobs,
+            journal,
+            narrow,
+        } = self;
         jobs.interrupt(number)?;
         let journal = decide(alloc, host, journal, Mark::Interrupted(number), &file)?;
-        Ok(Store { jobs, journal })
+        Ok(Store {
+            jobs,
+            journal,
+            narrow,
+        })
     }
 
     /// Forgets what became of the job of this number, which is done.
@@ -102,9 +134,17 @@ impl Store {
         ensures makes { MakesStep H.tells (H.session host.old) (H.session host.new)
             (H.world host.old) (H.world host.new) self (Forget number) result }
     {
-        let Store { mut jobs, journal } = self;
+        let Store {
+            mut jobs,
+            journal,
+            narrow,
+        } = self;
         let journal = add_mark(alloc, host, journal, Mark::Forgotten(number))?;
         jobs.forget(number);
-        Ok(Store { jobs, journal })
+        Ok(Store {
+            jobs,
+            journal,
+            narrow,
+        })
     }
 }

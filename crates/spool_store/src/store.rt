@@ -15,8 +15,8 @@ use spool_model::{Decided, Row};
 use start_journal::Journal;
 use std::marker::Model;
 
-/// The jobs of a spool folder as they stood at the last call: seen as the job table without scripts, and
-/// the journal.
+/// The jobs of a spool folder as they stood at the last call: seen as the job table without scripts, the
+/// journal, and the numbers whose files have names of the narrow form.
 ///
 /// A store is current on a host where each image shows its table. Each call that changes the folder takes
 /// the store, and hands a current one back only on Ok.
@@ -24,6 +24,8 @@ use std::marker::Model;
 pub struct Store {
     pub(crate) jobs: Jobs,
     pub(crate) journal: Journal,
+    // Those that were found at the recovery: a new job never has one. In a spool of the wide form it is empty.
+    pub(crate) narrow: Vec<u32>,
 }
 
 impl Model for Store {
@@ -35,9 +37,10 @@ impl Model for Store {
 
     ghost coded = { kept_code };
 
-    ghost view = { λ store. record { table = store.jobs; journal = store.journal } };
+    ghost view = { λ store. record { table = store.jobs; journal = store.journal; narrow = store.narrow.items } };
 
-    ghost invariant = { λ store. IsStored (record { table = store.jobs; journal = store.journal }) };
+    ghost invariant = { λ store. IsStored
+        (record { table = store.jobs; journal = store.journal; narrow = store.narrow.items }) };
 }
 
 impl Store {

@@ -1,5 +1,5 @@
 //! Submissions.
-ghost use Rattle.std.specs.Prelude.{◌≡◌, IfErr, IfOk, IsErrOf, IsSome, IsTrue};
+ghost use Rattle.std.specs.Prelude.{◌≡◌, IfErr, IfOk, IsErrOf, IsSome, IsTrue, OnOk, true};
 ghost use Rattle.std.specs.Char.{is_ascii_alphabetic};
 ghost use Rattle.clock_range.specs.ClockRange.{IsClockMinute};
 ghost use Rattle.host_calls.specs.Session.{CallsInside, IsInside};
@@ -9,7 +9,7 @@ ghost use Rattle.spool_model.specs.Steps.{after_steps};
 ghost use Rattle.job_runs.specs.Bare.{bare_job};
 ghost use Rattle.job_runs.specs.Calls.{StoreCall};
 ghost use Rattle.job_runs.specs.Current.{IsCurrent, Kept};
-ghost use Rattle.spool_store.specs.Submitting.{IsAnswerOn, IsNextNumber, IsNextOn, IsRefusal, job_of_script, kept_of, submission, with_job_if};
+ghost use Rattle.spool_store.specs.Submitting.{HasWideFile, IsAnswerOn, IsNextNumber, IsNextOn, IsRefusal, job_of_script, kept_of, submission, with_job_if};
 
 use crate::{Store, StoreFault};
 use host_calls::{Host, HostFault};
@@ -49,10 +49,16 @@ impl Store {
         ensures files { IsTrue H.tells → (table : JobTable) → IsCurrent self (H.world host.old).now.folder table
             → StoreCall table (submission table (job_of_script queue minute script.now))
             (H.world host.old) (H.world host.new) (kept_of result) }
+        ensures named { IsTrue H.tells → IfOk result (λ stored. HasWideFile (H.world host.new).now.folder
+            queue minute script.now stored.1) }
     {
         let number = self.next_number()?;
         let user = header(script).unwrap().user;
-        let Store { mut jobs, journal } = self;
+        let Store {
+            mut jobs,
+            journal,
+            narrow,
+        } = self;
         // Memory for the job is had first, so that want of it loses no number.
         jobs.draw();
         jobs.accept(Row {
@@ -66,9 +72,15 @@ impl Store {
             queue,
             number,
             minute,
+            wide: true,
         };
         file_job(alloc, host, &job, script)?;
-        Ok((Store { jobs, journal }, number))
+        let store = Store {
+            jobs,
+            journal,
+            narrow,
+        };
+        Ok((store, number))
     }
 
     // The number of the next job, where there is room for one.
@@ -96,6 +108,7 @@ fn file_job<H: Host>(
 ) -> Result<(), HostFault>
     requires inside { IsInside (H.session host.old) }
     requires header { IsSome (header_in script.now) }
+    requires wide { job.now.wide ≡ true }
     requires current { IsTrue H.tells → (kept : Kept) × (table : JobTable)
         × IsNextOn kept (H.world host.old).now.folder table job.now.number }
     ensures inside { CallsInside HostFault.Failed (H.session host.old) (H.session host.new) result }
@@ -104,6 +117,8 @@ fn file_job<H: Host>(
         → StoreCall table (submission table (job_of_script job.now.queue job.now.minute script.now))
         (H.world host.old) (H.world host.new)
         (with_job_if kept (job_of_script job.now.queue job.now.minute script.now) result) }
+    ensures named { IsTrue H.tells → OnOk result (HasWideFile (H.world host.new).now.folder
+        job.now.queue job.now.minute script.now job.now.number) }
 {
     let name = job.name();
     // A file whose number was not drawn would be damage.

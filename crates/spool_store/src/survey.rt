@@ -9,7 +9,7 @@ ghost use Rattle.spool_store.specs.inside.Survey.{IsSurvey};
 ghost use Rattle.spool_store.specs.Stored.{IsStored};
 
 use crate::fault::StoreFault;
-use crate::findings::{Findings, find_files};
+use crate::findings::{Findings, find_files, narrow_numbers};
 use crate::jobs::Jobs;
 use crate::lifecycles::Lifecycles;
 use crate::tables::jobs_shown;
@@ -23,6 +23,8 @@ use std::alloc::Global;
 pub(crate) struct Survey {
     pub(crate) jobs: Jobs,
     pub(crate) journal: Journal,
+    /// The numbers of the files that count and have narrow names.
+    pub(crate) narrow: Vec<u32>,
     /// The names of the files that count no more.
     pub(crate) leftover: Vec<Name>,
 }
@@ -33,7 +35,8 @@ pub(crate) fn take_survey<H: Host>(alloc: Global, host: &mut H) -> Result<Survey
     ensures inside { CallsInside StoreFault.FileFault (H.session host.old) (H.session host.new) result }
     ensures of_reading { IfErr result IsOfReading }
     ensures looks { IsTrue H.tells → H.world host.new ≡ H.world host.old }
-    ensures stored { IfOk result (λ look. IsStored (record { table = look.jobs; journal = look.journal })) }
+    ensures stored { IfOk result (λ look. IsStored
+        (record { table = look.jobs; journal = look.journal; narrow = look.narrow.items })) }
     ensures shown { IsTrue H.tells → IfOk result (IsSurvey (reading (H.world host.old))) }
     ensures damaged { IsTrue H.tells
         → IfDamaged StoreFault.Damaged (λ damage. shown_by (reading (H.world host.old)) ≡ Err damage) result }
@@ -43,9 +46,11 @@ pub(crate) fn take_survey<H: Host>(alloc: Global, host: &mut H) -> Result<Survey
     let lives = Lifecycles::of(alloc, journal.marks())?;
     let Findings { seen, leftover } = find_files(alloc, host, &lives)?;
     let jobs = jobs_shown(alloc, number, journal.marks(), &lives, seen.as_slice())?;
+    let narrow = narrow_numbers(alloc, seen.as_slice())?;
     Ok(Survey {
         jobs,
         journal,
+        narrow,
         leftover,
     })
 }

@@ -1,5 +1,6 @@
 use Rattle.std.proofs.Common.{◌≡◌}
 use Rattle.job_name.specs.declared.job.JobName.{JobName}
+use Rattle.job_runs.specs.Current.{is_wide}
 use Rattle.spool_store.specs.Listed.{IsLive}
 use Rattle.spool_store.specs.Scripts.{HoldsScript, IsFileOf}
 use Rattle.spool_store.proofs.StepCalls.{of_some}
@@ -11,16 +12,16 @@ unwrap-name-requires c = is_there (IsLive c.args.store.now.table c.args.number) 
 
 pub unwrap-job-requires : goal.unwrap-job-requires
 unwrap-job-requires c =
-    let file : IsFileOf c.args.store.now.table c.args.number c.unwrap-name.result = of_some (IsFileOf c.args.store.now.table c.args.number) c.file.result c.unwrap-name.result c.unwrap-name.ensures c.file.ensures.found in
-    and_there (λ (job : JobName). (job.queue ≡ file.job.queue) × (job.number ≡ c.args.number) × (job.minute ≡ file.job.minute)) c.read.result
-    (c.read.ensures.found file.job.queue c.args.number file.job.minute (named c.args.store.now.table c.args.number c.unwrap-name.result c.as_bytes.result.now c.as_bytes.ensures.bytes file))
+    let file : IsFileOf c.args.store.now.table c.args.store.now.narrow c.args.number c.unwrap-name.result = of_some (IsFileOf c.args.store.now.table c.args.store.now.narrow c.args.number) c.file.result c.unwrap-name.result c.unwrap-name.ensures c.file.ensures.found in
+    and_there (λ (job : JobName). (job.queue ≡ file.job.queue) × (job.number ≡ c.args.number) × (job.minute ≡ file.job.minute) × (job.wide ≡ is_wide c.args.store.now.narrow c.args.number)) c.read.result
+    (c.read.ensures.found file.job.queue c.args.number file.job.minute (is_wide c.args.store.now.narrow c.args.number) (named c.args.store.now.table c.args.store.now.narrow c.args.number c.unwrap-name.result c.as_bytes.result.now c.as_bytes.ensures.bytes file))
 
 pub returns : goal.returns
 returns c =
-    let file : IsFileOf c.args.store.now.table c.args.number c.unwrap-name.result = of_some (IsFileOf c.args.store.now.table c.args.number) c.file.result c.unwrap-name.result c.unwrap-name.ensures c.file.ensures.found in
+    let file : IsFileOf c.args.store.now.table c.args.store.now.narrow c.args.number c.unwrap-name.result = of_some (IsFileOf c.args.store.now.table c.args.store.now.narrow c.args.number) c.file.result c.unwrap-name.result c.unwrap-name.ensures c.file.ensures.found in
     let queue_is : c.unwrap-job.result.queue ≡ file.job.queue =
-    (and_some (λ (job : JobName). (job.queue ≡ file.job.queue) × (job.number ≡ c.args.number) × (job.minute ≡ file.job.minute)) c.read.result c.unwrap-job.result c.unwrap-job.ensures
-    (c.read.ensures.found file.job.queue c.args.number file.job.minute (named c.args.store.now.table c.args.number c.unwrap-name.result c.as_bytes.result.now c.as_bytes.ensures.bytes file))).0 in
+    (and_some (λ (job : JobName). (job.queue ≡ file.job.queue) × (job.number ≡ c.args.number) × (job.minute ≡ file.job.minute) × (job.wide ≡ is_wide c.args.store.now.narrow c.args.number)) c.read.result c.unwrap-job.result c.unwrap-job.ensures
+    (c.read.ensures.found file.job.queue c.args.number file.job.minute (is_wide c.args.store.now.narrow c.args.number) (named c.args.store.now.table c.args.store.now.narrow c.args.number c.unwrap-name.result c.as_bytes.result.now c.as_bytes.ensures.bytes file))).0 in
     λ folder table current.
     script_is c.args.store.now folder table c.args.number c.unwrap-name.result c.unwrap-job.result.queue c.nice_of.result file queue_is c.nice_of.ensures current
     (of_some (HoldsScript table folder c.args.number) c.file.result c.unwrap-name.result c.unwrap-name.ensures (c.file.ensures.holds folder table current))

@@ -12,16 +12,16 @@ pub returns-in_err-sync_names-clause-legal : goal.returns-in_err-sync_names-clau
 returns-in_err-sync_names-clause-legal g c = sound_is_legal _ c.args.journal c.journal.view_is c.journal.invariant
 
 pub returns-in_err-sync_names-clause-files : goal.returns-in_err-sync_names-clause-files
-returns-in_err-sync_names-clause-files g c = λ tells table current. sync_stepping table (g.H.Host.world c.args.host.now) _ c.sync_names.result current.shows (c.sync_names.ensures.files tells)
+returns-in_err-sync_names-clause-files g c = λ tells narrow table current. sync_stepping table (g.H.Host.world c.args.host.now) _ c.sync_names.result current.shows (c.sync_names.ensures.files tells)
 
 pub compact-requires-clause-holds : goal.compact-requires-clause-holds
-compact-requires-clause-holds g c = λ tells. (sync_current _ _ _ _ (c.requires.current tells).1 (c.in_ok-sync_names.ensures.files tells).outcome).journal
+compact-requires-clause-holds g c = λ tells. (sync_current _ _ _ _ (c.requires.current tells).2 (c.in_ok-sync_names.ensures.files tells).outcome).journal
 
 pub returns-clause-legal : goal.returns-clause-legal
 returns-clause-legal g c = sound_is_legal _ c.args.journal c.journal.view_is c.journal.invariant
 
 pub returns-clause-files : goal.returns-clause-files
-returns-clause-files g c = λ tells table current. compact_stepping c.args.journal table _ _ _ (record {
+returns-clause-files g c = λ tells narrow table current. compact_stepping narrow c.args.journal table _ _ _ (record {
   current = current;
   synced = (c.in_ok-sync_names.ensures.files tells).outcome;
   syncs = sync_stepping table _ _ _ current.shows (c.sync_names.ensures.files tells);
@@ -29,7 +29,7 @@ returns-clause-files g c = λ tells table current. compact_stepping c.args.journ
 })
 
 pub returns-clause-current : goal.returns-clause-current
-returns-clause-current g c = λ tells table current. compact_current c.args.journal table _ _ _ (record {
+returns-clause-current g c = λ tells narrow table current. compact_current narrow c.args.journal table _ _ _ (record {
   current = current;
   synced = (c.in_ok-sync_names.ensures.files tells).outcome;
   syncs = sync_stepping table _ _ _ current.shows (c.sync_names.ensures.files tells);

@@ -5,8 +5,9 @@ use Rattle.host_calls.specs.World.{World}
 use Rattle.whole_file.specs.Others.{ChangesFiles}
 use Rattle.whole_file.specs.Placing.{IsPlaced, IsPlacing}
 use Rattle.sequence_file.specs.Drawing.{EachGives}
+use Rattle.job_name.specs.JobName.{SpellsJobName}
 use Rattle.spool_store.proofs.DrawnFolders.{each_gives}
-use Rattle.spool_store.proofs.SubmitLemmas.{draw_failed, placing_done}
+use Rattle.spool_store.proofs.SubmitLemmas.{draw_failed, placed_wide, placing_done}
 use Rattle.spool_store.proofs.submitting.file_job.Goals as goal
 
 pub draw-requires-clause-last : goal.draw-requires-clause-last
@@ -29,7 +30,14 @@ returns-clause-files g c = λ tells kept table next.
     let name : List ℕ = c.name-name.result in
     let script : List ℕ = c.args.script.now in
     placing_done kept table c.args.job.now.queue c.args.job.now.number c.args.job.now.minute script (g.H.Host.world c.args.host.now) next
-    name middle new c.place.result c.name-name.ensures c.requires.header
+    name middle new c.place.result
+    (subst (λ wide. SpellsJobName name c.args.job.now.queue c.args.job.now.number c.args.job.now.minute wide) c.requires.wide c.name-name.ensures) c.requires.header
     (c.in_ok-draw.ensures.files tells) (c.in_ok-draw.ensures.drawn tells)
     (subst (λ temp. ChangesFiles (IsPlacing temp name script middle.now.folder) middle new) c.temporary_name.ensures (c.place.ensures.files tells))
     (subst (λ temp. OnOk c.place.result (IsPlaced temp name script middle.now.folder new.now.folder)) c.temporary_name.ensures (c.place.ensures.placed tells))
+
+pub returns-clause-named : goal.returns-clause-named
+returns-clause-named g c = λ tells.
+    placed_wide c.name-name.result c.args.script.now c.args.job.now.queue c.args.job.now.minute c.args.job.now.number _ _ _ c.place.result
+    (subst (λ wide. SpellsJobName c.name-name.result c.args.job.now.queue c.args.job.now.number c.args.job.now.minute wide) c.requires.wide c.name-name.ensures)
+    (c.place.ensures.placed tells)

@@ -10,9 +10,11 @@ use Rattle.spool_shows.specs.Shown.{damage_of_jobs, shown_by}
 use Rattle.sequence_file.proofs.LastNumbers.{last_damage, last_given}
 use Rattle.spool_store.specs.inside.Lifecycles.{TellLifecycles}
 use Rattle.spool_store.specs.inside.Survey.{AreFindings}
-use Rattle.spool_store.specs.inside.FoundJobs.{files_found}
+use Rattle.spool_store.specs.inside.FoundJobs.{files_found, narrow_numbers}
 use Rattle.spool_store.specs.inside.Tables.{AreUndecided, IsTableShown}
 use Rattle.spool_store.proofs.ShownLemmas.{found_damage, is_survey, jobs_damage, journal_damage, number_damage, recalled_damage, sequence_damage}
+use Rattle.spool_store.specs.Stored.{AreNarrow}
+use Rattle.spool_store.proofs.RecoveryForms.{are_narrow}
 use Rattle.spool_store.proofs.RecoveryEntries.{is_stored, seen_named}
 use Rattle.spool_store.proofs.survey.take_survey.Goals as goal
 
@@ -55,7 +57,9 @@ returns-clause-shown g c = λ tells.
     let are : AreFindings journal.marks (entries files) c.in_ok-seen.field-0 =
     subst (λ w. AreFindings journal.marks (entries (reading w)) c.in_ok-seen.field-0) (c.in_ok-journal.ensures.looks tells ∙ c.in_ok-number.ensures.looks tells)
     (c.in_ok-seen.ensures.findings tells journal.marks (subst (λ marks. TellLifecycles marks c.in_ok-lives.lives) c.marks.ensures.marks c.in_ok-lives.ensures)) in
-    is_survey files last journal c.in_ok-seen.field-0 c.marks-2.result.now c.as_slice.result.now (last_given _ _ (c.in_ok-number.ensures.number tells)) read are c.marks-2.ensures.marks c.as_slice.ensures.value _ refl refl c.in_ok-jobs.ensures
+    is_survey files last journal c.in_ok-seen.field-0 c.marks-2.result.now c.as_slice.result.now (last_given _ _ (c.in_ok-number.ensures.number tells)) read are c.marks-2.ensures.marks c.as_slice.ensures.value _ refl
+    (c.in_ok-narrow.ensures ∙ ap (λ seen. narrow_numbers (files_found seen)) (c.as_slice-2.ensures.value ∙ sym c.as_slice.ensures.value))
+    refl c.in_ok-jobs.ensures
 
 pub returns-clause-stored : goal.returns-clause-stored
 returns-clause-stored g c =
@@ -72,4 +76,5 @@ returns-clause-stored g c =
           (c.in_ok-seen.ensures.undecided journal.marks (subst (λ marks. TellLifecycles marks c.in_ok-lives.lives) c.marks.ensures.marks c.in_ok-lives.ensures));
       named = seen_named seen;
       whole = shown.0;
-    }) c.in_ok-jobs.jobs shown journal.free
+    }) c.in_ok-jobs.jobs shown journal.free c.in_ok-narrow.narrow.items
+    (subst AreNarrow (sym c.in_ok-narrow.ensures) (are_narrow c.as_slice-2.result.now))

@@ -11,12 +11,12 @@ use Rattle.spool_store.proofs.StepCalls.{IsDecidingStep, current_call, decision_
 use Rattle.spool_store.proofs.store.Store.end.Goals as goal
 
 -- the step that the store makes, its mark, and the file of its job
-ends : (inside seen : Kept) (number : ℕ) (ending : Ending) (found : Option (List ℕ)) (name : List ℕ) → inside ≡ seen → IsLegal seen.table (End number ending) → found ≡ Some name → IfSome found (IsFileOf seen.table number) → IsDecidingStep inside seen (End number ending) (Ended number ending) name
+ends : (inside seen : Kept) (number : ℕ) (ending : Ending) (found : Option (List ℕ)) (name : List ℕ) → inside ≡ seen → IsLegal seen.table (End number ending) → found ≡ Some name → IfSome found (IsFileOf seen.table seen.narrow number) → IsDecidingStep inside seen (End number ending) (Ended number ending) name
 ends inside seen number ending found name view legal is file = record {
   step_of = record { view = view; legal = legal; adds = refl; bare = refl };
   number = number;
   decided = passes_same number number refl;
-  file = of_some (IsFileOf seen.table number) found name is file;
+  file = of_some (IsFileOf seen.table seen.narrow number) found name is file;
 }
 
 pub decide-requires-clause-legal : goal.decide-requires-clause-legal
@@ -26,7 +26,7 @@ pub decide-requires-clause-current : goal.decide-requires-clause-current
 decide-requires-clause-current g c = λ tells.
     let table : JobTable = (c.requires.may.current tells).0 in
     let of = ends _ _ c.args.number c.args.ending c.file.result _ c.self.view_is c.requires.may.legal c.unwrap-file.ensures c.file.ensures.found in
-    (table, End c.args.number c.args.ending, decision_of_step _ _ _ table _ _ _ of (c.requires.may.current tells).1)
+    (_, table, End c.args.number c.args.ending, decision_of_step _ _ _ table _ _ _ of (c.requires.may.current tells).1)
 
 pub returns-in_err-journal : goal.returns-in_err-journal
 returns-in_err-journal g c = record {
@@ -37,7 +37,7 @@ returns-in_err-journal g c = record {
     files = λ tells table current.
         let of = ends _ _ c.args.number c.args.ending c.file.result _ c.self.view_is c.requires.may.legal c.unwrap-file.ensures c.file.ensures.found in
         failed_call table _ _ _ c.from_residual-in_err-journal.result c.from_residual-in_err-journal.ensures.0
-        (c.decide.ensures.files tells table _ (decision_of_step _ _ _ table _ _ _ of current));
+        (c.decide.ensures.files tells _ table _ (decision_of_step _ _ _ table _ _ _ of current));
   };
 }
 
@@ -55,7 +55,7 @@ returns g c = record {
     files = λ tells table current.
         let of = ends _ _ c.args.number c.args.ending c.file.result _ c.self.view_is c.requires.may.legal c.unwrap-file.ensures c.file.ensures.found in
         let is = decision_of_step _ _ _ table _ _ _ of current in
-        current_call _ _ _ _ table _ _ _ _ (record { step_of = of.step_of; kept = c.in_ok-end.ensures.taken; current = current; files = c.decide.ensures.files tells table _ is })
-        (c.in_ok-journal.ensures.current tells table _ is) (c.in_ok-journal.ensures.others tells table _ is);
+        current_call _ _ _ _ table _ _ _ _ (record { step_of = of.step_of; kept = c.in_ok-end.ensures.taken; current = current; files = c.decide.ensures.files tells _ table _ is })
+        (c.in_ok-journal.ensures.current tells _ table _ is) (c.in_ok-journal.ensures.others tells _ table _ is);
   };
 }

@@ -14,7 +14,7 @@ forgets inside seen number view legal = record { view = view; legal = legal; add
 pub add_mark-requires-clause-current : goal.add_mark-requires-clause-current
 add_mark-requires-clause-current g c = λ tells.
     let table : JobTable = (c.requires.may.current tells).0 in
-    (table, Forget c.args.number, mark_of_step _ _ _ table _ _ (forgets _ _ c.args.number c.self.view_is c.requires.may.legal) (c.requires.may.current tells).1)
+    (_, table, Forget c.args.number, mark_of_step _ _ _ table _ _ (forgets _ _ c.args.number c.self.view_is c.requires.may.legal) (c.requires.may.current tells).1)
 
 pub returns-in_err-journal : goal.returns-in_err-journal
 returns-in_err-journal g c = record {
@@ -24,7 +24,7 @@ returns-in_err-journal g c = record {
     table_is = search rules;
     files = λ tells table current.
         let is = mark_of_step _ _ _ table _ _ (forgets _ _ c.args.number c.self.view_is c.requires.may.legal) current in
-        failed_call table _ _ _ c.from_residual.result c.from_residual.ensures.0 (c.add_mark.ensures.files tells table _ is);
+        failed_call table _ _ _ c.from_residual.result c.from_residual.ensures.0 (c.add_mark.ensures.files tells _ table _ is);
   };
 }
 
@@ -41,7 +41,7 @@ returns g c = record {
     files = λ tells table current.
         let of = forgets _ _ c.args.number c.self.view_is c.requires.may.legal in
         let is = mark_of_step _ _ _ table _ _ of current in
-        marked_call _ _ _ _ table _ _ _ _ (record { step_of = of; kept = c.forget.ensures; current = current; files = c.add_mark.ensures.files tells table _ is })
-        c.add_mark.ensures.legal c.in_ok-journal.ensures.marks (λ number. refl) (c.in_ok-journal.ensures.marked tells table _ is) (c.in_ok-journal.ensures.others tells);
+        marked_call _ _ _ _ table _ _ _ _ (record { step_of = of; kept = c.forget.ensures; current = current; files = c.add_mark.ensures.files tells _ table _ is })
+        c.add_mark.ensures.legal c.in_ok-journal.ensures.marks (λ number. refl) (c.in_ok-journal.ensures.marked tells _ table _ is) (c.in_ok-journal.ensures.others tells);
   };
 }

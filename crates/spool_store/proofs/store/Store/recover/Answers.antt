@@ -1,5 +1,5 @@
 use Rattle.std.proofs.Common.{ap}
-use Rattle.spool_store.proofs.RecoveryLemmas.{can_clear, clearing, has_settled, only_settled, recovered, settled_damage, settled_untouched, settling, uncleared, unsettled}
+use Rattle.spool_store.proofs.RecoveryLemmas.{can_clear, clearing, has_settled, narrow_recovered, only_settled, recovered, settled_damage, settled_untouched, settling, uncleared, unsettled}
 use Rattle.spool_store.proofs.store.Store.recover.Goals as goal
 
 pub returns-in_err-settle-clause-files : goal.returns-in_err-settle-clause-files
@@ -46,3 +46,6 @@ pub returns-in_err-clear-clause-recovered : goal.returns-in_err-clear-clause-rec
 returns-in_err-clear-clause-recovered g c = λ tells.
     uncleared _ _ c.in_ok-jobs.field-0 (has_settled _ _ _ _ _ (c.in_ok-settle.ensures.files tells) (c.in_ok-jobs.ensures.looks tells) (c.in_ok-jobs.ensures.shown tells)) _ c.as_slice.ensures.value
     _ c.in_err-clear.field-0.0 c.from_residual-in_err-clear.result (c.clear.ensures.files tells) c.from_residual-in_err-clear.ensures.1
+
+pub returns-clause-narrow : goal.returns-clause-narrow
+returns-clause-narrow g c = λ tells. narrow_recovered _ _ _ (returns-clause-recovered g c tells)

@@ -36,7 +36,7 @@ pub add_mark-requires-clause-current : goal.add_mark-requires-clause-current
 add_mark-requires-clause-current g c = λ tells.
     let table : JobTable = (c.requires.may.current tells).0 in
     let of = starts _ _ c.args.number c.args.second _ c.unwrap.result.now c.self.view_is c.requires.may.legal (of_some _ c.row.result _ c.unwrap.ensures c.row.ensures.found) (to_z-of_z w64 c.args.second c.ranges.second) in
-    (table, Start c.args.number c.args.second, mark_of_step _ _ _ table _ _ of (c.requires.may.current tells).1)
+    (_, table, Start c.args.number c.args.second, mark_of_step _ _ _ table _ _ of (c.requires.may.current tells).1)
 
 pub returns-in_err-journal : goal.returns-in_err-journal
 returns-in_err-journal g c = record {
@@ -46,7 +46,7 @@ returns-in_err-journal g c = record {
     table_is = search rules;
     files = λ tells table current.
         let of = starts _ _ c.args.number c.args.second _ c.unwrap.result.now c.self.view_is c.requires.may.legal (of_some _ c.row.result _ c.unwrap.ensures c.row.ensures.found) (to_z-of_z w64 c.args.second c.ranges.second) in
-        failed_call table _ _ _ c.from_residual.result c.from_residual.ensures.0 (c.add_mark.ensures.files tells table _ (mark_of_step _ _ _ table _ _ of current));
+        failed_call table _ _ _ c.from_residual.result c.from_residual.ensures.0 (c.add_mark.ensures.files tells _ table _ (mark_of_step _ _ _ table _ _ of current));
   };
 }
 
@@ -66,7 +66,7 @@ returns g c = record {
         let of = starts _ _ c.args.number c.args.second _ c.unwrap.result.now c.self.view_is c.requires.may.legal (of_some _ c.row.result _ c.unwrap.ensures c.row.ensures.found) (to_z-of_z w64 c.args.second c.ranges.second) in
         let is = mark_of_step _ _ _ table _ _ of current in
         let kept = c.start.ensures ∙ ap (λ second. after_step c.self.inside.jobs (Start c.args.number second)) (to_z-of_z w64 c.args.second c.ranges.second) in
-        marked_call _ _ _ _ table _ _ _ _ (record { step_of = of; kept = kept; current = current; files = c.add_mark.ensures.files tells table _ is })
-        c.add_mark.ensures.legal c.in_ok-journal.ensures.marks (λ number. refl) (c.in_ok-journal.ensures.marked tells table _ is) (c.in_ok-journal.ensures.others tells);
+        marked_call _ _ _ _ table _ _ _ _ (record { step_of = of; kept = kept; current = current; files = c.add_mark.ensures.files tells _ table _ is })
+        c.add_mark.ensures.legal c.in_ok-journal.ensures.marks (λ number. refl) (c.in_ok-journal.ensures.marked tells _ table _ is) (c.in_ok-journal.ensures.others tells);
   };
 }
