@@ -11,9 +11,9 @@ use crate::locked::LockedFolder;
 use crate::torn::Torn;
 use host_calls::{HostFault, Name};
 use std::fs;
-use std::fs::{File, Files, OpenOptions};
+use std::fs::{File, Files, OpenOptions, Permissions};
 use std::io::Write;
-use std::os::unix::fs::{FileExt, OpenOptionsExt};
+use std::os::unix::fs::{FileExt, OpenOptionsExt, PermissionsExt};
 
 /// Makes a file.
 pub fn make_file<R: Files<File = File>>(
@@ -35,6 +35,9 @@ pub fn make_file<R: Files<File = File>>(
     let Ok(mut file) = options.open(rt, path) else {
         return Err(HostFault::Failed);
     };
+    // The umask may have taken the rights of the owner too, and it is opened again to be synced. A file system that
+    // keeps no rights may refuse this.
+    let _ = file.set_permissions(Permissions::from_mode(0o600));
     file.write_all(bytes).map_err(|_| HostFault::Failed)
 }
 

@@ -6,11 +6,13 @@ use crate::listing::{Listed, Listing};
 use crate::paths::Paths;
 use host_calls::{EnterFault, HostFault, Name};
 use std::alloc::{Alloc, AllocError, Global};
-use std::fs::{DirBuilder, DirEntry, File, Files, OpenFile, OpenOptions};
-use std::io::ErrorKind;
-use std::os::unix::fs::DirBuilderExt;
-use std::rt::Runtime;
+use std::fs::{DirBuilder, File, Files, OpenFile, OpenOptions, Permissions};
+use std::io::{ErrorKind, Read};
+use std::os::unix::fs::{DirBuilderExt, PermissionsExt};
 use std::{fs, io};
+
+// How many bytes of names are read at a time. The longest name has 255, and none is cut.
+const NAMES: usize = 4096;
 
 /// Makes the spool folder and the folder of outputs, where they are absent. What lies beside the spool folder is
 /// named by the folder's own path, that no link is in, so that one folder has one lock.
@@ -39,7 +41,11 @@ fn make_folder<R: Files>(rt: &R, path: &str) -> io::Result<bool> {
         return Ok(false);
     }
     match DirBuilder::new().mode(0o700).create(rt, path) {
-        Ok(()) => Ok(true),
+        Ok(()) => {
+            // The umask may have taken the rights of the owner too.
+            let _ = fs::set_permissions(rt, path, Permissions::from_mode(0o700));
+            Ok(true)
+        }
         // Another program was faster.
         Err(_) if is_folder(rt, path) => Ok(false),
         Err(error) => Err(error),
@@ -69,30 +75,41 @@ fn resolved<R: Files>(rt: &R, alloc: Global, spool: &str) -> Result<Paths, Enter
 }
 
 /// The plain files and their lengths. Whatever has no `Name` is left out.
-pub fn list<R: Runtime>(rt: &R, alloc: Global, folder: &str) -> Result<Listing, HostFault> {
+pub fn list<R: Files>(rt: &R, alloc: Global, paths: &Paths) -> Result<Listing, HostFault> {
+    let mut folder = rt.open_dir(paths.folder()).map_err(fault_of)?;
     let mut files = Vec::new(alloc);
-    for entry in fs::read_dir(rt, folder).map_err(fault_of)? {
-        match entry {
-            Ok(entry) => {
-                if let Some(file) = plain_file(&entry).map_err(fault_of)? {
-                    files.push(file).map_err(AllocError::from)?;
-                }
-            }
-            // A name that is no text is no `Name` either.
-            Err(error) if error.kind() == ErrorKind::InvalidFilename => {}
-            Err(error) => return Err(fault_of(error)),
+    let mut names = [0; NAMES];
+    for _ in 0..u64::MAX {
+        let count = folder.read(&mut names).map_err(fault_of)?;
+        if count == 0 {
+            return Ok(Listing::of(alloc, &files)?);
         }
+        add_plain_files(rt, alloc, paths, &names[..count], &mut files)?;
     }
-    Ok(Listing::of(alloc, files)?)
+    Err(HostFault::Failed)
 }
 
-fn plain_file<R: Runtime>(entry: &DirEntry<R, R::A>) -> io::Result<Option<Listed>> {
-    let Some(name) = Name::of(entry.file_name().as_bytes()) else {
-        return Ok(None);
-    };
-    let found = entry.metadata()?;
-    let length = found.len();
-    Ok(found.is_file().then_some(Listed { name, length }))
+// The plain ones of these names, each of which a NUL ends.
+fn add_plain_files<R: Files>(
+    rt: &R,
+    alloc: Global,
+    paths: &Paths,
+    names: &[u8],
+    files: &mut Vec<Listed>,
+) -> Result<(), HostFault> {
+    for bytes in names.split(|byte| *byte == 0) {
+        if let Some(name) = Name::of(bytes) {
+            let path = paths.file(alloc, &name)?;
+            let found = fs::symlink_metadata(rt, path.as_str()).map_err(fault_of)?;
+            if found.is_file() {
+                let length = found.len();
+                files
+                    .push(Listed { name, length })
+                    .map_err(AllocError::from)?;
+            }
+        }
+    }
+    Ok(())
 }
 
 // Nothing was done where a list could not be made for want of memory.

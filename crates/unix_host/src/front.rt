@@ -52,6 +52,7 @@ pub fn fill<R: Read>(reader: &mut R, buffer: &mut [u8]) -> io::Result<usize>
 /// The first bytes that a reader gives: all of them, or `most`.
 pub fn front<R: Read>(alloc: Global, reader: &mut R, most: usize) -> Result<Bytes, InputFault>
     ensures few { IfOk result (λ bytes. length bytes ≤ most) }
+    ensures taken { IfOk result (Consumes (R.remaining reader.old) (R.remaining reader.new)) }
     ensures front { IfOk result (λ bytes. IfSome (R.remaining reader.old) (λ all. bytes ≡ take most all)) }
 {
     let mut bytes = Vec::new(alloc);

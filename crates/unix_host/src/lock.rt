@@ -30,8 +30,8 @@ ghost use Rattle.unix_host.specs.inside.LockByte.{amount_of, meaning_of};
 use crate::changes::Changes;
 use crate::unsynced::Unsynced;
 use host_calls::{EnterFault, HostFault};
-use std::fs::{File, Files, OpenOptions, TryLockError};
-use std::os::unix::fs::{FileExt, OpenOptionsExt};
+use std::fs::{File, Files, OpenOptions, Permissions, TryLockError};
+use std::os::unix::fs::{FileExt, OpenOptionsExt, PermissionsExt};
 use std::thread;
 use std::time::{Clock, Duration};
 
@@ -54,7 +54,12 @@ impl Lock {
             return Err(EnterFault::Failed);
         };
         wait_for(rt, &file)?;
-        let told = Unsynced::told_by(byte_in(&file));
+        let byte = byte_in(&file);
+        if byte.is_none() {
+            // It is new, and the umask may have taken the rights of the owner too.
+            let _ = file.set_permissions(Permissions::from_mode(0o600));
+        }
+        let told = Unsynced::told_by(byte);
         Ok(Lock { file, told })
     }
 

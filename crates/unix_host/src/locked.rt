@@ -91,9 +91,9 @@ impl LockedFolder {
     {
         let listing = match self.listing.take() {
             Some(listing) => listing,
-            None => files::list(rt, alloc, self.paths.folder())?,
+            None => files::list(rt, alloc, &self.paths)?,
         };
-        let names = listing.names();
+        let names = listing.names(alloc);
         self.listing = Some(listing);
         Ok(names?)
     }

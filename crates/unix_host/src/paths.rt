@@ -94,10 +94,13 @@ fn within(alloc: Global, folder: &str, name: &Name) -> Result<String, AllocError
     ensures path { IfOk result (λ path. string_bytes path ≡ file_in folder.now name.now) }
     ensures absolute { IfOk result (λ path. IsAbsolute (string_bytes path)) }
 {
-    let mut path = String::from_str(alloc, folder)?;
+    let Ok(text) = std::str::from_utf8(name.as_bytes()) else {
+        unreachable!()
+    };
+    let length = folder.len().saturating_add(1).saturating_add(text.len());
+    let mut path = String::with_capacity(alloc, length)?;
+    path.push_str(folder)?;
     path.push('/')?;
-    for byte in name.as_bytes() {
-        path.push(char::from(*byte))?;
-    }
+    path.push_str(text)?;
     Ok(path)
 }

@@ -1,8 +1,5 @@
-use Rattle.unix_host.proofs.PathLemmas.{one_byte_more}
+use Rattle.unix_host.proofs.PathLemmas.{is_text}
 use Rattle.unix_host.proofs.paths.within.Goals as goal
 
-pub loop-byte-preserved : goal.loop-byte-preserved
-loop-byte-preserved c =
-    let items = c.as_bytes-byte-items.result.now in
-    let more = one_byte_more c.args.folder.now items c.loop-byte.byte-index c.as_bytes-byte-items.ensures.name.each c.loop-byte-test.true in
-    cc (more, c.loop-byte.invariant, c.in_ok-push-2.ensures.bytes, c.from.ensures)
+pub unreachable-requires : goal.unreachable-requires
+unreachable-requires c = absurd ((c.in_default.ensures).cases.0 (is_text c.as_bytes.result.now c.as_bytes.ensures.name.each))
