@@ -2,7 +2,6 @@
 use Rattle.std.proofs.Common.{◌≡◌, ◌+◌, ◌<◌, ◌≤◌, ◌++◌, [], ◌∷◌, ℕ, Bool, true, List, length, take, drop, get_or, refl, sym, ap, subst, ◌∙◌, append-nil, append_assoc, arith}
 use Rattle.std.specs.Prelude.{Err, IsErrAnd, Ok, Result}
 use Rattle.std.specs.List.{concat}
-use Rattle.std.proofs.Math.Seq.{take-append_seam}
 use Rattle.std.proofs.lemmas.List.{take-append-drop, take_more}
 use Rattle.std.proofs.lemmas.List.Folds.{concat-append}
 use Rattle.command_answers.specs.Sinks.{IsCut, IsPut, IsPutInPart, SinkAt}
@@ -12,6 +11,7 @@ use Rattle.host_calls.specs.declared.fault.SinkFault.{SinkFault}
 use Rattle.host_calls.specs.declared.fault.SinkFault.TheVariants.{Failed, Memory}
 use Rattle.serving.specs.inside.Printing.{PutsLines, PutsText}
 use Rattle.serving.proofs.SinkLemmas.{cut_behind, cut_longer, part_behind, put_behind}
+use Rattle.serving.proofs.StepLemmas.{part_longer}
 
 -- one line
 put_text : (text : List ℕ) (old new : SinkAt) (result : Result (Unit {0}) SinkFault) → old.faults ≤ new.faults →
@@ -28,19 +28,6 @@ put_one tells text old new result cause puts = record {
   later = cause.later;
   failed = cause.rose;
   puts = λ told. put_text text old new result cause.later cause (puts told);
-}
-
--- a front of a text is a front of any longer one
-part_longer : (text more : List ℕ) (old new : SinkAt) → IsPutInPart text old new → IsPutInPart (text ++ more) old new
-part_longer text more old new part = record {
-  count = length (take part.count text);
-  content =
-      part.content
-      ∙ ap (λ (front : List ℕ). old.content ++ front) (sym (take-append_seam (take part.count text) (drop part.count text ++ more))
-      ∙ ap (λ (whole : List ℕ). take (length (take part.count text)) whole)
-      (sym (append_assoc (take part.count text) (drop part.count text) more)
-      ∙ ap (λ (whole : List ℕ). whole ++ more) (take-append-drop part.count text)));
-  later = part.later;
 }
 
 -- one line pushed behind others

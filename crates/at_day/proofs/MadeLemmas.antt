@@ -10,7 +10,7 @@ use Rattle.day_events.specs.Days.{is_day_event}
 use Rattle.day_events.specs.declared.event.Event.{Event}
 use Rattle.day_events.specs.declared.event.Event.TheVariants.{Command, Turn, Reboot}
 use Rattle.made_events.specs.Made.{echo_of, last_of_eight, made_command, made_event, made_events, removal_words, second_of}
-use Rattle.made_events.specs.declared.made.TheConstants.{MAX_MADE}
+use Rattle.at_words.specs.declared.atday.TheConstants.{MAX_EVENTS}
 
 either : (P : Event → Type 0) (which : Bool) (one other : Event) → P one → P other → P (if which then one else other)
 either P true one other has had = has
@@ -38,16 +38,16 @@ made_so P number first second third fourth fifth turn reboot =
 
 -- a day can have each of them
 
-turn_of_day : (number : ℕ) → number < MAX_MADE → (load : Option ℕ) → is_day_event (Turn (second_of number) load) ≡ true
+turn_of_day : (number : ℕ) → number < MAX_EVENTS → (load : Option ℕ) → is_day_event (Turn (second_of number) load) ≡ true
 turn_of_day number few load =
     let inside : 1735689600 + 60 * number ≤ 253370764799 = omega arith in grind (arith, nat_tests)
 
-event_of_day : (number : ℕ) → number < MAX_MADE → is_day_event (made_event number) ≡ true
+event_of_day : (number : ℕ) → number < MAX_EVENTS → is_day_event (made_event number) ≡ true
 unfolding tool_of_name
 event_of_day number few =
     made_so (λ event. is_day_event event ≡ true) number refl refl refl refl refl (turn_of_day number few) refl
 
-pub made_events_of_day : (count : ℕ) → count ≤ MAX_MADE → list_all is_day_event (made_events count) ≡ true
+pub made_events_of_day : (count : ℕ) → count ≤ MAX_EVENTS → list_all is_day_event (made_events count) ≡ true
 unfolding made_events
 made_events_of_day zero few = refl
 made_events_of_day (suc number) few =

@@ -18,7 +18,7 @@ use Rattle.at_words.specs.declared.tool.Tool.{Tool}
 use Rattle.at_words.specs.declared.tool.Tool.TheVariants.{At, Batch, Atq, Atrm, Atd, Atday}
 use Rattle.at_words.specs.declared.tool_request.ToolRequest.TheVariants as request
 use Rattle.command_answers.specs.Found.{Asked}
-use Rattle.made_events.specs.declared.made.TheConstants.{MAX_MADE}
+use Rattle.at_words.specs.declared.atday.TheConstants.{MAX_EVENTS}
 use Rattle.at_day.specs.Programs.{asks_for_day, finds_day_maker}
 use Rattle.at_day.specs.inside.Making.{IsDayRequest}
 
@@ -31,14 +31,14 @@ IsDayAsked (Err words.Memory) = ⊥
 
 abbrev AreFew : Option ℕ → Type 0
 AreFew None = Unit {0}
-AreFew (Some count) = count ≤ MAX_MADE
+AreFew (Some count) = count ≤ MAX_EVENTS
 
-few_within : (count : ℕ) (is : Bool) → (nat_le 1 count && nat_le count MAX_MADE) ≡ is → AreFew (if is then Some count else None)
-few_within count true same = (let few : count ≤ MAX_MADE = grind (arith, nat_tests) in few)
+few_within : (count : ℕ) (is : Bool) → (nat_le 1 count && nat_le count MAX_EVENTS) ≡ is → AreFew (if is then Some count else None)
+few_within count true same = (let few : count ≤ MAX_EVENTS = grind (arith, nat_tests) in few)
 few_within count false same = tt
 
-few_decimal : (text : Text) (is : Bool) → AreFew (if is then within 1 MAX_MADE (decimal_of text) else None)
-few_decimal text true = few_within (decimal_of text) (nat_le 1 (decimal_of text) && nat_le (decimal_of text) MAX_MADE) refl
+few_decimal : (text : Text) (is : Bool) → AreFew (if is then within 1 MAX_EVENTS (decimal_of text) else None)
+few_decimal text true = few_within (decimal_of text) (nat_le 1 (decimal_of text) && nat_le (decimal_of text) MAX_EVENTS) refl
 few_decimal text false = tt
 
 few_asked : (text : Option Text) → AreFew (make_asked text)

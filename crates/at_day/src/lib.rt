@@ -15,9 +15,10 @@ mod report;
 pub use answering::{asks_for_day, program};
 pub use command_answers::Caller;
 pub use counts::Counts;
-pub use days::day;
+pub use days::{INTERVAL, LIMIT, day};
 pub use happening::one_event;
 pub use laws::made_days_are_told;
+pub use making::spool_of_day;
 pub use report::DayReport;
 
 #[cfg(test)]

@@ -11,18 +11,19 @@ ghost use Rattle.at_day.specs.inside.Making.{AreLinesOfDay, IsSound, PutsDay, ca
 
 use crate::lines::{day_lines, put_lines};
 use crate::{Counts, day};
+use at_words::MAX_EVENTS;
 use daemon_turn::TurnEnd;
 use day_events::EventReport;
 use host_calls::{Bytes, Name, Sink, SinkFault};
 use listing_text::Cause;
-use made_events::{MAX_MADE, Made, make_events};
+use made_events::{Made, make_events};
 use memory_host::{Files, MemoryHost, Plan};
 use spool_store::StoreFault;
 use std::alloc::{AllocError, Global};
 
 /// Makes the day of so many events, and prints what it comes to.
 pub(crate) fn tell_day<O: Sink>(alloc: Global, count: u32, out: &mut O) -> Cause
-    requires { count ≤ MAX_MADE }
+    requires { count ≤ MAX_EVENTS }
     ensures made_as { (O.outlet out.new).made_as ≡ (O.outlet out.old).made_as }
     ensures ends { EndsMade O.tells count
         (sink_at (O.content out.old) (O.outlet out.old)) (sink_at (O.content out.new) (O.outlet out.new)) result }
@@ -43,7 +44,7 @@ fn cause_of_put(put: Result<(), SinkFault>) -> Cause
 
 // Makes the day, and puts the lines of what it comes to.
 fn put_day<O: Sink>(alloc: Global, count: u32, out: &mut O) -> Result<(), SinkFault>
-    requires { count ≤ MAX_MADE }
+    requires { count ≤ MAX_EVENTS }
     ensures made_as { (O.outlet out.new).made_as ≡ (O.outlet out.old).made_as }
     ensures puts { PutsDay O.tells count
         (sink_at (O.content out.old) (O.outlet out.old)) (sink_at (O.content out.new) (O.outlet out.new)) result }
@@ -56,7 +57,7 @@ fn put_day<O: Sink>(alloc: Global, count: u32, out: &mut O) -> Result<(), SinkFa
 
 // The lines of the made day of so many events.
 fn made_lines(alloc: Global, count: u32) -> Result<Vec<Bytes>, AllocError>
-    requires { count ≤ MAX_MADE }
+    requires { count ≤ MAX_EVENTS }
     ensures { IfOk result (λ lines. AreLinesOfDay count lines.items) }
 {
     let counts = made_day(alloc, count)?;
@@ -65,7 +66,7 @@ fn made_lines(alloc: Global, count: u32) -> Result<Vec<Bytes>, AllocError>
 
 // What the made day of so many events comes to. There is nothing to tell of a day that an event of it found no memory in.
 fn made_day(alloc: Global, count: u32) -> Result<Counts, AllocError>
-    requires { count ≤ MAX_MADE }
+    requires { count ≤ MAX_EVENTS }
     ensures { IfOk result (ComesTo count) }
 {
     let Made { events, plan } = make_events(alloc, count)?;
@@ -78,8 +79,8 @@ fn made_day(alloc: Global, count: u32) -> Result<Counts, AllocError>
     Ok(counts)
 }
 
-// A spool folder with an empty list of users who may not use `at`, and no other file.
-fn spool_of_day(alloc: Global, plan: Plan) -> Result<MemoryHost, AllocError>
+/// A spool folder with an empty list of users who may not use `at`, and no other file.
+pub fn spool_of_day(alloc: Global, plan: Plan) -> Result<MemoryHost, AllocError>
     ensures { IfOk result (IsNew deny_alone plan) }
 {
     let mut files = Files::new(alloc);

@@ -14,8 +14,8 @@ use crate::{ToolRequest, WordsFault, digits};
 use clap::{ArgMatches, Command};
 use std::alloc::{AllocError, Global};
 
-// The most events of a day.
-const MAX_EVENTS: u32 = 2_000;
+/// The most events of a day that is made from a number.
+pub const MAX_EVENTS: u32 = 2_000;
 
 /// What the words of `atday` ask for, the first of which stands for its name.
 pub fn request(alloc: Global, words: &[String]) -> Result<ToolRequest, WordsFault>

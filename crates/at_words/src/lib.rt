@@ -21,6 +21,7 @@ mod tool_request;
 mod when;
 mod words;
 
+pub use atday::MAX_EVENTS;
 pub use fault::WordsFault;
 pub use filter::Filter;
 pub use numbers::Numbers;

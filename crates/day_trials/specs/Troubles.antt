@@ -1,11 +1,10 @@
 -- What goes wrong on a made day (own), and the day before its first event.
-use Rattle.std.specs.Prelude.{◌≡◌, [], ◌∷◌, ℕ, true, Some, codes}
+use Rattle.std.specs.Prelude.{◌≡◌, [], ◌∷◌, ℕ, true, Some}
 use Rattle.std.specs.List.{list_all}
-use Rattle.std.specs.FinMap as map
 use Rattle.at_day.specs.declared.days.TheConstants.{LIMIT, INTERVAL}
+use Rattle.at_day.specs.MadeDays.{deny_alone}
 use Rattle.daemon_turn.specs.Daemons.{Watch, new_watch}
 use Rattle.day_events.specs.Days.{is_day_event}
-use Rattle.host_calls.specs.Folder.{Files}
 use Rattle.made_events.specs.Made.{made_events}
 use Rattle.made_events.specs.Plans.{made_plan}
 use Rattle.memory_host.specs.declared.memory_host.MemoryHost.{MemoryHost}
@@ -23,13 +22,9 @@ plan_against (Call call part) = record (made_plan EVENTS) { failing = record { c
 plan_against (Lock call) = record (made_plan EVENTS) { taken = call ∷ [] }
 plan_against (Start start) = record (made_plan EVENTS) { failing_starts = start ∷ [] }
 
--- the one file of the folder: an at.deny that names nobody
-abbrev pub only_deny : Files
-only_deny = map.insert map.empty (codes "at.deny") []
-
 -- a host before the first event
 abbrev pub IsFirst : Trouble → MemoryHost → Type 0
-IsFirst trouble host = IsNew only_deny (plan_against trouble) host
+IsFirst trouble host = IsNew deny_alone (plan_against trouble) host
 
 -- the same, behind a reboot that sets the fuse
 pub record IsFirstWithFuse (fuse : ℕ) (host : MemoryHost) : Type 0 where

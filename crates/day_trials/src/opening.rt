@@ -3,10 +3,10 @@ ghost use Rattle.std.specs.Prelude.{◌≡◌, IfOk, OnOk};
 ghost use Rattle.made_events.specs.Plans.{made_plan};
 ghost use Rattle.day_trials.specs.Troubles.{IsOpening, plan_against};
 
+use at_day::spool_of_day;
 use day_events::Events;
-use host_calls::Name;
 use made_events::{Made, make_events};
-use memory_host::{Failing, Files, MemoryHost, Part, Plan};
+use memory_host::{Failing, MemoryHost, Part, Plan};
 use std::alloc::{AllocError, Global};
 
 /// How many events the day has.
@@ -37,9 +37,7 @@ pub fn open_day(alloc: Global, trouble: Trouble) -> Result<Opening, AllocError>
 {
     let Made { events, mut plan } = make_events(alloc, EVENTS)?;
     add(alloc, trouble, &mut plan)?;
-    let mut files = Files::new(alloc);
-    files.put(alloc, Name::of(b"at.deny").unwrap(), b"")?;
-    let host = MemoryHost::make(alloc, files, plan)?;
+    let host = spool_of_day(alloc, plan)?;
     Ok(Opening { events, host })
 }
 

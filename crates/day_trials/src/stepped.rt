@@ -11,7 +11,7 @@ ghost use Rattle.day_trials.specs.Troubles.{day_watch};
 use crate::opening::{EVENTS, Opening, Trouble, open_day};
 use crate::rule::Rule;
 use crate::rules::of_reboot;
-use at_day::{DayReport, day, one_event};
+use at_day::{DayReport, INTERVAL, LIMIT, day, one_event};
 use daemon_turn::Daemon;
 use day_events::{Event, EventReport, EventReports};
 use memory_host::MemoryHost;
@@ -19,11 +19,6 @@ use std::alloc::{AllocError, Global};
 
 /// The event before which the machine comes up again.
 pub const REBOOT_BEFORE: usize = 16;
-
-// The limit and the interval of the daemon of a day, which at_day keeps to itself: `day_watch` has its own.
-const LIMIT: u32 = 150;
-
-const INTERVAL: u32 = 60;
 
 /// The day on which the machine crashes behind event 15, and comes up with the image that the pick names.
 pub fn with_reboot(alloc: Global, pick: u64) -> Result<Option<Rule>, AllocError> {

@@ -2,7 +2,7 @@
 ghost use Rattle.std.specs.Prelude.{◌≡◌, ◌<◌, ◌∷◌, [], IfOk, Some, codes};
 ghost use Rattle.made_events.specs.Made.{echo_of, last_of_eight, made_caller, made_command, made_event, removal_words, second_of};
 
-use crate::made::MAX_MADE;
+use at_words::MAX_EVENTS;
 use civil_minute::Zone;
 use command_answers::Caller;
 use day_events::{Event, Words};
@@ -15,7 +15,7 @@ const FIRST_SECOND: i64 = 1_735_689_600;
 
 /// The event of this number.
 pub fn made_event(alloc: Global, number: u32) -> Result<Event, AllocError>
-    requires { number < MAX_MADE }
+    requires { number < MAX_EVENTS }
     ensures { IfOk result (λ event. event ≡ made_event number) }
 {
     if number % 8 == 0 {
@@ -44,7 +44,7 @@ pub fn made_event(alloc: Global, number: u32) -> Result<Event, AllocError>
 
 // A turn under a load.
 fn turn(number: u32, load: u32) -> Event
-    requires { number < MAX_MADE }
+    requires { number < MAX_EVENTS }
     ensures { result ≡ Event.Turn (second_of number) (Some load) }
 {
     Event::Turn {
@@ -55,7 +55,7 @@ fn turn(number: u32, load: u32) -> Event
 
 // A reboot each fourth time, else a turn without load.
 fn last_of_eight(number: u32) -> Event
-    requires { number < MAX_MADE }
+    requires { number < MAX_EVENTS }
     ensures { result ≡ last_of_eight number }
 {
     if number % 32 == 31 {
@@ -69,7 +69,7 @@ fn last_of_eight(number: u32) -> Event
 
 // The second of the event of this number.
 fn second(number: u32) -> i64
-    requires { number < MAX_MADE }
+    requires { number < MAX_EVENTS }
     ensures { result ≡ second_of number }
 {
     FIRST_SECOND + 60 * i64::from(number)
@@ -77,7 +77,7 @@ fn second(number: u32) -> i64
 
 // A submission by these words.
 fn submission(alloc: Global, number: u32, words: Words) -> Result<Event, AllocError>
-    requires { number < MAX_MADE }
+    requires { number < MAX_EVENTS }
     ensures { IfOk result (λ event. event ≡ made_command number words (echo_of number)) }
 {
     let input = format!(in alloc; "echo {number}\n")?;
@@ -86,7 +86,7 @@ fn submission(alloc: Global, number: u32, words: Words) -> Result<Event, AllocEr
 
 // A command by these words, with this input.
 fn command(alloc: Global, number: u32, words: Words, input: Bytes) -> Result<Event, AllocError>
-    requires { number < MAX_MADE }
+    requires { number < MAX_EVENTS }
     ensures { IfOk result (λ event. event ≡ made_command number words input) }
 {
     Ok(Event::Command {
@@ -152,7 +152,7 @@ fn at_now_later(alloc: Global) -> Result<Words, AllocError>
 
 // The words that remove the second of the three jobs that the last events submitted.
 fn removal(alloc: Global, number: u32) -> Result<Words, AllocError>
-    requires { number < MAX_MADE }
+    requires { number < MAX_EVENTS }
     ensures { IfOk result (λ words. words ≡ removal_words number) }
 {
     let job = 3 * (number / 8) + 2;

@@ -5,7 +5,7 @@ mod event;
 mod made;
 mod plan;
 
-pub use made::{MAX_MADE, Made, make_events};
+pub use made::{Made, make_events};
 
 #[cfg(test)]
 mod tests;

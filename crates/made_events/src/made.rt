@@ -4,12 +4,10 @@ ghost use Rattle.made_events.specs.Made.{made_day, made_events};
 
 use crate::event::made_event;
 use crate::plan::made_plan;
+use at_words::MAX_EVENTS;
 use day_events::Events;
 use memory_host::Plan;
 use std::alloc::{AllocError, Global};
-
-/// The most events that are made.
-pub const MAX_MADE: u32 = 2_000;
 
 /// Events, and the plan of the host over which they go.
 #[derive(Drop)]
@@ -20,7 +18,7 @@ pub struct Made {
 
 /// So many events, a minute apart from the first second of 2025 on, and a plan by which nothing fails.
 pub fn make_events(alloc: Global, count: u32) -> Result<Made, AllocError>
-    requires { count ≤ MAX_MADE }
+    requires { count ≤ MAX_EVENTS }
     ensures { IfOk result (λ made. made ≡ made_day count) }
 {
     Ok(Made {
@@ -31,7 +29,7 @@ pub fn make_events(alloc: Global, count: u32) -> Result<Made, AllocError>
 
 // The events of the numbers below the count.
 fn events_to(alloc: Global, count: u32) -> Result<Events, AllocError>
-    requires { count ≤ MAX_MADE }
+    requires { count ≤ MAX_EVENTS }
     ensures { IfOk result (λ events. events ≡ made_events count) }
 {
     let mut events = Events::new(alloc);

@@ -2,14 +2,14 @@
 ghost use Rattle.std.specs.Prelude.{◌≡◌, ◌≢◌, ◌≤◌, IfOk};
 ghost use Rattle.made_events.specs.Plans.{made_child, made_children, made_plan};
 
-use crate::made::MAX_MADE;
+use at_words::MAX_EVENTS;
 use host_calls::Ending;
 use memory_host::{CallList, ChildPlan, ChildPlans, FailingList, Plan};
 use std::alloc::{AllocError, Global};
 
 /// The plan of a day of so many events.
 pub fn made_plan(alloc: Global, count: u32) -> Result<Plan, AllocError>
-    requires { count ≤ MAX_MADE }
+    requires { count ≤ MAX_EVENTS }
     ensures { IfOk result (λ plan. plan ≡ made_plan count) }
 {
     Ok(Plan {
@@ -23,7 +23,7 @@ pub fn made_plan(alloc: Global, count: u32) -> Result<Plan, AllocError>
 
 // The plans of the children of the numbers below the count.
 fn children_to(alloc: Global, count: u32) -> Result<ChildPlans, AllocError>
-    requires { count ≤ MAX_MADE }
+    requires { count ≤ MAX_EVENTS }
     ensures { IfOk result (λ plans. plans ≡ made_children count) }
 {
     let mut plans = ChildPlans::new(alloc);

@@ -20,7 +20,8 @@ lines_join (step ∷ front) later =
 pub none_put : (tells : Bool) (at : SinkAt) (done : Unit {0}) → PutsLines tells [] at at (Ok done)
 none_put tells at done = record { later = omega arith; failed = λ is. absurd (cc); puts = λ told. nothing_put at }
 
-part_longer : (text more : List ℕ) (old new : SinkAt) → IsPutInPart text old new → IsPutInPart (text ++ more) old new
+-- a front of a text is a front of any longer one
+pub part_longer : (text more : List ℕ) (old new : SinkAt) → IsPutInPart text old new → IsPutInPart (text ++ more) old new
 part_longer text more old new part = record {
   count = length (take part.count text);
   content =

@@ -10,7 +10,7 @@ use Rattle.host_calls.specs.declared.fault.SinkFault.TheVariants.{Failed, Memory
 use Rattle.listing_text.specs.declared.cause.Cause.{Cause}
 use Rattle.listing_text.specs.declared.cause.Cause.TheVariants as cause
 use Rattle.listing_text.specs.declared.refusal.Refusal.TheVariants.{BadQueue, Usage}
-use Rattle.made_events.specs.declared.made.TheConstants.{MAX_MADE}
+use Rattle.at_words.specs.declared.atday.TheConstants.{MAX_EVENTS}
 use Rattle.spool_store.specs.declared.fault.StoreFault.{StoreFault}
 use Rattle.spool_store.specs.declared.fault.StoreFault.TheVariants as fault
 use Rattle.at_day.specs.declared.counts.Counts.{Counts}
@@ -20,7 +20,7 @@ use Rattle.at_day.specs.Programs.{EndsMade}
 
 -- what was asked for is a day that can be made
 abbrev pub IsDayRequest : ToolRequest → Type 0
-IsDayRequest (request.Make count) = count ≤ MAX_MADE
+IsDayRequest (request.Make count) = count ≤ MAX_EVENTS
 IsDayRequest (request.Submit queue mail file when) = ⊥
 IsDayRequest (request.List filter) = ⊥
 IsDayRequest (request.Remove numbers) = ⊥
