@@ -21,7 +21,7 @@ fn longest_commands(rt: HostRuntime) -> Result<(), Fail> {
     let mut words = Vec::new(alloc);
     words.push(String::from_str(alloc, "at")?)?;
     words.push(String::from_str(alloc, "now")?)?;
-    let name = Name::of(b"a0000101b968a0").expect(&rt, "a name");
+    let name = Name::of(b"a0000000101b968a0").expect(&rt, "a name");
     for (count, code) in [(1_048_576, 0), (1_048_577, 1)] {
         let input = vec![in alloc; b'x'; count]?;
         let mut memory = made_in_memory(alloc, NOW, &input, no_failure(alloc))?;

@@ -1,2 +1,1 @@
 pub mod SettledLemmas
-pub mod StoreLemmas

@@ -13,12 +13,12 @@ use std::test::Fail;
 // With 203 the byte at 96, the gate of the free slot, becomes `+` where it is uncertain.
 const PICKS: [u64; 4] = [0, 1, 203, u64::MAX];
 
-// A journal of one job that was removed, another that was forgotten, two batch starts and a free slot.
+// A journal of one job that was removed, two batch starts and a free slot.
 const JOURNAL: &[u8] =
     b"+R00000001--000000000000000000.\n+B00000000--000000000000000005.\n+B00000000--000000000000000007.\n-..............................\n";
 
 // A folder with a journal, where no call gets through from the fuse on.
-fn spool(alloc: Global, fuse: Option<u64>) -> Result<MemoryHost, AllocError>
+fn spool(alloc: Global, fuse: u64) -> Result<MemoryHost, AllocError>
     ensures { IfOk result (λ host. IsOutside (memory_session host)) }
 {
     let mut files = Files::new(alloc);
@@ -29,7 +29,7 @@ fn spool(alloc: Global, fuse: Option<u64>) -> Result<MemoryHost, AllocError>
         failing: FailingList::new(alloc),
         taken: CallList::new(alloc),
         failing_starts: CallList::new(alloc),
-        fuse,
+        fuse: Some(fuse),
         children: ChildPlans::new(alloc),
     };
     MemoryHost::make(alloc, files, plan)
@@ -49,7 +49,7 @@ fn an_added_mark_stays(rt: HostRuntime) -> Result<(), Fail> {
     ];
     for fuse in 1..11 {
         for pick in PICKS {
-            let mut host = spool(alloc, Some(fuse))?;
+            let mut host = spool(alloc, fuse)?;
             host.enter(alloc).ok().expect(&rt, "a session");
             let added = add_batch(alloc, &mut host, 9).ok().flatten();
             assert_eq!(rt; added.is_some(), fuse == 10);
@@ -77,7 +77,7 @@ fn a_compaction_drops_what_counts_no_more(rt: HostRuntime) -> Result<(), Fail> {
     let new = [Mark::Removed(1), Mark::Batch(7)];
     for fuse in 1..11 {
         for pick in PICKS {
-            let mut host = spool(alloc, Some(fuse))?;
+            let mut host = spool(alloc, fuse)?;
             host.enter(alloc).ok().expect(&rt, "a session");
             let compacted = compact(alloc, &mut host).ok().flatten();
             assert_eq!(rt; compacted.is_some(), fuse == 10);
@@ -94,28 +94,5 @@ fn a_compaction_drops_what_counts_no_more(rt: HostRuntime) -> Result<(), Fail> {
             assert_eq!(rt; journal.free(), if is_new { 256 } else { 1 });
         }
     }
-    Ok(())
-}
-
-#[test]
-fn a_full_journal_is_compacted(rt: HostRuntime) -> Result<(), Fail> {
-    let alloc = rt.alloc();
-    let mut host = spool(alloc, None)?;
-    host.enter(alloc).ok().expect(&rt, "a session");
-    compact(alloc, &mut host)?;
-    for used in 0..256_u64 {
-        let journal = add_batch(alloc, &mut host, used as i64)?;
-        assert_eq!(rt; journal.expect(&rt, "a free slot").free(), 255 - used);
-    }
-    let name = Name::of(b".JRN").expect(&rt, "a name");
-    let bytes = host.reading(&name).expect(&rt, "a journal");
-    assert_eq!(rt; bytes.len(), 258 * 32);
-    assert!(rt; add_batch(alloc, &mut host, 256)?.is_none());
-    let journal = compact(alloc, &mut host)?.expect(&rt, "no file that is being made");
-    assert_eq!(rt;
-        journal.marks(),
-        [Mark::Removed(1), Mark::Batch(255)].as_slice()
-    );
-    assert_eq!(rt; journal.free(), 256);
     Ok(())
 }
