@@ -79,18 +79,18 @@ static void place(const char *name, const char *bytes, size_t count) {
 static void submit(const char *spool) {
     begin(spool);
     survey();
-    char sequence[8] = "00000\n", name[32], text[512];
+    char sequence[16] = "00000000\n", name[32], text[512];
     int file = openat(folder, ".SEQ", O_RDONLY | O_CLOEXEC);
     if (file >= 0) {
-        check(read(file, sequence, 6) == 6, ".SEQ");
+        check(read(file, sequence, 9) == 9, ".SEQ");
         close(file);
     }
     unsigned long number = strtoul(sequence, NULL, 16) + 1;
-    snprintf(sequence, sizeof sequence, "%05lx\n", number);
-    snprintf(name, sizeof name, "a%05lx01b968a0", number);
+    snprintf(sequence, sizeof sequence, "%08lx\n", number);
+    snprintf(name, sizeof name, "a%08lx01b968a0", number);
     int count = snprintf(text, sizeof text, "#!/bin/sh\n# at user=root mail=0\numask 0022\ncd '/' || {\n\techo 'Execution directory inaccessible' >&2\n\texit 1\n}\necho hi\n");
     tell('u');
-    place(".SEQ", sequence, 6);
+    place(".SEQ", sequence, 9);
     place(name, text, (size_t)count);
     end();
 }
@@ -102,7 +102,7 @@ static void take_away(const char *spool, unsigned long number) {
     tell('u');
     char mark[40], name[32];
     snprintf(mark, sizeof mark, "-R%08lx--000000000000000000.\n", number);
-    snprintf(name, sizeof name, "a%05lx0fffffff", number);
+    snprintf(name, sizeof name, "a%08lx0fffffff", number);
     int file = openat(folder, ".JRN", O_RDWR | O_CREAT | O_CLOEXEC, 0600);
     check(file >= 0, ".JRN");
     struct stat found;

@@ -39,7 +39,7 @@ took() {
 }
 
 # The file of the job of this number.
-file_of() { printf '%s/' "$spool"; basename "$(printf '%s\n' "$spool"/?"$(printf %05x "$1")"????????)"; }
+file_of() { printf '%s/' "$spool"; basename "$(printf '%s\n' "$spool"/?"$(printf %08x "$1")"????????)"; }
 
 # Whether atd serves.
 needs_atd() {

@@ -3,7 +3,7 @@
 # Waits until the file is there.
 awaits() { for _ in $(seq 200); do [ -e "$1" ] && return; sleep 0.05; done; fail "there is no $1"; }
 # What the one job of this number wrote.
-output_of() { cat "$spool.out/"?"$(printf %05x "$1")"????????; }
+output_of() { cat "$spool.out/"?"$(printf %08x "$1")"????????; }
 
 case_a_job_runs() {
   needs_atd; opened

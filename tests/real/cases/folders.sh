@@ -15,12 +15,12 @@ case_what_is_no_plain_file() {
   opened
   with 'true' at -t 203001010000; took 1
   job=$(basename "$(file_of 1)")
-  mkfifo "spool/a0000201b968a0"; mkfifo spool/fifo; mkdir "spool/a0000301b968a0"
+  mkfifo "spool/a0000000201b968a0"; mkfifo spool/fifo; mkdir "spool/a0000301b968a0"
   ln -s "$job" "spool/a0000401b968a0"; ln -s /dev/zero spool/link; : >spool/README; : >"spool/two words"
   with '' atq; ended 0 $'1\tTue Jan  1 00:00:00 2030 a ann\n' ''
   with 'true' at -t 203001010000; took 2
   with '' atrm 1; ended 0 '' ''
-  [ -p spool/fifo ] && [ -L "spool/a0000401b968a0" ] && [ -d "spool/a0000301b968a0" ] || fail 'other files are gone'
+  [ -p spool/fifo ] && [ -p "spool/a0000000201b968a0" ] && [ -L "spool/a0000401b968a0" ] && [ -d "spool/a0000301b968a0" ] || fail 'other files are gone'
 }
 
 case_a_spool_that_is_a_link() {
@@ -30,6 +30,27 @@ case_a_spool_that_is_a_link() {
   with 'true' at -t 203001010000; took 1
   [ -f real.lock ] && [ -d real.out ] && [ ! -e spool.lock ] || fail 'one folder has two locks'
   spool=$PWD/real with '' atq; ended 0 $'1\tTue Jan  1 00:00:00 2030 a ann\n' ''
+}
+
+# tests/real/before was made by the program of before numbers of eight digits: job 1 runs, or did when its machine went
+# down, job 2 is due in 2030, and job 3 is due.
+case_a_spool_of_before() {
+  needs_atd
+  cp -r "$here/before" spool; chmod 700 spool; spool=$PWD/spool
+  with '' atq
+  ended 0 $'1\tSat Nov 28 06:26:00 2026 = ann\n3\tSat Nov 28 06:26:00 2026 a ann\n2\tTue Jan  1 00:00:00 2030 a ann\n' ''
+  with 'echo four' at now; took 4
+  [ -f "$(file_of 4)" ] && [ "$(cat spool/.SEQ)" = 00000004 ] || fail "the next job is in $(ls spool)"
+  with '' at -c 2; cmp -s out spool/a0000201e187e0 || fail 'what is shown is not job 2'
+  with '' atrm 2; ended 0 '' ''
+  [ ! -e spool/a0000201e187e0 ] || fail 'the file of job 2 stays'
+  call atd -s </dev/null
+  [ "$status" = 0 ] || fail "atd ends with $status: $(cat err)"
+  for line in 'job 1 interrupted' 'job 3 handed over' 'job 3 exit 0' 'job 4 handed over' 'job 4 exit 0'; do
+    grep -qx "$line" out || fail "there is no line '$line' in $(cat out)"
+  done
+  [ "$(cat spool.out/a0000301c8b522)" = three ] || fail 'job 3 has not its output'
+  [ -z "$(find spool -name 'a0*')" ] || fail "there are files left: $(ls spool)"
 }
 
 case_a_folder_that_is_gone() {
@@ -103,4 +124,22 @@ case_a_read_only_folder() {
   done
   chmod 700 spool
   user=root with '' atq; ended 0 $'1\tTue Jan  1 00:00:00 2030 a ann\n' ''
+}
+
+# The umask decides what a job makes, and not whether its owner may open the spool.
+case_a_umask_that_takes_all_rights() {
+  as=()
+  if [ "$(id -u)" = 0 ]; then
+    command -v setpriv >/dev/null || skip 'root opens everything, and there is no setpriv'
+    as=(setpriv --reuid=65534 --regid=65534 --clear-groups)
+  fi
+  mkdir -m 777 home; chmod 755 .
+  spool=$PWD/home/spool user=root
+  for number in 1 2; do
+    (umask 0777; printf 'true' | bare "${as[@]}" "$bin/at" -t 203001010000) 2>err || fail "no job $number: $(cat err)"
+  done
+  [ -z "$(find home/spool* -type f ! -perm 600 -o -type d ! -perm 700)" ] || fail "the rights: $(ls -lR home)"
+  (umask 0777; bare "${as[@]}" "$bin/at" -c 2) >out 2>err </dev/null || fail "job 2 is not told: $(cat err)"
+  grep -qx 'umask 0777' out || fail 'the umask of the job is lost'
+  (umask 0777; bare "${as[@]}" "$bin/atrm" 1 2) 2>err </dev/null || fail "the jobs stay: $(cat err)"
 }

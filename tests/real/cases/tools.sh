@@ -107,8 +107,8 @@ case_submit_list_show_remove() {
   opened
   with 'echo hi' at -t 203001010830
   ended 0 '' $'job 1 at Tue Jan  1 08:30:00 2030\n'
-  [ "$(cat "$spool/.SEQ")" = 00001 ] || fail 'the number that was drawn is not kept'
-  [ "$(file_of 1)" = "$spool/a00001$(printf %08x $(($(date -u -d '2030-01-01 08:30' +%s) / 60)))" ] || fail "the file is $(file_of 1)"
+  [ "$(cat "$spool/.SEQ")" = 00000001 ] || fail 'the number that was drawn is not kept'
+  [ "$(file_of 1)" = "$spool/a00000001$(printf %08x $(($(date -u -d '2030-01-01 08:30' +%s) / 60)))" ] || fail "the file is $(file_of 1)"
   with 'echo ho' at -q c -m 9:15 pm jan 2, 2030
   ended 0 '' $'job 2 at Wed Jan  2 21:15:00 2030\n'
   printf 'echo he\n' >file
