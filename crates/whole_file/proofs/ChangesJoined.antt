@@ -1,8 +1,10 @@
 -- How calls that only change files join.
 use Rattle.std.proofs.Common.{◌≡◌, ℕ, List, refl, ◌∙◌}
+use Rattle.std.specs.Prelude.{Contains}
 use Rattle.host_calls.specs.Folder.{Files, Folder, IsImage}
 use Rattle.host_calls.specs.World.{World}
 use Rattle.host_calls.proofs.WorldLemmas.{at_end, leaves_then, leaves_weaker}
+use Rattle.whole_file.specs.Clearing.{IsClearing}
 use Rattle.whole_file.specs.Others.{ChangesFiles, LeavesOthers}
 
 -- an image of the start has its own files
@@ -35,3 +37,7 @@ changes_weaker P Q old new weaker changes = record {
 pub changes_end : (P : Files → Type 0) (old new : World) → ChangesFiles P old new → ((image : Files) → IsImage old.now.folder image → P image) → (image : Files) → IsImage new.now.folder image → P image
 changes_end P old new changes start image is =
     (at_end (λ files handed. P files × (handed ≡ old.now.handed)) old new changes.leaves (λ files was. (start files was, refl)) image is).0
+
+-- files that are removed leave the others alone
+pub clears_alone : (names : List (List ℕ)) (start : Folder) (old new : World) → ChangesFiles (IsClearing names start) old new → ChangesFiles (LeavesOthers (Contains names) start) old new
+clears_alone names start old new changes = changes_weaker _ _ old new (λ image is. is.alone) changes

@@ -1,6 +1,6 @@
 -- What a crash leaves while files are removed.
 use Rattle.std.proofs.Common.{◌≡◌, ◌≢◌, ℕ, ◌+◌, ◌<◌, ◌≤◌, List, [], length, sym, ap, subst, ◌∙◌, refl, inl, inr, arith, Result, Ok, Err, OnOk}
-use Rattle.std.specs.Prelude.{Option, None, IsSome, Contains, option_map, slice_index_or}
+use Rattle.std.specs.Prelude.{◌⊎◌, Option, None, IsSome, Contains, option_map, slice_index_or}
 use Rattle.std.specs.FinMap as map
 use Rattle.std.proofs.Math.Nat.{eq-or-lt_of_le}
 use Rattle.std.proofs.lemmas.List.{get_or_default}
@@ -8,8 +8,8 @@ use Rattle.host_calls.specs.declared.fault.HostFault.{HostFault}
 use Rattle.host_calls.specs.Folder.{Body, Files, Folder, IsImage, IsRemoved, IsSyncedInPart, HasNamesSynced, MayStand, Names, Removed, files_of, names_of, reading_of, with_change}
 use Rattle.host_calls.specs.World.{FileCall, World}
 use Rattle.host_calls.proofs.FolderLemmas.{get-files_of, get-remove_other, get-remove_same}
-use Rattle.whole_file.specs.Clearing.{AreCleared, AreFiles}
-use Rattle.whole_file.specs.Others.{ChangesFiles, LeavesOthers}
+use Rattle.whole_file.specs.Clearing.{AreCleared, AreFiles, IsClearing}
+use Rattle.whole_file.specs.Others.{ChangesFiles}
 use Rattle.whole_file.proofs.OthersLemmas.{changes_then, get-with_value_other, get-with_value_same, names_certain, none_stands, one_or_other, reading_stands, with_value}
 
 -- the first of the names were removed, and nothing else has changed
@@ -17,11 +17,11 @@ pub record HasRemoved (names : List (List ℕ)) (count : ℕ) (start new : Folde
   pub body : new.body ≡ start.body
   pub gone : (place : ℕ) → place < count → map.get (names_of new) (slice_index_or names place []) ≡ None
   pub kept : (name : List ℕ) → ((place : ℕ) → place < count → name ≢ slice_index_or names place []) → map.get (names_of new) name ≡ map.get (names_of start) name
-  pub images : (image : Files) → IsImage new image → LeavesOthers (Contains names) start image
+  pub images : (image : Files) → IsImage new image → IsClearing names start image
 
 -- the start's own images
-leaves_start : (names : List (List ℕ)) (start : Folder) (image : Files) → IsImage start image → LeavesOthers (Contains names) start image
-leaves_start names start image is = record { from = image; was = is; others = λ name other. refl }
+leaves_start : (names : List (List ℕ)) (start : Folder) (image : Files) → IsImage start image → IsClearing names start image
+leaves_start names start image is = record { alone = record { from = image; was = is; others = λ name other. refl }; less = λ name. inl refl }
 
 -- before any was removed
 pub none_removed : (names : List (List ℕ)) (start : Folder) → HasRemoved names 0 start start
@@ -40,38 +40,55 @@ record IsBack (name : List ℕ) (folder : Folder) (image : Files) : Type 0 where
   from : Files
   was : IsImage folder from
   others : (other : List ℕ) → ¬ (other ≡ name) → map.get image other ≡ map.get from other
+  less : (map.get image name ≡ map.get from name) ⊎ (map.get image name ≡ None)
 
 back : (name : List ℕ) (folder : Folder) (image : Files) → IsImage (with_change (Removed name) folder) image → IsBack name folder image
-back name folder image is =
-    let before : Names = is.chosen.0 in
-    let value : Option (List ℕ) = map.get (files_of folder.body before) name in
-    let held : (other : List ℕ) → ¬ (other ≡ name) → map.get is.names other ≡ map.get before other = λ other differ. elim is.chosen.2 [
-      | inl same ↦ ap (λ names. map.get names other) same
-      | inr removed ↦ ap (λ names. map.get names other) removed ∙ get-remove_other before name other differ
-    ] in
-    let from : Files = with_value image name value in
-    record {
-      from = from;
-      was = record {
-        names = before;
-        chosen = is.chosen.1;
-        each = λ other. elim (one_or_other other name) [
-          | inl same ↦ rw same (rw (get-with_value_same image name value) (reading_stands folder.body before name))
-          | inr differ ↦ rw (get-with_value_other image name other value differ) (subst (λ some. MayStand folder.body some (map.get image other)) (held other differ) (is.each other))
-        ];
-      };
-      others = λ other differ. sym (get-with_value_other image name other value differ);
-    }
+back name folder image is = elim is.chosen.2 [
+  | inl same ↦ record {
+    from = image;
+    was = record {
+      names = is.chosen.0;
+      chosen = is.chosen.1;
+      each = λ other. subst (λ names. MayStand folder.body (map.get names other) (map.get image other)) same (is.each other);
+    };
+    others = λ other differ. refl;
+    less = inl refl;
+  }
+  | inr removed ↦
+      let before : Names = is.chosen.0 in
+      let value : Option (List ℕ) = map.get (files_of folder.body before) name in
+      let held : (other : List ℕ) → ¬ (other ≡ name) → map.get is.names other ≡ map.get before other = λ other differ. ap (λ names. map.get names other) removed ∙ get-remove_other before name other differ in
+      let gone : map.get is.names name ≡ None = ap (λ names. map.get names name) removed ∙ get-remove_same before name in
+      record {
+        from = with_value image name value;
+        was = record {
+          names = before;
+          chosen = is.chosen.1;
+          each = λ other. elim (one_or_other other name) [
+            | inl same ↦ rw same (rw (get-with_value_same image name value) (reading_stands folder.body before name))
+            | inr differ ↦ rw (get-with_value_other image name other value differ) (subst (λ some. MayStand folder.body some (map.get image other)) (held other differ) (is.each other))
+          ];
+        };
+        others = λ other differ. sym (get-with_value_other image name other value differ);
+        less = inr (none_stands folder.body (map.get image name) (subst (λ some. MayStand folder.body some (map.get image name)) gone (is.each name)));
+      }
+]
 
 -- an image after one name more was removed
-removed_leaves : (names : List (List ℕ)) (name : List ℕ) (start folder : Folder) → Contains names name → ((image : Files) → IsImage folder image → LeavesOthers (Contains names) start image) → (image : Files) → IsImage (with_change (Removed name) folder) image → LeavesOthers (Contains names) start image
+removed_leaves : (names : List (List ℕ)) (name : List ℕ) (start folder : Folder) → Contains names name → ((image : Files) → IsImage folder image → IsClearing names start image) → (image : Files) → IsImage (with_change (Removed name) folder) image → IsClearing names start image
 removed_leaves names name start folder among leaves image is =
     let once : IsBack name folder image = back name folder image is in
-    let before : LeavesOthers (Contains names) start once.from = leaves once.from once.was in
+    let before : IsClearing names start once.from = leaves once.from once.was in
     record {
-      from = before.from;
-      was = before.was;
-      others = λ other apart. once.others other (λ same. apart (subst (Contains names) (sym same) among)) ∙ before.others other apart;
+      alone = record {
+        from = before.alone.from;
+        was = before.alone.was;
+        others = λ other apart. once.others other (λ same. apart (subst (Contains names) (sym same) among)) ∙ before.alone.others other apart;
+      };
+      less = λ other. elim (one_or_other other name) [
+        | inl same ↦ rw same (elim once.less [ inl was ↦ elim (before.less name) [ inl of_start ↦ inl (was ∙ of_start) | inr gone ↦ inr (was ∙ gone) ] | inr gone ↦ inr gone ])
+        | inr differ ↦ elim (before.less other) [ inl of_start ↦ inl (once.others other differ ∙ of_start) | inr gone ↦ inr (once.others other differ ∙ gone) ]
+      ];
     }
 
 -- a place whose name is not that of the last place stands before it
@@ -95,18 +112,18 @@ one_more names count name start folder new inside here before removed =
     }
 
 -- the calls that remove the names, one more of them
-pub remove_files : {T : Type 0} (names : List (List ℕ)) (count : ℕ) (name : List ℕ) (old before new : World) (result : Result T HostFault) → count < length names → name ≡ slice_index_or names count [] → ChangesFiles (LeavesOthers (Contains names) old.now.folder) old before → HasRemoved names count old.now.folder before.now.folder → FileCall (IsRemoved name) (IsRemoved name) before new result → ChangesFiles (LeavesOthers (Contains names) old.now.folder) old new
+pub remove_files : {T : Type 0} (names : List (List ℕ)) (count : ℕ) (name : List ℕ) (old before new : World) (result : Result T HostFault) → count < length names → name ≡ slice_index_or names count [] → ChangesFiles (IsClearing names old.now.folder) old before → HasRemoved names count old.now.folder before.now.folder → FileCall (IsRemoved name) (IsRemoved name) before new result → ChangesFiles (IsClearing names old.now.folder) old new
 remove_files names count name old before new result inside here changes removed call =
     let start : Folder = old.now.folder in
-    changes_then (LeavesOthers (Contains names) start) _ _ old before new result changes call (λ image within. elim within [
+    changes_then (IsClearing names start) _ _ old before new result changes call (λ image within. elim within [
       | inl is ↦ removed.images image is
       | inr done ↦ removed_leaves names name start before.now.folder (subst (Contains names) (sym here) (is_contained names count inside)) removed.images image (subst (λ some. IsImage some image) done.1 done.2)
     ])
 
 -- the call that makes the names certain
-pub sync_files : {T : Type 0} (names : List (List ℕ)) (count : ℕ) (old before new : World) (result : Result T HostFault) → ChangesFiles (LeavesOthers (Contains names) old.now.folder) old before → HasRemoved names count old.now.folder before.now.folder → FileCall HasNamesSynced IsSyncedInPart before new result → ChangesFiles (LeavesOthers (Contains names) old.now.folder) old new
+pub sync_files : {T : Type 0} (names : List (List ℕ)) (count : ℕ) (old before new : World) (result : Result T HostFault) → ChangesFiles (IsClearing names old.now.folder) old before → HasRemoved names count old.now.folder before.now.folder → FileCall HasNamesSynced IsSyncedInPart before new result → ChangesFiles (IsClearing names old.now.folder) old new
 sync_files names count old before new result changes removed call =
-    changes_then (LeavesOthers (Contains names) old.now.folder) _ _ old before new result changes call (λ image within. elim within [
+    changes_then (IsClearing names old.now.folder) _ _ old before new result changes call (λ image within. elim within [
       | inl is ↦ removed.images image is
       | inr done ↦ removed.images image (names_certain before.now.folder image (subst (λ some. IsImage some image) done.1 done.2))
     ])

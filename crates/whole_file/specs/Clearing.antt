@@ -1,12 +1,18 @@
 -- Files that are removed.
-use Rattle.std.specs.Prelude.{◌≡◌, ◌≢◌, List, [], ℕ, AllPairs, Contains, IsSome}
+use Rattle.std.specs.Prelude.{◌≡◌, ◌≢◌, ◌⊎◌, List, [], ℕ, None, AllPairs, Contains, IsSome}
 use Rattle.std.specs.FinMap as map
 use Rattle.host_calls.specs.Folder.{Files, Folder, IsInNoImage, reading_of}
+use Rattle.whole_file.specs.Others.{LeavesOthers}
 
 -- each of the names is a file, and none stands twice
 pub record AreFiles (names : List (List ℕ)) (files : Files) : Type 0 where
   pub held : (name : List ℕ) → Contains names name → IsSome (map.get files name)
   pub different : AllPairs (λ first second. first ≢ second) names
+
+-- The image is one of the start, of which files with these names may be gone: none of them reads as it never did.
+pub record IsClearing (names : List (List ℕ)) (start : Folder) (image : Files) : Type 0 where
+  pub alone : LeavesOthers (Contains names) start image
+  pub less : (name : List ℕ) → (map.get image name ≡ map.get alone.from name) ⊎ (map.get image name ≡ None)
 
 -- None of the names is in any image, no change of names is pending, and every other name reads as before.
 pub record AreCleared (names : List (List ℕ)) (old new : Folder) : Type 0 where

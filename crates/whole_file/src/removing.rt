@@ -1,9 +1,9 @@
 //! Removing files.
-ghost use Rattle.std.specs.Prelude.{◌≡◌, ◌≢◌, [], Contains, IsTrue, OnOk};
+ghost use Rattle.std.specs.Prelude.{◌≡◌, ◌≢◌, [], IsTrue, OnOk};
 ghost use Rattle.host_calls.specs.Session.{CallsInside, IsInside};
 ghost use Rattle.host_calls.specs.World.{reading};
-ghost use Rattle.whole_file.specs.Others.{ChangesFiles, LeavesOthers};
-ghost use Rattle.whole_file.specs.Clearing.{AreFiles, AreCleared};
+ghost use Rattle.whole_file.specs.Others.{ChangesFiles};
+ghost use Rattle.whole_file.specs.Clearing.{AreCleared, AreFiles, IsClearing};
 
 use host_calls::{Host, HostFault, Name};
 use std::alloc::Global;
@@ -15,7 +15,7 @@ pub fn clear<H: Host>(alloc: Global, host: &mut H, names: &[Name]) -> Result<(),
     ensures inside { CallsInside HostFault.Failed (H.session host.old) (H.session host.new) result }
     ensures nothing { names.now ≡ [] → host.new ≡ host.old }
     ensures files { IsTrue H.tells
-        → ChangesFiles (LeavesOthers (Contains names.now) (H.world host.old).now.folder)
+        → ChangesFiles (IsClearing names.now (H.world host.old).now.folder)
         (H.world host.old) (H.world host.new) }
     ensures cleared { IsTrue H.tells → names.now ≢ []
         → OnOk result (AreCleared names.now (H.world host.old).now.folder (H.world host.new).now.folder) }

@@ -1,5 +1,6 @@
 use Rattle.spool_store.proofs.DecideLemmas.{decided_held}
 use Rattle.spool_store.proofs.DecidedFiles.{decide_others, decide_stepping, decided_current}
+use Rattle.whole_file.proofs.ChangesJoined.{clears_alone}
 use Rattle.spool_store.proofs.marking.decide.Goals as goal
 
 pub add_mark-requires-clause-current : goal.add_mark-requires-clause-current
@@ -16,7 +17,7 @@ returns-in_err-clear-clause-files g c = λ tells narrow table step decision. dec
   marked = c.in_ok-journal.ensures.marked tells narrow table step decision.is_mark;
   keeps = c.in_ok-journal.ensures.others tells;
   adds = c.add_mark.ensures.files tells narrow table step decision.is_mark;
-  clears = c.clear.ensures.files tells;
+  clears = clears_alone _ _ _ _ (c.clear.ensures.files tells);
 })
 
 pub returns-clause-files : goal.returns-clause-files
@@ -27,7 +28,7 @@ returns-clause-files g c = λ tells narrow table step decision. decide_stepping 
   marked = c.in_ok-journal.ensures.marked tells narrow table step decision.is_mark;
   keeps = c.in_ok-journal.ensures.others tells;
   adds = c.add_mark.ensures.files tells narrow table step decision.is_mark;
-  clears = c.clear.ensures.files tells;
+  clears = clears_alone _ _ _ _ (c.clear.ensures.files tells);
 })
 
 pub returns-clause-current : goal.returns-clause-current
@@ -38,7 +39,7 @@ returns-clause-current g c = λ tells narrow table step decision. decided_curren
   marked = c.in_ok-journal.ensures.marked tells narrow table step decision.is_mark;
   keeps = c.in_ok-journal.ensures.others tells;
   adds = c.add_mark.ensures.files tells narrow table step decision.is_mark;
-  clears = c.clear.ensures.files tells;
+  clears = clears_alone _ _ _ _ (c.clear.ensures.files tells);
 }) (c.in_ok-clear.ensures.cleared tells (λ none. cc))
 
 pub returns-clause-others : goal.returns-clause-others
@@ -49,7 +50,7 @@ returns-clause-others g c = λ tells narrow table step decision. decide_others n
   marked = c.in_ok-journal.ensures.marked tells narrow table step decision.is_mark;
   keeps = c.in_ok-journal.ensures.others tells;
   adds = c.add_mark.ensures.files tells narrow table step decision.is_mark;
-  clears = c.clear.ensures.files tells;
+  clears = clears_alone _ _ _ _ (c.clear.ensures.files tells);
 }) (c.in_ok-clear.ensures.cleared tells (λ none. cc))
 
 pub returns-in_err-journal-clause-files : goal.returns-in_err-journal-clause-files

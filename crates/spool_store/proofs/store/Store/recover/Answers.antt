@@ -1,5 +1,6 @@
 use Rattle.std.proofs.Common.{ap}
 use Rattle.spool_store.proofs.RecoveryLemmas.{can_clear, clearing, has_settled, narrow_recovered, only_settled, recovered, settled_damage, settled_untouched, settling, uncleared, unsettled}
+use Rattle.whole_file.proofs.ChangesJoined.{clears_alone}
 use Rattle.spool_store.proofs.store.Store.recover.Goals as goal
 
 pub returns-in_err-settle-clause-files : goal.returns-in_err-settle-clause-files
@@ -20,7 +21,7 @@ clear-requires-clause-held g c = λ tells.
 pub returns-in_err-clear-clause-files : goal.returns-in_err-clear-clause-files
 returns-in_err-clear-clause-files g c = λ tells.
     clearing _ _ c.in_ok-jobs.field-0 (has_settled _ _ _ _ _ (c.in_ok-settle.ensures.files tells) (c.in_ok-jobs.ensures.looks tells) (c.in_ok-jobs.ensures.shown tells)) _ c.as_slice.ensures.value
-    _ (c.clear.ensures.files tells)
+    _ (clears_alone _ _ _ _ (c.clear.ensures.files tells))
 
 pub invariant_of-result : goal.invariant_of-result
 invariant_of-result g c = c.in_ok-jobs.ensures.stored
@@ -28,12 +29,12 @@ invariant_of-result g c = c.in_ok-jobs.ensures.stored
 pub returns-clause-files : goal.returns-clause-files
 returns-clause-files g c = λ tells.
     clearing _ _ c.in_ok-jobs.field-0 (has_settled _ _ _ _ _ (c.in_ok-settle.ensures.files tells) (c.in_ok-jobs.ensures.looks tells) (c.in_ok-jobs.ensures.shown tells)) _ c.as_slice.ensures.value
-    _ (c.clear.ensures.files tells)
+    _ (clears_alone _ _ _ _ (c.clear.ensures.files tells))
 
 pub returns-clause-recovered : goal.returns-clause-recovered
 returns-clause-recovered g c = λ tells.
     recovered _ _ c.in_ok-jobs.field-0 (has_settled _ _ _ _ _ (c.in_ok-settle.ensures.files tells) (c.in_ok-jobs.ensures.looks tells) (c.in_ok-jobs.ensures.shown tells)) _ c.as_slice.ensures.value
-    _ (c.clear.ensures.files tells) (λ none. ap g.H.Host.world (c.clear.ensures.nothing none)) (c.in_ok-clear.ensures.cleared tells)
+    _ (clears_alone _ _ _ _ (c.clear.ensures.files tells)) (λ none. ap g.H.Host.world (c.clear.ensures.nothing none)) (c.in_ok-clear.ensures.cleared tells)
 
 pub returns-in_err-jobs-clause-untouched : goal.returns-in_err-jobs-clause-untouched
 returns-in_err-jobs-clause-untouched g c = λ tells.
@@ -45,7 +46,7 @@ returns-in_err-settle-clause-recovered g c = λ tells. unsettled _ _ _ c.in_err-
 pub returns-in_err-clear-clause-recovered : goal.returns-in_err-clear-clause-recovered
 returns-in_err-clear-clause-recovered g c = λ tells.
     uncleared _ _ c.in_ok-jobs.field-0 (has_settled _ _ _ _ _ (c.in_ok-settle.ensures.files tells) (c.in_ok-jobs.ensures.looks tells) (c.in_ok-jobs.ensures.shown tells)) _ c.as_slice.ensures.value
-    _ c.in_err-clear.field-0.0 c.from_residual-in_err-clear.result (c.clear.ensures.files tells) c.from_residual-in_err-clear.ensures.1
+    _ c.in_err-clear.field-0.0 c.from_residual-in_err-clear.result (clears_alone _ _ _ _ (c.clear.ensures.files tells)) c.from_residual-in_err-clear.ensures.1
 
 pub returns-clause-narrow : goal.returns-clause-narrow
 returns-clause-narrow g c = λ tells. narrow_recovered _ _ _ (returns-clause-recovered g c tells)
