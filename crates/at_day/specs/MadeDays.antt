@@ -3,17 +3,15 @@ use Rattle.std.specs.Prelude.{◌≡◌, [], ◌∷◌, ℕ, Bool, true, false, 
 use Rattle.std.specs.FinMap.{from_entries}
 use Rattle.std.specs.List.{list_any}
 use Rattle.command_answers.specs.Found.{deny_file}
-use Rattle.daemon_turn.specs.declared.report.TurnEnd.{TurnEnd}
-use Rattle.daemon_turn.specs.declared.report.TurnEnd.TheVariants as end
 use Rattle.day_events.specs.declared.report.EventReport.{EventReport}
 use Rattle.day_events.specs.declared.report.EventReport.TheVariants as told
 use Rattle.host_calls.specs.Folder.{Files}
-use Rattle.listing_text.specs.declared.cause.Cause.{Cause}
-use Rattle.listing_text.specs.declared.cause.Cause.TheVariants.{Done, Refused, FileFault, InputFault, OutputFault, Busy, Memory, Damaged, StillRunning}
+use Rattle.listing_text.specs.Cause.{is_memory}
 use Rattle.made_events.specs.Made.{made_events}
 use Rattle.made_events.specs.Plans.{made_plan}
 use Rattle.memory_host.specs.Host.{IsNew}
 use Rattle.memory_host.specs.declared.memory_host.MemoryHost.{MemoryHost}
+use Rattle.serving.specs.Items.{is_wanting}
 use Rattle.at_day.specs.declared.counts.Counts.{Counts}
 use Rattle.at_day.specs.Days.{IsDay}
 
@@ -21,29 +19,10 @@ use Rattle.at_day.specs.Days.{IsDay}
 abbrev pub deny_alone : Files
 deny_alone = from_entries ((deny_file, []) ∷ [])
 
--- it was want of memory
-abbrev pub is_memory : Cause → Bool
-is_memory Memory = true
-is_memory Done = false
-is_memory (Refused refusal) = false
-is_memory FileFault = false
-is_memory InputFault = false
-is_memory OutputFault = false
-is_memory Busy = false
-is_memory (Damaged damage) = false
-is_memory StillRunning = false
-
-abbrev pub is_for_memory : TurnEnd → Bool
-is_for_memory end.Memory = true
-is_for_memory end.Done = false
-is_for_memory end.Busy = false
-is_for_memory end.FileFault = false
-is_for_memory (end.Damaged damage) = false
-
 -- the event ended with want of memory
 abbrev pub lacks_memory : EventReport → Bool
 lacks_memory (told.Command status out err) = is_memory status.cause
-lacks_memory (told.Turn turned) = is_for_memory turned.end
+lacks_memory (told.Turn turned) = is_wanting turned.end
 lacks_memory told.Rebooted = false
 
 -- The made day of so many events comes to these counts: on a host of its plan, which holds an empty list of users who may

@@ -12,6 +12,11 @@ abbrev pub is_done : Cause → Bool
 is_done Done = true
 is_done _ = false
 
+-- memory was wanting
+abbrev pub is_memory : Cause → Bool
+is_memory Memory = true
+is_memory _ = false
+
 -- the exit status of a cause
 abbrev pub code_of : Cause → ℕ
 code_of Done = 0

@@ -2,9 +2,11 @@
 use Rattle.std.specs.Prelude.{◌≡◌, ◌||◌, Bool, true, false, not}
 use Rattle.listing_text.specs.declared.cause.Cause.{Cause}
 use Rattle.listing_text.specs.declared.cause.Cause.TheVariants as cause
+use Rattle.listing_text.specs.Cause.{is_memory}
 use Rattle.command_answers.specs.Sinks.{IsSilent, SinkAt}
 use Rattle.daemon_turn.specs.declared.report.TurnEnd.{TurnEnd}
 use Rattle.daemon_turn.specs.declared.report.TurnEnd.TheVariants.{Done, Busy, FileFault, Damaged, Memory}
+use Rattle.serving.specs.Items.{is_wanting}
 use Rattle.serving.specs.Lines.{SaysEnd}
 
 -- the cause of a turn's end
@@ -14,19 +16,6 @@ cause_of_end Busy = cause.Busy
 cause_of_end FileFault = cause.FileFault
 cause_of_end (Damaged damage) = cause.Damaged damage
 cause_of_end Memory = cause.Memory
-
--- the turn found no memory
-abbrev pub is_wanting : TurnEnd → Bool
-is_wanting Memory = true
-is_wanting Done = false
-is_wanting Busy = false
-is_wanting FileFault = false
-is_wanting (Damaged damage) = false
-
--- the cause is want of memory
-abbrev pub is_memory : Cause → Bool
-is_memory cause.Memory = true
-is_memory _ = false
 
 -- the line of the end found memory, by what it was said as: that of want of memory may be wanting
 abbrev pub finds_memory : TurnEnd → Cause → Bool
