@@ -1,7 +1,9 @@
 /* The system calls that our tools make, by a C program that does nothing else: what no tool with these promises can be
  * faster than.
  *
- *   floor submit SPOOL     the calls of one submission, with all its syncs
+ *   floor submit SPOOL [SYNCS]
+ *                          the calls of one submission, with all its syncs. With 3, a crash can leave the job and take
+ *                          its number back; with 2, the number is not even synced: what fewer syncs would save.
  *   floor list SPOOL       the calls of one listing
  *   floor remove SPOOL N   the calls of one removal, with all its syncs
  *   floor none             nothing */
@@ -66,17 +68,17 @@ static long survey(void) {
     return jobs;
 }
 
-static void place(const char *name, const char *bytes, size_t count) {
+static void place(const char *name, const char *bytes, size_t count, int sync_bytes, int sync_names) {
     int file = openat(folder, ".TMP", O_WRONLY | O_CREAT | O_EXCL | O_CLOEXEC, 0600);
     check(file >= 0, ".TMP");
     check(write(file, bytes, count) == (ssize_t)count, "write");
-    check(fsync(file) == 0, "fsync");
+    if (sync_bytes) check(fsync(file) == 0, "fsync");
     close(file);
     check(renameat(folder, ".TMP", folder, name) == 0, name);
-    check(fsync(folder) == 0, "fsync");
+    if (sync_names) check(fsync(folder) == 0, "fsync");
 }
 
-static void submit(const char *spool) {
+static void submit(const char *spool, int syncs) {
     begin(spool);
     survey();
     char sequence[16] = "00000000\n", name[32], text[512];
@@ -90,8 +92,8 @@ static void submit(const char *spool) {
     snprintf(name, sizeof name, "a%08lx01b968a0", number);
     int count = snprintf(text, sizeof text, "#!/bin/sh\n# at user=root mail=0\numask 0022\ncd '/' || {\n\techo 'Execution directory inaccessible' >&2\n\texit 1\n}\necho hi\n");
     tell('u');
-    place(".SEQ", sequence, 9);
-    place(name, text, (size_t)count);
+    place(".SEQ", sequence, 9, syncs >= 3, syncs >= 4);
+    place(name, text, (size_t)count, 1, 1);
     end();
 }
 
@@ -124,7 +126,7 @@ static void list(const char *spool) {
 }
 
 int main(int count, char **words) {
-    if (count == 3 && strcmp(words[1], "submit") == 0) submit(words[2]);
+    if ((count == 3 || count == 4) && strcmp(words[1], "submit") == 0) submit(words[2], count == 4 ? atoi(words[3]) : 4);
     else if (count == 3 && strcmp(words[1], "list") == 0) list(words[2]);
     else if (count == 4 && strcmp(words[1], "remove") == 0) take_away(words[2], strtoul(words[3], NULL, 10));
     else if (!(count == 2 && strcmp(words[1], "none") == 0)) return 2;
