@@ -1,9 +1,10 @@
 #!/bin/sh
 # Makes a Debian package of the proved program: packaging/build-deb.sh FOLDER puts coefhird_VERSION_amd64.deb into FOLDER.
-# BINARY is as for install.sh. It needs dpkg-deb and no other tool of packages.
+# BINARY, and --cpu NAME behind FOLDER, are as for install.sh. It needs dpkg-deb and no other tool of packages.
 set -eu
 here=$(cd "$(dirname "$0")/.." && pwd)
 into=${1:?a folder for the package}
+shift
 version=${VERSION:-0.1}
 work=$(mktemp -d)
 trap 'rm -rf "$work"' EXIT
@@ -11,7 +12,12 @@ root=$work/root
 mkdir -p "$root/DEBIAN"
 chmod 755 "$root" "$root/DEBIAN"
 
-DESTDIR=$root PREFIX=/usr "$here/packaging/install.sh"
+DESTDIR=$root PREFIX=/usr "$here/packaging/install.sh" "$@"
+
+# Debian's zsh looks for a package's completions elsewhere.
+mkdir -p "$root/usr/share/zsh/vendor-completions"
+mv "$root/usr/share/zsh/site-functions/_at" "$root/usr/share/zsh/vendor-completions/_at"
+rmdir "$root/usr/share/zsh/site-functions"
 
 # What a package of Debian's has besides.
 doc=$root/usr/share/doc/coefhird
@@ -26,6 +32,8 @@ for link in $(find "$root/usr/share/man" -type l); do
     rm "$link"
 done
 echo /etc/default/coefhird >"$root/DEBIAN/conffiles"
+# What postinst puts back.
+install -D -m 644 "$root/usr/lib/systemd/system/atd.service" "$root/usr/share/coefhird/atd.service"
 for script in postinst prerm postrm; do
     install -m 755 "$here/packaging/debian/$script" "$root/DEBIAN/$script"
 done

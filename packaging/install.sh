@@ -4,23 +4,37 @@
 #   packaging/install.sh                             for the machine, below /usr/local
 #   PREFIX="$HOME/.local" packaging/install.sh       for one user, without root
 #
-# PREFIX   where to install
-# DESTDIR  a folder in the place of the root, for whoever makes a package
-# BINARY   a program that these sources were built to before; without it the toolchain proves and builds it here
+# PREFIX       where to install
+# DESTDIR      a folder in the place of the root, for whoever makes a package
+# BINARY       a program that these sources were built to before
+# --cpu NAME   x86-64 for each processor of that kind; without it those since 2009 or so, which x86-64-v2 means
+#
+# Without BINARY it installs the program that the toolchain left here, where no source is newer and no --cpu is given, and
+# else the toolchain proves and builds it. So only a proved program is installed.
 set -eu
 here=$(cd "$(dirname "$0")/.." && pwd)
 PREFIX=${PREFIX:-/usr/local}
 DESTDIR=${DESTDIR:-}
 to=$DESTDIR$PREFIX
+stops() { echo "install.sh: $1" >&2; exit 1; }
+case $PREFIX in /*) ;; *) stops "PREFIX is to begin with /" ;; esac
+case $#,${1:-} in 0, | 2,--cpu) ;; *) stops 'usage: install.sh [--cpu NAME]' ;; esac
+[ $# = 0 ] || [ -z "${BINARY:-}" ] || stops 'a BINARY is built already: give no --cpu'
 
-# The program. The toolchain builds only what is proved.
+is_stale() {
+    [ ! -x "$1" ] || [ -n "$(find "$here/crates" "$here/crates.txt" -name out -prune -o -type f -newer "$1" -print)" ]
+}
 if [ -z "${BINARY:-}" ]; then
-    command -v rt >/dev/null || { echo 'install.sh: the toolchain is not here: give a BINARY' >&2; exit 1; }
-    # (a day is made in memory, which touches no folder)
-    (cd "$here/crates/at_tool" && rt run -- atday --make 8 >/dev/null)
     BINARY=$here/crates/at_tool/out/at_tool
+    if [ $# = 2 ] || is_stale "$BINARY"; then
+        command -v rt >/dev/null || stops 'the toolchain is not here: give a BINARY'
+        [ -w "$here/crates/at_tool" ] || stops "you may not write in $here: clone it, or give a BINARY"
+        echo 'install.sh: proving and building the tools: about an hour, and few words, where nothing is proved yet' >&2
+        # (a day is made in memory, which touches no folder)
+        (cd "$here/crates/at_tool" && rt run "$@" -- atday --make 8 >/dev/null)
+    fi
 fi
-[ -x "$BINARY" ] || { echo "install.sh: $BINARY is no program" >&2; exit 1; }
+[ -x "$BINARY" ] || stops "$BINARY is no program"
 
 file() { install -D -m 644 "$1" "$2"; }
 
@@ -64,13 +78,21 @@ esac
 echo "installed below $PREFIX: see $PREFIX/share/man/man1/at.1"
 case $PREFIX in
     "${HOME:-/nowhere}"/*)
-        # The spool of the user's unit, where a manager of units tells it.
+        # A manager of units finds that of a user below ~/.local, else by a link, and tells its spool.
+        [ "$PREFIX" = "$HOME/.local" ] || systemctl --user link "$to/share/systemd/user/atd.service" 2>/dev/null || true
         systemctl --user daemon-reload 2>/dev/null || true
         spool=$(systemctl --user show -P Environment atd 2>/dev/null | sed -n 's/^.*ATSPOOL=\([^ ]*\).*$/\1/p' || true)
         spool=${spool:-${XDG_STATE_HOME:-$HOME/.local/state}/coefhird/jobs}
         echo 'for your profile:'
         echo "  export PATH=$PREFIX/bin:$PREFIX/sbin:\$PATH ATSPOOL=$spool"
-        echo 'and where no systemd runs atd:'
-        echo "  mkdir -p -m 700 $spool && : >>$spool/at.deny"
+        echo 'to have atd run:'
+        echo "  systemctl --user enable --now atd && loginctl enable-linger"
+        echo 'or, where no systemd runs it:'
+        echo "  mkdir -p -m 700 $spool && : >>$spool/at.deny; atd &"
+        ;;
+    *)
+        systemctl daemon-reload 2>/dev/null || true
+        echo 'to have atd run:'
+        echo '  systemctl enable --now atd'
         ;;
 esac

@@ -1,5 +1,6 @@
 #!/bin/sh
-# Removes what install.sh put below PREFIX. The spool folder and what lies in it stays.
+# Removes what install.sh put below PREFIX. The spool folder and what lies in it stays. End atd before: that is
+# `systemctl disable --now atd`, with --user for a unit of one user.
 set -eu
 PREFIX=${PREFIX:-/usr/local}
 to=${DESTDIR:-}$PREFIX
