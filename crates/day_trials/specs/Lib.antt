@@ -1,5 +1,8 @@
 pub mod Outcomes
 pub mod Reports
 pub mod Rules
-pub mod Troubles
+pub mod Stretches
+pub mod Taken
 pub mod Tried
+pub mod Troubles
+pub mod inside

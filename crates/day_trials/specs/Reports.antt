@@ -93,12 +93,12 @@ are_counted (Err fault.QueueFull) may_fail = false
 are_counted (Err fault.NumbersUsedUp) may_fail = false
 are_counted (Err fault.Memory) may_fail = false
 
--- Both are reports of a command with one status that put the same, of a turn that was done, or of a reboot.
+-- Both are reports of a command with one status that put the same, of a turn that was done in the same steps, or of a reboot.
 abbrev pub AreAlike : EventReport → EventReport → Type 0
 AreAlike (told.Command status out err) (told.Command other others errors) =
     (status.code ≡ other.code) × (out ≡ others) × (err ≡ errors)
 AreAlike (told.Turn turned) (told.Turn other) =
-    (is_done_turn turned.end ≡ true) × (is_done_turn other.end ≡ true)
+    (is_done_turn turned.end ≡ true) × (is_done_turn other.end ≡ true) × (turned.steps ≡ other.steps)
 AreAlike told.Rebooted told.Rebooted = Unit {0}
 AreAlike (told.Command status out err) (told.Turn other) = ⊥
 AreAlike (told.Command status out err) told.Rebooted = ⊥

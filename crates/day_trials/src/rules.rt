@@ -1,5 +1,5 @@
 //! Which rule a tried day breaks first.
-ghost use Rattle.std.specs.Prelude.{◌≡◌, ◌==◌, ◌<◌, None, nat_lt, if◌then◌else◌};
+ghost use Rattle.std.specs.Prelude.{◌≡◌, ◌==◌, ◌<◌, ◌↔◌, nat_lt, if◌then◌else◌};
 ghost use Rattle.memory_host.specs.Host.{calls_of, memory_world};
 ghost use Rattle.day_trials.specs.Rules.{IsAlikeWithoutFault, are_not_started, broken_rule, busy_rule, is_above, numbering_rule, of_failing_call, of_failing_start, of_reboot, starting_rule};
 
@@ -65,7 +65,7 @@ pub fn busy_rule(report: &EventReport) -> Option<Rule>
 
 /// Where the event happens on both days: what it reports with the lock that is taken, and what without.
 pub fn alike_rule(report: &EventReport, without: &EventReport) -> Option<Rule>
-    ensures { result ≡ None → IsAlikeWithoutFault report.now without.now }
+    ensures { (result ≡ None) ↔ IsAlikeWithoutFault report.now without.now }
 {
     if ends_in_fault(report) {
         return Some(Rule::NoFault);

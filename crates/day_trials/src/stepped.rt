@@ -1,70 +1,84 @@
 //! Made days whose events happen one by one.
-ghost use Rattle.std.specs.Prelude.{◌≡◌, true, IfOk, OnOk, length, vec_len};
+ghost use Rattle.std.specs.Prelude.{◌≡◌, ◌<◌, ◌∷◌, [], ℕ, true, IfOk, OnOk, length, slice_index, vec_len};
 ghost use Rattle.std.specs.List.{list_all};
 ghost use Rattle.day_events.specs.Days.{is_day_event};
 ghost use Rattle.host_calls.specs.Session.{IsOutside};
 ghost use Rattle.memory_host.specs.Host.{memory_session};
+ghost use Rattle.at_day.specs.Counting.{IsCounted};
 ghost use Rattle.at_day.specs.Days.{IsReady};
 ghost use Rattle.at_day.specs.Machines.{machine};
-ghost use Rattle.day_trials.specs.Troubles.{day_watch};
+ghost use Rattle.day_trials.specs.Stretches.{AddsReports, ComeBefore, IsMade};
+ghost use Rattle.day_trials.specs.Tried.{TriesReboot};
+ghost use Rattle.day_trials.specs.Troubles.{IsOpening, day_watch};
 
 use crate::opening::{EVENTS, Opening, Trouble, open_day};
-use crate::rule::Rule;
 use crate::rules::of_reboot;
-use at_day::{DayReport, INTERVAL, LIMIT, day, one_event};
+use crate::tried::Tried;
+use at_day::{Counts, DayReport, INTERVAL, LIMIT, day, one_event};
 use daemon_turn::Daemon;
 use day_events::{Event, EventReport, EventReports};
 use memory_host::MemoryHost;
+use spool_store::StoreFault;
 use std::alloc::{AllocError, Global};
 
-/// The event before which the machine comes up again.
+/// The number of the event before which the machine comes up again.
 pub const REBOOT_BEFORE: usize = 16;
 
 /// The day on which the machine crashes behind event 15, and comes up with the image that the pick names.
-pub fn with_reboot(alloc: Global, pick: u64) -> Result<Option<Rule>, AllocError> {
+pub fn with_reboot(alloc: Global, pick: u64) -> Result<Tried, AllocError>
+    ensures { IfOk result (TriesReboot pick) }
+{
     let Opening { events, mut host } = ready_day(alloc, Trouble::Nothing)?;
+    let before = &events.as_slice()[..REBOOT_BEFORE];
+    let behind = &events.as_slice()[REBOOT_BEFORE..];
     let mut daemon = day_daemon(alloc);
     let mut reports = Vec::new(alloc);
-    for (number, event) in events.as_slice().iter().enumerate() {
-        crash_before(alloc, number, pick, &mut host, &mut daemon, &mut reports)?;
-        reports.push(next_event(alloc, event, &mut host, &mut daemon)?)?;
-    }
+    each_event(alloc, before, &mut host, &mut daemon, &mut reports)?;
+    let reboot = Event::Reboot { pick, fuse: None };
+    let rebooted = next_event(alloc, &reboot, &mut host, &mut daemon)?;
+    reports.push(rebooted)?;
+    each_event(alloc, behind, &mut host, &mut daemon, &mut reports)?;
     let report = DayReport {
         events: EventReports::from(reports),
-        counts: end_of_day(alloc, &mut host)?.counts,
+        counts: counts_behind(alloc, &mut host)?,
     };
-    Ok(of_reboot(&report, &host))
+    Ok(Tried {
+        calls: host.calls(),
+        broken: of_reboot(&report, &host),
+    })
 }
 
-// Where the event of this number is the one before which it does, the machine crashes and comes up.
-fn crash_before(
+// Makes the events happen, one behind another, and adds what they report.
+fn each_event(
     alloc: Global,
-    number: usize,
-    pick: u64,
+    events: &[Event],
     host: &mut MemoryHost,
     daemon: &mut Daemon,
     reports: &mut Vec<EventReport>,
 ) -> Result<(), AllocError>
-    requires { IsReady (machine host.old daemon.old) }
-    ensures { OnOk result (IsReady (machine host.new daemon.new)) }
+    requires of_day { list_all is_day_event events.now ≡ true }
+    requires ready { IsReady (machine host.old daemon.old) }
+    ensures { OnOk result (AddsReports events.now reports.old.items reports.new.items
+        (machine host.old daemon.old) (machine host.new daemon.new)) }
 {
-    if number != REBOOT_BEFORE {
-        return Ok(());
+    for event in events {
+        let report = next_event(alloc, event, host, daemon)?;
+        reports.push(report)?;
     }
-    let reboot = Event::Reboot { pick, fuse: None };
-    let report = next_event(alloc, &reboot, host, daemon)?;
-    reports.push(report)?;
     Ok(())
 }
 
 /// How many calls there were before each event of the day.
 pub fn calls_before(alloc: Global) -> Result<Vec<u64>, AllocError>
-    ensures { IfOk result (λ calls. vec_len calls ≡ EVENTS) }
+    ensures count { IfOk result (λ calls. vec_len calls ≡ EVENTS) }
+    ensures before { IfOk result (λ calls.
+        (number : ℕ) → number < EVENTS → ComeBefore number (slice_index calls.items number)) }
 {
     let Opening { events, mut host } = ready_day(alloc, Trouble::Nothing)?;
     let mut daemon = day_daemon(alloc);
     let mut calls = Vec::new(alloc);
-    for event in events.as_slice() {
+    let events = events.as_slice();
+    for event in events {
         calls.push(host.calls())?;
         next_event(alloc, event, &mut host, &mut daemon)?;
     }
@@ -73,7 +87,7 @@ pub fn calls_before(alloc: Global) -> Result<Vec<u64>, AllocError>
 
 /// The made day before its first event, to be made event by event.
 pub fn ready_day(alloc: Global, trouble: Trouble) -> Result<Opening, AllocError>
-    ensures of_day { IfOk result (λ opening. list_all is_day_event opening.events ≡ true) }
+    ensures opening { IfOk result (IsOpening trouble) }
     ensures count { IfOk result (λ opening. length opening.events ≡ EVENTS) }
     ensures outside { IfOk result (λ opening. IsOutside (memory_session opening.host)) }
 {
@@ -96,14 +110,21 @@ pub fn next_event(
 ) -> Result<EventReport, AllocError>
     requires of_day { is_day_event event.now ≡ true }
     requires ready { IsReady (machine host.old daemon.old) }
-    ensures { OnOk result (IsReady (machine host.new daemon.new)) }
+    ensures { IfOk result (λ report.
+        IsMade event.now report (machine host.old daemon.old) (machine host.new daemon.new)) }
 {
     one_event(alloc, event, host, daemon)
 }
 
-/// The report of a day without events, behind those that happened one by one.
-pub fn end_of_day(alloc: Global, host: &mut MemoryHost) -> Result<DayReport, AllocError>
+/// What a recovery counts behind the events that happened one by one.
+pub fn counts_behind(
+    alloc: Global,
+    host: &mut MemoryHost,
+) -> Result<Result<Counts, StoreFault>, AllocError>
     requires { IsOutside (memory_session host.old) }
+    ensures { IfOk result (λ counts. IsCounted host.old host.new counts) }
 {
-    day(alloc, &[], host)
+    // A day without events recovers and counts, and does nothing else.
+    let report = day(alloc, &[], host)?;
+    Ok(report.counts)
 }
