@@ -23,3 +23,9 @@ pub use report::DayReport;
 
 #[cfg(test)]
 mod tests;
+#[cfg(test)]
+mod trials;
+#[cfg(test)]
+mod tried_days;
+#[cfg(test)]
+mod tried_rules;

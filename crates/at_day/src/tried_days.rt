@@ -1,0 +1,103 @@
+//! Made days for tests: one made at once, and one whose events happen one by one.
+ghost use Rattle.std.specs.Prelude.{IfOk, OnOk};
+ghost use Rattle.host_calls.specs.Session.{IsOutside};
+ghost use Rattle.memory_host.specs.Host.{memory_session};
+ghost use Rattle.at_day.specs.Days.{IsReady};
+ghost use Rattle.at_day.specs.Machines.{machine};
+
+use crate::{DayReport, INTERVAL, LIMIT, day, one_event, spool_of_day};
+use daemon_turn::Daemon;
+use day_events::{Event, EventReport, EventReports, are_day_events, is_day_event};
+use memory_host::{MemoryHost, Plan};
+use std::alloc::{AllocError, Global};
+use std::process::Abort;
+
+/// A day that was made: the host behind it, and what it reports.
+#[derive(Drop)]
+pub struct Tried {
+    pub host: MemoryHost,
+    pub report: DayReport,
+}
+
+/// The day of these events on this host.
+pub fn day_on(
+    rt: &impl Abort,
+    alloc: Global,
+    events: &[Event],
+    mut host: MemoryHost,
+) -> Result<Tried, AllocError>
+    requires { IsOutside (memory_session host) }
+{
+    assert!(rt; are_day_events(events));
+    let report = day(alloc, events, &mut host)?;
+    Ok(Tried { host, report })
+}
+
+/// A day on its way: its host and daemon, and what its events reported so far.
+#[derive(Drop)]
+pub struct Stepped {
+    pub host: MemoryHost,
+    pub daemon: Daemon,
+    pub reports: Vec<EventReport>,
+}
+
+/// The day before its first event, on a spool of this plan.
+pub fn open_day(alloc: Global, plan: Plan) -> Result<Stepped, AllocError>
+    ensures { IfOk result (λ stepped. IsReady (machine stepped.host stepped.daemon)) }
+{
+    Ok(Stepped {
+        host: spool_of_day(alloc, plan)?,
+        daemon: Daemon::new(alloc, LIMIT, INTERVAL),
+        reports: Vec::new(alloc),
+    })
+}
+
+/// Makes the events happen, one behind another.
+pub fn each_event(
+    rt: &impl Abort,
+    alloc: Global,
+    events: &[Event],
+    stepped: &mut Stepped,
+) -> Result<(), AllocError>
+    requires { IsReady (machine stepped.old.host stepped.old.daemon) }
+    ensures { OnOk result (IsReady (machine stepped.new.host stepped.new.daemon)) }
+{
+    for event in events {
+        next_event(rt, alloc, event, stepped)?;
+    }
+    Ok(())
+}
+
+/// Makes the event happen.
+pub fn next_event(
+    rt: &impl Abort,
+    alloc: Global,
+    event: &Event,
+    stepped: &mut Stepped,
+) -> Result<(), AllocError>
+    requires { IsReady (machine stepped.old.host stepped.old.daemon) }
+    ensures { OnOk result (IsReady (machine stepped.new.host stepped.new.daemon)) }
+{
+    assert!(rt; is_day_event(event));
+    let report = one_event(alloc, event, &mut stepped.host, &mut stepped.daemon)?;
+    stepped.reports.push(report)?;
+    Ok(())
+}
+
+/// The day behind its last event.
+pub fn end_of_day(alloc: Global, stepped: Stepped) -> Result<Tried, AllocError>
+    requires { IsReady (machine stepped.host stepped.daemon) }
+{
+    let Stepped {
+        mut host,
+        reports,
+        ..
+    } = stepped;
+    // A day without events recovers and counts, and does nothing else.
+    let counts = day(alloc, &[], &mut host)?.counts;
+    let events = EventReports::from(reports);
+    Ok(Tried {
+        host,
+        report: DayReport { events, counts },
+    })
+}
