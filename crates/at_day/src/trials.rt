@@ -1,31 +1,27 @@
 //! A made day of 32 events, tried: once for each place at which a call fails, the machine stops, a start fails, or an event
 //! finds the lock taken. What is proved of every day stands at `day`.
-ghost use Rattle.std.specs.Prelude.{OnOk};
+ghost use Rattle.std.specs.Prelude.{IfOk, OnOk};
 ghost use Rattle.at_day.specs.Days.{IsReady};
 ghost use Rattle.at_day.specs.Machines.{machine};
 
-use crate::spool_of_day;
-use crate::tried_days::{Stepped, Tried, day_on, each_event, end_of_day, next_event, open_day};
+use crate::tried_days::{
+    EVENTS, Stepped, Tried, day_on, each_event, end_of_day, made, next_event, open_day, spool,
+};
 use crate::tried_rules::{
-    are_alike, are_same_spools, end_in_fault, is_busy, keeps_rules, last_number,
+    are_alike_but, are_same_spools, ends_in_fault, keeps_rules, last_number, not_started,
 };
 use day_events::Event;
-use made_events::{Made, make_events};
-use memory_host::{Failing, Part};
+use made_events::Made;
+use memory_host::{Failing, Part, Plan};
 use std::alloc::{AllocError, Global};
 use std::process::Abort;
 use std::test::Fail;
-
-const EVENTS: u32 = 32;
 
 // How many jobs the day submits.
 const SUBMITTED: u32 = 12;
 
 // How many starts it makes.
 const STARTS: u64 = 8;
-
-// How many events enter a session: all but the last, which is a reboot.
-const ENTERING: usize = 31;
 
 const REBOOT_BEFORE: usize = 16;
 
@@ -50,9 +46,9 @@ fn a_call_fails_and_does_all(rt: HostRuntime) -> Result<(), Fail> {
 fn failing_calls(rt: &impl Abort, alloc: Global, part: Part) -> Result<Vec<u64>, AllocError> {
     let mut broken = Vec::new(alloc);
     for call in 0..u64::MAX {
-        let Made { events, mut plan } = make_events(alloc, EVENTS)?;
+        let Made { events, mut plan } = made(alloc)?;
         plan.failing.push(alloc, Failing { call, part })?;
-        let tried = day_on(rt, alloc, events.as_slice(), spool_of_day(alloc, plan)?)?;
+        let tried = day_on(rt, alloc, events.as_slice(), spool(alloc, plan)?)?;
         let calls = tried.host.calls();
         if calls < call {
             break;
@@ -75,8 +71,8 @@ fn from_a_call_on_none_gets_through(rt: HostRuntime) -> Result<(), Fail> {
 fn fuses(rt: &impl Abort, alloc: Global) -> Result<Vec<u64>, AllocError> {
     let mut broken = Vec::new(alloc);
     for fuse in 0..u64::MAX {
-        let Made { events, plan } = make_events(alloc, EVENTS)?;
-        let mut host = spool_of_day(alloc, plan)?;
+        let Made { events, plan } = made(alloc)?;
+        let mut host = spool(alloc, plan)?;
         host.reboot(alloc, 0, Some(fuse))?;
         let tried = day_on(rt, alloc, events.as_slice(), host)?;
         if tried.host.calls() < fuse {
@@ -91,9 +87,8 @@ fn fuses(rt: &impl Abort, alloc: Global) -> Result<Vec<u64>, AllocError> {
 
 #[test]
 fn a_reboot_behind_event_15(rt: HostRuntime) -> Result<(), Fail> {
-    let alloc = rt.alloc();
     for pick in PICKS {
-        let tried = rebooted(&rt, alloc, pick)?;
+        let tried = with_reboot(&rt, rt.alloc(), pick)?;
         assert!(rt; keeps_rules(&tried, false), "pick {pick}");
         assert!(rt; last_number(&tried) <= SUBMITTED, "pick {pick}");
     }
@@ -101,64 +96,42 @@ fn a_reboot_behind_event_15(rt: HostRuntime) -> Result<(), Fail> {
 }
 
 // The day with a reboot of this pick behind event 15.
-fn rebooted(rt: &impl Abort, alloc: Global, pick: u64) -> Result<Tried, AllocError> {
-    let Made { events, plan } = make_events(alloc, EVENTS)?;
-    let (before, behind) = events.as_slice().split_at(REBOOT_BEFORE);
+fn with_reboot(rt: &impl Abort, alloc: Global, pick: u64) -> Result<Tried, AllocError> {
+    let Made { events, plan } = made(alloc)?;
+    let events = events.as_slice();
     let mut stepped = open_day(alloc, plan)?;
-    each_event(rt, alloc, before, &mut stepped)?;
-    each_event(
-        rt,
-        alloc,
-        &[Event::Reboot { pick, fuse: None }],
-        &mut stepped,
-    )?;
-    each_event(rt, alloc, behind, &mut stepped)?;
+    each_event(rt, alloc, events, 0..REBOOT_BEFORE, &mut stepped)?;
+    next_event(rt, alloc, &Event::Reboot { pick, fuse: None }, &mut stepped)?;
+    each_event(rt, alloc, events, REBOOT_BEFORE..EVENTS, &mut stepped)?;
     end_of_day(alloc, stepped)
 }
 
 #[test]
 fn a_start_fails(rt: HostRuntime) -> Result<(), Fail> {
-    let alloc = rt.alloc();
     for start in 0..STARTS + 1 {
-        let Made { events, mut plan } = make_events(alloc, EVENTS)?;
-        plan.failing_starts.push(alloc, start)?;
-        let tried = day_on(&rt, alloc, events.as_slice(), spool_of_day(alloc, plan)?)?;
+        let tried = with_failing_start(&rt, rt.alloc(), start)?;
+        let wanted = if start < STARTS { 1 } else { 0 };
         assert!(rt; keeps_rules(&tried, false), "start {start}");
-        assert!(rt;
-            !end_in_fault(tried.report.events.as_slice()),
-            "start {start}"
-        );
-        let not_started = tried.report.counts.map_err(|_| "no counts")?.not_started;
-        assert_eq!(rt;
-            not_started,
-            if start < STARTS { 1 } else { 0 },
-            "start {start}"
-        );
+        assert!(rt; !ends_in_fault(&tried), "start {start}");
+        assert_eq!(rt; not_started(&tried), wanted, "start {start}");
     }
     Ok(())
 }
 
+fn with_failing_start(rt: &impl Abort, alloc: Global, start: u64) -> Result<Tried, AllocError> {
+    let Made { events, mut plan } = made(alloc)?;
+    plan.failing_starts.push(alloc, start)?;
+    day_on(rt, alloc, events.as_slice(), spool(alloc, plan)?)
+}
+
 #[test]
 fn an_event_finds_the_lock_taken(rt: HostRuntime) -> Result<(), Fail> {
-    let alloc = rt.alloc();
-    for number in 0..ENTERING {
-        let (with, without) = with_taken_lock(&rt, alloc, number)?;
-        let reports = with.report.events.as_slice();
-        let others = without.report.events.as_slice();
-        assert!(rt; is_busy(&reports[number]), "event {number}");
-        assert!(rt; !end_in_fault(others), "event {number}");
-        assert!(rt;
-            are_alike(&reports[..number], &others[..number]),
-            "event {number}"
-        );
-        assert!(rt;
-            are_alike(&reports[number + 1..], &others[number..]),
-            "event {number}"
-        );
+    // The last event is a reboot, which enters no session.
+    for number in 0..EVENTS - 1 {
+        let (with, without) = with_taken_lock(&rt, rt.alloc(), number)?;
         assert!(rt; keeps_rules(&with, false), "event {number}");
-        let counts = with.report.counts.map_err(|_| "no counts")?;
-        let others = without.report.counts.map_err(|_| "no counts")?;
-        assert_eq!(rt; counts, others, "event {number}");
+        assert!(rt; !ends_in_fault(&without), "event {number}");
+        assert!(rt; are_alike_but(number, &with, &without), "event {number}");
     }
     Ok(())
 }
@@ -170,25 +143,42 @@ fn with_taken_lock(
     alloc: Global,
     number: usize,
 ) -> Result<(Tried, Tried), AllocError> {
-    let Made { events, plan } = make_events(alloc, EVENTS)?;
-    let (before, behind) = events.as_slice().split_at(number);
-    let mut without = open_day(alloc, plan)?;
-    each_event(rt, alloc, before, &mut without)?;
-    let Made { mut plan, .. } = make_events(alloc, EVENTS)?;
-    plan.taken.push(alloc, without.host.calls())?;
-    let mut with = open_day(alloc, plan)?;
-    each_event(rt, alloc, before, &mut with)?;
-    each_event(rt, alloc, &behind[..1], &mut with)?;
-    assert!(rt; are_same_spools(alloc, &with.host, &without.host)?);
-    each_on_both(rt, alloc, &behind[1..], &mut with, &mut without)?;
+    assert!(rt; number < EVENTS);
+    let mut without = day_before(rt, alloc, number, made(alloc)?.plan)?;
+    let plan = taking(alloc, without.host.calls())?;
+    let mut with = day_before(rt, alloc, number + 1, plan)?;
+    each_on_both(rt, alloc, number + 1, &mut with, &mut without)?;
     Ok((end_of_day(alloc, with)?, end_of_day(alloc, without)?))
 }
 
-// Makes the events happen on both days, one behind another, and their spools stay the same.
+// The plan of the day, by which this call finds the lock taken.
+fn taking(alloc: Global, call: u64) -> Result<Plan, AllocError> {
+    let Made { mut plan, .. } = made(alloc)?;
+    plan.taken.push(alloc, call)?;
+    Ok(plan)
+}
+
+// The day by this plan up to the event of this number.
+fn day_before(
+    rt: &impl Abort,
+    alloc: Global,
+    number: usize,
+    plan: Plan,
+) -> Result<Stepped, AllocError>
+    ensures { IfOk result (λ stepped. IsReady (machine stepped.host stepped.daemon)) }
+{
+    let Made { events, .. } = made(alloc)?;
+    let mut stepped = open_day(alloc, plan)?;
+    each_event(rt, alloc, events.as_slice(), 0..number, &mut stepped)?;
+    Ok(stepped)
+}
+
+// Makes the events from this number on happen on both days, one behind another. The spools are the same before and behind
+// each of them.
 fn each_on_both(
     rt: &impl Abort,
     alloc: Global,
-    events: &[Event],
+    from: usize,
     one: &mut Stepped,
     other: &mut Stepped,
 ) -> Result<(), AllocError>
@@ -197,9 +187,11 @@ fn each_on_both(
     ensures one { OnOk result (IsReady (machine one.new.host one.new.daemon)) }
     ensures other { OnOk result (IsReady (machine other.new.host other.new.daemon)) }
 {
-    for event in events {
-        next_event(rt, alloc, event, one)?;
-        next_event(rt, alloc, event, other)?;
+    let Made { events, .. } = made(alloc)?;
+    assert!(rt; are_same_spools(alloc, &one.host, &other.host)?);
+    for number in from..EVENTS {
+        each_event(rt, alloc, events.as_slice(), number..number + 1, one)?;
+        each_event(rt, alloc, events.as_slice(), number..number + 1, other)?;
         assert!(rt; are_same_spools(alloc, &one.host, &other.host)?);
     }
     Ok(())

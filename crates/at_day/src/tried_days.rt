@@ -8,9 +8,26 @@ ghost use Rattle.at_day.specs.Machines.{machine};
 use crate::{DayReport, INTERVAL, LIMIT, day, one_event, spool_of_day};
 use daemon_turn::Daemon;
 use day_events::{Event, EventReport, EventReports, are_day_events, is_day_event};
+use made_events::{Made, make_events};
 use memory_host::{MemoryHost, Plan};
 use std::alloc::{AllocError, Global};
+use std::ops::Range;
 use std::process::Abort;
+
+/// How many events the day has.
+pub const EVENTS: usize = 32;
+
+/// The events of the day, and the plan of its host. No test rests on which they are, so no clause says it.
+pub fn made(alloc: Global) -> Result<Made, AllocError> {
+    make_events(alloc, EVENTS as u32)
+}
+
+/// The spool of the day before its first event, by this plan.
+pub fn spool(alloc: Global, plan: Plan) -> Result<MemoryHost, AllocError>
+    ensures { IfOk result (λ host. IsOutside (memory_session host)) }
+{
+    spool_of_day(alloc, plan)
+}
 
 /// A day that was made: the host behind it, and what it reports.
 #[derive(Drop)]
@@ -46,24 +63,27 @@ pub fn open_day(alloc: Global, plan: Plan) -> Result<Stepped, AllocError>
     ensures { IfOk result (λ stepped. IsReady (machine stepped.host stepped.daemon)) }
 {
     Ok(Stepped {
-        host: spool_of_day(alloc, plan)?,
+        host: spool(alloc, plan)?,
         daemon: Daemon::new(alloc, LIMIT, INTERVAL),
         reports: Vec::new(alloc),
     })
 }
 
-/// Makes the events happen, one behind another.
+/// Makes the events of these numbers happen, one behind another.
 pub fn each_event(
     rt: &impl Abort,
     alloc: Global,
     events: &[Event],
+    numbers: Range<usize>,
     stepped: &mut Stepped,
 ) -> Result<(), AllocError>
     requires { IsReady (machine stepped.old.host stepped.old.daemon) }
     ensures { OnOk result (IsReady (machine stepped.new.host stepped.new.daemon)) }
 {
-    for event in events {
-        next_event(rt, alloc, event, stepped)?;
+    for number in numbers {
+        if let Some(event) = events.get(number) {
+            next_event(rt, alloc, event, stepped)?;
+        }
     }
     Ok(())
 }

@@ -45,19 +45,43 @@ pub fn last_number(tried: &Tried) -> u32 {
     }
 }
 
+/// How many jobs were not started, where the recovery counts.
+pub fn not_started(tried: &Tried) -> u32 {
+    match tried.report.counts {
+        Ok(counts) => counts.not_started,
+        Err(_) => 0,
+    }
+}
+
 /// Whether an event ends in a fault: a command that was neither done nor refused, or a turn that was not done.
-pub fn end_in_fault(reports: &[EventReport]) -> bool {
-    reports.iter().any(|report| match report {
+pub fn ends_in_fault(tried: &Tried) -> bool {
+    tried.report.events.as_slice().iter().any(is_fault)
+}
+
+fn is_fault(report: &EventReport) -> bool {
+    match report {
         EventReport::Command { status, .. } => {
             !matches!(status.cause, Cause::Done | Cause::Refused(_))
         }
         EventReport::Turn(turned) => !matches!(turned.end, TurnEnd::Done),
         EventReport::Rebooted => false,
-    })
+    }
 }
 
-/// Whether the event found the lock taken.
-pub fn is_busy(report: &EventReport) -> bool {
+/// Whether the event of this number found the lock taken on the first day, and both days are alike but for that event.
+pub fn are_alike_but(number: usize, with: &Tried, without: &Tried) -> bool {
+    let reports = with.report.events.as_slice();
+    let others = without.report.events.as_slice();
+    number < reports.len()
+        && number <= others.len()
+        && is_busy(&reports[number])
+        && are_alike(&reports[..number], &others[..number])
+        && are_alike(&reports[number + 1..], &others[number..])
+        && count_alike(with, without)
+}
+
+// Whether the event found the lock taken.
+fn is_busy(report: &EventReport) -> bool {
     match report {
         EventReport::Command { status, .. } => matches!(status.cause, Cause::Busy),
         EventReport::Turn(turned) => matches!(turned.end, TurnEnd::Busy),
@@ -65,8 +89,16 @@ pub fn is_busy(report: &EventReport) -> bool {
     }
 }
 
-/// Whether the reports are alike, one by one.
-pub fn are_alike(reports: &[EventReport], others: &[EventReport]) -> bool {
+// Whether both recoveries count, and the same.
+fn count_alike(one: &Tried, other: &Tried) -> bool {
+    match (&one.report.counts, &other.report.counts) {
+        (Ok(counts), Ok(others)) => counts == others,
+        _ => false,
+    }
+}
+
+// Whether the reports are alike, one by one.
+fn are_alike(reports: &[EventReport], others: &[EventReport]) -> bool {
     reports.len() == others.len()
         && reports
             .iter()
