@@ -144,10 +144,12 @@ fn with_taken_lock(
     number: usize,
 ) -> Result<(Tried, Tried), AllocError> {
     assert!(rt; number < EVENTS);
-    let mut without = day_before(rt, alloc, number, made(alloc)?.plan)?;
+    let Made { events, plan } = made(alloc)?;
+    let events = events.as_slice();
+    let mut without = day_before(rt, alloc, events, number, plan)?;
     let plan = taking(alloc, without.host.calls())?;
-    let mut with = day_before(rt, alloc, number + 1, plan)?;
-    each_on_both(rt, alloc, number + 1, &mut with, &mut without)?;
+    let mut with = day_before(rt, alloc, events, number + 1, plan)?;
+    each_on_both(rt, alloc, events, number + 1, &mut with, &mut without)?;
     Ok((end_of_day(alloc, with)?, end_of_day(alloc, without)?))
 }
 
@@ -162,14 +164,14 @@ fn taking(alloc: Global, call: u64) -> Result<Plan, AllocError> {
 fn day_before(
     rt: &impl Abort,
     alloc: Global,
+    events: &[Event],
     number: usize,
     plan: Plan,
 ) -> Result<Stepped, AllocError>
     ensures { IfOk result (λ stepped. IsReady (machine stepped.host stepped.daemon)) }
 {
-    let Made { events, .. } = made(alloc)?;
     let mut stepped = open_day(alloc, plan)?;
-    each_event(rt, alloc, events.as_slice(), 0..number, &mut stepped)?;
+    each_event(rt, alloc, events, 0..number, &mut stepped)?;
     Ok(stepped)
 }
 
@@ -178,6 +180,7 @@ fn day_before(
 fn each_on_both(
     rt: &impl Abort,
     alloc: Global,
+    events: &[Event],
     from: usize,
     one: &mut Stepped,
     other: &mut Stepped,
@@ -187,11 +190,10 @@ fn each_on_both(
     ensures one { OnOk result (IsReady (machine one.new.host one.new.daemon)) }
     ensures other { OnOk result (IsReady (machine other.new.host other.new.daemon)) }
 {
-    let Made { events, .. } = made(alloc)?;
     assert!(rt; are_same_spools(alloc, &one.host, &other.host)?);
     for number in from..EVENTS {
-        each_event(rt, alloc, events.as_slice(), number..number + 1, one)?;
-        each_event(rt, alloc, events.as_slice(), number..number + 1, other)?;
+        each_event(rt, alloc, events, number..number + 1, one)?;
+        each_event(rt, alloc, events, number..number + 1, other)?;
         assert!(rt; are_same_spools(alloc, &one.host, &other.host)?);
     }
     Ok(())

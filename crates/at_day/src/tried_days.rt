@@ -1,11 +1,12 @@
 //! Made days for tests: one made at once, and one whose events happen one by one.
-ghost use Rattle.std.specs.Prelude.{IfOk, OnOk};
+ghost use Rattle.std.specs.Prelude.{◌≤◌, IfOk, OnOk};
 ghost use Rattle.host_calls.specs.Session.{IsOutside};
 ghost use Rattle.memory_host.specs.Host.{memory_session};
 ghost use Rattle.at_day.specs.Days.{IsReady};
 ghost use Rattle.at_day.specs.Machines.{machine};
 
 use crate::{DayReport, INTERVAL, LIMIT, day, one_event, spool_of_day};
+use at_words::MAX_EVENTS;
 use daemon_turn::Daemon;
 use day_events::{Event, EventReport, EventReports, are_day_events, is_day_event};
 use made_events::{Made, make_events};
@@ -19,7 +20,14 @@ pub const EVENTS: usize = 32;
 
 /// The events of the day, and the plan of its host. No test rests on which they are, so no clause says it.
 pub fn made(alloc: Global) -> Result<Made, AllocError> {
-    make_events(alloc, EVENTS as u32)
+    made_of(alloc, EVENTS as u32)
+}
+
+// A day of so many events. The number stands apart, so that no proof computes them.
+fn made_of(alloc: Global, count: u32) -> Result<Made, AllocError>
+    requires { count ≤ MAX_EVENTS }
+{
+    make_events(alloc, count)
 }
 
 /// The spool of the day before its first event, by this plan.
@@ -62,9 +70,11 @@ pub struct Stepped {
 pub fn open_day(alloc: Global, plan: Plan) -> Result<Stepped, AllocError>
     ensures { IfOk result (λ stepped. IsReady (machine stepped.host stepped.daemon)) }
 {
+    let host = spool(alloc, plan)?;
+    let daemon = Daemon::new(alloc, LIMIT, INTERVAL);
     Ok(Stepped {
-        host: spool(alloc, plan)?,
-        daemon: Daemon::new(alloc, LIMIT, INTERVAL),
+        host,
+        daemon,
         reports: Vec::new(alloc),
     })
 }
