@@ -26,6 +26,8 @@ mod tests;
 #[cfg(test)]
 mod trials;
 #[cfg(test)]
+mod trials_of_locks;
+#[cfg(test)]
 mod tried_days;
 #[cfg(test)]
 mod tried_rules;

@@ -1,27 +1,18 @@
-//! A day without events, and days that are made from a number. The expected counts are those of another model.
-use crate::{Counts, day};
-use day_events::are_day_events;
+//! A day without events, and a day that is made from a number. The expected counts are those of another model.
+use crate::Counts;
+use crate::tried_days::{day_by, day_on, made_events, made_plan};
+use crate::tried_rules::Seen;
 use host_calls::Name;
-use made_events::{Made, make_events};
-use memory_host::{CallList, ChildPlans, FailingList, Files, MemoryHost, Plan};
+use memory_host::{Files, MemoryHost};
+use std::alloc::{AllocError, Global};
+use std::process::Abort;
 use std::test::Fail;
 
 #[test]
 fn day_without_events(rt: HostRuntime) -> Result<(), Fail> {
-    let alloc = rt.alloc();
-    let plan = Plan {
-        failing: FailingList::new(alloc),
-        taken: CallList::new(alloc),
-        failing_starts: CallList::new(alloc),
-        fuse: None,
-        children: ChildPlans::new(alloc),
-    };
-    let mut files = Files::new(alloc);
-    files.put(alloc, Name::of(b".SEQ").ok_or("no name")?, b"00007\n")?;
-    let mut host = MemoryHost::make(alloc, files, plan)?;
-    let report = day(alloc, &[], &mut host)?;
-    assert_eq!(rt; report.events.as_slice().len(), 0);
-    let counts = report.counts.map_err(|_| "no counts")?;
+    let seen = day_behind_seven_numbers(&rt, rt.alloc())?;
+    assert_eq!(rt; seen.reported, 0);
+    let counts = seen.counts.ok_or("no counts")?;
     let expected = Counts {
         last: 7,
         pending: 0,
@@ -35,18 +26,21 @@ fn day_without_events(rt: HostRuntime) -> Result<(), Fail> {
     Ok(())
 }
 
+// A day without events on a spool where seven numbers were drawn, as it was before numbers of eight digits.
+fn day_behind_seven_numbers(rt: &impl Abort, alloc: Global) -> Result<Seen, AllocError> {
+    let mut files = Files::new(alloc);
+    files.put(alloc, Name::of(b".SEQ").expect(rt, "a name"), b"00007\n")?;
+    let mut host = MemoryHost::make(alloc, files, made_plan(alloc, 0)?)?;
+    day_on(rt, alloc, &[], &mut host)
+}
+
 #[test]
 fn made_day(rt: HostRuntime) -> Result<(), Fail> {
     let alloc = rt.alloc();
-    let Made { events, plan } = make_events(alloc, 40)?;
-    let events = events.as_slice();
-    assert!(rt; are_day_events(events));
-    let mut files = Files::new(alloc);
-    files.put(alloc, Name::of(b"at.deny").ok_or("no name")?, b"")?;
-    let mut host = MemoryHost::make(alloc, files, plan)?;
-    let report = day(alloc, events, &mut host)?;
-    assert_eq!(rt; report.events.as_slice().len(), 40);
-    let counts = report.counts.map_err(|_| "no counts")?;
+    let events = made_events(alloc, 40)?;
+    let seen = day_by(&rt, alloc, events.as_slice(), made_plan(alloc, 40)?)?;
+    assert_eq!(rt; seen.reported, 40);
+    let counts = seen.counts.ok_or("no counts")?;
     let expected = Counts {
         last: 15,
         pending: 0,

@@ -5,43 +5,63 @@ ghost use Rattle.memory_host.specs.Host.{memory_session};
 ghost use Rattle.at_day.specs.Days.{IsReady};
 ghost use Rattle.at_day.specs.Machines.{machine};
 
-use crate::{DayReport, INTERVAL, LIMIT, day, one_event, spool_of_day};
+use crate::tried_rules::Seen;
+use crate::{INTERVAL, LIMIT, day, one_event, spool_of_day};
 use at_words::MAX_EVENTS;
 use daemon_turn::Daemon;
-use day_events::{Event, EventReport, EventReports, are_day_events, is_day_event};
+use day_events::{Event, EventReport, Events, are_day_events, is_day_event};
 use made_events::{Made, make_events};
 use memory_host::{MemoryHost, Plan};
 use std::alloc::{AllocError, Global};
 use std::ops::Range;
 use std::process::Abort;
 
-/// How many events the day has.
+/// How many events the day has that is tried.
 pub const EVENTS: usize = 32;
 
-/// The events of the day, and the plan of its host. No test rests on which they are, so no clause says it.
-pub fn made(alloc: Global) -> Result<Made, AllocError> {
-    made_of(alloc, EVENTS as u32)
+/// Its events.
+pub fn events(alloc: Global) -> Result<Events, AllocError> {
+    made_events(alloc, EVENTS as u32)
 }
 
-// A day of so many events. The number stands apart, so that no proof computes them.
-fn made_of(alloc: Global, count: u32) -> Result<Made, AllocError>
+/// The plan of its host, by which nothing fails.
+pub fn plan(alloc: Global) -> Result<Plan, AllocError> {
+    made_plan(alloc, EVENTS as u32)
+}
+
+/// The events of the made day of so many. No test rests on which they are, so no clause says it, and no proof computes
+/// them.
+pub fn made_events(alloc: Global, count: u32) -> Result<Events, AllocError>
     requires { count ≤ MAX_EVENTS }
 {
-    make_events(alloc, count)
+    let Made { events, .. } = make_events(alloc, count)?;
+    Ok(events)
 }
 
-/// The spool of the day before its first event, by this plan.
+/// The plan of the host of the made day of so many events.
+pub fn made_plan(alloc: Global, count: u32) -> Result<Plan, AllocError>
+    requires { count ≤ MAX_EVENTS }
+{
+    let Made { plan, .. } = make_events(alloc, count)?;
+    Ok(plan)
+}
+
+/// The spool of a made day before its first event, by this plan.
 pub fn spool(alloc: Global, plan: Plan) -> Result<MemoryHost, AllocError>
     ensures { IfOk result (λ host. IsOutside (memory_session host)) }
 {
     spool_of_day(alloc, plan)
 }
 
-/// A day that was made: the host behind it, and what it reports.
-#[derive(Drop)]
-pub struct Tried {
-    pub host: MemoryHost,
-    pub report: DayReport,
+/// The day of these events on a spool of this plan.
+pub fn day_by(
+    rt: &impl Abort,
+    alloc: Global,
+    events: &[Event],
+    plan: Plan,
+) -> Result<Seen, AllocError> {
+    let mut host = spool(alloc, plan)?;
+    day_on(rt, alloc, events, &mut host)
 }
 
 /// The day of these events on this host.
@@ -49,13 +69,13 @@ pub fn day_on(
     rt: &impl Abort,
     alloc: Global,
     events: &[Event],
-    mut host: MemoryHost,
-) -> Result<Tried, AllocError>
-    requires { IsOutside (memory_session host) }
+    host: &mut MemoryHost,
+) -> Result<Seen, AllocError>
+    requires { IsOutside (memory_session host.old) }
 {
     assert!(rt; are_day_events(events));
-    let report = day(alloc, events, &mut host)?;
-    Ok(Tried { host, report })
+    let report = day(alloc, events, host)?;
+    Ok(Seen::of(host, report.events.as_slice(), report.counts))
 }
 
 /// A day on its way: its host and daemon, and what its events reported so far.
@@ -77,6 +97,21 @@ pub fn open_day(alloc: Global, plan: Plan) -> Result<Stepped, AllocError>
         daemon,
         reports: Vec::new(alloc),
     })
+}
+
+/// The day by this plan up to the event of this number.
+pub fn day_before(
+    rt: &impl Abort,
+    alloc: Global,
+    events: &[Event],
+    number: usize,
+    plan: Plan,
+) -> Result<Stepped, AllocError>
+    ensures { IfOk result (λ stepped. IsReady (machine stepped.host stepped.daemon)) }
+{
+    let mut stepped = open_day(alloc, plan)?;
+    each_event(rt, alloc, events, 0..number, &mut stepped)?;
+    Ok(stepped)
 }
 
 /// Makes the events of these numbers happen, one behind another.
@@ -115,19 +150,10 @@ pub fn next_event(
 }
 
 /// The day behind its last event.
-pub fn end_of_day(alloc: Global, stepped: Stepped) -> Result<Tried, AllocError>
-    requires { IsReady (machine stepped.host stepped.daemon) }
+pub fn end_of_day(alloc: Global, stepped: &mut Stepped) -> Result<Seen, AllocError>
+    requires { IsReady (machine stepped.old.host stepped.old.daemon) }
 {
-    let Stepped {
-        mut host,
-        reports,
-        ..
-    } = stepped;
     // A day without events recovers and counts, and does nothing else.
-    let counts = day(alloc, &[], &mut host)?.counts;
-    let events = EventReports::from(reports);
-    Ok(Tried {
-        host,
-        report: DayReport { events, counts },
-    })
+    let counts = day(alloc, &[], &mut stepped.host)?.counts;
+    Ok(Seen::of(&stepped.host, stepped.reports.as_slice(), counts))
 }

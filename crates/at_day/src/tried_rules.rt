@@ -1,5 +1,5 @@
 //! The rules that a day of a test keeps, and whether two days are alike.
-use crate::tried_days::Tried;
+use crate::Counts;
 use daemon_turn::TurnEnd;
 use day_events::EventReport;
 use host_calls::Handed;
@@ -8,16 +8,70 @@ use memory_host::MemoryHost;
 use spool_store::StoreFault;
 use std::alloc::{AllocError, Global};
 
-/// Whether the recovery counts, or may fail and did, no job was handed over twice, and no event reports a damage.
-pub fn keeps_rules(tried: &Tried, may_fail: bool) -> bool {
-    let counts = match tried.report.counts {
-        Ok(_) => true,
-        Err(StoreFault::FileFault) => may_fail,
-        Err(_) => false,
-    };
-    counts
-        && !is_given_twice(tried.host.handed())
-        && !tried.report.events.as_slice().iter().any(reports_damage)
+/// What is seen of a day behind its last event.
+#[derive(Clone, Copy)]
+pub struct Seen {
+    /// How many events reported.
+    pub reported: usize,
+    /// What the recovery behind them counts, where it does.
+    pub counts: Option<Counts>,
+    /// How many calls were made, with those of the recovery.
+    pub calls: u64,
+    /// Whether an event ends in a fault: a command that was neither done nor refused, or a turn that was not done.
+    pub has_fault: bool,
+    has_damage: bool,
+    is_given_twice: bool,
+    // Whether a call of the recovery failed.
+    is_uncounted: bool,
+}
+
+impl Seen {
+    /// What is seen of this host and these reports.
+    pub fn of(
+        host: &MemoryHost,
+        reports: &[EventReport],
+        counts: Result<Counts, StoreFault>,
+    ) -> Seen {
+        Seen {
+            reported: reports.len(),
+            counts: counts.ok(),
+            calls: host.calls(),
+            has_fault: reports.iter().any(is_fault),
+            has_damage: reports.iter().any(reports_damage),
+            is_given_twice: is_given_twice(host.handed()),
+            is_uncounted: matches!(counts, Err(StoreFault::FileFault)),
+        }
+    }
+
+    /// Whether the recovery counts, or may fail and did, no job was handed over twice, and no event reports a damage.
+    pub fn keeps_rules(&self, may_fail: bool) -> bool {
+        let counts = self.counts.is_some() || may_fail && self.is_uncounted;
+        counts && !self.is_given_twice && !self.has_damage
+    }
+
+    /// The number that was drawn last, where the recovery counts.
+    pub fn last(&self) -> u32 {
+        match self.counts {
+            Some(counts) => counts.last,
+            None => 0,
+        }
+    }
+
+    /// How many jobs were not started, where the recovery counts.
+    pub fn not_started(&self) -> u32 {
+        match self.counts {
+            Some(counts) => counts.not_started,
+            None => 0,
+        }
+    }
+
+    /// Whether both recoveries count, and the same.
+    pub fn counts_as(&self, other: &Seen) -> bool {
+        match (self.counts, other.counts) {
+            (Some(counts), Some(others)) => counts == others,
+            _ => false,
+        }
+    }
 }
 
 // Whether a number stands twice among the scripts that were handed over.
@@ -37,27 +91,6 @@ fn reports_damage(report: &EventReport) -> bool {
     }
 }
 
-/// The number that was drawn last, where the recovery counts.
-pub fn last_number(tried: &Tried) -> u32 {
-    match tried.report.counts {
-        Ok(counts) => counts.last,
-        Err(_) => 0,
-    }
-}
-
-/// How many jobs were not started, where the recovery counts.
-pub fn not_started(tried: &Tried) -> u32 {
-    match tried.report.counts {
-        Ok(counts) => counts.not_started,
-        Err(_) => 0,
-    }
-}
-
-/// Whether an event ends in a fault: a command that was neither done nor refused, or a turn that was not done.
-pub fn ends_in_fault(tried: &Tried) -> bool {
-    tried.report.events.as_slice().iter().any(is_fault)
-}
-
 fn is_fault(report: &EventReport) -> bool {
     match report {
         EventReport::Command { status, .. } => {
@@ -68,16 +101,13 @@ fn is_fault(report: &EventReport) -> bool {
     }
 }
 
-/// Whether the event of this number found the lock taken on the first day, and both days are alike but for that event.
-pub fn are_alike_but(number: usize, with: &Tried, without: &Tried) -> bool {
-    let reports = with.report.events.as_slice();
-    let others = without.report.events.as_slice();
+/// Whether the event of this number found the lock taken, and all other reports are alike.
+pub fn are_alike_but(number: usize, reports: &[EventReport], others: &[EventReport]) -> bool {
     number < reports.len()
         && number <= others.len()
         && is_busy(&reports[number])
         && are_alike(&reports[..number], &others[..number])
         && are_alike(&reports[number + 1..], &others[number..])
-        && count_alike(with, without)
 }
 
 // Whether the event found the lock taken.
@@ -86,14 +116,6 @@ fn is_busy(report: &EventReport) -> bool {
         EventReport::Command { status, .. } => matches!(status.cause, Cause::Busy),
         EventReport::Turn(turned) => matches!(turned.end, TurnEnd::Busy),
         EventReport::Rebooted => false,
-    }
-}
-
-// Whether both recoveries count, and the same.
-fn count_alike(one: &Tried, other: &Tried) -> bool {
-    match (&one.report.counts, &other.report.counts) {
-        (Ok(counts), Ok(others)) => counts == others,
-        _ => false,
     }
 }
 

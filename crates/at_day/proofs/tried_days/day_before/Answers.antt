@@ -1,4 +1,4 @@
-use Rattle.at_day.proofs.trials.day_before.Goals as goal
+use Rattle.at_day.proofs.tried_days.day_before.Goals as goal
 
 pub each_event-requires : goal.each_event-requires
 each_event-requires g c = c.in_ok-stepped.ensures

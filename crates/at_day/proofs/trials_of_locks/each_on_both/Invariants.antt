@@ -1,6 +1,6 @@
 use Rattle.at_day.specs.Days.{IsReady}
 use Rattle.at_day.specs.Machines.{machine}
-use Rattle.at_day.proofs.trials.each_on_both.Given as goal
+use Rattle.at_day.proofs.trials_of_locks.each_on_both.Given as goal
 
 -- an event can happen on both
 abbrev pub invariant-loop-number : goal.invariant-loop-number
