@@ -3,7 +3,7 @@ ghost use Rattle.std.specs.Prelude.{OnOk};
 ghost use Rattle.at_day.specs.Days.{IsReady};
 ghost use Rattle.at_day.specs.Machines.{machine};
 
-use crate::tried_days::{EVENTS, Stepped, day_before, each_event, end_of_day, events, plan};
+use crate::tried_days::{EVENTS, Stepped, each_event, end_of_day, events, open_day, plan};
 use crate::tried_rules::{Seen, are_alike_but, are_same_spools};
 use day_events::Event;
 use memory_host::Plan;
@@ -39,12 +39,12 @@ fn with_taken_lock(
     events: &[Event],
     number: usize,
 ) -> Result<Both, AllocError> {
-    let mut without = day_before(rt, alloc, events, number, plan(alloc)?)?;
+    let mut without = open_day(alloc, plan(alloc)?)?;
     beside(rt, alloc, events, number, &mut without)
 }
 
-// The day on which the event of this number finds the lock taken, beside the day without it, which has come to that event.
-// The call is the next behind the events before it.
+// The day on which the event of this number finds the lock taken, beside the day without it, which has not begun. The call
+// is the next behind the events before it.
 fn beside(
     rt: &impl Abort,
     alloc: Global,
@@ -54,9 +54,8 @@ fn beside(
 ) -> Result<Both, AllocError>
     requires { IsReady (machine without.old.host without.old.daemon) }
 {
-    assert!(rt; number < EVENTS);
-    let plan = taking(alloc, without.host.calls())?;
-    let mut with = day_before(rt, alloc, events, number + 1, plan)?;
+    each_event(rt, alloc, events, 0..number, without)?;
+    let mut with = open_day(alloc, taking(alloc, without.host.calls())?)?;
     to_their_ends(rt, alloc, events, number, &mut with, without)
 }
 
@@ -91,7 +90,7 @@ fn each_on_both(
     Ok(())
 }
 
-// Both days behind the event of this number, to their ends.
+// Both days to their ends: the one from its beginning, the other from the event of this number, which it leaves out.
 fn to_their_ends(
     rt: &impl Abort,
     alloc: Global,
@@ -103,7 +102,9 @@ fn to_their_ends(
     requires with { IsReady (machine with.old.host with.old.daemon) }
     requires without { IsReady (machine without.old.host without.old.daemon) }
 {
-    each_on_both(rt, alloc, events, number.saturating_add(1), with, without)?;
+    let next = number.saturating_add(1);
+    each_event(rt, alloc, events, 0..next, with)?;
+    each_on_both(rt, alloc, events, next, with, without)?;
     Ok(Both {
         with: end_of_day(alloc, with)?,
         without: end_of_day(alloc, without)?,

@@ -99,21 +99,6 @@ pub fn open_day(alloc: Global, plan: Plan) -> Result<Stepped, AllocError>
     })
 }
 
-/// The day by this plan up to the event of this number.
-pub fn day_before(
-    rt: &impl Abort,
-    alloc: Global,
-    events: &[Event],
-    number: usize,
-    plan: Plan,
-) -> Result<Stepped, AllocError>
-    ensures { IfOk result (λ stepped. IsReady (machine stepped.host stepped.daemon)) }
-{
-    let mut stepped = open_day(alloc, plan)?;
-    each_event(rt, alloc, events, 0..number, &mut stepped)?;
-    Ok(stepped)
-}
-
 /// Makes the events of these numbers happen, one behind another.
 pub fn each_event(
     rt: &impl Abort,

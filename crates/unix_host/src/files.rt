@@ -1,5 +1,6 @@
 //! What a folder holds. Only plain files are opened, so that a FIFO blocks nobody and a link leads nowhere.
-ghost use Rattle.std.specs.Prelude.{◌≤◌, IfOk, vec_len};
+ghost use Rattle.std.specs.Prelude.{◌≡◌, ◌≢◌, ◌≤◌, IfOk, vec_len};
+ghost use Rattle.std.specs.IoError.{error_kind};
 
 use crate::front::{FileFrom, fill};
 use crate::listing::{Listed, Listing};
@@ -113,7 +114,10 @@ fn add_plain_files<R: Files>(
 }
 
 // Nothing was done where a list could not be made for want of memory.
-fn fault_of(error: io::Error) -> HostFault {
+fn fault_of(error: io::Error) -> HostFault
+    ensures memory { error_kind error ≡ ErrorKind.OutOfMemory → result ≡ HostFault.Memory }
+    ensures failed { error_kind error ≢ ErrorKind.OutOfMemory → result ≡ HostFault.Failed }
+{
     if error.kind() == ErrorKind::OutOfMemory {
         HostFault::Memory
     } else {

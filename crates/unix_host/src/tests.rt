@@ -4,6 +4,7 @@ ghost use Rattle.host_calls.specs.Session.{IsInside, IsOutside};
 ghost use Rattle.unix_host.specs.UnixHost.{session_of};
 
 use crate::UnixHost;
+use crate::files::sync_path;
 use host_calls::{Host, HostFault, Name, Text};
 use std::alloc::Global;
 use std::process::{Abort, Command};
@@ -231,5 +232,13 @@ fn a_folder_that_cannot_be_made_is_a_fault(rt: HostRuntime) -> Result<(), Fail> 
     clear(&rt, path.as_str())?;
     assert!(rt; answer.is_err() && host.counts.taken == 0);
     assert_eq!(rt; host.counts.files, 1);
+    Ok(())
+}
+
+// No system can make a device certain.
+#[test]
+fn a_sync_that_is_refused_is_a_fault(rt: HostRuntime) -> Result<(), Fail> {
+    let answer = sync_path(&rt, "/dev/null");
+    assert_eq!(rt; answer.err(), Some(HostFault::Failed));
     Ok(())
 }

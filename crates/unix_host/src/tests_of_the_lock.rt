@@ -2,13 +2,15 @@
 ghost use Rattle.std.specs.Prelude.{◌≡◌, false};
 ghost use Rattle.host_calls.specs.Session.{IsInside, IsOutside};
 
+use crate::lock::Lock;
 use crate::locked::LockedFolder;
 use crate::tests::{begin, clear, fresh_spool, host_of, line, named};
 use crate::tests_outside::Outside;
+use crate::unsynced::Unsynced;
 use host_calls::{EnterFault, Host, HostFault, Name};
 use std::alloc::Global;
-use std::io;
 use std::test::Fail;
+use std::{fs, io};
 
 // A spool and a link to it are one folder. The clock of this test stands still, so that nobody waits.
 #[test]
@@ -157,6 +159,23 @@ fn the_byte_says_what_is_unsynced(rt: HostRuntime) -> Result<(), Fail> {
     clear(&rt, path.as_str())?;
     assert_eq!(rt; bytes.as_slice(), b"cnncaca".as_slice());
     Ok(())
+}
+
+// A folder that is settled is not synced anew by each session.
+#[test]
+fn the_byte_is_told(rt: HostRuntime) -> Result<(), Fail> {
+    let path = fresh_spool(&rt, "told")?;
+    for (byte, told) in [
+        ("", Unsynced::Anything),
+        ("a", Unsynced::Anything),
+        ("n", Unsynced::Names),
+        ("c", Unsynced::Nothing),
+    ] {
+        fs::write(&rt, path.as_str(), byte.as_bytes())?;
+        let lock = Lock::take(&rt, path.as_str())?;
+        assert_eq!(rt; lock.told(), told);
+    }
+    clear(&rt, path.as_str())
 }
 
 // A writer that is killed within its session.
