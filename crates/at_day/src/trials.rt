@@ -124,8 +124,10 @@ fn a_reboot_behind_event_15(rt: HostRuntime) -> Result<(), Fail> {
     let events = events(rt.alloc())?;
     for pick in PICKS {
         let seen = with_reboot(&rt, rt.alloc(), events.as_slice(), pick)?;
-        assert!(rt; seen.keeps_rules(false), "pick {pick}");
-        assert!(rt; seen.last() <= SUBMITTED, "pick {pick}");
+        assert!(rt;
+            seen.keeps_rules(false) && seen.last() <= SUBMITTED,
+            "pick {pick}"
+        );
     }
     Ok(())
 }
@@ -162,9 +164,8 @@ fn a_start_fails(rt: HostRuntime) -> Result<(), Fail> {
     for start in 0..STARTS + 1 {
         let seen = with_failing_start(&rt, rt.alloc(), events.as_slice(), start)?;
         let wanted = if start < STARTS { 1 } else { 0 };
-        assert!(rt; seen.keeps_rules(false), "start {start}");
-        assert!(rt; !seen.has_fault, "start {start}");
-        assert_eq!(rt; seen.not_started(), wanted, "start {start}");
+        assert!(rt; seen.keeps_rules(false) && !seen.has_fault, "start {start}");
+        assert!(rt; seen.not_started() == wanted, "start {start}");
     }
     Ok(())
 }

@@ -4,7 +4,7 @@ ghost use Rattle.at_day.specs.Days.{IsReady};
 ghost use Rattle.at_day.specs.Machines.{machine};
 
 use crate::tried_days::{EVENTS, Stepped, each_event, end_of_day, events, open_day, plan};
-use crate::tried_rules::{Seen, are_alike_but, are_same_spools};
+use crate::tried_rules::{are_alike_but, are_same_spools};
 use day_events::Event;
 use memory_host::Plan;
 use std::alloc::{AllocError, Global};
@@ -16,47 +16,51 @@ fn an_event_finds_the_lock_taken(rt: HostRuntime) -> Result<(), Fail> {
     let events = events(rt.alloc())?;
     // The last event is a reboot, which enters no session.
     for number in 0..EVENTS - 1 {
-        let both = with_taken_lock(&rt, rt.alloc(), events.as_slice(), number)?;
-        assert!(rt; both.with.keeps_rules(false), "event {number}");
-        assert!(rt; !both.without.has_fault, "event {number}");
-        assert!(rt; both.with.counts_as(&both.without), "event {number}");
-        assert!(rt; both.are_alike, "event {number}");
+        let is_as_without = is_as_without(&rt, rt.alloc(), events.as_slice(), number)?;
+        assert!(rt; is_as_without, "event {number}");
     }
     Ok(())
 }
 
-/// The day on which an event finds the lock taken, the day without that event, and whether all other reports are alike.
-#[derive(Clone, Copy)]
-struct Both {
-    with: Seen,
-    without: Seen,
-    are_alike: bool,
-}
-
-fn with_taken_lock(
+// Whether a day on which the event of this number finds the lock taken keeps the rules, and is as the day without that
+// event, on which nothing fails.
+fn is_as_without(
     rt: &impl Abort,
     alloc: Global,
     events: &[Event],
     number: usize,
-) -> Result<Both, AllocError> {
+) -> Result<bool, AllocError> {
     let mut without = open_day(alloc, plan(alloc)?)?;
     beside(rt, alloc, events, number, &mut without)
 }
 
-// The day on which the event of this number finds the lock taken, beside the day without it, which has not begun. The call
-// is the next behind the events before it.
 fn beside(
     rt: &impl Abort,
     alloc: Global,
     events: &[Event],
     number: usize,
     without: &mut Stepped,
-) -> Result<Both, AllocError>
+) -> Result<bool, AllocError>
     requires { IsReady (machine without.old.host without.old.daemon) }
 {
-    each_event(rt, alloc, events, 0..number, without)?;
-    let mut with = open_day(alloc, taking(alloc, without.host.calls())?)?;
+    let plan = taking(alloc, calls_before(rt, alloc, events, number, without)?)?;
+    let mut with = open_day(alloc, plan)?;
     to_their_ends(rt, alloc, events, number, &mut with, without)
+}
+
+// How many calls were made before the event of this number: that of its `enter` is the next.
+fn calls_before(
+    rt: &impl Abort,
+    alloc: Global,
+    events: &[Event],
+    number: usize,
+    stepped: &mut Stepped,
+) -> Result<u64, AllocError>
+    requires { IsReady (machine stepped.old.host stepped.old.daemon) }
+    ensures { OnOk result (IsReady (machine stepped.new.host stepped.new.daemon)) }
+{
+    each_event(rt, alloc, events, 0..number, stepped)?;
+    Ok(stepped.host.calls())
 }
 
 // The plan of the day, by which this call finds the lock taken.
@@ -98,16 +102,18 @@ fn to_their_ends(
     number: usize,
     with: &mut Stepped,
     without: &mut Stepped,
-) -> Result<Both, AllocError>
+) -> Result<bool, AllocError>
     requires with { IsReady (machine with.old.host with.old.daemon) }
     requires without { IsReady (machine without.old.host without.old.daemon) }
 {
     let next = number.saturating_add(1);
     each_event(rt, alloc, events, 0..next, with)?;
     each_on_both(rt, alloc, events, next, with, without)?;
-    Ok(Both {
-        with: end_of_day(alloc, with)?,
-        without: end_of_day(alloc, without)?,
-        are_alike: are_alike_but(number, with.reports.as_slice(), without.reports.as_slice()),
-    })
+    let (ended, other) = (end_of_day(alloc, with)?, end_of_day(alloc, without)?);
+    Ok(
+        ended.keeps_rules(false)
+            && !other.has_fault
+            && ended.counts_as(&other)
+            && are_alike_but(number, with.reports.as_slice(), without.reports.as_slice()),
+    )
 }
