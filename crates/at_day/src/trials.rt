@@ -1,17 +1,15 @@
 //! A made day of 32 events, tried: once for each place at which a call fails, the machine stops, or a start fails. What is
 //! proved of every day stands at `day`.
-ghost use Rattle.host_calls.specs.Session.{IsOutside};
-ghost use Rattle.memory_host.specs.Host.{memory_session};
+ghost use Rattle.std.specs.Prelude.{OnOk};
 ghost use Rattle.at_day.specs.Days.{IsReady};
 ghost use Rattle.at_day.specs.Machines.{machine};
 
 use crate::tried_days::{
-    EVENTS, Stepped, day_by, day_on, each_event, end_of_day, events, next_event, open_day, plan,
-    spool,
+    EVENTS, Stepped, day_by, each_event, end_of_day, events, next_event, open_day, plan,
 };
 use crate::tried_rules::Seen;
 use day_events::Event;
-use memory_host::{Failing, MemoryHost, Part};
+use memory_host::{Failing, Part};
 use std::alloc::{AllocError, Global};
 use std::process::Abort;
 use std::test::Fail;
@@ -34,10 +32,15 @@ const PICKS: [u64; 3] = [0, 1, u64::MAX];
 fn a_call_fails(rt: HostRuntime) -> Result<(), Fail> {
     for part in [Part::Nothing, Part::All] {
         let (places, broken) = failing_calls(&rt, rt.alloc(), part)?;
-        assert_eq!(rt; places, CALLS + 1);
-        assert_eq!(rt; broken.as_slice(), [].as_slice());
+        kept_at_each(&rt, places, broken.as_slice());
     }
     Ok(())
+}
+
+// Each call was tried, and one more, and no rule is broken at any.
+fn kept_at_each(rt: &impl Abort, places: u64, broken: &[u64]) {
+    assert_eq!(rt; places, CALLS + 1);
+    assert_eq!(rt; broken, [].as_slice());
 }
 
 // How many calls were tried until a day made fewer, and those at which a rule is broken. The recovery may fail whose last
@@ -75,8 +78,7 @@ fn with_failing_call(
 #[test]
 fn from_a_call_on_none_gets_through(rt: HostRuntime) -> Result<(), Fail> {
     let (places, broken) = fuses(&rt, rt.alloc())?;
-    assert_eq!(rt; places, CALLS + 1);
-    assert_eq!(rt; broken.as_slice(), [].as_slice());
+    kept_at_each(&rt, places, broken.as_slice());
     Ok(())
 }
 
@@ -85,7 +87,7 @@ fn fuses(rt: &impl Abort, alloc: Global) -> Result<(u64, Vec<u64>), AllocError> 
     let events = events(alloc)?;
     let mut broken = Vec::new(alloc);
     for fuse in 0..u64::MAX {
-        let seen = with_fuse(rt, alloc, events.as_slice(), fuse)?;
+        let seen = with_reboot(rt, alloc, events.as_slice(), 0, 0, Some(fuse))?;
         if seen.calls < fuse {
             return Ok((fuse, broken));
         }
@@ -96,34 +98,18 @@ fn fuses(rt: &impl Abort, alloc: Global) -> Result<(u64, Vec<u64>), AllocError> 
     Ok((u64::MAX, broken))
 }
 
-fn with_fuse(
-    rt: &impl Abort,
-    alloc: Global,
-    events: &[Event],
-    fuse: u64,
-) -> Result<Seen, AllocError> {
-    let mut host = spool(alloc, plan(alloc)?)?;
-    behind_fuse(rt, alloc, events, fuse, &mut host)
-}
-
-fn behind_fuse(
-    rt: &impl Abort,
-    alloc: Global,
-    events: &[Event],
-    fuse: u64,
-    host: &mut MemoryHost,
-) -> Result<Seen, AllocError>
-    requires { IsOutside (memory_session host.old) }
-{
-    host.reboot(alloc, 0, Some(fuse))?;
-    day_on(rt, alloc, events, host)
-}
-
 #[test]
 fn a_reboot_behind_event_15(rt: HostRuntime) -> Result<(), Fail> {
     let events = events(rt.alloc())?;
     for pick in PICKS {
-        let seen = with_reboot(&rt, rt.alloc(), events.as_slice(), pick)?;
+        let seen = with_reboot(
+            &rt,
+            rt.alloc(),
+            events.as_slice(),
+            REBOOT_BEFORE,
+            pick,
+            None,
+        )?;
         assert!(rt;
             seen.keeps_rules(false) && seen.last() <= SUBMITTED,
             "pick {pick}"
@@ -132,30 +118,47 @@ fn a_reboot_behind_event_15(rt: HostRuntime) -> Result<(), Fail> {
     Ok(())
 }
 
-// The day with a reboot of this pick behind event 15.
+// The day with a reboot of this pick and this fuse before the event of a number.
 fn with_reboot(
     rt: &impl Abort,
     alloc: Global,
     events: &[Event],
+    before: usize,
     pick: u64,
+    fuse: Option<u64>,
 ) -> Result<Seen, AllocError> {
     let mut stepped = open_day(alloc, plan(alloc)?)?;
-    over_reboot(rt, alloc, events, pick, &mut stepped)
+    over_reboot(rt, alloc, events, before, pick, fuse, &mut stepped)
 }
 
 fn over_reboot(
     rt: &impl Abort,
     alloc: Global,
     events: &[Event],
+    before: usize,
     pick: u64,
+    fuse: Option<u64>,
     stepped: &mut Stepped,
 ) -> Result<Seen, AllocError>
     requires { IsReady (machine stepped.old.host stepped.old.daemon) }
 {
-    each_event(rt, alloc, events, 0..REBOOT_BEFORE, stepped)?;
-    next_event(rt, alloc, &Event::Reboot { pick, fuse: None }, stepped)?;
-    each_event(rt, alloc, events, REBOOT_BEFORE..EVENTS, stepped)?;
+    each_event(rt, alloc, events, 0..before, stepped)?;
+    reboot(rt, alloc, pick, fuse, stepped)?;
+    each_event(rt, alloc, events, before..EVENTS, stepped)?;
     end_of_day(alloc, stepped)
+}
+
+fn reboot(
+    rt: &impl Abort,
+    alloc: Global,
+    pick: u64,
+    fuse: Option<u64>,
+    stepped: &mut Stepped,
+) -> Result<(), AllocError>
+    requires { IsReady (machine stepped.old.host stepped.old.daemon) }
+    ensures { OnOk result (IsReady (machine stepped.new.host stepped.new.daemon)) }
+{
+    next_event(rt, alloc, &Event::Reboot { pick, fuse }, stepped)
 }
 
 #[test]
