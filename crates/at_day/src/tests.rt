@@ -1,6 +1,6 @@
 //! A day without events, and a day that is made from a number. The expected counts are those of another model.
 use crate::Counts;
-use crate::tried_days::{day_by, day_on, made_events, made_plan};
+use crate::tried_days::{day_by, day_on, events_up_to, plan_up_to};
 use crate::tried_rules::Seen;
 use host_calls::Name;
 use memory_host::{Files, MemoryHost};
@@ -30,15 +30,15 @@ fn day_without_events(rt: HostRuntime) -> Result<(), Fail> {
 fn day_behind_seven_numbers(rt: &impl Abort, alloc: Global) -> Result<Seen, AllocError> {
     let mut files = Files::new(alloc);
     files.put(alloc, Name::of(b".SEQ").expect(rt, "a name"), b"00007\n")?;
-    let mut host = MemoryHost::make(alloc, files, made_plan(alloc, 0)?)?;
+    let mut host = MemoryHost::make(alloc, files, plan_up_to(alloc, 0)?)?;
     day_on(rt, alloc, &[], &mut host)
 }
 
 #[test]
 fn made_day(rt: HostRuntime) -> Result<(), Fail> {
     let alloc = rt.alloc();
-    let events = made_events(alloc, 40)?;
-    let seen = day_by(&rt, alloc, events.as_slice(), made_plan(alloc, 40)?)?;
+    let events = events_up_to(alloc, 40)?;
+    let seen = day_by(&rt, alloc, events.as_slice(), plan_up_to(alloc, 40)?)?;
     assert_eq!(rt; seen.reported, 40);
     let counts = seen.counts.ok_or("no counts")?;
     let expected = Counts {

@@ -21,17 +21,17 @@ pub const EVENTS: usize = 32;
 
 /// Its events.
 pub fn events(alloc: Global) -> Result<Events, AllocError> {
-    made_events(alloc, EVENTS as u32)
+    events_up_to(alloc, EVENTS as u32)
 }
 
 /// The plan of its host, by which nothing fails.
 pub fn plan(alloc: Global) -> Result<Plan, AllocError> {
-    made_plan(alloc, EVENTS as u32)
+    plan_up_to(alloc, EVENTS as u32)
 }
 
 /// The events of the made day of so many. No test rests on which they are, so no clause says it, and no proof computes
 /// them.
-pub fn made_events(alloc: Global, count: u32) -> Result<Events, AllocError>
+pub fn events_up_to(alloc: Global, count: u32) -> Result<Events, AllocError>
     requires { count ≤ MAX_EVENTS }
 {
     let Made { events, .. } = make_events(alloc, count)?;
@@ -39,7 +39,7 @@ pub fn made_events(alloc: Global, count: u32) -> Result<Events, AllocError>
 }
 
 /// The plan of the host of the made day of so many events.
-pub fn made_plan(alloc: Global, count: u32) -> Result<Plan, AllocError>
+pub fn plan_up_to(alloc: Global, count: u32) -> Result<Plan, AllocError>
     requires { count ≤ MAX_EVENTS }
 {
     let Made { plan, .. } = make_events(alloc, count)?;
