@@ -235,7 +235,7 @@ fn a_folder_that_cannot_be_made_is_a_fault(rt: HostRuntime) -> Result<(), Fail> 
     Ok(())
 }
 
-// No system can make a device certain.
+// This device keeps nothing, and the system refuses to sync it.
 #[test]
 fn a_sync_that_is_refused_is_a_fault(rt: HostRuntime) -> Result<(), Fail> {
     let answer = sync_path(&rt, "/dev/null");
