@@ -53,9 +53,10 @@ fn an_added_mark_stays(rt: HostRuntime) -> Result<(), Fail> {
             host.enter(alloc).ok().expect(&rt, "a session");
             let added = add_batch(alloc, &mut host, 9).ok().flatten();
             assert_eq!(rt; added.is_some(), fuse == 10);
-            host.reboot(alloc, pick, None)?;
+            host.reboot(alloc, pick, None).ok().expect(&rt, "memory");
             host.enter(alloc).ok().expect(&rt, "a session");
-            let journal = Journal::recall(alloc, &mut host, 1)?;
+            let journal = Journal::recall(alloc, &mut host, 1).ok();
+            let journal = journal.expect(&rt, "a journal");
             let is_new = fuse == 10 || fuse == 9 && pick == 203;
             let marks = if is_new {
                 new.as_slice()
@@ -64,6 +65,7 @@ fn an_added_mark_stays(rt: HostRuntime) -> Result<(), Fail> {
             };
             assert_eq!(rt; journal.marks(), marks, "fuse {fuse}, pick {pick}");
             assert_eq!(rt; journal.free(), if is_new { 0 } else { 1 });
+            drop(host);
         }
     }
     Ok(())
@@ -81,9 +83,10 @@ fn a_compaction_drops_what_counts_no_more(rt: HostRuntime) -> Result<(), Fail> {
             host.enter(alloc).ok().expect(&rt, "a session");
             let compacted = compact(alloc, &mut host).ok().flatten();
             assert_eq!(rt; compacted.is_some(), fuse == 10);
-            host.reboot(alloc, pick, None)?;
+            host.reboot(alloc, pick, None).ok().expect(&rt, "memory");
             host.enter(alloc).ok().expect(&rt, "a session");
-            let journal = Journal::recall(alloc, &mut host, 1)?;
+            let journal = Journal::recall(alloc, &mut host, 1).ok();
+            let journal = journal.expect(&rt, "a journal");
             let is_new = fuse == 10 || fuse == 9 && pick % 4 == 3;
             let marks = if is_new {
                 new.as_slice()
@@ -92,6 +95,7 @@ fn a_compaction_drops_what_counts_no_more(rt: HostRuntime) -> Result<(), Fail> {
             };
             assert_eq!(rt; journal.marks(), marks, "fuse {fuse}, pick {pick}");
             assert_eq!(rt; journal.free(), if is_new { 256 } else { 1 });
+            drop(host);
         }
     }
     Ok(())

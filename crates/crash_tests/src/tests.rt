@@ -45,7 +45,7 @@ fn a_file_is_replaced_whole_or_not_at_all(rt: HostRuntime) -> Result<(), Fail> {
             let mut host = spool(alloc, fuse)?;
             host.enter(alloc).ok().expect(&rt, "a session");
             assert_eq!(rt; replace(alloc, &mut host, b"00002\n").is_ok(), fuse == 7);
-            host.reboot(alloc, pick, None)?;
+            host.reboot(alloc, pick, None).ok().expect(&rt, "memory");
             let is_new = fuse == 7 || fuse == 6 && pick % 4 == 3;
             let expected: &[u8] = if is_new { b"00002\n" } else { b"00001\n" };
             assert_eq!(rt;
@@ -59,6 +59,7 @@ fn a_file_is_replaced_whole_or_not_at_all(rt: HostRuntime) -> Result<(), Fail> {
                 is_left,
                 "fuse {fuse}, pick {pick}"
             );
+            drop(host);
         }
     }
     Ok(())
@@ -74,7 +75,7 @@ fn a_drawn_number_stays_drawn(rt: HostRuntime) -> Result<(), Fail> {
             host.enter(alloc).ok().expect(&rt, "a session");
             let drawn = draw_next(alloc, &mut host).ok();
             assert_eq!(rt; drawn, if fuse == 10 { Some(Some(2)) } else { None });
-            host.reboot(alloc, pick, None)?;
+            host.reboot(alloc, pick, None).ok().expect(&rt, "memory");
             host.enter(alloc).ok().expect(&rt, "a session");
             let found = last(alloc, &mut host).ok();
             let expected = if fuse == 10 || fuse == 9 && pick % 4 == 3 {
@@ -83,6 +84,7 @@ fn a_drawn_number_stays_drawn(rt: HostRuntime) -> Result<(), Fail> {
                 1
             };
             assert_eq!(rt; found, Some(expected), "fuse {fuse}, pick {pick}");
+            drop(host);
         }
     }
     Ok(())
@@ -98,13 +100,14 @@ fn a_cleared_file_does_not_come_back(rt: HostRuntime) -> Result<(), Fail> {
             host.enter(alloc).ok().expect(&rt, "a session");
             let cleared = clear_sequence(alloc, &mut host).ok();
             assert_eq!(rt; cleared, if fuse == 6 { Some(true) } else { None });
-            host.reboot(alloc, pick, None)?;
+            host.reboot(alloc, pick, None).ok().expect(&rt, "memory");
             let is_gone = fuse == 6 || fuse == 5 && pick % 2 == 1;
             assert_eq!(rt;
                 file(&rt, &host, ".SEQ").is_none(),
                 is_gone,
                 "fuse {fuse}, pick {pick}"
             );
+            drop(host);
         }
     }
     Ok(())

@@ -1,6 +1,7 @@
 //! Answers along lists, inputs that fail, and a sink that fails at one put.
 use crate::{ListReadings, MemoryInputs, MemorySink};
 use host_calls::{InputFault, Inputs, Readings, Sink, SinkFault};
+use std::alloc::Global;
 use std::test::Fail;
 
 #[test]
@@ -19,36 +20,39 @@ fn the_last_answer_of_a_list_repeats(rt: HostRuntime) -> Result<(), Fail> {
 }
 
 #[test]
-fn inputs_fail_where_told_or_where_there_is_no_file(rt: HostRuntime) -> Result<(), Fail> {
-    let mut whole = MemoryInputs::make(rt.alloc(), b"echo hi\n", Some(b"ls\n"), false)?;
-    let front = whole.standard(rt.alloc(), 4)?;
+fn inputs_give_their_first_bytes(rt: HostRuntime) -> Result<(), Fail> {
+    let alloc = rt.alloc();
+    let mut inputs = MemoryInputs::make(alloc, b"echo hi\n", Some(b"ls\n"), false)?;
+    let front = inputs.standard(alloc, 4).expect(&rt, "four bytes");
     assert_eq!(rt; front.as_slice(), b"echo".as_slice());
-    let file = whole.file(rt.alloc(), "any", 100)?;
+    let file = inputs.file(alloc, "any", 100).expect(&rt, "a file");
     assert_eq!(rt; file.as_slice(), b"ls\n".as_slice());
-    let mut without = MemoryInputs::make(rt.alloc(), b"", None, false)?;
-    assert!(rt; without.standard(rt.alloc(), 4).is_ok());
-    assert_eq!(rt;
-        without.file(rt.alloc(), "any", 4).err(),
-        Some(InputFault::Failed)
-    );
-    let mut failing = MemoryInputs::make(rt.alloc(), b"", Some(b""), true)?;
-    assert_eq!(rt;
-        failing.standard(rt.alloc(), 4).err(),
-        Some(InputFault::Failed)
-    );
-    assert_eq!(rt;
-        failing.file(rt.alloc(), "any", 4).err(),
-        Some(InputFault::Failed)
-    );
+    Ok(())
+}
+
+// How standard input and a file fail.
+fn faults<I: Inputs>(alloc: Global, inputs: &mut I) -> (Option<InputFault>, Option<InputFault>) {
+    let standard = inputs.standard(alloc, 4).err();
+    (standard, inputs.file(alloc, "any", 4).err())
+}
+
+#[test]
+fn inputs_fail_where_told_or_where_there_is_no_file(rt: HostRuntime) -> Result<(), Fail> {
+    let alloc = rt.alloc();
+    let failed = Some(InputFault::Failed);
+    let mut without = MemoryInputs::make(alloc, b"", None, false)?;
+    assert_eq!(rt; faults(alloc, &mut without), (None, failed));
+    drop(without);
+    let mut failing = MemoryInputs::make(alloc, b"", Some(b""), true)?;
+    assert_eq!(rt; faults(alloc, &mut failing), (failed, failed));
     Ok(())
 }
 
 #[test]
-fn a_sink_fails_at_the_put_of_that_number_alone(rt: HostRuntime) -> Result<(), Fail> {
+fn a_sink_fails_at_the_put_of_that_number_alone(rt: HostRuntime) {
     let mut sink = MemorySink::make(rt.alloc(), Some(1));
-    sink.put(rt.alloc(), b"one ")?;
+    assert!(rt; sink.put(rt.alloc(), b"one ").is_ok());
     assert_eq!(rt; sink.put(rt.alloc(), b"two "), Err(SinkFault::Failed));
-    sink.put(rt.alloc(), b"three")?;
+    assert!(rt; sink.put(rt.alloc(), b"three").is_ok());
     assert_eq!(rt; sink.content(), b"one three".as_slice());
-    Ok(())
 }

@@ -5,6 +5,7 @@ ghost use Rattle.unix_host.specs.UnixHost.{session_of};
 
 use crate::UnixHost;
 use crate::files::sync_path;
+use crate::job::add_words;
 use host_calls::{Host, HostFault, Name, Text};
 use std::alloc::Global;
 use std::process::{Abort, Command};
@@ -13,8 +14,13 @@ use std::{fs, process};
 
 /// What a line of the shell prints, whose `$1` is the path.
 pub fn line(rt: &HostRuntime, text: &str, path: &str) -> Result<Vec<u8>, Fail> {
-    let mut command = Command::new(rt.alloc(), "/bin/sh")?;
-    command.arg("-c")?.arg(text)?.arg("sh")?.arg(path)?;
+    let mut shell = Command::new(rt.alloc(), "/bin/sh")?;
+    printed(rt, &mut shell, &["-c", text, "sh", path])
+}
+
+// What a command prints with these words.
+fn printed(rt: &HostRuntime, command: &mut Command, words: &[&str]) -> Result<Vec<u8>, Fail> {
+    add_words(command, words)?;
     Ok(command.output(rt)?.stdout)
 }
 
@@ -78,6 +84,7 @@ fn what_is_made_is_read(rt: HostRuntime) -> Result<(), Fail> {
     let path = fresh_spool(&rt, "made")?;
     let mut host = host_of(&rt, path.as_str())?;
     let seen = made_and_read(rt.alloc(), &mut host, &named(&rt, "a0000101b968a0"));
+    drop(host);
     clear(&rt, path.as_str())?;
     let (length, whole, part, behind) = seen?;
     assert_eq!(rt; length, 18);
@@ -130,6 +137,7 @@ fn names_are_moved_and_removed(rt: HostRuntime) -> Result<(), Fail> {
     let (temp, target) = (named(&rt, ".TMP"), named(&rt, ".SEQ"));
     let mut host = host_of(&rt, path.as_str())?;
     let seen = moved_and_removed(rt.alloc(), &mut host, &temp, &target);
+    drop(host);
     clear(&rt, path.as_str())?;
     let (both, one, bytes, none) = seen?;
     assert_eq!(rt; both.as_slice(), b" .SEQ .TMP".as_slice());
@@ -180,11 +188,13 @@ fn what_is_no_plain_file_is_left_out(rt: HostRuntime) -> Result<(), Fail> {
     line(&rt, OTHERS, path.as_str())?;
     let mut host = host_of(&rt, path.as_str())?;
     let seen = plain_names(rt.alloc(), &mut host, &named(&rt, "fifo"));
+    let faults = host.counts.files;
+    drop(host);
     clear(&rt, path.as_str())?;
     let (names, fails) = seen?;
     assert_eq!(rt; names.as_slice(), b" job".as_slice());
     assert!(rt; fails);
-    assert_eq!(rt; host.counts.files, 4);
+    assert_eq!(rt; faults, 4);
     Ok(())
 }
 
@@ -217,9 +227,11 @@ fn what_fails_is_counted(rt: HostRuntime) -> Result<(), Fail> {
         &named(&rt, "job"),
         &named(&rt, "none"),
     );
+    let faults = host.counts.files;
+    drop(host);
     clear(&rt, path.as_str())?;
     assert!(rt; fails?);
-    assert_eq!(rt; host.counts.files, 3);
+    assert_eq!(rt; faults, 3);
     Ok(())
 }
 
@@ -229,9 +241,11 @@ fn a_folder_that_cannot_be_made_is_a_fault(rt: HostRuntime) -> Result<(), Fail> 
     line(&rt, "touch \"$1\"", path.as_str())?;
     let mut host = host_of(&rt, path.as_str())?;
     let answer = begin(rt.alloc(), &mut host);
+    let faults = (host.counts.files, host.counts.taken);
+    drop(host);
     clear(&rt, path.as_str())?;
-    assert!(rt; answer.is_err() && host.counts.taken == 0);
-    assert_eq!(rt; host.counts.files, 1);
+    assert!(rt; answer.is_err());
+    assert_eq!(rt; faults, (1, 0));
     Ok(())
 }
 

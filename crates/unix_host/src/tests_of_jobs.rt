@@ -90,6 +90,7 @@ fn what_a_job_writes_lands_in_its_file(rt: HostRuntime) -> Result<(), Fail> {
         &job,
         b"echo hi\ncat\necho \"<$HOME>\"\nnice\n",
     );
+    drop(host);
     let written = line(&rt, "cat \"$1.out/job\"", path.as_str())?;
     let wanted = line(&rt, "echo hi; echo '<>'; nice -n 2 nice", path.as_str())?;
     clear(&rt, path.as_str())?;
@@ -105,6 +106,7 @@ fn endings_are_told_apart(rt: HostRuntime) -> Result<(), Fail> {
     let mut host = host_of(&rt, path.as_str())?;
     let first = job_of(&rt, &mut host, &named(&rt, "three"), b"exit 3\n");
     let second = job_of(&rt, &mut host, &named(&rt, "killed"), b"kill -9 $$\n");
+    drop(host);
     clear(&rt, path.as_str())?;
     let (child, ending, again) = first?;
     assert!(rt; child.id == 0 && ending == Some(Ending::Exit(3)) && again == ending);
@@ -119,6 +121,7 @@ fn a_missing_script_ends_badly(rt: HostRuntime) -> Result<(), Fail> {
     let path = fresh_spool(&rt, "missing")?;
     let mut host = host_of(&rt, path.as_str())?;
     let ended = unmade_job(&rt, &mut host, &named(&rt, "none"));
+    drop(host);
     clear(&rt, path.as_str())?;
     let (_, ending, _) = ended?;
     assert!(rt; matches!(&ending, Some(Ending::Exit(status)) if *status != 0));

@@ -7,9 +7,8 @@ use host_calls::{InputFault, Inputs, Readings, Sink, SinkFault};
 use load_reading::hundredths;
 use std::fmt::Display;
 use std::fs::File;
-use std::io::{ErrorKind, Read, Write};
+use std::io::{self, ErrorKind, Read, Write};
 use std::test::Fail;
-use std::{fs, io};
 
 #[test]
 fn the_clock_and_the_load_are_read(rt: HostRuntime) -> Result<(), Fail> {
@@ -31,8 +30,7 @@ fn the_clock_and_the_load_are_read(rt: HostRuntime) -> Result<(), Fail> {
 fn the_first_bytes_of_a_file_are_read(rt: HostRuntime) -> Result<(), Fail> {
     let path = fresh_spool(&rt, "input")?;
     let alloc = rt.alloc();
-    let long = vec![in alloc; b'x'; 10_000]?;
-    fs::write(&rt, path.as_str(), long.as_slice())?;
+    line(&rt, "head -c 10000 /dev/zero >\"$1\"", path.as_str())?;
     let mut inputs = UnixInputs::make(rt.clone()?);
     for (most, count) in [
         (0, 0),
@@ -41,10 +39,11 @@ fn the_first_bytes_of_a_file_are_read(rt: HostRuntime) -> Result<(), Fail> {
         (9_999, 9_999),
         (20_000, 10_000),
     ] {
-        let bytes = inputs.file(alloc, path.as_str(), most)?;
-        assert_eq!(rt; bytes.as_slice().len(), count);
+        let bytes = inputs.file(alloc, path.as_str(), most);
+        assert_eq!(rt; bytes.expect(&rt, "a file").as_slice().len(), count);
     }
-    assert!(rt; inputs.standard(alloc, 0)?.as_slice().is_empty());
+    let none = inputs.standard(alloc, 0).expect(&rt, "nothing");
+    assert!(rt; none.as_slice().is_empty());
     clear(&rt, path.as_str())?;
     assert_eq!(rt;
         inputs.file(alloc, path.as_str(), 9).err(),
@@ -79,7 +78,7 @@ fn standard_input_is_read_part_by_part(rt: HostRuntime) -> Result<(), Fail> {
     let outside = Outside::at(&rt, 0, &input);
     let mut inputs = UnixInputs::make(&outside);
     for (most, wanted) in [(4, "echo"), (100, " hi\n"), (100, "")] {
-        let bytes = inputs.standard(alloc, most)?;
+        let bytes = inputs.standard(alloc, most).expect(&rt, "bytes");
         assert_eq!(rt; bytes.as_slice(), wanted.as_bytes());
     }
     assert_eq!(rt; inputs.input_faults, 0);

@@ -12,6 +12,12 @@ use std::alloc::Global;
 use std::test::Fail;
 use std::{fs, io};
 
+// How a session of the folder begins, which is left at once.
+fn entered(outside: &Outside<'_>, alloc: Global, path: &str) -> Result<(), EnterFault> {
+    LockedFolder::enter(outside, alloc, path)?.leave();
+    Ok(())
+}
+
 // A spool and a link to it are one folder. The clock of this test stands still, so that nobody waits.
 #[test]
 fn a_link_has_the_lock_of_its_folder(rt: HostRuntime) -> Result<(), Fail> {
@@ -23,13 +29,13 @@ fn a_link_has_the_lock_of_its_folder(rt: HostRuntime) -> Result<(), Fail> {
     drop(writer);
     let outside = Outside::at(&rt, 0, &input);
     let first = LockedFolder::enter(&outside, alloc, path.as_str())?;
-    let second = LockedFolder::enter(&outside, alloc, link.as_str());
+    let second = entered(&outside, alloc, link.as_str());
     let rested = outside.rested.get();
     first.leave();
-    let third = LockedFolder::enter(&outside, alloc, link.as_str());
+    let third = entered(&outside, alloc, link.as_str());
     let beside = line(&rt, "ls -d \"$1\"* | wc -l", path.as_str())?;
     clear(&rt, path.as_str())?;
-    assert!(rt; matches!(&second, Err(EnterFault::Taken)) && third.is_ok());
+    assert_eq!(rt; (second, third), (Err(EnterFault::Taken), Ok(())));
     assert_eq!(rt; rested, 9);
     assert_eq!(rt; beside.as_slice(), b"4\n".as_slice());
     Ok(())
@@ -57,9 +63,12 @@ fn a_host_is_refused_while_another_holds_the_lock(rt: HostRuntime) -> Result<(),
     let mut first = host_of(&rt, path.as_str())?;
     let mut second = host_of(&rt, path.as_str())?;
     let answer = answer_beside(rt.alloc(), &mut first, &mut second);
+    let faults = (second.counts.taken, second.counts.files);
+    drop(first);
+    drop(second);
     clear(&rt, path.as_str())?;
     assert!(rt; matches!(answer?, Some(EnterFault::Taken)));
-    assert_eq!(rt; (second.counts.taken, second.counts.files), (1, 0));
+    assert_eq!(rt; faults, (1, 0));
     Ok(())
 }
 
@@ -155,7 +164,9 @@ fn the_byte_says_what_is_unsynced(rt: HostRuntime) -> Result<(), Fail> {
         Work::Nothing,
         Work::Fail,
     ];
-    let bytes = bytes_after(&rt, path.as_str(), &mut host, &all, (&job, &other))?;
+    let bytes = bytes_after(&rt, path.as_str(), &mut host, &all, (&job, &other));
+    drop(host);
+    let bytes = bytes?;
     clear(&rt, path.as_str())?;
     assert_eq!(rt; bytes.as_slice(), b"cnncaca".as_slice());
     Ok(())
@@ -178,11 +189,12 @@ fn the_byte_is_told(rt: HostRuntime) -> Result<(), Fail> {
     clear(&rt, path.as_str())
 }
 
-// A writer that is killed within its session.
+// A writer that is killed within its second session.
 fn writes<H: Host>(alloc: Global, host: &mut H, job: &Name) -> Result<(), HostFault>
     requires untold { H.tells ≡ false }
     requires outside { IsOutside (H.session host.old) }
 {
+    session(alloc, host, Work::Nothing, job, job)?;
     begin(alloc, host)?;
     host.create(alloc, job, b"x")
 }
@@ -199,19 +211,35 @@ fn looks<H: Host>(alloc: Global, host: &mut H) -> Result<(), HostFault>
     Ok(())
 }
 
+// What the lock file holds behind a session that settles nothing, and then behind one that settles.
+fn bytes_of_two<H: Host>(
+    rt: &HostRuntime,
+    path: &str,
+    host: &mut H,
+    job: &Name,
+) -> Result<(Vec<u8>, Vec<u8>), Fail>
+    requires untold { H.tells ≡ false }
+    requires outside { IsOutside (H.session host.old) }
+{
+    looks(rt.alloc(), host)?;
+    let kept = line(rt, "cat \"$1.lock\"", path)?;
+    session(rt.alloc(), host, Work::Nothing, job, job)?;
+    let settled = line(rt, "cat \"$1.lock\"", path)?;
+    Ok((kept, settled))
+}
+
 #[test]
 fn what_a_killed_writer_left_is_told_until_it_is_settled(rt: HostRuntime) -> Result<(), Fail> {
     let path = fresh_spool(&rt, "killed")?;
     let job = named(&rt, "job");
     let mut writer = host_of(&rt, path.as_str())?;
-    session(rt.alloc(), &mut writer, Work::Nothing, &job, &job)?;
-    writes(rt.alloc(), &mut writer, &job)?;
+    let written = writes(rt.alloc(), &mut writer, &job);
     drop(writer);
+    written?;
     let mut host = host_of(&rt, path.as_str())?;
-    looks(rt.alloc(), &mut host)?;
-    let kept = line(&rt, "cat \"$1.lock\"", path.as_str())?;
-    session(rt.alloc(), &mut host, Work::Nothing, &job, &job)?;
-    let settled = line(&rt, "cat \"$1.lock\"", path.as_str())?;
+    let bytes = bytes_of_two(&rt, path.as_str(), &mut host, &job);
+    drop(host);
+    let (kept, settled) = bytes?;
     clear(&rt, path.as_str())?;
     assert_eq!(rt; kept.as_slice(), b"a".as_slice());
     assert_eq!(rt; settled.as_slice(), b"c".as_slice());
@@ -224,6 +252,7 @@ fn only_the_owner_may_look(rt: HostRuntime) -> Result<(), Fail> {
     let job = named(&rt, "job");
     let mut host = host_of(&rt, path.as_str())?;
     let made = session(rt.alloc(), &mut host, Work::Make, &job, &job);
+    drop(host);
     let modes = line(
         &rt,
         "stat -c %a \"$1\" \"$1.out\" \"$1.lock\" \"$1/job\"",
