@@ -6,6 +6,7 @@ ghost use Rattle.memory_host.specs.Host.{memory_session};
 use crate::ann::ann;
 use crate::counting::CountingInputs;
 use crate::memory::{NOW, no_failure};
+use crate::texts::texts;
 use at_day::program;
 use host_calls::Name;
 use memory_host::{Files, ListReadings, MemoryHost, MemorySink};
@@ -51,16 +52,13 @@ fn status(
     requires { IsOutside (memory_session host.old) }
     ensures { IsOutside (memory_session host.new) }
 {
-    let mut list = Vec::new(alloc);
-    for word in words {
-        list.push(String::from_str(alloc, word)?)?;
-    }
     let mut readings = ListReadings::make(alloc, &[NOW], &[None])?;
-    let mut out = MemorySink::make(alloc, None);
     let caller = ann(alloc, "/home/ann")?;
+    let words = texts(alloc, words)?;
+    let mut out = MemorySink::make(alloc, None);
     let status = program(
         alloc,
-        &list,
+        &words,
         &caller,
         host,
         &mut readings,
@@ -78,17 +76,18 @@ fn ten_thousand_jobs_and_one_less(rt: HostRuntime) -> Result<(), Fail> {
     let mut inputs = CountingInputs::new();
     let mut err = MemorySink::make(alloc, None);
     assert_eq!(rt;
-        status(alloc, &["at", "now"], &mut host, &mut inputs, &mut err)?,
-        1
+        status(alloc, &["at", "now"], &mut host, &mut inputs, &mut err),
+        Ok(1)
     );
     assert_eq!(rt;
-        status(alloc, &["atrm", "5"], &mut host, &mut inputs, &mut err)?,
-        0
+        status(alloc, &["atrm", "5"], &mut host, &mut inputs, &mut err),
+        Ok(0)
     );
     assert_eq!(rt;
-        status(alloc, &["at", "now"], &mut host, &mut inputs, &mut err)?,
-        0
+        status(alloc, &["at", "now"], &mut host, &mut inputs, &mut err),
+        Ok(0)
     );
+    drop(host);
     assert_eq!(rt;
         err.content(),
         b"at: queue full\njob 10001 at Wed Jan  1 00:00:00 2025\n".as_slice()
@@ -101,8 +100,9 @@ fn reads(alloc: Global, words: &[&str]) -> Result<(u8, u64, u64), AllocError> {
     let mut host = crowd(alloc, 1)?;
     let mut inputs = CountingInputs::new();
     let mut err = MemorySink::make(alloc, None);
-    let code = status(alloc, words, &mut host, &mut inputs, &mut err)?;
-    Ok((code, inputs.of_standard, inputs.of_file))
+    let code = status(alloc, words, &mut host, &mut inputs, &mut err);
+    drop(host);
+    Ok((code?, inputs.of_standard, inputs.of_file))
 }
 
 #[test]

@@ -21,6 +21,8 @@ mod streams;
 mod tests;
 #[cfg(test)]
 mod tests_of_folders;
+#[cfg(test)]
+mod texts;
 mod umask;
 mod unstarted;
 
@@ -47,17 +49,23 @@ fn main(rt: HostRuntime) -> ExitCode {
     }
 }
 
-// Does what the words of this process ask for over the real things, and gives the exit status. A day is handed a host in
-// memory in place of the real one, which it would leave alone.
+// Does what the words of this process ask for over the real things, and gives the exit status.
 fn run(rt: &HostRuntime) -> Result<u8, Unstarted> {
     let words = words_of(rt)?;
     let caller = caller_of(rt)?;
-    if asks_for_day(&words) {
-        let mut host = no_spool(rt.alloc())?;
-        return Ok(answer(rt, &words, &caller, &mut host)?);
+    Ok(run_for(rt, &words, &caller)?)
+}
+
+// Does what the words ask for, for the caller. A day is handed a host in memory in place of the real one, which it
+// would leave alone.
+fn run_for(rt: &HostRuntime, words: &[String], caller: &Caller) -> Result<u8, AllocError>
+    requires umask { caller.now.context.umask < 512 }
+{
+    if asks_for_day(words) {
+        return answer(rt, words, caller, &mut no_spool(rt.alloc())?);
     }
     let mut host = UnixHost::make(rt.clone()?, rt.alloc(), spool_of(rt)?)?;
-    Ok(answer(rt, &words, &caller, &mut host)?)
+    answer(rt, words, caller, &mut host)
 }
 
 // Does what the words ask for over the host and the real things beside it, and gives the exit status.

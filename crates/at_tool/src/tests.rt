@@ -1,6 +1,7 @@
 //! Commands of a length that no scenario writes down.
 
 use crate::memory::{NOW, answer, made_in_memory, no_failure};
+use crate::texts::texts;
 use host_calls::Name;
 use std::test::Fail;
 
@@ -18,15 +19,15 @@ cd '/home/ann' || {
 #[test]
 fn longest_commands(rt: HostRuntime) -> Result<(), Fail> {
     let alloc = rt.alloc();
-    let mut words = Vec::new(alloc);
-    words.push(String::from_str(alloc, "at")?)?;
-    words.push(String::from_str(alloc, "now")?)?;
+    let words = texts(alloc, &["at", "now"])?;
     let name = Name::of(b"a0000000101b968a0").expect(&rt, "a name");
     for (count, code) in [(1_048_576, 0), (1_048_577, 1)] {
         let input = vec![in alloc; b'x'; count]?;
         let mut memory = made_in_memory(alloc, NOW, &input, no_failure(alloc))?;
-        assert_eq!(rt; answer(alloc, &words, &mut memory)?, code);
+        let answered = answer(alloc, &words, &mut memory);
         let length = memory.host.reading(&name).map(|text| text.len());
+        drop(memory);
+        assert_eq!(rt; answered, Ok(code));
         let expected = if code == 0 {
             Some(CONTEXT.len() + count)
         } else {

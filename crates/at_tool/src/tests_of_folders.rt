@@ -5,6 +5,7 @@ ghost use Rattle.unix_host.specs.UnixHost.{session_of};
 ghost use Rattle.daemon_turn.specs.Kids.{AreChildren};
 
 use crate::ann::ann;
+use crate::texts::texts;
 use crate::umask::umask_in;
 use at_day::program;
 use clock_range::is_clock_second;
@@ -23,8 +24,13 @@ const TURNS: u32 = 30;
 // What a line of the shell prints, whose `$1` is the path.
 fn line(rt: &HostRuntime, text: &str, path: &str) -> Result<Vec<u8>, Fail> {
     let mut shell = Command::new(rt.alloc(), "/bin/sh")?;
-    shell.arg("-c")?.arg(text)?.arg("sh")?.arg(path)?;
-    Ok(shell.output(rt)?.stdout)
+    printed(rt, &mut shell, &["-c", text, "sh", path])
+}
+
+// What a command prints with these words.
+fn printed(rt: &HostRuntime, command: &mut Command, words: &[&str]) -> Result<Vec<u8>, Fail> {
+    command.args(words)?;
+    Ok(command.output(rt)?.stdout)
 }
 
 // A spool folder of this test's own, that shuts nobody out.
@@ -56,11 +62,9 @@ fn submitted<H: Host, R: Readings>(
     requires outside { IsOutside (H.session host.old) }
     ensures outside { IsOutside (H.session host.new) }
 {
-    let mut words = Vec::new(alloc);
-    words.push(String::from_str(alloc, "at")?)?;
-    words.push(String::from_str(alloc, "now")?)?;
-    let caller = ann(alloc, "/tmp")?;
     let mut inputs = MemoryInputs::make(alloc, commands, None, false)?;
+    let caller = ann(alloc, "/tmp")?;
+    let words = texts(alloc, &["at", "now"])?;
     let mut out = MemorySink::make(alloc, None);
     let mut err = MemorySink::make(alloc, None);
     let status = program(
@@ -129,6 +133,7 @@ fn a_job_runs(rt: HostRuntime) -> Result<(), Fail> {
     let mut readings = UnixReadings::make(rt.clone()?);
     let code = submitted(alloc, &mut host, &mut readings, b"echo hi\n");
     let ended = runs_well(alloc, &mut host, &mut readings);
+    drop(host);
     let written = line(&rt, "cat \"$1.out\"/*", spool.as_str())?;
     line(&rt, "rm -rf \"$1\"*", spool.as_str())?;
     assert_eq!(rt; code?, 0);
