@@ -9,7 +9,7 @@ use crate::settings::Settings;
 use crate::transcript::Transcript;
 use at_day::{Counts, day, program};
 use clock_range::is_clock_second;
-use daemon_turn::{Daemon, Mode, TurnEnd, TurnStep};
+use daemon_turn::{Daemon, Mode, TurnEnd, TurnReport, TurnStep};
 use host_calls::{Asked, Ending, Handed};
 use memory_host::MemoryHost;
 use spool_store::StoreFault;
@@ -70,11 +70,7 @@ impl Machine {
         let report = self
             .daemon
             .turn(alloc, &mut self.host, now, load, Mode::Full);
-        transcript.line(end_line(alloc, &report.end)?.as_str())?;
-        for step in report.steps.as_slice() {
-            transcript.line(step_line(alloc, step)?.as_str())?;
-        }
-        Ok(())
+        Ok(show_turn(alloc, &report, transcript)?)
     }
 
     // Does what the words ask for.
@@ -99,18 +95,15 @@ impl Machine {
             &mut out,
             &mut err,
         );
-        let code = status.code;
-        let line = format!(in alloc; "run {code}")?;
-        transcript.line(line.as_str())?;
-        put(transcript, "  out", out.content())?;
-        put(transcript, "  err", err.content())?;
-        match readings.rested() {
-            0 => Ok(()),
-            rested => {
-                let line = format!(in alloc; "  rested {rested}")?;
-                transcript.line(line.as_str())
-            }
-        }
+        let rested = readings.rested();
+        show_run(
+            alloc,
+            status.code,
+            out.content(),
+            err.content(),
+            rested,
+            transcript,
+        )
     }
 
     // Prints what a day without events counts.
@@ -155,6 +148,40 @@ impl Machine {
         }
         Ok(())
     }
+}
+
+// Prints how a turn ended, and the steps that it reports.
+fn show_turn(
+    alloc: Global,
+    report: &TurnReport,
+    transcript: &mut Transcript,
+) -> Result<(), AllocError> {
+    transcript.line(end_line(alloc, &report.end)?.as_str())?;
+    for step in report.steps.as_slice() {
+        transcript.line(step_line(alloc, step)?.as_str())?;
+    }
+    Ok(())
+}
+
+// Prints the exit status of a call, what it put on standard output and standard error, and for how many seconds it
+// rested.
+fn show_run(
+    alloc: Global,
+    code: u8,
+    out: &[u8],
+    err: &[u8],
+    rested: u64,
+    transcript: &mut Transcript,
+) -> Result<(), AllocError> {
+    let line = format!(in alloc; "run {code}")?;
+    transcript.line(line.as_str())?;
+    put(transcript, "  out", out)?;
+    put(transcript, "  err", err)?;
+    if rested == 0 {
+        return Ok(());
+    }
+    let line = format!(in alloc; "  rested {rested}")?;
+    transcript.line(line.as_str())
 }
 
 // Prints what was put on a sink, if anything was.
