@@ -82,8 +82,7 @@ fn command_of(alloc: Global, nice: u8, script: &str, output: &str) -> Result<Com
     Ok(command)
 }
 
-/// Adds these words behind those that the command has.
-pub fn add_words(command: &mut Command, words: &[&str]) -> Result<(), AllocError>
+fn add_words(command: &mut Command, words: &[&str]) -> Result<(), AllocError>
     ensures words { OnOk result (command_args command.new
         ≡ command_args command.old ++ map (λ word. word.now) words.now) }
     ensures program { OnOk result (command_program command.new ≡ command_program command.old) }

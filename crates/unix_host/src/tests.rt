@@ -5,7 +5,6 @@ ghost use Rattle.unix_host.specs.UnixHost.{session_of};
 
 use crate::UnixHost;
 use crate::files::sync_path;
-use crate::job::add_words;
 use host_calls::{Host, HostFault, Name, Text};
 use std::alloc::Global;
 use std::process::{Abort, Command};
@@ -20,7 +19,7 @@ pub fn line(rt: &HostRuntime, text: &str, path: &str) -> Result<Vec<u8>, Fail> {
 
 // What a command prints with these words.
 fn printed(rt: &HostRuntime, command: &mut Command, words: &[&str]) -> Result<Vec<u8>, Fail> {
-    add_words(command, words)?;
+    command.args(words)?;
     Ok(command.output(rt)?.stdout)
 }
 
