@@ -4,6 +4,3 @@
 mod lists;
 
 pub use lists::permits;
-
-#[cfg(test)]
-mod tests;

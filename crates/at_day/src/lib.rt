@@ -20,14 +20,3 @@ pub use happening::one_event;
 pub use laws::made_days_are_told;
 pub use making::spool_of_day;
 pub use report::DayReport;
-
-#[cfg(test)]
-mod tests;
-#[cfg(test)]
-mod trials;
-#[cfg(test)]
-mod trials_of_locks;
-#[cfg(test)]
-mod tried_days;
-#[cfg(test)]
-mod tried_rules;

@@ -6,23 +6,9 @@ ghost use Rattle.std.specs.Prelude.{◌<◌, IfOk};
 ghost use Rattle.host_calls.specs.Session.{IsOutside};
 ghost use Rattle.memory_host.specs.Host.{memory_session};
 
-#[cfg(test)]
-mod ann;
 mod caller;
-#[cfg(test)]
-mod counting;
-#[cfg(test)]
-mod crowd_tests;
 mod environment;
-#[cfg(test)]
-mod memory;
 mod streams;
-#[cfg(test)]
-mod tests;
-#[cfg(test)]
-mod tests_of_folders;
-#[cfg(test)]
-mod texts;
 mod umask;
 mod unstarted;
 

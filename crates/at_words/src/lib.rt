@@ -29,6 +29,3 @@ pub use tool::{Tool, tool_of};
 pub use tool_request::ToolRequest;
 pub use when::When;
 pub use words::request;
-
-#[cfg(test)]
-mod tests;

@@ -12,6 +12,3 @@ pub use civil::{CivilMinute, civil_of};
 pub use fault::DateFault;
 pub use minute::{minute_of, minute_of_touch};
 pub use zone::{Zone, zone_of};
-
-#[cfg(test)]
-mod tests;

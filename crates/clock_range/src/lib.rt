@@ -4,6 +4,3 @@
 mod range;
 
 pub use range::{LAST_MINUTE, LAST_SECOND, is_clock_second, minute_at};
-
-#[cfg(test)]
-mod tests;

@@ -9,6 +9,3 @@ mod number;
 pub use digit::{byte_of, digit_of, is_digit};
 pub use laws::numbers_are_spelled;
 pub use number::{read, write};
-
-#[cfg(test)]
-mod tests;

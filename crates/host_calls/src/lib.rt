@@ -23,6 +23,3 @@ pub use name::Name;
 pub use readings::Readings;
 pub use sink::Sink;
 pub use text::Text;
-
-#[cfg(test)]
-mod tests;

@@ -6,6 +6,3 @@ mod laws;
 
 pub use job::{JobName, LENGTH};
 pub use laws::names_are_of_one_job;
-
-#[cfg(test)]
-mod tests;

@@ -20,6 +20,3 @@ pub use headers::{JobHeader, MAX_HEADER, header, header_fault};
 pub use laws::{checks_are_tests, headers_are_read_exactly, texts_and_meanings_are_one_to_one};
 pub use variables::Variables;
 pub use writer::{MAX_COMMANDS, write};
-
-#[cfg(test)]
-mod tests;

@@ -15,6 +15,3 @@ pub use lines::{accepted_line, queue_line};
 pub use refusal::Refusal;
 pub use status::Status;
 pub use turn_step::{TurnStepText, turn_line};
-
-#[cfg(test)]
-mod tests;

@@ -4,6 +4,3 @@
 mod load;
 
 pub use load::{MAX_DIGITS, hundredths};
-
-#[cfg(test)]
-mod tests;

@@ -6,6 +6,3 @@ mod made;
 mod plan;
 
 pub use made::{Made, make_events};
-
-#[cfg(test)]
-mod tests;

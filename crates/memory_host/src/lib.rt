@@ -39,8 +39,3 @@ pub use memory_host::MemoryHost;
 pub use plan::Plan;
 pub use readings::ListReadings;
 pub use sink::MemorySink;
-
-#[cfg(test)]
-mod tests;
-#[cfg(test)]
-mod tests_of_inputs;

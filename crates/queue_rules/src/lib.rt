@@ -10,6 +10,3 @@ pub use laws::starts_are_ready_and_apart;
 pub use order::{due_order, first_batch};
 pub use queue::{MAX_NICENESS, is_due, may_start_batch, nice_of};
 pub use spool_model::is_batch;
-
-#[cfg(test)]
-mod tests;

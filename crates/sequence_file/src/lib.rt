@@ -13,6 +13,3 @@ pub use fault::SequenceFault;
 pub use last_number::last;
 pub use laws::last_numbers_are_read;
 pub use names::sequence_name;
-
-#[cfg(test)]
-mod tests;

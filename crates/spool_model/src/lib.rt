@@ -32,6 +32,3 @@ pub use state::State;
 pub use step::Step;
 pub use table::Table;
 pub use user_name::{MAX_USER_NAME, UserName};
-
-#[cfg(test)]
-mod tests;

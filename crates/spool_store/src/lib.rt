@@ -25,6 +25,3 @@ pub(crate) use jobs::Jobs;
 pub use laws::lists_are_of_the_table;
 pub use store::Store;
 pub use submitting::MAX_LIVE;
-
-#[cfg(test)]
-mod tests;

@@ -74,6 +74,3 @@ fn rows_in_order(alloc: Global, rows: &BTreeMap<u32, Row>) -> Result<Vec<Row>, A
 {
     rows.values().copied().collect(alloc)
 }
-
-#[cfg(test)]
-mod tests;

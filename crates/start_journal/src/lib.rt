@@ -35,6 +35,3 @@ pub use names::journal_name;
 pub use slot::{SLOT, mark_text, read_mark};
 pub use stage::Stage;
 pub use wear::WORN_SLOTS;
-
-#[cfg(test)]
-mod tests;

@@ -20,6 +20,3 @@ pub use increment::Increment;
 pub use laws::viable_tokens_are_fronts;
 pub use parser::parse;
 pub use timespec::Timespec;
-
-#[cfg(test)]
-mod tests;

@@ -17,6 +17,3 @@ pub use lexer::{MAX_TOKENS, tokens};
 pub use period::Period;
 pub use placed::Placed;
 pub use token::Token;
-
-#[cfg(test)]
-mod tests;

@@ -5,6 +5,3 @@ mod reader;
 mod touch;
 
 pub use touch::{TouchTime, read_touch};
-
-#[cfg(test)]
-mod tests;

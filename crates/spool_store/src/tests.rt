@@ -1,2 +1,0 @@
-//! The kept jobs, a step after another.
-mod jobs;
