@@ -1,0 +1,28 @@
+//! Days and commands, tried in memory: a made day with each call failing, the machine stopping, each lock taken; and what
+//! no scenario writes down: many jobs, long commands, and how often commands are read.
+#![tactic(auto)]
+
+#[cfg(test)]
+mod ann;
+#[cfg(test)]
+mod commands;
+#[cfg(test)]
+mod counting;
+#[cfg(test)]
+mod crowd;
+#[cfg(test)]
+mod days;
+#[cfg(test)]
+mod made;
+#[cfg(test)]
+mod memory;
+#[cfg(test)]
+mod texts;
+#[cfg(test)]
+mod trials;
+#[cfg(test)]
+mod trials_of_locks;
+#[cfg(test)]
+mod tried_days;
+#[cfg(test)]
+mod tried_rules;

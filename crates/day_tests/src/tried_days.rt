@@ -1,0 +1,144 @@
+//! Made days for tests: one made at once, and one whose events happen one by one.
+ghost use Rattle.std.specs.Prelude.{◌≤◌, IfOk, OnOk};
+ghost use Rattle.host_calls.specs.Session.{IsOutside};
+ghost use Rattle.memory_host.specs.Host.{memory_session};
+ghost use Rattle.at_day.specs.Days.{IsReady};
+ghost use Rattle.at_day.specs.Machines.{machine};
+
+use crate::tried_rules::Seen;
+use at_day::{INTERVAL, LIMIT, day, one_event, spool_of_day};
+use at_words::MAX_EVENTS;
+use daemon_turn::Daemon;
+use day_events::{Event, EventReport, Events, are_day_events, is_day_event};
+use made_events::{Made, make_events};
+use memory_host::{MemoryHost, Plan};
+use std::alloc::{AllocError, Global};
+use std::ops::Range;
+use std::process::Abort;
+
+/// How many events the day has that is tried.
+pub const EVENTS: usize = 32;
+
+/// Its events.
+pub fn events(alloc: Global) -> Result<Events, AllocError> {
+    events_up_to(alloc, EVENTS as u32)
+}
+
+/// The plan of its host, by which nothing fails.
+pub fn plan(alloc: Global) -> Result<Plan, AllocError> {
+    plan_up_to(alloc, EVENTS as u32)
+}
+
+/// The events of the made day of so many. No test rests on which they are, so no clause says it, and no proof computes
+/// them.
+pub fn events_up_to(alloc: Global, count: u32) -> Result<Events, AllocError>
+    requires { count ≤ MAX_EVENTS }
+{
+    let Made { events, .. } = make_events(alloc, count)?;
+    Ok(events)
+}
+
+/// The plan of the host of the made day of so many events.
+pub fn plan_up_to(alloc: Global, count: u32) -> Result<Plan, AllocError>
+    requires { count ≤ MAX_EVENTS }
+{
+    let Made { plan, .. } = make_events(alloc, count)?;
+    Ok(plan)
+}
+
+/// The spool of a made day before its first event, by this plan.
+pub fn spool(alloc: Global, plan: Plan) -> Result<MemoryHost, AllocError>
+    ensures { IfOk result (λ host. IsOutside (memory_session host)) }
+{
+    spool_of_day(alloc, plan)
+}
+
+/// The day of these events on a spool of this plan.
+pub fn day_by(
+    rt: &impl Abort,
+    alloc: Global,
+    events: &[Event],
+    plan: Plan,
+) -> Result<Seen, AllocError> {
+    let mut host = spool(alloc, plan)?;
+    day_on(rt, alloc, events, &mut host)
+}
+
+/// The day of these events on this host.
+pub fn day_on(
+    rt: &impl Abort,
+    alloc: Global,
+    events: &[Event],
+    host: &mut MemoryHost,
+) -> Result<Seen, AllocError>
+    requires { IsOutside (memory_session host.old) }
+{
+    assert!(rt; are_day_events(events));
+    let report = day(alloc, events, host)?;
+    Ok(Seen::of(host, report.events.as_slice(), report.counts))
+}
+
+/// A day on its way: its host and daemon, and what its events reported so far.
+#[derive(Drop)]
+pub struct Stepped {
+    pub host: MemoryHost,
+    pub daemon: Daemon,
+    pub reports: Vec<EventReport>,
+}
+
+/// The day before its first event, on a spool of this plan.
+pub fn open_day(alloc: Global, plan: Plan) -> Result<Stepped, AllocError>
+    ensures { IfOk result (λ stepped. IsReady (machine stepped.host stepped.daemon)) }
+{
+    let host = spool(alloc, plan)?;
+    let daemon = Daemon::new(alloc, LIMIT, INTERVAL);
+    Ok(Stepped {
+        host,
+        daemon,
+        reports: Vec::new(alloc),
+    })
+}
+
+/// Makes the events of these numbers happen, one behind another.
+pub fn each_event(
+    rt: &impl Abort,
+    alloc: Global,
+    events: &[Event],
+    numbers: Range<usize>,
+    stepped: &mut Stepped,
+) -> Result<(), AllocError>
+    requires { IsReady (machine stepped.old.host stepped.old.daemon) }
+    ensures { OnOk result (IsReady (machine stepped.new.host stepped.new.daemon)) }
+{
+    for number in numbers {
+        if let Some(event) = events.get(number) {
+            next_event(rt, alloc, event, stepped)?;
+        }
+    }
+    Ok(())
+}
+
+/// Makes the event happen.
+pub fn next_event(
+    rt: &impl Abort,
+    alloc: Global,
+    event: &Event,
+    stepped: &mut Stepped,
+) -> Result<(), AllocError>
+    requires { IsReady (machine stepped.old.host stepped.old.daemon) }
+    ensures { OnOk result (IsReady (machine stepped.new.host stepped.new.daemon)) }
+{
+    assert!(rt; is_day_event(event));
+    let report = one_event(alloc, event, &mut stepped.host, &mut stepped.daemon)?;
+    stepped.reports.push(report)?;
+    Ok(())
+}
+
+/// The day behind its last event.
+pub fn end_of_day(alloc: Global, stepped: &mut Stepped) -> Result<Seen, AllocError>
+    requires { IsReady (machine stepped.old.host stepped.old.daemon) }
+{
+    // A day without events recovers and counts, and does nothing else.
+    let counts = day(alloc, &[], &mut stepped.host)?.counts;
+    Ok(Seen::of(&stepped.host, stepped.reports.as_slice(), counts))
+}

@@ -1,0 +1,27 @@
+//! Numbers of the formats, as they are written there.
+use hex_digits::{digit_of, read, write};
+
+#[test]
+fn numbers_and_their_digits(rt: HostRuntime) {
+    for (digits, number) in [
+        ("00001", 1),
+        ("fffff", 1_048_575),
+        ("01b968a0", 28_928_160),
+        ("0000000067748580", 1_735_689_600),
+        ("ffffffffffffffff", u64::MAX),
+    ] {
+        assert_eq!(rt; read(digits.as_bytes()), Some(number), "{digits}");
+    }
+    for bad in ["0000g", "0000F", "+0001", " 0001", "0x001", "00001\n"] {
+        assert_eq!(rt; read(bad.as_bytes()), None, "{bad}");
+    }
+}
+
+#[test]
+fn digits_are_written_with_zeros_in_front(rt: HostRuntime) {
+    let mut out = *b"........";
+    write(&mut out, 28_928_160);
+    assert_eq!(rt; out, *b"01b968a0");
+    assert_eq!(rt; digit_of(b'/'), None);
+    assert_eq!(rt; digit_of(b'`'), None);
+}

@@ -1,0 +1,17 @@
+//! Values that commands speak of, by examples from outside: the table, queues, lists of users, minutes, lines and words.
+#![tactic(auto)]
+
+#[cfg(test)]
+mod lines;
+#[cfg(test)]
+mod lists;
+#[cfg(test)]
+mod minutes;
+#[cfg(test)]
+mod plain;
+#[cfg(test)]
+mod queues;
+#[cfg(test)]
+mod table;
+#[cfg(test)]
+mod words;
