@@ -1,20 +1,8 @@
 -- Who may use `at`, by the lists at.allow and at.deny (XCU at, Description).
-use Rattle.std.specs.Prelude.{ℕ, Bool, false, not, ◌||◌, ◌==◌, List, [], ◌∷◌, Option, Some, None, codes, reverse, if◌then◌else◌}
+use Rattle.std.specs.Prelude.{ℕ, Bool, false, not, ◌||◌, ◌==◌, List, Option, Some, None, codes}
 use Rattle.std.specs.List.{slice_split, list_any}
 use Rattle.std.specs.Str.{bytes_eq}
-
--- a space or a tab (own)
-abbrev pub is_blank : ℕ → Bool
-is_blank byte = byte == 32 || byte == 9
-
--- the bytes from the first on that is no blank
-abbrev pub after_blanks : List ℕ → List ℕ
-after_blanks [] = []
-after_blanks (byte ∷ rest) = if is_blank byte then after_blanks rest else byte ∷ rest
-
--- the bytes without the blanks at their end
-abbrev pub before_blanks : List ℕ → List ℕ
-before_blanks bytes = reverse (after_blanks (reverse bytes))
+use Rattle.blanks.specs.Blanks.{after_blanks, before_blanks}
 
 -- the name that a line tells: the line without the blanks at both its ends (own)
 abbrev pub name_in : List ℕ → List ℕ

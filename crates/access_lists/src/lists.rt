@@ -1,7 +1,8 @@
 //! The lists of users.
 ghost use Rattle.std.specs.Prelude.{◌≡◌, option_copied};
-ghost use Rattle.access_lists.specs.Access.{is_blank, after_blanks, before_blanks, name_in, is_listed, may_use};
+ghost use Rattle.access_lists.specs.Access.{is_listed, may_use, name_in};
 
+use blanks::{after_blanks, before_blanks};
 use spool_model::UserName;
 
 /// Whether the user may use `at`, given the texts of at.allow and at.deny where they exist.
@@ -32,24 +33,4 @@ fn name_of(line: &[u8]) -> &[u8]
     ensures { result.now ≡ name_in line.now }
 {
     before_blanks(after_blanks(line))
-}
-
-fn after_blanks(line: &[u8]) -> &[u8]
-    ensures { result.now ≡ after_blanks line.now }
-{
-    let mut rest = line;
-    while let [b' ' | b'\t', behind @ ..] = rest {
-        rest = behind;
-    }
-    rest
-}
-
-fn before_blanks(line: &[u8]) -> &[u8]
-    ensures { result.now ≡ before_blanks line.now }
-{
-    let mut rest = line;
-    while let [before @ .., b' ' | b'\t'] = rest {
-        rest = before;
-    }
-    rest
 }

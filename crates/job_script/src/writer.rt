@@ -56,7 +56,7 @@ fn text_of(
     put_umask(&mut text, context.umask)?;
     put_variables(&mut text, context.environment.as_slice())?;
     text.extend_from_slice(b"cd ")?;
-    put_quoted(&mut text, context.directory.as_str())?;
+    put_quoted(&mut text, context.directory.as_str().as_bytes())?;
     text.extend_from_slice(b" || {\n\techo 'Execution directory inaccessible' >&2\n\texit 1\n}\n")?;
     text.extend_from_slice(commands)?;
     Ok(text)
@@ -96,18 +96,19 @@ fn put_variable(text: &mut Vec<u8>, name: &str, value: &str) -> Result<(), Alloc
 {
     text.extend_from_slice(name.as_bytes())?;
     text.push(b'=')?;
-    put_quoted(text, value)?;
+    put_quoted(text, value.as_bytes())?;
     text.extend_from_slice(b"; export ")?;
     text.extend_from_slice(name.as_bytes())?;
     text.push(b'\n')?;
     Ok(())
 }
 
-fn put_quoted(text: &mut Vec<u8>, value: &str) -> Result<(), AllocError>
+/// Puts the value behind the text, as one word of the shell: between single quotes.
+pub fn put_quoted(text: &mut Vec<u8>, value: &[u8]) -> Result<(), AllocError>
     ensures { OnOk result (text.new.items ≡ text.old.items ++ quoted value.now) }
 {
     text.push(b'\'')?;
-    for byte in value.as_bytes() {
+    for byte in value {
         put_part(text, *byte)?;
     }
     text.push(b'\'')?;

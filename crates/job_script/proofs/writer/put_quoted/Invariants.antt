@@ -5,4 +5,4 @@ use Rattle.job_script.proofs.writer.put_quoted.Given as goal
 
 abbrev pub invariant-loop-byte : goal.invariant-loop-byte
 invariant-loop-byte l =
-    l.text.items ≡ l.fn.text.items ++ (39 ∷ flat_map quoted_part (take l.byte-index l.byte-items))
+    l.text.items ≡ l.fn.text.items ++ (39 ∷ flat_map quoted_part (take l.byte-index l.value))

@@ -21,5 +21,5 @@ returns c =
     ∙ ap (λ (it : List (List ℕ × List ℕ)). c.put_umask.new.text.items ++ variable_lines (kept it)) c.as_slice.ensures)
     c.in_ok-extend_from_slice-3.ensures.items
     (c.in_ok-put_quoted.ensures
-    ∙ ap (λ (it : List ℕ). c.extend_from_slice-3.new.self.items ++ quoted it) c.as_str-2.ensures)
+    ∙ ap (λ (it : List ℕ). c.extend_from_slice-3.new.self.items ++ quoted it) (c.as_bytes-2.ensures.value ∙ c.as_str-2.ensures))
     c.in_ok-extend_from_slice-4.ensures.items c.in_ok-extend_from_slice-5.ensures.items
