@@ -5,7 +5,7 @@ ghost use Rattle.memory_host.specs.Host.{memory_session};
 
 use crate::noting_host::NotingHost;
 use host_calls::{Host, Name};
-use memory_host::{CallList, ChildPlans, FailingList, Files, MemoryHost, Plan};
+use memory_host::{Files, MemoryHost, Plan};
 use spool_store::Store;
 use std::alloc::Global;
 use std::test::Fail;
@@ -34,14 +34,7 @@ fn long_job(alloc: Global) -> Result<Files, Fail> {
 fn session(alloc: Global, files: Files) -> Result<MemoryHost, Fail>
     ensures { IfOk result (λ host. IsInside (memory_session host)) }
 {
-    let plan = Plan {
-        failing: FailingList::new(alloc),
-        taken: CallList::new(alloc),
-        failing_starts: CallList::new(alloc),
-        fuse: None,
-        children: ChildPlans::new(alloc),
-    };
-    let mut host = MemoryHost::make(alloc, files, plan)?;
+    let mut host = MemoryHost::make(alloc, files, Plan::quiet(alloc))?;
     host.enter(alloc)?;
     Ok(host)
 }
