@@ -7,9 +7,6 @@ use std::env::{Env, FillError, VarError};
 use std::io::ErrorKind;
 use std::{env, str};
 
-// Where jobs lie if no variable names another folder.
-const SPOOL: &str = "/var/spool/atjobs";
-
 // The room for one variable at first, and how often it is doubled at most.
 const ROOM: usize = 512;
 
@@ -24,11 +21,11 @@ pub fn words_of(rt: &HostRuntime) -> Result<Vec<String>, Unstarted> {
     }
 }
 
-/// The path of the spool folder.
-pub fn spool_of(rt: &HostRuntime) -> Result<Text, AllocError> {
-    match variable(rt, "ATSPOOL")? {
-        Some(path) => Ok(Text::from(path)),
-        None => Text::of(rt.alloc(), SPOOL),
+/// The value of a variable, or the usual one where it is not there or no text.
+pub fn text_of(rt: &HostRuntime, name: &str, usual: &str) -> Result<Text, AllocError> {
+    match variable(rt, name)? {
+        Some(value) => Ok(Text::from(value)),
+        None => Text::of(rt.alloc(), usual),
     }
 }
 

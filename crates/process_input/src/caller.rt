@@ -1,11 +1,10 @@
 //! Who calls, and from where.
 ghost use Rattle.std.specs.Prelude.{◌<◌, IfOk};
 
-use crate::environment::{variable, variables_of};
+use crate::environment::{text_of, variable, variables_of};
 use crate::umask::umask_of;
-use at_day::Caller;
 use civil_minute::zone_of;
-use host_calls::Text;
+use command_answers::Caller;
 use job_script::Context;
 use std::alloc::AllocError;
 
@@ -15,8 +14,8 @@ pub fn caller_of(rt: &HostRuntime) -> Result<Caller, AllocError>
 {
     let zone = variable(rt, "TZ")?;
     let context = Context {
-        user: text_of(rt, "LOGNAME")?,
-        directory: text_of(rt, "PWD")?,
+        user: text_of(rt, "LOGNAME", "")?,
+        directory: text_of(rt, "PWD", "")?,
         umask: umask_of(rt),
         environment: variables_of(rt)?,
     };
@@ -24,12 +23,4 @@ pub fn caller_of(rt: &HostRuntime) -> Result<Caller, AllocError>
         context,
         zone: zone_of(rt.alloc(), zone.as_deref())?,
     })
-}
-
-// The value of a variable, empty where there is none.
-fn text_of(rt: &HostRuntime, name: &str) -> Result<Text, AllocError> {
-    match variable(rt, name)? {
-        Some(value) => Ok(Text::from(value)),
-        None => Text::of(rt.alloc(), ""),
-    }
 }
