@@ -1,5 +1,5 @@
-use Rattle.made_events.proofs.MadeLemmas.{events_more, no_events}
-use Rattle.made_events.proofs.made.events_to.Goals as goal
+use Rattle.day_events.proofs.MadeLemmas.{events_more, no_events}
+use Rattle.day_events.proofs.made.events_to.Goals as goal
 
 pub loop-number-init : goal.loop-number-init
 loop-number-init c = no_events _ c.new-events.ensures

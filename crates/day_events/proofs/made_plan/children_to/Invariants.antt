@@ -1,6 +1,6 @@
 use Rattle.std.proofs.Common.{◌≡◌}
-use Rattle.made_events.specs.Plans.{made_children}
-use Rattle.made_events.proofs.plan.children_to.Given as goal
+use Rattle.day_events.specs.Plans.{made_children}
+use Rattle.day_events.proofs.made_plan.children_to.Given as goal
 
 -- the plans so far
 abbrev pub invariant-loop-number : goal.invariant-loop-number

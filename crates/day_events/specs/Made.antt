@@ -5,8 +5,8 @@ use Rattle.civil_minute.specs.declared.zone.Zone.TheVariants.{Utc}
 use Rattle.command_answers.specs.declared.caller.Caller.{Caller}
 use Rattle.day_events.specs.declared.event.Event.{Event}
 use Rattle.day_events.specs.declared.event.Event.TheVariants.{Command, Turn, Reboot}
-use Rattle.made_events.specs.declared.made.Made.{Made}
-use Rattle.made_events.specs.Plans.{made_plan}
+use Rattle.day_events.specs.declared.made.Made.{Made}
+use Rattle.day_events.specs.Plans.{made_plan}
 
 -- the user ann at home, in UTC
 abbrev pub made_caller : Caller

@@ -1,11 +1,11 @@
 //! The events of a made day, by their numbers.
 ghost use Rattle.std.specs.Prelude.{◌≡◌, ◌<◌, ◌∷◌, [], IfOk, Some, codes};
-ghost use Rattle.made_events.specs.Made.{echo_of, last_of_eight, made_caller, made_command, made_event, removal_words, second_of};
+ghost use Rattle.day_events.specs.Made.{echo_of, last_of_eight, made_caller, made_command, made_event, removal_words, second_of};
 
+use crate::{Event, Words};
 use at_words::MAX_EVENTS;
 use civil_minute::Zone;
 use command_answers::Caller;
-use day_events::{Event, Words};
 use host_calls::{Bytes, Text};
 use job_script::{Context, Variables};
 use std::alloc::{AllocError, Global};

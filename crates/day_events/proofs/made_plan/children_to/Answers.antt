@@ -1,5 +1,5 @@
-use Rattle.made_events.proofs.MadeLemmas.{children_more, no_children}
-use Rattle.made_events.proofs.plan.children_to.Goals as goal
+use Rattle.day_events.proofs.MadeLemmas.{children_more, no_children}
+use Rattle.day_events.proofs.made_plan.children_to.Goals as goal
 
 pub loop-number-init : goal.loop-number-init
 loop-number-init c = no_children _ c.new-plans.ensures

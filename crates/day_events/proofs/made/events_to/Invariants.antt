@@ -1,6 +1,6 @@
 use Rattle.std.proofs.Common.{◌≡◌}
-use Rattle.made_events.specs.Made.{made_events}
-use Rattle.made_events.proofs.made.events_to.Given as goal
+use Rattle.day_events.specs.Made.{made_events}
+use Rattle.day_events.proofs.made.events_to.Given as goal
 
 -- the events so far
 abbrev pub invariant-loop-number : goal.invariant-loop-number

@@ -1,10 +1,10 @@
 //! The plan of a made day: nothing fails, and children end after up to two questions.
 ghost use Rattle.std.specs.Prelude.{◌≡◌, ◌≢◌, ◌≤◌, IfOk};
-ghost use Rattle.made_events.specs.Plans.{made_child, made_children, made_plan};
+ghost use Rattle.day_events.specs.Plans.{made_child, made_children, made_plan};
 
 use at_words::MAX_EVENTS;
 use host_calls::Ending;
-use memory_host::{CallList, ChildPlan, ChildPlans, FailingList, Plan};
+use memory_host::{ChildPlan, ChildPlans, Plan};
 use std::alloc::{AllocError, Global};
 
 /// The plan of a day of so many events.
@@ -12,13 +12,9 @@ pub fn made_plan(alloc: Global, count: u32) -> Result<Plan, AllocError>
     requires { count ≤ MAX_EVENTS }
     ensures { IfOk result (λ plan. plan ≡ made_plan count) }
 {
-    Ok(Plan {
-        failing: FailingList::new(alloc),
-        taken: CallList::new(alloc),
-        failing_starts: CallList::new(alloc),
-        fuse: None,
-        children: children_to(alloc, count)?,
-    })
+    let mut plan = Plan::quiet(alloc);
+    plan.children = children_to(alloc, count)?;
+    Ok(plan)
 }
 
 // The plans of the children of the numbers below the count.

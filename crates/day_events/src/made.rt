@@ -1,11 +1,11 @@
 //! A day that is made from a number.
 ghost use Rattle.std.specs.Prelude.{◌≡◌, ◌≤◌, IfOk};
-ghost use Rattle.made_events.specs.Made.{made_day, made_events};
+ghost use Rattle.day_events.specs.Made.{made_day, made_events};
 
-use crate::event::made_event;
-use crate::plan::made_plan;
+use crate::Events;
+use crate::made_event::made_event;
+use crate::made_plan::made_plan;
 use at_words::MAX_EVENTS;
-use day_events::Events;
 use memory_host::Plan;
 use std::alloc::{AllocError, Global};
 

@@ -1,6 +1,6 @@
 use Rattle.std.proofs.Common.{◌≡◌, ◌%◌, arith, refl, sym, ◌∙◌}
-use Rattle.made_events.proofs.MadeLemmas.{as_made, command_is, made_batch, made_last, made_later, made_listing, made_loaded, made_now, made_removal, made_turn}
-use Rattle.made_events.proofs.event.made_event.Goals as goal
+use Rattle.day_events.proofs.MadeLemmas.{as_made, command_is, made_batch, made_last, made_later, made_listing, made_loaded, made_now, made_removal, made_turn}
+use Rattle.day_events.proofs.made_event.made_event.Goals as goal
 
 pub returns-then-number-eq0 : goal.returns-then-number-eq0
 returns-then-number-eq0 c = as_made _ _ _

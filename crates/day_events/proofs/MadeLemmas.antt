@@ -3,8 +3,8 @@ use Rattle.std.proofs.Common.{◌≡◌, ◌+◌, ◌*◌, ◌%◌, ◌++◌, �
 use Rattle.day_events.specs.declared.event.Event.{Event}
 use Rattle.day_events.specs.declared.event.Event.TheVariants.{Turn}
 use Rattle.memory_host.specs.declared.child_plans.ChildPlan.{ChildPlan}
-use Rattle.made_events.specs.Made.{echo_of, last_of_eight, made_command, made_event, made_events, removal_words, second_of}
-use Rattle.made_events.specs.Plans.{made_child, made_children}
+use Rattle.day_events.specs.Made.{echo_of, last_of_eight, made_command, made_event, made_events, removal_words, second_of}
+use Rattle.day_events.specs.Plans.{made_child, made_children}
 
 pub made_events-more : (number : ℕ) → made_events (number + 1) ≡ made_events number ++ made_event number ∷ []
 unfolding made_events
