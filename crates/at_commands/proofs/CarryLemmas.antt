@@ -19,7 +19,7 @@ use Rattle.command_answers.specs.declared.caller.Caller.{Caller}
 use Rattle.command_answers.specs.Checks.{Check, ComesUpTo, check_of, is_before, of_access, of_folder, of_lists, of_lock, of_output, of_steps, place_of}
 use Rattle.command_answers.specs.Ends.{KeepsOrder, Reaches}
 use Rattle.command_answers.specs.Found.{AreInFolder, Found, allow_file, deny_file}
-use Rattle.command_answers.specs.inside.Carrying.{AreSessionSteps, AreWorkSteps, Carries, Finding}
+use Rattle.command_answers.specs.Carrying.{AreSessionSteps, AreWorkSteps, Carries, Finding}
 use Rattle.command_answers.specs.Sessions.{AreListsIn, IsNotOpened, IsOpened, Works, faults, lists_lack_memory, is_damaged, lacks_memory, refuses, lists_fault}
 use Rattle.command_answers.specs.Spool.{SpoolEnds}
 use Rattle.command_answers.specs.Verdict.{spool_verdict, table_verdict}

@@ -16,7 +16,7 @@ use Rattle.command_answers.specs.Ends.{Ends, FailsToPrint, Holding, KeepsOrder, 
 use Rattle.command_answers.specs.Found.{Asked}
 use Rattle.command_answers.specs.Sinks.{NotesBy, SinkAt}
 use Rattle.command_answers.specs.Verdict.{verdict_of}
-use Rattle.at_commands.specs.inside.Wording.{words_cause}
+use Rattle.command_answers.specs.Causes.{words_cause}
 use Rattle.at_commands.proofs.UnreadLemmas.{ends_at_words}
 use Rattle.at_commands.proofs.LateLemmas.{any_memory}
 

@@ -25,7 +25,7 @@ use Rattle.command_answers.specs.declared.caller.Caller.{Caller}
 use Rattle.command_answers.specs.declared.stopped.Stopped.{Stopped}
 use Rattle.command_answers.specs.Causes.{cause_in, stopped_by}
 use Rattle.command_answers.specs.Found.{Found}
-use Rattle.command_answers.specs.inside.Carrying.{AreWorkSteps, Carries, IsSessionText}
+use Rattle.command_answers.specs.Carrying.{AreWorkSteps, Carries, IsSessionText}
 use Rattle.command_answers.specs.Requested.{passes_of, scripts_of, steps_of}
 use Rattle.command_answers.specs.Sessions.{IsKeptOf, IsNotOpened, IsOpened, IsWorkedOut, Works}
 use Rattle.command_answers.specs.Sinks.{IsPut, IsPutInPart, IsSilent, PrintsBy, PutsPart, SinkAt}

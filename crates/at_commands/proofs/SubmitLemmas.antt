@@ -32,7 +32,7 @@ use Rattle.command_answers.specs.declared.caller.Caller.{Caller}
 use Rattle.command_answers.specs.declared.stopped.Stopped.{Stopped}
 use Rattle.command_answers.specs.Causes.{cause_in, cause_of, stopped_by}
 use Rattle.command_answers.specs.Found.{found_of}
-use Rattle.command_answers.specs.inside.Carrying.{AreWorkSteps, Finding}
+use Rattle.command_answers.specs.Carrying.{AreWorkSteps, Finding}
 use Rattle.command_answers.specs.Requested.{job_for}
 use Rattle.command_answers.specs.Sessions.{IsNotOpened, IsOpened, IsWorkedOn}
 use Rattle.command_answers.specs.Times.{minute_in}

@@ -4,4 +4,3 @@ pub mod Saying
 pub mod Session
 pub mod Sessions
 pub mod Storing
-pub mod Wording

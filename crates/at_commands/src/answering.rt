@@ -12,14 +12,13 @@ ghost use Rattle.command_answers.specs.Sinks.{NotesBy, SaysBy, sink_at};
 ghost use Rattle.serving.specs.Serves.{serve_at, serve_telling};
 ghost use Rattle.at_commands.specs.Served.{IsNotServed, ServesAnew, WhereServed};
 ghost use Rattle.at_commands.specs.Tools.{name_of, tool_name_of};
-ghost use Rattle.at_commands.specs.inside.Wording.{words_cause};
 
 use crate::listing::list;
 use crate::removing::remove;
 use crate::showing::show;
 use crate::submitting::submit;
-use at_words::{Tool, ToolRequest, WordsFault, request, tool_of};
-use command_answers::Caller;
+use at_words::{Tool, ToolRequest, request, tool_of};
+use command_answers::{Caller, cause_of_words};
 use daemon_turn::Daemon;
 use host_calls::{Host, Inputs, Readings, Sink};
 use listing_text::{Cause, Refusal, Status};
@@ -192,17 +191,6 @@ fn answer<H: Host, R: Readings, I: Inputs, O: Sink, E: Sink>(
 {
     let cause = carry_out(alloc, asked, caller, host, readings, inputs, out, err);
     Status::of(say_cause(alloc, tool, cause, err))
-}
-
-// The cause of words that ask for nothing.
-fn cause_of_words(fault: WordsFault) -> Cause
-    ensures { result ≡ words_cause fault }
-{
-    match fault {
-        WordsFault::Usage => Cause::Refused(Refusal::Usage),
-        WordsFault::BadQueue => Cause::Refused(Refusal::BadQueue),
-        WordsFault::Memory => Cause::Memory,
-    }
 }
 
 // Does what is asked for. The line of the cause is still to be said.

@@ -9,7 +9,7 @@ use Rattle.at_words.specs.Tools.{tool_of_name, tool_of_words}
 use Rattle.day_events.specs.Days.{is_day_event}
 use Rattle.day_events.specs.declared.event.Event.{Event}
 use Rattle.day_events.specs.declared.event.Event.TheVariants.{Command, Turn, Reboot}
-use Rattle.made_events.specs.Made.{echo_of, last_of_eight, made_command, made_event, made_events, removal_words, second_of}
+use Rattle.day_events.specs.Made.{echo_of, last_of_eight, made_command, made_event, made_events, removal_words, second_of}
 use Rattle.at_words.specs.declared.atday.TheConstants.{MAX_EVENTS}
 
 either : (P : Event → Type 0) (which : Bool) (one other : Event) → P one → P other → P (if which then one else other)

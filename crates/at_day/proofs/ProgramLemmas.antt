@@ -8,6 +8,7 @@ use Rattle.at_words.specs.declared.fault.WordsFault.{WordsFault}
 use Rattle.at_words.specs.declared.fault.WordsFault.TheVariants as words
 use Rattle.at_words.specs.declared.tool_request.ToolRequest.{ToolRequest}
 use Rattle.at_words.specs.declared.tool_request.ToolRequest.TheVariants as request
+use Rattle.command_answers.specs.Causes.{words_cause}
 use Rattle.command_answers.specs.Ends.{FailsToPrint}
 use Rattle.command_answers.specs.Found.{Asked}
 use Rattle.command_answers.specs.Sinks.{EndsLine, IsCut, IsPut, IsPutInPart, IsPutOrCut, IsSilent, SinkAt, sink_at}
@@ -25,7 +26,7 @@ use Rattle.at_day.specs.Laws.{MadeDaysAreTold}
 use Rattle.at_day.specs.Lines.{day_lines}
 use Rattle.at_day.specs.MadeDays.{ComesTo}
 use Rattle.at_day.specs.Programs.{EndsDay, EndsMade, EndsRefused, TellsDay}
-use Rattle.at_day.specs.inside.Making.{IsDayRequest, PutsDay, cause_of_words}
+use Rattle.at_day.specs.inside.Making.{IsDayRequest, PutsDay}
 use Rattle.at_day.proofs.RequestLemmas.{IsDayAsked}
 
 silent : (at : SinkAt) → IsSilent at at
@@ -80,9 +81,9 @@ unread tells (Ok (request.Show numbers)) at is = absurd is
 unread tells (Ok (request.Daemon limit interval once turns)) at is = absurd is
 
 pub ends_unasked : (tells : Bool) (asked : Asked) (fault : WordsFault) (at : SinkAt) → IsDayAsked asked →
-    Answers {T = ToolRequest} asked (Err fault) → EndsDay tells asked at at (cause_of_words fault)
+    Answers {T = ToolRequest} asked (Err fault) → EndsDay tells asked at at (words_cause fault)
 ends_unasked tells asked words.Usage at is answers =
-    subst (λ (of : Asked). EndsDay tells of at at (cause_of_words words.Usage)) answers
+    subst (λ (of : Asked). EndsDay tells of at at (words_cause words.Usage)) answers
     (record { refused = inl refl; nothing = λ told. silent at })
 ends_unasked tells asked words.BadQueue at is answers = absurd (subst IsDayAsked (sym answers) is)
 ends_unasked tells asked words.Memory at is answers = unread tells asked at is

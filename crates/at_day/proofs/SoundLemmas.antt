@@ -16,8 +16,8 @@ use Rattle.host_calls.specs.Session.{Session}
 use Rattle.host_calls.specs.World.{World, reading}
 use Rattle.host_calls.proofs.FolderLemmas.{reading_is_image}
 use Rattle.job_runs.specs.Current.{EachShows}
-use Rattle.made_events.specs.Made.{made_events}
-use Rattle.made_events.specs.Plans.{made_plan}
+use Rattle.day_events.specs.Made.{made_events}
+use Rattle.day_events.specs.Plans.{made_plan}
 use Rattle.memory_host.specs.Host.{IsNew, memory_session, memory_world}
 use Rattle.memory_host.specs.Laws.{HasNoFault}
 use Rattle.memory_host.specs.Spelling.{spelled}

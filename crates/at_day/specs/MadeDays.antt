@@ -7,8 +7,8 @@ use Rattle.day_events.specs.declared.report.EventReport.{EventReport}
 use Rattle.day_events.specs.declared.report.EventReport.TheVariants as told
 use Rattle.host_calls.specs.Folder.{Files}
 use Rattle.listing_text.specs.Cause.{is_memory}
-use Rattle.made_events.specs.Made.{made_events}
-use Rattle.made_events.specs.Plans.{made_plan}
+use Rattle.day_events.specs.Made.{made_events}
+use Rattle.day_events.specs.Plans.{made_plan}
 use Rattle.memory_host.specs.Host.{IsNew}
 use Rattle.memory_host.specs.declared.memory_host.MemoryHost.{MemoryHost}
 use Rattle.serving.specs.Items.{is_wanting}

@@ -13,13 +13,14 @@ ghost use Rattle.host_calls.specs.World.{GoesOn};
 ghost use Rattle.listing_text.specs.Cause.{status_of};
 ghost use Rattle.serving.specs.Serves.{serve_at, serve_telling};
 ghost use Rattle.at_day.specs.Programs.{EndsDay, asks_for_day, makes_days};
-ghost use Rattle.at_day.specs.inside.Making.{IsDayRequest, cause_of_words};
+ghost use Rattle.at_day.specs.inside.Making.{IsDayRequest};
 
 use crate::making::tell_day;
 use at_commands::{Caller, command};
-use at_words::{Tool, ToolRequest, WordsFault, request, tool_of};
+use at_words::{Tool, ToolRequest, request, tool_of};
+use command_answers::cause_of_words;
 use host_calls::{Host, Inputs, Readings, Sink};
-use listing_text::{Cause, Refusal, Status};
+use listing_text::{Cause, Status};
 use serving::say_cause;
 use std::alloc::Global;
 
@@ -165,16 +166,5 @@ fn events_asked(asked: ToolRequest) -> u32
         ToolRequest::Remove(_) => unreachable!(),
         ToolRequest::Show(_) => unreachable!(),
         ToolRequest::Daemon { .. } => unreachable!(),
-    }
-}
-
-// The cause of words that ask for nothing.
-fn cause_of_words(fault: WordsFault) -> Cause
-    ensures { result ≡ cause_of_words fault }
-{
-    match fault {
-        WordsFault::Usage => Cause::Refused(Refusal::Usage),
-        WordsFault::BadQueue => Cause::Refused(Refusal::BadQueue),
-        WordsFault::Memory => Cause::Memory,
     }
 }

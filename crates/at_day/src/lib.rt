@@ -15,6 +15,9 @@ mod report;
 pub use answering::{asks_for_day, program};
 pub use command_answers::Caller;
 pub use counts::Counts;
+pub use day_events::{
+    Event, EventReport, EventReports, Events, Made, Words, is_day_event, make_events,
+};
 pub use days::{INTERVAL, LIMIT, day};
 pub use happening::one_event;
 pub use laws::made_days_are_told;

@@ -1,9 +1,8 @@
 //! Days that are made from a number.
 ghost use Rattle.std.specs.Prelude.{◌≡◌, ◌≤◌, IfOk, Ok};
 ghost use Rattle.std.specs.List.{list_any};
-ghost use Rattle.command_answers.specs.Found.{deny_file};
 ghost use Rattle.command_answers.specs.Sinks.{sink_at};
-ghost use Rattle.made_events.specs.Plans.{made_plan};
+ghost use Rattle.day_events.specs.Plans.{made_plan};
 ghost use Rattle.memory_host.specs.Host.{IsNew};
 ghost use Rattle.at_day.specs.MadeDays.{ComesTo, deny_alone, lacks_memory};
 ghost use Rattle.at_day.specs.Programs.{EndsMade};
@@ -12,11 +11,11 @@ ghost use Rattle.at_day.specs.inside.Making.{AreLinesOfDay, IsSound, PutsDay, ca
 use crate::lines::{day_lines, put_lines};
 use crate::{Counts, day};
 use at_words::MAX_EVENTS;
+use command_answers::deny_name;
 use daemon_turn::TurnEnd;
-use day_events::EventReport;
-use host_calls::{Bytes, Name, Sink, SinkFault};
+use day_events::{EventReport, Made, make_events};
+use host_calls::{Bytes, Sink, SinkFault};
 use listing_text::Cause;
-use made_events::{Made, make_events};
 use memory_host::{Files, MemoryHost, Plan};
 use spool_store::StoreFault;
 use std::alloc::{AllocError, Global};
@@ -86,12 +85,6 @@ pub fn spool_of_day(alloc: Global, plan: Plan) -> Result<MemoryHost, AllocError>
     let mut files = Files::new(alloc);
     files.put(alloc, deny_name(), b"")?;
     MemoryHost::make(alloc, files, plan)
-}
-
-fn deny_name() -> Name
-    ensures { result ≡ deny_file }
-{
-    Name::of(b"at.deny").unwrap()
 }
 
 // The counts, of which want of memory alone can be in the way.

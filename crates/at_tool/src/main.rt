@@ -6,32 +6,26 @@ ghost use Rattle.std.specs.Prelude.{◌<◌, IfOk};
 ghost use Rattle.host_calls.specs.Session.{IsOutside};
 ghost use Rattle.memory_host.specs.Host.{memory_session};
 
-mod caller;
-mod environment;
-mod streams;
-mod umask;
-mod unstarted;
-
-use crate::caller::caller_of;
-use crate::environment::{spool_of, words_of};
-use crate::streams::held_streams;
-use crate::unstarted::Unstarted;
 use at_day::{Caller, asks_for_day, program};
 use host_calls::Host;
-use memory_host::{CallList, ChildPlans, FailingList, Files, MemoryHost, Plan};
+use memory_host::{Files, MemoryHost, Plan};
+use process_input::{Unstarted, caller_of, held_streams, say_unstarted, text_of, words_of};
 use std::alloc::{AllocError, Global};
 use std::process::ExitCode;
 use unix_host::{UnixErr, UnixHost, UnixInputs, UnixOut, UnixReadings};
+
+// The name under which is said why the tools could not begin.
+const TOOL: &str = "at";
+
+// Where jobs lie if no variable names another folder.
+const SPOOL: &str = "/var/spool/atjobs";
 
 fn main(rt: HostRuntime) -> ExitCode {
     // They stay held until the end: what is opened in between must not become a standard stream.
     let _streams = held_streams(&rt);
     match run(&rt) {
         Ok(code) => ExitCode::from(code),
-        Err(why) => {
-            let _ = eprintln!(rt; "at: {}", why.text());
-            ExitCode::from(why.code())
-        }
+        Err(why) => ExitCode::from(say_unstarted(&rt, TOOL, why)),
     }
 }
 
@@ -50,7 +44,7 @@ fn run_for(rt: &HostRuntime, words: &[String], caller: &Caller) -> Result<u8, Al
     if asks_for_day(words) {
         return answer(rt, words, caller, &mut no_spool(rt.alloc())?);
     }
-    let mut host = UnixHost::make(rt.clone()?, rt.alloc(), spool_of(rt)?)?;
+    let mut host = UnixHost::make(rt.clone()?, rt.alloc(), text_of(rt, "ATSPOOL", SPOOL)?)?;
     answer(rt, words, caller, &mut host)
 }
 
@@ -85,12 +79,5 @@ fn answer<H: Host>(
 fn no_spool(alloc: Global) -> Result<MemoryHost, AllocError>
     ensures { IfOk result (λ host. IsOutside (memory_session host)) }
 {
-    let plan = Plan {
-        failing: FailingList::new(alloc),
-        taken: CallList::new(alloc),
-        failing_starts: CallList::new(alloc),
-        fuse: None,
-        children: ChildPlans::new(alloc),
-    };
-    MemoryHost::make(alloc, Files::new(alloc), plan)
+    MemoryHost::make(alloc, Files::new(alloc), Plan::quiet(alloc))
 }

@@ -1,5 +1,7 @@
 -- The causes of a command's end, as its calls answer them.
 use Rattle.std.specs.Prelude.{Result, Ok, Err}
+use Rattle.at_words.specs.declared.fault.WordsFault.{WordsFault}
+use Rattle.at_words.specs.declared.fault.WordsFault.TheVariants as words
 use Rattle.host_calls.specs.declared.fault.EnterFault.{EnterFault}
 use Rattle.host_calls.specs.declared.fault.EnterFault.TheVariants as entry
 use Rattle.host_calls.specs.declared.fault.HostFault.{HostFault}
@@ -46,6 +48,12 @@ cause_of_script script.BadDirectory = Refused refusal.BadDirectory
 cause_of_script script.EnvironmentTooLarge = Refused refusal.EnvironmentTooLarge
 cause_of_script script.TooLong = Refused refusal.TooLong
 cause_of_script script.Memory = Memory
+
+-- the cause of words that ask for nothing: they are refused, or there was no memory to read them
+abbrev pub words_cause : WordsFault → Cause
+words_cause words.Usage = Refused refusal.Usage
+words_cause words.BadQueue = Refused refusal.BadQueue
+words_cause words.Memory = Memory
 
 -- stopped by a cause
 abbrev pub stopped_by : Cause → Stopped

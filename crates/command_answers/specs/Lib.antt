@@ -1,3 +1,4 @@
+pub mod Carrying
 pub mod Causes
 pub mod Checks
 pub mod Ends
@@ -9,4 +10,3 @@ pub mod Sinks
 pub mod Spool
 pub mod Times
 pub mod Verdict
-pub mod inside

@@ -5,11 +5,11 @@ ghost use Rattle.memory_host.specs.Host.{memory_session};
 
 use crate::ann::ann;
 use crate::counting::CountingInputs;
-use crate::memory::{NOW, no_failure};
+use crate::memory::NOW;
 use crate::texts::texts;
 use at_day::program;
 use host_calls::Name;
-use memory_host::{Files, ListReadings, MemoryHost, MemorySink};
+use memory_host::{Files, ListReadings, MemoryHost, MemorySink, Plan};
 use std::alloc::{AllocError, Global};
 use std::test::Fail;
 
@@ -31,7 +31,7 @@ fn crowd(alloc: Global, count: u32) -> Result<MemoryHost, AllocError>
         let name = format!(in alloc; "a{number:05x}01b968a0")?;
         put(alloc, &mut files, name.as_bytes(), SCRIPT)?;
     }
-    MemoryHost::make(alloc, files, no_failure(alloc))
+    MemoryHost::make(alloc, files, Plan::quiet(alloc))
 }
 
 fn put(alloc: Global, files: &mut Files, name: &[u8], bytes: &[u8]) -> Result<(), AllocError> {

@@ -26,3 +26,5 @@ mod trials_of_locks;
 mod tried_days;
 #[cfg(test)]
 mod tried_rules;
+#[cfg(test)]
+mod umasks;

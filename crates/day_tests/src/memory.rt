@@ -10,10 +10,7 @@ ghost use Rattle.memory_host.specs.Readings.{readings_spelling};
 use crate::ann::ann;
 use at_day::program;
 use host_calls::Name;
-use memory_host::{
-    CallList, ChildPlans, FailingList, Files, ListReadings, MemoryHost, MemoryInputs, MemorySink,
-    Plan,
-};
+use memory_host::{Files, ListReadings, MemoryHost, MemoryInputs, MemorySink, Plan};
 use std::alloc::{AllocError, Global};
 
 /// 2025-01-01 00:00:00 UTC.
@@ -78,15 +75,4 @@ fn spool(alloc: Global, plan: Plan) -> Result<MemoryHost, AllocError>
         files.put(alloc, name, b"")?;
     }
     MemoryHost::make(alloc, files, plan)
-}
-
-/// A plan by which nothing fails.
-pub fn no_failure(alloc: Global) -> Plan {
-    Plan {
-        failing: FailingList::new(alloc),
-        taken: CallList::new(alloc),
-        failing_starts: CallList::new(alloc),
-        fuse: None,
-        children: ChildPlans::new(alloc),
-    }
 }

@@ -19,6 +19,10 @@ pub record IsQuiet (plan : Plan) : Type 0 where
   pub failing_starts : plan.failing_starts ≡ []
   pub fuse : plan.fuse ≡ None
 
+-- the plan by which nothing fails, and of no child
+abbrev pub quiet_plan : Plan
+quiet_plan = record { failing = []; taken = []; failing_starts = []; fuse = None; children = [] }
+
 -- the plan, the fuse that is set, how many calls there were in all and since the last reboot, and how many starts
 pub record Progress : Type 0 where
   pub plan : Plan

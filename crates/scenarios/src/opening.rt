@@ -6,9 +6,7 @@ ghost use Rattle.memory_host.specs.Host.{memory_session};
 use crate::Why;
 use crate::values::{name, number, one, two};
 use host_calls::{Ending, Name};
-use memory_host::{
-    CallList, ChildPlan, ChildPlans, Failing, FailingList, Files, MemoryHost, Part, Plan,
-};
+use memory_host::{ChildPlan, Failing, Files, MemoryHost, Part, Plan};
 use std::alloc::{AllocError, Global};
 use std::collections::BTreeMap;
 
@@ -42,13 +40,7 @@ impl Opening {
             .map_err(|_| Why::Memory)?;
         Ok(Opening {
             files,
-            plan: Plan {
-                failing: FailingList::new(alloc),
-                taken: CallList::new(alloc),
-                failing_starts: CallList::new(alloc),
-                fuse: None,
-                children: ChildPlans::new(alloc),
-            },
+            plan: Plan::quiet(alloc),
         })
     }
 

@@ -3,11 +3,11 @@ ghost use Rattle.std.specs.Prelude.{◌≡◌, IfOk, IsTrue, option_copied};
 ghost use Rattle.access_lists.specs.Access.{may_use};
 ghost use Rattle.host_calls.specs.Session.{CallsInside, IsInside};
 ghost use Rattle.host_calls.specs.World.{reading};
-ghost use Rattle.command_answers.specs.Found.{allow_file, deny_file};
 ghost use Rattle.spool_session.specs.Lists.{AreIn};
 
 use access_lists::permits;
-use host_calls::{Bytes, Host, HostFault, Name};
+use command_answers::{allow_name, deny_name};
+use host_calls::{Bytes, Host, HostFault};
 use spool_model::UserName;
 use std::alloc::Global;
 use whole_file::content;
@@ -45,16 +45,4 @@ fn text_of(list: &Option<Bytes>) -> Option<&[u8]>
         Some(bytes) => Some(bytes.as_slice()),
         None => None,
     }
-}
-
-fn allow_name() -> Name
-    ensures { result ≡ allow_file }
-{
-    Name::of(b"at.allow").unwrap()
-}
-
-fn deny_name() -> Name
-    ensures { result ≡ deny_file }
-{
-    Name::of(b"at.deny").unwrap()
 }

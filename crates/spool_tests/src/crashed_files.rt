@@ -5,7 +5,7 @@ ghost use Rattle.memory_host.specs.Host.{memory_session};
 
 use crate::calls::{clear_sequence, draw_next, replace};
 use host_calls::{Host, Name};
-use memory_host::{CallList, ChildPlans, FailingList, Files, MemoryHost, Plan};
+use memory_host::{Files, MemoryHost, Plan};
 use sequence_file::last;
 use std::alloc::{AllocError, Global};
 use std::process::Abort;
@@ -21,13 +21,8 @@ fn spool(alloc: Global, fuse: u64) -> Result<MemoryHost, AllocError>
     if let Some(name) = Name::of(b".SEQ") {
         files.put(alloc, name, b"00001\n")?;
     }
-    let plan = Plan {
-        failing: FailingList::new(alloc),
-        taken: CallList::new(alloc),
-        failing_starts: CallList::new(alloc),
-        fuse: Some(fuse),
-        children: ChildPlans::new(alloc),
-    };
+    let mut plan = Plan::quiet(alloc);
+    plan.fuse = Some(fuse);
     MemoryHost::make(alloc, files, plan)
 }
 

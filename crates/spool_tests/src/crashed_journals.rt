@@ -5,7 +5,7 @@ ghost use Rattle.memory_host.specs.Host.{memory_session};
 
 use crate::journal_calls::{add_batch, compact};
 use host_calls::{Host, Name};
-use memory_host::{CallList, ChildPlans, FailingList, Files, MemoryHost, Plan};
+use memory_host::{Files, MemoryHost, Plan};
 use start_journal::{Journal, Mark};
 use std::alloc::{AllocError, Global};
 use std::test::Fail;
@@ -25,13 +25,8 @@ fn spool(alloc: Global, fuse: u64) -> Result<MemoryHost, AllocError>
     if let Some(name) = Name::of(b".JRN") {
         files.put(alloc, name, JOURNAL)?;
     }
-    let plan = Plan {
-        failing: FailingList::new(alloc),
-        taken: CallList::new(alloc),
-        failing_starts: CallList::new(alloc),
-        fuse: Some(fuse),
-        children: ChildPlans::new(alloc),
-    };
+    let mut plan = Plan::quiet(alloc);
+    plan.fuse = Some(fuse);
     MemoryHost::make(alloc, files, plan)
 }
 

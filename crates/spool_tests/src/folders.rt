@@ -4,7 +4,7 @@ ghost use Rattle.host_calls.specs.Session.{IsInside};
 ghost use Rattle.memory_host.specs.Host.{memory_session};
 
 use host_calls::{Host, Name};
-use memory_host::{CallList, ChildPlans, FailingList, Files, MemoryHost, Plan};
+use memory_host::{Files, MemoryHost, Plan};
 use std::alloc::Global;
 use std::test::Fail;
 
@@ -12,7 +12,7 @@ use std::test::Fail;
 pub fn session(alloc: Global, files: &[(&str, &[u8])]) -> Result<MemoryHost, Fail>
     ensures { IfOk result (λ host. IsInside (memory_session host)) }
 {
-    let mut host = MemoryHost::make(alloc, held(alloc, files)?, quiet(alloc))?;
+    let mut host = MemoryHost::make(alloc, held(alloc, files)?, Plan::quiet(alloc))?;
     host.enter(alloc)?;
     Ok(host)
 }
@@ -28,14 +28,4 @@ fn held(alloc: Global, files: &[(&str, &[u8])]) -> Result<Files, Fail> {
         held.put(alloc, name(text)?, bytes)?;
     }
     Ok(held)
-}
-
-fn quiet(alloc: Global) -> Plan {
-    Plan {
-        failing: FailingList::new(alloc),
-        taken: CallList::new(alloc),
-        failing_starts: CallList::new(alloc),
-        fuse: None,
-        children: ChildPlans::new(alloc),
-    }
 }

@@ -1,7 +1,5 @@
 -- What the functions answer of which a made day is put together (own).
 use Rattle.std.specs.Prelude.{◌≡◌, ◌≤◌, ℕ, Bool, Result, Ok, Err, List}
-use Rattle.at_words.specs.declared.fault.WordsFault.{WordsFault}
-use Rattle.at_words.specs.declared.fault.WordsFault.TheVariants as words
 use Rattle.at_words.specs.declared.tool_request.ToolRequest.{ToolRequest}
 use Rattle.at_words.specs.declared.tool_request.ToolRequest.TheVariants as request
 use Rattle.command_answers.specs.Sinks.{SinkAt}
@@ -9,7 +7,6 @@ use Rattle.host_calls.specs.declared.fault.SinkFault.{SinkFault}
 use Rattle.host_calls.specs.declared.fault.SinkFault.TheVariants.{Failed, Memory}
 use Rattle.listing_text.specs.declared.cause.Cause.{Cause}
 use Rattle.listing_text.specs.declared.cause.Cause.TheVariants as cause
-use Rattle.listing_text.specs.declared.refusal.Refusal.TheVariants.{BadQueue, Usage}
 use Rattle.at_words.specs.declared.atday.TheConstants.{MAX_EVENTS}
 use Rattle.spool_store.specs.declared.fault.StoreFault.{StoreFault}
 use Rattle.spool_store.specs.declared.fault.StoreFault.TheVariants as fault
@@ -47,12 +44,6 @@ abbrev pub cause_of_put : Result (Unit {0}) SinkFault → Cause
 cause_of_put (Ok done) = cause.Done
 cause_of_put (Err Failed) = cause.OutputFault
 cause_of_put (Err Memory) = cause.Memory
-
--- the cause of words that ask for nothing
-abbrev pub cause_of_words : WordsFault → Cause
-cause_of_words words.Usage = cause.Refused Usage
-cause_of_words words.BadQueue = cause.Refused BadQueue
-cause_of_words words.Memory = cause.Memory
 
 -- how the puts of a day end, as its cause says it
 abbrev pub PutsDay : Bool → ℕ → SinkAt → SinkAt → Result (Unit {0}) SinkFault → Type 0

@@ -6,7 +6,7 @@ use Rattle.listing_text.specs.declared.cause.Cause.{Cause}
 use Rattle.listing_text.specs.declared.cause.Cause.TheVariants.{Memory}
 use Rattle.serving.specs.Saying.{IsSaid}
 use Rattle.serving.specs.Serves.{serve_at, serve_telling}
-use Rattle.at_commands.specs.inside.Wording.{words_cause}
+use Rattle.command_answers.specs.Causes.{words_cause}
 use Rattle.at_commands.specs.Tools.{tool_name_of}
 use Rattle.at_commands.proofs.AtdLemmas.{nothing_served, words_served}
 use Rattle.at_commands.proofs.CommandLemmas.{words_end}

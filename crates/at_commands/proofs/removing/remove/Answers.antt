@@ -1,7 +1,7 @@
 use Rattle.std.proofs.Common.{◌≡◌, ◌∙◌, List, refl, subst, sym, ℕ}
 use Rattle.at_words.specs.declared.tool_request.ToolRequest.TheVariants as request
 use Rattle.command_answers.specs.Causes.{cause_in}
-use Rattle.command_answers.specs.inside.Carrying.{Carries}
+use Rattle.command_answers.specs.Carrying.{Carries}
 use Rattle.command_answers.proofs.SpoolLemmas.{goes_on_none}
 use Rattle.at_commands.specs.inside.Sessions.{lists_alone}
 use Rattle.at_commands.proofs.AnswerLemmas.{named_user, removal_ends, removal_unnamed, unnamed_user}

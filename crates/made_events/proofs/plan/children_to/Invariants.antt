@@ -1,7 +1,0 @@
-use Rattle.std.proofs.Common.{◌≡◌}
-use Rattle.made_events.specs.Plans.{made_children}
-use Rattle.made_events.proofs.plan.children_to.Given as goal
-
--- the plans so far
-abbrev pub invariant-loop-number : goal.invariant-loop-number
-invariant-loop-number l = l.plans ≡ made_children l.number

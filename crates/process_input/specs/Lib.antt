@@ -1,0 +1,2 @@
+pub mod Umask
+pub mod Unstarted

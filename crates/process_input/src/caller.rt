@@ -1,0 +1,26 @@
+//! Who calls, and from where.
+ghost use Rattle.std.specs.Prelude.{◌<◌, IfOk};
+
+use crate::environment::{text_of, variable, variables_of};
+use crate::umask::umask_of;
+use civil_minute::zone_of;
+use command_answers::Caller;
+use job_script::Context;
+use std::alloc::AllocError;
+
+/// The caller of this process: the user by `LOGNAME`, the directory by `PWD` and the zone by `TZ`.
+pub fn caller_of(rt: &HostRuntime) -> Result<Caller, AllocError>
+    ensures { IfOk result (λ caller. caller.context.umask < 512) }
+{
+    let zone = variable(rt, "TZ")?;
+    let context = Context {
+        user: text_of(rt, "LOGNAME", "")?,
+        directory: text_of(rt, "PWD", "")?,
+        umask: umask_of(rt),
+        environment: variables_of(rt)?,
+    };
+    Ok(Caller {
+        context,
+        zone: zone_of(rt.alloc(), zone.as_deref())?,
+    })
+}

@@ -1,0 +1,80 @@
+//! The words and the variables of this process.
+use crate::unstarted::Unstarted;
+use host_calls::Text;
+use job_script::Variables;
+use std::alloc::{AllocError, Global};
+use std::env::{Env, FillError, VarError};
+use std::io::ErrorKind;
+use std::{env, str};
+
+// The room for one variable at first, and how often it is doubled at most.
+const ROOM: usize = 512;
+
+const DOUBLINGS: u32 = 40;
+
+/// The words by which this process was called.
+pub fn words_of(rt: &HostRuntime) -> Result<Vec<String>, Unstarted> {
+    match env::args(rt) {
+        Ok(words) => Ok(words.collect::<Vec<String>>(rt.alloc())?),
+        Err(error) if error.kind() == ErrorKind::OutOfMemory => Err(Unstarted::Memory),
+        Err(_) => Err(Unstarted::Words),
+    }
+}
+
+/// The value of a variable, or the usual one where it is not there or no text.
+pub fn text_of(rt: &HostRuntime, name: &str, usual: &str) -> Result<Text, AllocError> {
+    match variable(rt, name)? {
+        Some(value) => Ok(Text::from(value)),
+        None => Text::of(rt.alloc(), usual),
+    }
+}
+
+/// The value of a variable, where it is there and is a text.
+pub fn variable(rt: &HostRuntime, name: &str) -> Result<Option<String>, AllocError> {
+    match env::var(rt, name) {
+        Ok(value) => Ok(Some(value)),
+        Err(VarError::OutOfMemory) => Err(AllocError),
+        Err(VarError::NotPresent | VarError::NotUnicode) => Ok(None),
+    }
+}
+
+/// All variables that are texts, in the order of the runtime.
+pub fn variables_of(rt: &HostRuntime) -> Result<Variables, AllocError> {
+    let alloc = rt.alloc();
+    let mut variables = Variables::new(alloc);
+    for place in 0..usize::MAX {
+        let Some(entry) = entry_at(rt, alloc, place)? else {
+            break;
+        };
+        if let Some((name, value)) = split(entry.as_slice()) {
+            variables.push(alloc, name, value)?;
+        }
+    }
+    Ok(variables)
+}
+
+// The entry of the environment at this place; none behind the last.
+fn entry_at<R: Env>(rt: &R, alloc: Global, place: usize) -> Result<Option<Vec<u8>>, AllocError> {
+    let mut room = ROOM;
+    for _ in 0..DOUBLINGS {
+        let mut entry = vec![in alloc; 0; room]?;
+        match rt.var_at(place, &mut entry) {
+            Ok(count) => {
+                entry.truncate(count);
+                return Ok(Some(entry));
+            }
+            Err(FillError::NotPresent) => return Ok(None),
+            Err(FillError::TooLong) => room = room.saturating_mul(2),
+        }
+    }
+    Err(AllocError)
+}
+
+// The name and the value of an entry that is a text and has a name.
+fn split(entry: &[u8]) -> Option<(&str, &str)> {
+    let (name, value) = str::from_utf8(entry).ok()?.split_once('=')?;
+    if name.is_empty() {
+        return None;
+    }
+    Some((name, value))
+}

@@ -1,0 +1,15 @@
+//! What a process is handed: its words, its variables, who calls it, its umask and its standard streams. And why a
+//! program could not begin.
+#![tactic(auto)]
+
+mod caller;
+mod environment;
+mod streams;
+mod umask;
+mod unstarted;
+
+pub use caller::caller_of;
+pub use environment::{text_of, variable, variables_of, words_of};
+pub use streams::held_streams;
+pub use umask::{umask_in, umask_of};
+pub use unstarted::{Unstarted, say_unstarted};
