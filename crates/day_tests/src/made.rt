@@ -1,6 +1,5 @@
 //! The second of eight events, from the table of the kinds.
-use day_events::Event;
-use made_events::make_events;
+use day_events::{Event, make_events};
 use std::test::Fail;
 
 #[test]
