@@ -1,5 +1,6 @@
 //! How a job is started, and how it ended.
-ghost use Rattle.std.specs.Prelude.{◌≡◌, ◌++◌, ◌<◌, ℕ, IfOk, OnOk, map, pos, string_bytes};
+ghost use Rattle.std.specs.Prelude.{◌≡◌, ◌≢◌, ◌++◌, ◌<◌, ℕ, IfOk, OnOk, map, pos, string_bytes};
+ghost use Rattle.std.specs.IoError.{error_kind};
 ghost use Rattle.std.specs.Path.{IsAbsolute};
 ghost use Rattle.std.specs.Process.{SameDir, SameEnv, command_args, command_program};
 ghost use Rattle.unix_host.specs.Endings.{ending_for};
@@ -11,8 +12,8 @@ use host_calls::{Ending, Name, StartFault};
 use std::alloc::{AllocError, Global};
 use std::io::ErrorKind;
 use std::os::unix::process::ExitStatusExt;
-use std::process;
 use std::process::{Command, ExitStatus, Processes};
+use std::{io, process};
 
 // Runs the script `$2` at the niceness `$1` with no environment, and puts what it writes into `$3`.
 const LINE: &str = "exec nice -n \"$1\" env -i /bin/sh \"$2\" >\"$3\" 2>&1 </dev/null";
@@ -58,14 +59,26 @@ fn spawned<R: Processes>(
     ensures started_as { IfOk result (λ kid. kid.started_as ≡ start) }
 {
     let _ = paths;
-    match command.spawn(rt) {
+    let spawned = command.spawn(rt);
+    drop(command);
+    match spawned {
         Ok(process) => Ok(Kid {
             process,
             started_as: start,
         }),
-        // Nothing was started then.
-        Err(error) if error.kind() == ErrorKind::OutOfMemory => Err(StartFault::Memory),
-        Err(_) => Err(StartFault::Failed),
+        Err(error) => Err(fault_of(error)),
+    }
+}
+
+// Nothing was started where the system found no memory for it.
+fn fault_of(error: io::Error) -> StartFault
+    ensures memory { error_kind error ≡ ErrorKind.OutOfMemory → result ≡ StartFault.Memory }
+    ensures failed { error_kind error ≢ ErrorKind.OutOfMemory → result ≡ StartFault.Failed }
+{
+    if error.kind() == ErrorKind::OutOfMemory {
+        StartFault::Memory
+    } else {
+        StartFault::Failed
     }
 }
 

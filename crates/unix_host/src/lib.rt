@@ -27,14 +27,3 @@ pub use host::UnixHost;
 pub use inputs::UnixInputs;
 pub use out::UnixOut;
 pub use readings::UnixReadings;
-
-#[cfg(test)]
-mod tests;
-#[cfg(test)]
-mod tests_of_jobs;
-#[cfg(test)]
-mod tests_of_streams;
-#[cfg(test)]
-mod tests_of_the_lock;
-#[cfg(test)]
-mod tests_outside;

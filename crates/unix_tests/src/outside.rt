@@ -3,7 +3,7 @@ use std::alloc::Allocator;
 use std::cell::Cell;
 use std::fs::{File, Files, Metadata, OpenOptions};
 use std::io;
-use std::io::{BufRead, Lines, PipeReader, Read};
+use std::io::{BufRead, ErrorKind, Lines, PipeReader, Read};
 use std::path::PathBuf;
 use std::time::{Clock, Duration};
 
@@ -42,15 +42,22 @@ impl Clock for Outside<'_> {
     }
 }
 
-/// The pipe, of which each read gives three bytes at most.
+/// The pipe, of which each second read gives three bytes at most. The others are interrupted.
 #[derive(Clone, Copy)]
-pub struct Trickle<'a>(&'a PipeReader);
+pub struct Trickle<'a> {
+    pipe: &'a PipeReader,
+    was_interrupted: bool,
+}
 
 impl Read for Trickle<'_> {
     fn read(&mut self, buffer: &mut [u8]) -> io::Result<usize> {
+        self.was_interrupted = !self.was_interrupted;
+        if self.was_interrupted {
+            return Err(io::Error::from(ErrorKind::Interrupted));
+        }
         let room = buffer.len().min(3);
-        let mut end = self.0;
-        end.read(&mut buffer[..room])
+        let mut pipe = self.pipe;
+        pipe.read(&mut buffer[..room])
     }
 }
 
@@ -77,7 +84,10 @@ impl<'a> Input for Outside<'a> {
     }
 
     fn reader(&self) -> Trickle<'a> {
-        Trickle(self.input)
+        Trickle {
+            pipe: self.input,
+            was_interrupted: false,
+        }
     }
 }
 

@@ -2,74 +2,72 @@
 ghost use Rattle.std.specs.Prelude.{◌≡◌, false};
 ghost use Rattle.host_calls.specs.Session.{IsInside, IsOutside};
 
-use crate::lock::Lock;
-use crate::locked::LockedFolder;
-use crate::tests::{begin, clear, fresh_spool, host_of, line, named};
-use crate::tests_outside::Outside;
-use crate::unsynced::Unsynced;
+use crate::words::{begin, clear, fresh_spool, host_of, host_over, line, named};
 use host_calls::{EnterFault, Host, HostFault, Name};
 use std::alloc::Global;
+use std::fs;
 use std::test::Fail;
-use std::{fs, io};
+use std::time::{Clock, Duration};
 
-// How a session of the folder begins, which is left at once.
-fn entered(outside: &Outside<'_>, alloc: Global, path: &str) -> Result<(), EnterFault> {
-    LockedFolder::enter(outside, alloc, path)?.leave();
+// How a session begins, which is left at once.
+fn entered<H: Host>(alloc: Global, host: &mut H) -> Result<(), EnterFault>
+    requires outside { IsOutside (H.session host.old) }
+    ensures outside { IsOutside (H.session host.new) }
+{
+    host.enter(alloc)?;
+    host.leave();
     Ok(())
 }
 
-// A spool and a link to it are one folder. The clock of this test stands still, so that nobody waits.
-#[test]
-fn a_link_has_the_lock_of_its_folder(rt: HostRuntime) -> Result<(), Fail> {
-    let alloc = rt.alloc();
-    let path = fresh_spool(&rt, "lock")?;
-    let link = format!(in alloc; "{path}.link")?;
-    line(&rt, "ln -s \"$1\" \"$1.link\"", path.as_str())?;
-    let (input, writer) = io::pipe(&rt)?;
-    drop(writer);
-    let outside = Outside::at(&rt, 0, &input);
-    let first = LockedFolder::enter(&outside, alloc, path.as_str())?;
-    let second = entered(&outside, alloc, link.as_str());
-    let rested = outside.rested.get();
-    first.leave();
-    let third = entered(&outside, alloc, link.as_str());
-    let beside = line(&rt, "ls -d \"$1\"* | wc -l", path.as_str())?;
-    clear(&rt, path.as_str())?;
-    assert_eq!(rt; (second, third), (Err(EnterFault::Taken), Ok(())));
-    assert_eq!(rt; rested, 9);
-    assert_eq!(rt; beside.as_slice(), b"4\n".as_slice());
-    Ok(())
-}
-
-// What a second host of the folder is answered while the first one is in its session.
-fn answer_beside<H: Host>(
+// What a second host of the folder is answered while the first one is in its session, and behind that.
+fn answers_of_both<F: Host, S: Host>(
     alloc: Global,
-    first: &mut H,
-    second: &mut H,
-) -> Result<Option<EnterFault>, HostFault>
-    requires first { IsOutside (H.session first.old) }
-    requires second { IsOutside (H.session second.old) }
+    first: &mut F,
+    second: &mut S,
+) -> Result<(Result<(), EnterFault>, Result<(), EnterFault>), HostFault>
+    requires first { IsOutside (F.session first.old) }
+    requires second { IsOutside (S.session second.old) }
 {
     begin(alloc, first)?;
-    let answer = second.enter(alloc).err();
+    let within = entered(alloc, second);
     first.leave();
-    Ok(answer)
+    let behind = entered(alloc, second);
+    Ok((within, behind))
 }
 
-// The system's clock: this waits for nine seconds.
+// The same of a second host that comes by this path.
+fn answers_beside<F: Host>(
+    rt: &HostRuntime,
+    first: &mut F,
+    path: &str,
+) -> Result<(Result<(), EnterFault>, Result<(), EnterFault>), HostFault>
+    requires { IsOutside (F.session first.old) }
+{
+    let mut second = host_over(rt.clone()?, rt.alloc(), path)?;
+    let answers = answers_of_both(rt.alloc(), first, &mut second);
+    drop(second);
+    answers
+}
+
+// A spool and a link to it are one folder, with one lock. It is asked for ten times, by the system's clock: this waits for
+// nine seconds.
 #[test]
 fn a_host_is_refused_while_another_holds_the_lock(rt: HostRuntime) -> Result<(), Fail> {
     let path = fresh_spool(&rt, "taken")?;
+    let link = format!(in rt.alloc(); "{path}.link")?;
+    line(&rt, "ln -s \"$1\" \"$1.link\"", path.as_str())?;
+    let before = rt.monotonic()?;
     let mut first = host_of(&rt, path.as_str())?;
-    let mut second = host_of(&rt, path.as_str())?;
-    let answer = answer_beside(rt.alloc(), &mut first, &mut second);
-    let faults = (second.counts.taken, second.counts.files);
+    let answers = answers_beside(&rt, &mut first, link.as_str());
     drop(first);
-    drop(second);
-    clear(&rt, path.as_str())?;
-    assert!(rt; matches!(answer?, Some(EnterFault::Taken)));
-    assert_eq!(rt; faults, (1, 0));
-    Ok(())
+    drop(link);
+    let waited = rt.monotonic()?.saturating_sub(before);
+    assert_eq!(rt; answers?, (Err(EnterFault::Taken), Ok(())));
+    assert!(rt; waited >= Duration::from_secs(9) && waited < Duration::from_secs(30));
+    let beside = line(&rt, "ls -d \"$1\"* | wc -l", path.as_str())?;
+    assert_eq!(rt; beside.as_slice(), b"4\n".as_slice());
+    drop(beside);
+    clear(&rt, path.as_str())
 }
 
 /// What one session does, between a settle and its end.
@@ -79,11 +77,13 @@ enum Work {
     Make,
     Move,
     MoveBack,
+    SyncNames,
     Write,
     Fail,
 }
 
-// A file is made and synced, moved, moved back with the names synced, or written; or a call fails.
+// A file is made and synced, moved, moved back with the names synced, or written; or the names alone are synced; or a call
+// fails.
 fn do_work<H: Host>(
     alloc: Global,
     host: &mut H,
@@ -106,6 +106,7 @@ fn do_work<H: Host>(
             host.rename(alloc, other, job)?;
             host.sync_names(alloc)
         }
+        Work::SyncNames => host.sync_names(alloc),
         Work::Write => host.write(alloc, job, 0, b"y"),
         Work::Fail => host.remove(alloc, other),
     }
@@ -172,19 +173,45 @@ fn the_byte_says_what_is_unsynced(rt: HostRuntime) -> Result<(), Fail> {
     Ok(())
 }
 
-// A folder that is settled is not synced anew by each session.
+// What the lock file holds behind a session that settles nothing, where it held this before.
+fn byte_behind<H: Host>(
+    rt: &HostRuntime,
+    path: &str,
+    host: &mut H,
+    byte: &str,
+    doing: Work,
+    names: (&Name, &Name),
+) -> Result<Vec<u8>, Fail>
+    requires untold { H.tells ≡ false }
+    requires outside { IsOutside (H.session host.old) }
+{
+    let lock = format!(in rt.alloc(); "{path}.lock")?;
+    fs::write(rt, lock.as_str(), byte.as_bytes())?;
+    begin(rt.alloc(), host)?;
+    let done = do_work(rt.alloc(), host, doing, names.0, names.1);
+    host.leave();
+    done?;
+    line(rt, "cat \"$1.lock\"", path)
+}
+
+// A folder that is settled is not synced anew by each session. Each row's session leaves its byte only where the byte
+// before was told as what it says: none and `a` as the worst, which one sync of a new file does not end, as it would end
+// less; `n` as names alone, which a sync of the names ends; and `c` as nothing, so that a move has to raise it.
 #[test]
 fn the_byte_is_told(rt: HostRuntime) -> Result<(), Fail> {
     let path = fresh_spool(&rt, "told")?;
-    for (byte, told) in [
-        ("", Unsynced::Anything),
-        ("a", Unsynced::Anything),
-        ("n", Unsynced::Names),
-        ("c", Unsynced::Nothing),
+    let other = named(&rt, "other");
+    for (byte, doing, job, left) in [
+        ("", Work::Make, "one", ""),
+        ("a", Work::Make, "two", "a"),
+        ("n", Work::SyncNames, "two", "c"),
+        ("c", Work::Move, "two", "n"),
     ] {
-        fs::write(&rt, path.as_str(), byte.as_bytes())?;
-        let lock = Lock::take(&rt, path.as_str())?;
-        assert_eq!(rt; lock.told(), told);
+        let mut host = host_of(&rt, path.as_str())?;
+        let job = named(&rt, job);
+        let behind = byte_behind(&rt, path.as_str(), &mut host, byte, doing, (&job, &other));
+        drop(host);
+        assert_eq!(rt; behind?.as_slice(), left.as_bytes(), "at {byte}");
     }
     clear(&rt, path.as_str())
 }

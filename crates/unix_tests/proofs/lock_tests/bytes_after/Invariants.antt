@@ -1,5 +1,5 @@
 use Rattle.host_calls.specs.Session.{IsOutside}
-use Rattle.unix_host.proofs.tests_of_the_lock.bytes_after.Given as goal
+use Rattle.unix_tests.proofs.lock_tests.bytes_after.Given as goal
 
 -- each session is over
 abbrev pub invariant-loop-doing : goal.invariant-loop-doing

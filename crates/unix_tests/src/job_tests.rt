@@ -2,7 +2,7 @@
 ghost use Rattle.std.specs.Prelude.{◌≡◌, false, Contains};
 ghost use Rattle.host_calls.specs.Session.{IsInside, IsOutside, StaysInside};
 
-use crate::tests::{begin, clear, fresh_spool, host_of, line, named};
+use crate::words::{begin, clear, fresh_spool, host_of, line, named};
 use host_calls::{Child, Ending, Host, HostFault, Name};
 use std::test::Fail;
 use std::time::Duration;
