@@ -11,9 +11,9 @@ use Rattle.daemon_turn.specs.Daemons.{Watch, new_watch}
 use Rattle.listing_text.specs.declared.cause.Cause.{Cause}
 use Rattle.listing_text.specs.declared.cause.Cause.TheVariants.{Memory}
 use Rattle.serving.specs.Outcomes.{at_a_line}
-use Rattle.serving.specs.Saying.{IsSaid}
+use Rattle.cause_output.specs.Saying.{IsSaid}
 use Rattle.serving.specs.Serves.{ServeAt, ServeTelling, no_turn}
-use Rattle.serving.proofs.SinkLemmas.{silent_same}
+use Rattle.cause_output.proofs.EndLemmas.{silent_same}
 use Rattle.at_commands.specs.Served.{IsNotServed, ServesAnew, WhereServed}
 
 -- where no daemon is asked for, nothing is said of one

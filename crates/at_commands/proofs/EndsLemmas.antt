@@ -26,7 +26,7 @@ use Rattle.command_answers.specs.Sinks.{EndsLine, IsPutInPart, IsPutOrCut, IsSil
 use Rattle.command_answers.specs.Spool.{SpoolEnds}
 use Rattle.command_answers.specs.Verdict.{early_verdict, first_refusal, spool_verdict, verdict_of}
 use Rattle.command_answers.proofs.SpoolLemmas.{attempt_of, unbegun_same}
-use Rattle.serving.specs.Saying.{IsSaid, IsUndone, SaysLine}
+use Rattle.cause_output.specs.Saying.{IsSaid, IsUndone, SaysLine}
 use Rattle.at_commands.proofs.CarryLemmas.{KeepsLists, ends_map}
 use Rattle.at_commands.proofs.LateLemmas.{any_memory, late_input, late_up_to, spool_late}
 

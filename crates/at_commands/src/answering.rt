@@ -18,11 +18,12 @@ use crate::removing::remove;
 use crate::showing::show;
 use crate::submitting::submit;
 use at_words::{Tool, ToolRequest, request, tool_of};
+use cause_output::say_cause;
 use command_answers::{Caller, cause_of_words};
 use daemon_turn::Daemon;
 use host_calls::{Host, Inputs, Readings, Sink};
 use listing_text::{Cause, Refusal, Status};
-use serving::{say_cause, serve};
+use serving::serve;
 use std::alloc::Global;
 
 /// Does what the words of the tools ask for. A day is not made here: what words of `atday` ask for is refused.

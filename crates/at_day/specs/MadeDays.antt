@@ -11,7 +11,7 @@ use Rattle.day_events.specs.Made.{made_events}
 use Rattle.day_events.specs.Plans.{made_plan}
 use Rattle.memory_host.specs.Host.{IsNew}
 use Rattle.memory_host.specs.declared.memory_host.MemoryHost.{MemoryHost}
-use Rattle.serving.specs.Items.{is_wanting}
+use Rattle.cause_output.specs.Ends.{is_wanting}
 use Rattle.at_day.specs.declared.counts.Counts.{Counts}
 use Rattle.at_day.specs.Days.{IsDay}
 

@@ -18,10 +18,10 @@ ghost use Rattle.at_day.specs.inside.Making.{IsDayRequest};
 use crate::making::tell_day;
 use at_commands::{Caller, command};
 use at_words::{Tool, ToolRequest, request, tool_of};
+use cause_output::say_cause;
 use command_answers::cause_of_words;
 use host_calls::{Host, Inputs, Readings, Sink};
 use listing_text::{Cause, Status};
-use serving::say_cause;
 use std::alloc::Global;
 
 // The name of the tool that makes days, as it begins its lines.

@@ -1,12 +1,9 @@
 //! The lines of a day.
 ghost use Rattle.std.specs.Prelude.{◌≡◌, IfOk};
-ghost use Rattle.std.specs.List.{concat};
-ghost use Rattle.command_answers.specs.Sinks.{sink_at};
-ghost use Rattle.serving.specs.inside.Printing.{PutsLines};
 ghost use Rattle.at_day.specs.Lines.{counted_line, day_lines};
 
 use crate::Counts;
-use host_calls::{Bytes, Sink, SinkFault};
+use host_calls::Bytes;
 use std::alloc::{AllocError, Global};
 
 /// The lines of a day of so many events, by what its folder counts.
@@ -36,29 +33,4 @@ fn counted_line(alloc: Global, what: &str, count: u32) -> Result<Bytes, AllocErr
 {
     let line = format!(in alloc; "{what} {count}\n")?;
     Ok(Bytes::from(line.into_bytes()))
-}
-
-/// Puts the lines, in order, up to one that could not be put.
-pub(crate) fn put_lines<O: Sink>(
-    alloc: Global,
-    lines: &[Bytes],
-    out: &mut O,
-) -> Result<(), SinkFault>
-    ensures made_as { (O.outlet out.new).made_as ≡ (O.outlet out.old).made_as }
-    ensures puts { PutsLines O.tells (concat lines.now)
-        (sink_at (O.content out.old) (O.outlet out.old)) (sink_at (O.content out.new) (O.outlet out.new)) result }
-{
-    for line in lines {
-        put_line(alloc, line, out)?;
-    }
-    Ok(())
-}
-
-// Puts a line.
-fn put_line<O: Sink>(alloc: Global, line: &Bytes, out: &mut O) -> Result<(), SinkFault>
-    ensures made_as { (O.outlet out.new).made_as ≡ (O.outlet out.old).made_as }
-    ensures puts { PutsLines O.tells line.now
-        (sink_at (O.content out.old) (O.outlet out.old)) (sink_at (O.content out.new) (O.outlet out.new)) result }
-{
-    out.put(alloc, line.as_slice())
 }

@@ -8,9 +8,10 @@ ghost use Rattle.at_day.specs.MadeDays.{ComesTo, deny_alone, lacks_memory};
 ghost use Rattle.at_day.specs.Programs.{EndsMade};
 ghost use Rattle.at_day.specs.inside.Making.{AreLinesOfDay, IsSound, PutsDay, cause_of_put};
 
-use crate::lines::{day_lines, put_lines};
+use crate::lines::day_lines;
 use crate::{Counts, day};
 use at_words::MAX_EVENTS;
+use cause_output::put_lines;
 use command_answers::deny_name;
 use daemon_turn::TurnEnd;
 use day_events::{EventReport, Made, make_events};

@@ -1,6 +1,6 @@
 //! The umask of this process.
 ghost use Rattle.std.specs.Prelude.{◌<◌, IfSome, MatchOption};
-ghost use Rattle.process_input.specs.Umask.{FindsLine, TellsNoUmask, TellsUmask};
+ghost use Rattle.process_input.specs.Umask.{HasNoUmaskLine, IsUmaskLine, TellsNoUmask, TellsUmask};
 
 use std::fs;
 
@@ -24,14 +24,12 @@ pub fn umask_in(status: &str) -> Option<u16>
     ensures range { IfSome result (λ umask. umask < 512) }
     ensures told { MatchOption result (TellsNoUmask status.now) (TellsUmask status.now) }
 {
-    let digits = umask_line(status)?;
-    match u16::from_str_radix(digits, 8) {
-        Ok(umask) => at_most_last(umask),
-        Err(_) => None,
-    }
-}
-
-fn at_most_last(umask: u16) -> Option<u16> {
+    let Some(digits) = umask_line(status) else {
+        return None;
+    };
+    let Ok(umask) = u16::from_str_radix(digits, 8) else {
+        return None;
+    };
     if umask > LAST_UMASK {
         return None;
     }
@@ -40,9 +38,13 @@ fn at_most_last(umask: u16) -> Option<u16> {
 
 // What stands behind the first head of such a line, up to its end.
 fn umask_line(status: &str) -> Option<&str>
-    ensures { FindsLine status.now result }
+    ensures { MatchOption result (HasNoUmaskLine status.now) (λ line. IsUmaskLine status.now line.now) }
 {
-    let (_, behind) = status.split_once("\nUmask:\t")?;
-    let (line, _) = behind.split_once('\n')?;
+    let Some((_, behind)) = status.split_once("\nUmask:\t") else {
+        return None;
+    };
+    let Some((line, _)) = behind.split_once('\n') else {
+        return None;
+    };
     Some(line)
 }

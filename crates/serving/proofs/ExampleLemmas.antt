@@ -21,7 +21,8 @@ use Rattle.daemon_turn.specs.Kids.{AreByNumber, AreChildren}
 use Rattle.daemon_turn.specs.Leaving.{DaemonAt, TurnsTo}
 use Rattle.serving.specs.Examples.{ServesTwice, SmallServings, daemon_with, first_child, first_kid, host_with, midnight, minute_later, second_later, served_with, sink, told}
 use Rattle.serving.specs.Items.{Item, ends_behind, rest_behind}
-use Rattle.serving.specs.Lines.{SaysEnd, SaysEnds, turn_lines}
+use Rattle.cause_output.specs.Ends.{SaysEnd}
+use Rattle.serving.specs.Lines.{SaysEnds, daemon_name, turn_lines}
 use Rattle.serving.specs.Outcomes.{at_the_end, outcome_by}
 use Rattle.serving.specs.Serves.{AnswersTurn, RestsBehind, ServeAt, Served, Serves, next_turn, no_turn}
 use Rattle.serving.specs.Serving.{SaysOutcome}
@@ -117,8 +118,8 @@ silent content = record { content = refl; later = lit≤ tt }
 done_silent : (one other : Item) → one.end ≡ Done → other.end ≡ Done → SaysEnds (one ∷ other ∷ []) (sink []) (sink [])
 done_silent one other first second = (
   sink [],
-  subst (λ (end : TurnEnd). SaysEnd end (sink []) (sink [])) (sym first) (silent []),
-  (sink [], subst (λ (end : TurnEnd). SaysEnd end (sink []) (sink [])) (sym second) (silent []), silent []),
+  subst (λ (end : TurnEnd). SaysEnd daemon_name end (sink []) (sink [])) (sym first) (silent []),
+  (sink [], subst (λ (end : TurnEnd). SaysEnd daemon_name end (sink []) (sink [])) (sym second) (silent []), silent []),
 )
 
 -- What two turns come to.

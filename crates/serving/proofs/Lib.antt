@@ -4,4 +4,3 @@ pub mod OutcomeLemmas
 pub mod ProceedLemmas
 pub mod ServeLemmas
 pub mod SinkLemmas
-pub mod StepLemmas

@@ -12,7 +12,10 @@ use Rattle.daemon_turn.specs.Leaving.{DaemonAt, TurnsTo}
 use Rattle.daemon_turn.specs.declared.mode.Mode.{Mode}
 use Rattle.daemon_turn.specs.declared.report.TurnEnd.{TurnEnd}
 use Rattle.serving.specs.Items.{Item, ends_behind, first_end, is_last, last_item, mode_behind, rest_behind}
-use Rattle.serving.specs.Lines.{SaysEnd, SaysEnds, step_lines, turn_lines}
+use Rattle.cause_output.specs.Ends.{SaysEnd}
+use Rattle.cause_output.proofs.EndLemmas.{silent_same}
+use Rattle.cause_output.proofs.PutLemmas.{nothing_put}
+use Rattle.serving.specs.Lines.{SaysEnds, daemon_name, step_lines, turn_lines}
 use Rattle.serving.specs.Outcomes.{at_a_line, at_the_clock, at_the_end, damage_outcome, last_outcome, turns_outcome}
 use Rattle.serving.specs.Serves.{AnswersTurn, RestsBehind, ServeAt, Served, Serves, StopsAtClock, ServeTelling, next_turn, no_turn}
 use Rattle.serving.specs.Serving.{Prints, SaysOutcome, Serving}
@@ -22,7 +25,7 @@ use Rattle.serving.specs.declared.progress.Progress.{Progress}
 use Rattle.serving.specs.inside.Progressing.{HasEnded, HasServed, IsRest, PrintsMore, Proceeds, first_or, mode_by, outcome_if}
 use Rattle.serving.proofs.OutcomeLemmas.{no_damage}
 use Rattle.serving.proofs.ServeLemmas.{but_last_more, first_more, last_more, lines_more, mode_same, one_longer}
-use Rattle.serving.proofs.SinkLemmas.{ends_more, ends_silent, nothing_put, silent_same}
+use Rattle.serving.proofs.SinkLemmas.{ends_more, ends_silent}
 
 -- nothing was served yet
 pub nothing_served : (tells : ServeTelling) (once : Bool) (made : Progress) (at : ServeAt) (out err : SinkAt) → made ≡ record { first = None; rest = 0; cut = false }
@@ -81,7 +84,7 @@ module _ (tells : ServeTelling) (once : Bool) (items : List Item) (made : Progre
     }
 
     module _ (next : Progress) (begins : next.first ≡ first_or made.first item.end) (prints : PrintsMore tells.output (step_lines item.steps) made.cut next.cut out_now out_new true)
-        (says : tells.errors ≡ true → SaysEnd item.end err_now err_new) where
+        (says : tells.errors ≡ true → SaysEnd daemon_name item.end err_now err_new) where
       begun_more : next.first ≡ first_end (items ++ item ∷ [])
       begun_more = begins ∙ ap (λ (end : Option TurnEnd). first_or end item.end) has.begun ∙ sym (first_more items item)
 

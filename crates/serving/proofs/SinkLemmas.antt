@@ -1,4 +1,4 @@
--- Texts put one behind another, and lines said one after the other.
+-- What is printed and said, one turn behind the other.
 use Rattle.std.proofs.Common.{◌≡◌, ◌≤◌, ℕ, Bool, true, false, List, [], ◌∷◌, ◌++◌, length, take, drop, refl, sym, ap, subst, ◌∙◌, inl, inr, append-nil, append_assoc, arith}
 use Rattle.std.specs.Prelude.{Err, Ok}
 use Rattle.std.proofs.Math.Seq.{take-append_seam}
@@ -8,80 +8,21 @@ use Rattle.host_calls.specs.declared.fault.SinkFault.TheVariants.{Failed, Memory
 use Rattle.listing_text.specs.declared.cause.Cause.{Cause}
 use Rattle.listing_text.specs.declared.cause.Cause.TheVariants as cause
 use Rattle.command_answers.specs.Sinks.{IsCut, IsPut, IsPutInPart, IsPutOrCut, IsSilent, SinkAt}
+use Rattle.cause_output.specs.Ends.{SaysEnd, SaysEndOr}
+use Rattle.cause_output.specs.Putting.{PutsLines}
+use Rattle.cause_output.proofs.EndLemmas.{silent_same}
+use Rattle.cause_output.proofs.PutLemmas.{cut_behind, cut_longer, part_behind, part_of_cut, part_of_put, put_behind}
 use Rattle.daemon_turn.specs.declared.report.TurnEnd.{TurnEnd}
 use Rattle.daemon_turn.specs.declared.report.TurnEnd.TheVariants.{Done, Busy, FileFault, Damaged, Memory}
 use Rattle.serving.specs.Items.{Item}
-use Rattle.serving.specs.Lines.{SaysEnd, SaysEnds, daemon_name}
+use Rattle.serving.specs.Lines.{SaysEnds, daemon_name}
 use Rattle.serving.specs.Outcomes.{at_a_line, at_the_end}
-use Rattle.serving.specs.Saying.{IsSaid}
 use Rattle.serving.specs.Serving.{Prints, PutsUnless}
-use Rattle.serving.specs.inside.Ends.{SaysEndOr, cause_of_end, finds_memory}
-use Rattle.serving.specs.inside.Printing.{PutsLines}
 use Rattle.serving.specs.inside.Progressing.{PrintsMore}
-
--- What is put behind a text that was put.
-
--- a front of the second text behind the first is a front of both
-module _ (first second : List ℕ) (start mid new : SinkAt) (put : IsPut first start mid) where
-  joined : (front rest : List ℕ) → second ≡ front ++ rest → new.content ≡ mid.content ++ front
-      → new.content ≡ start.content ++ take (length (first ++ front)) (first ++ second)
-  joined front rest split content =
-      content
-      ∙ ap (λ (before : List ℕ). before ++ front) put.content
-      ∙ append_assoc start.content first front
-      ∙ ap (λ (text : List ℕ). start.content ++ text) (sym (take-append_seam (first ++ front) rest)
-      ∙ ap (λ (text : List ℕ). take (length (first ++ front)) text) (append_assoc first front rest ∙ ap (λ (text : List ℕ). first ++ text) (sym split)))
-
-  pub put_behind : IsPut second mid new → IsPut (first ++ second) start new
-  put_behind behind = record {
-    content = behind.content ∙ ap (λ (before : List ℕ). before ++ second) put.content ∙ append_assoc start.content first second;
-    later = omega (arith, put.later, behind.later);
-  }
-
-  pub part_behind : IsPutInPart second mid new → IsPutInPart (first ++ second) start new
-  part_behind behind = record {
-    count = length (first ++ take behind.count second);
-    content = joined (take behind.count second) (drop behind.count second) (sym (take-append-drop behind.count second)) behind.content;
-    later = omega (arith, put.later, behind.later);
-  }
-
-  pub cut_behind : IsCut second mid new → IsCut (first ++ second) start new
-  cut_behind behind = record {
-    count = length (first ++ take behind.count second);
-    content = joined (take behind.count second) (drop behind.count second) (sym (take-append-drop behind.count second)) behind.content;
-    later = omega (arith, put.later, behind.later);
-    rose = let before : start.faults ≤ mid.faults = put.later in let rose : Rose mid.faults new.faults = behind.rose in omega arith;
-  }
-
--- what was cut is a front of any longer text
-pub cut_longer : (text more : List ℕ) (old new : SinkAt) → IsCut text old new → IsCut (text ++ more) old new
-cut_longer text more old new cut = record {
-  count = length (take cut.count text);
-  content =
-      cut.content
-      ∙ ap (λ (front : List ℕ). old.content ++ front) (sym (take-append_seam (take cut.count text) (drop cut.count text ++ more))
-      ∙ ap (λ (whole : List ℕ). take (length (take cut.count text)) whole)
-      (sym (append_assoc (take cut.count text) (drop cut.count text) more) ∙ ap (λ (whole : List ℕ). whole ++ more) (take-append-drop cut.count text)));
-  later = cut.later;
-  rose = cut.rose;
-}
-
-pub part_of_put : (text : List ℕ) (old new : SinkAt) → IsPut text old new → IsPutInPart text old new
-part_of_put text old new put = record {
-  count = length text;
-  content = put.content ∙ ap (λ (front : List ℕ). old.content ++ front) (sym (take-append_seam text []) ∙ ap (λ (whole : List ℕ). take (length text) whole) (append-nil text));
-  later = put.later;
-}
-
-pub part_of_cut : (text : List ℕ) (old new : SinkAt) → IsCut text old new → IsPutInPart text old new
-part_of_cut text old new cut = record { count = cut.count; content = cut.content; later = cut.later }
 
 pub part_of : (cut : Bool) (text : List ℕ) (old new : SinkAt) → PutsUnless cut text old new → IsPutInPart text old new
 part_of false text old new put = part_of_put text old new put
 part_of true text old new cut = part_of_cut text old new cut
-
-pub nothing_put : (at : SinkAt) → IsPut [] at at
-nothing_put at = record { content = sym (append-nil at.content); later = omega arith }
 
 -- What is printed behind what was printed.
 
@@ -129,26 +70,8 @@ more_for tells text cut now false old new more before start prints =
 
 -- What is said.
 
-pub silent_same : (old new : SinkAt) → new ≡ old → IsSilent old new
-silent_same old new same = record { content = ap (λ (at : SinkAt). at.content) same; later = let faults : new.faults ≡ old.faults = ap (λ (at : SinkAt). at.faults) same in omega arith }
-
-said_or : (tells : Bool) (end : TurnEnd) (of final : Cause) (old new : SinkAt) → final ≡ of → SaysEndOr tells end old new (finds_memory end of) → SaysEndOr tells end old new (finds_memory end final)
-said_or tells end of final old new same says = subst (λ (cause : Cause). SaysEndOr tells end old new (finds_memory end cause)) (sym same) says
-
-pub end_said : (tells : Bool) (end : TurnEnd) (final : Cause) (old new : SinkAt) → IsSaid daemon_name tells (cause_of_end end) old new final → SaysEndOr tells end old new (finds_memory end final)
-end_said tells Done final old new (inl said) = said_or tells Done cause.Done final old new said.0 (λ told. silent_same old new (said.1 told))
-end_said tells Done final old new (inr wanting) = absurd wanting.0
-end_said tells Busy final old new (inl said) = said_or tells Busy cause.Busy final old new said.0 said.1
-end_said tells Busy final old new (inr wanting) = said_or tells Busy cause.Memory final old new wanting.1 wanting.2
-end_said tells FileFault final old new (inl said) = said_or tells FileFault cause.FileFault final old new said.0 said.1
-end_said tells FileFault final old new (inr wanting) = said_or tells FileFault cause.Memory final old new wanting.1 wanting.2
-end_said tells (Damaged damage) final old new (inl said) = said_or tells (Damaged damage) (cause.Damaged damage) final old new said.0 said.1
-end_said tells (Damaged damage) final old new (inr wanting) = said_or tells (Damaged damage) cause.Memory final old new wanting.1 wanting.2
-end_said tells Memory final old new (inl said) = said_or tells Memory cause.Memory final old new said.0 (λ told. inr (said.1 told))
-end_said tells Memory final old new (inr wanting) = said_or tells Memory cause.Memory final old new wanting.1 (λ told. inl (wanting.2 told))
-
 -- where nothing was said
-pub unsaid : (tells : Bool) (end : TurnEnd) (at : SinkAt) → SaysEndOr tells end at at false
+pub unsaid : (tells : Bool) (end : TurnEnd) (at : SinkAt) → SaysEndOr daemon_name tells end at at false
 unsaid tells end at told = silent_same at at refl
 
 silent_then : (old mid new : SinkAt) → IsSilent old mid → IsSilent mid new → IsSilent old new
@@ -160,7 +83,7 @@ ends_silent [] old mid new says silent = silent_then old mid new says silent
 ends_silent (item ∷ items) old mid new (between, first, others) silent = (between, first, ends_silent items between mid new others silent)
 
 -- one end more
-end_first : (item : Item) (old mid new : SinkAt) → IsSilent old mid → SaysEnd item.end mid new → SaysEnds (item ∷ []) old new
+end_first : (item : Item) (old mid new : SinkAt) → IsSilent old mid → SaysEnd daemon_name item.end mid new → SaysEnds (item ∷ []) old new
 end_first item old mid new silent end = (new, silent_end item.end old mid new silent end, silent_same new new refl) where
   put_later : (text : List ℕ) (was is to : SinkAt) → IsSilent was is → IsPutOrCut text is to → IsPutOrCut text was to
   put_later text was is to quiet (inl put) = inl (record { content = put.content ∙ ap (λ (before : List ℕ). before ++ text) quiet.content; later = omega (arith, quiet.later, put.later) })
@@ -171,7 +94,7 @@ end_first item old mid new silent end = (new, silent_end item.end old mid new si
     rose = let before : was.faults ≤ is.faults = quiet.later in let rose : Rose is.faults to.faults = cut.rose in omega arith;
   })
 
-  silent_end : (of : TurnEnd) (was is to : SinkAt) → IsSilent was is → SaysEnd of is to → SaysEnd of was to
+  silent_end : (of : TurnEnd) (was is to : SinkAt) → IsSilent was is → SaysEnd daemon_name of is to → SaysEnd daemon_name of was to
   silent_end Done was is to quiet says = silent_then was is to quiet says
   silent_end Busy was is to quiet says = put_later _ was is to quiet says
   silent_end FileFault was is to quiet says = put_later _ was is to quiet says
@@ -179,6 +102,6 @@ end_first item old mid new silent end = (new, silent_end item.end old mid new si
   silent_end Memory was is to quiet (inl says) = inl (silent_then was is to quiet says)
   silent_end Memory was is to quiet (inr says) = inr (put_later _ was is to quiet says)
 
-pub ends_more : (items : List Item) (item : Item) (old mid new : SinkAt) → SaysEnds items old mid → SaysEnd item.end mid new → SaysEnds (items ++ item ∷ []) old new
+pub ends_more : (items : List Item) (item : Item) (old mid new : SinkAt) → SaysEnds items old mid → SaysEnd daemon_name item.end mid new → SaysEnds (items ++ item ∷ []) old new
 ends_more [] item old mid new says end = end_first item old mid new says end
 ends_more (before ∷ items) item old mid new (between, first, others) end = (between, first, ends_more items item between mid new others end)

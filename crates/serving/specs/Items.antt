@@ -59,14 +59,6 @@ is_damaged Busy = false
 is_damaged FileFault = false
 is_damaged Memory = false
 
--- the turn found no memory
-abbrev pub is_wanting : TurnEnd → Bool
-is_wanting Memory = true
-is_wanting Done = false
-is_wanting Busy = false
-is_wanting FileFault = false
-is_wanting (Damaged damage) = false
-
 -- no kid is left
 abbrev pub is_alone : List Kid → Bool
 is_alone [] = true

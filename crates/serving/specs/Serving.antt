@@ -3,10 +3,10 @@ use Rattle.std.specs.Prelude.{◌≡◌, ◌≤◌, ℕ, Bool, true, false, List
 use Rattle.host_calls.specs.Causes.{Rose}
 use Rattle.listing_text.specs.declared.cause.Cause.{Cause}
 use Rattle.command_answers.specs.Sinks.{IsCut, IsPut, IsPutInPart, SinkAt}
+use Rattle.cause_output.specs.Saying.{IsSaid}
 use Rattle.serving.specs.Items.{Item, but_last}
 use Rattle.serving.specs.Lines.{SaysEnds, daemon_name, turn_lines}
 use Rattle.serving.specs.Outcomes.{Stop, StopsBy, at_a_line, at_the_clock, at_the_end, outcome_by}
-use Rattle.serving.specs.Saying.{IsSaid}
 use Rattle.serving.specs.Serves.{ServeAt, Serves, ServeTelling}
 use Rattle.serving.specs.declared.outcome.Outcome.{Outcome}
 use Rattle.serving.specs.declared.outcome.Outcome.TheVariants.{OfTurn, Own}

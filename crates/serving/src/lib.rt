@@ -5,7 +5,6 @@
 mod laws;
 mod looping;
 mod outcome;
-mod printing;
 mod progress;
 mod saying;
 mod serving_turn;
@@ -13,4 +12,3 @@ mod serving_turn;
 pub use laws::{serving_ends_well, small_servings};
 pub use looping::{LONGEST_REST, SHORT_REST, serve};
 pub use outcome::Outcome;
-pub use saying::say_cause;

@@ -1,18 +1,18 @@
 //! One turn of serving: the readings are asked, the turn is made, and what it did is printed and said.
 ghost use Rattle.std.specs.Prelude.{◌≡◌, List};
 ghost use Rattle.command_answers.specs.Sinks.{SinkAt, sink_at};
+ghost use Rattle.cause_output.specs.Ends.{SaysEndOr};
 ghost use Rattle.daemon_turn.specs.Kids.{AreChildren, KeepsChildren};
 ghost use Rattle.host_calls.specs.Session.{IsOutside, KeepsCounts};
 ghost use Rattle.serving.specs.Items.{Item};
-ghost use Rattle.serving.specs.Lines.{step_lines};
+ghost use Rattle.serving.specs.Lines.{daemon_name, step_lines};
 ghost use Rattle.serving.specs.Serves.{ServeAt, serve_at, serve_telling};
-ghost use Rattle.serving.specs.inside.Ends.{SaysEndOr};
 ghost use Rattle.serving.specs.inside.Progressing.{HasServed, PrintsMore, Proceeds};
 
 use crate::Outcome;
-use crate::printing::print_steps;
 use crate::progress::Progress;
-use crate::saying::say_end;
+use crate::saying::DAEMON_NAME;
+use cause_output::{put_lines, say_end};
 use clock_range::is_clock_second;
 use daemon_turn::{Daemon, TurnReport, TurnStep};
 use host_calls::{Host, Readings, Sink, SinkFault};
@@ -75,13 +75,13 @@ fn tell<O: Sink, E: Sink>(
     ensures errors_made { (E.outlet err.new).made_as ≡ (E.outlet err.old).made_as }
     ensures prints { PrintsMore O.tells (step_lines report.now.steps) cut.old cut.new
         (sink_at (O.content out.old) (O.outlet out.old)) (sink_at (O.content out.new) (O.outlet out.new)) result }
-    ensures says { SaysEndOr E.tells report.now.end
+    ensures says { SaysEndOr daemon_name E.tells report.now.end
         (sink_at (E.content err.old) (E.outlet err.old)) (sink_at (E.content err.new) (E.outlet err.new)) result }
 {
     if !print_unless(alloc, report.steps.as_slice(), cut, out) {
         return false;
     }
-    say_end(alloc, &report.end, err)
+    say_end(alloc, DAEMON_NAME, &report.end, err)
 }
 
 // Prints the steps unless a put has failed, and answers whether each line found memory.
@@ -93,7 +93,7 @@ fn print_unless<O: Sink>(alloc: Global, steps: &[TurnStep], cut: &mut bool, out:
     if *cut {
         return true;
     }
-    match print_steps(alloc, steps, out) {
+    match put_lines(alloc, steps, out) {
         Ok(()) => true,
         Err(SinkFault::Failed) => {
             *cut = true;

@@ -4,7 +4,7 @@ use Rattle.command_answers.specs.Ends.{holding, telling}
 use Rattle.command_answers.specs.Sinks.{sink_at}
 use Rattle.listing_text.specs.declared.cause.Cause.{Cause}
 use Rattle.listing_text.specs.declared.cause.Cause.TheVariants.{Memory}
-use Rattle.serving.specs.Saying.{IsSaid}
+use Rattle.cause_output.specs.Saying.{IsSaid}
 use Rattle.serving.specs.Serves.{serve_at, serve_telling}
 use Rattle.command_answers.specs.Causes.{words_cause}
 use Rattle.at_commands.specs.Tools.{tool_name_of}

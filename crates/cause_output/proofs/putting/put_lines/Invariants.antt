@@ -1,13 +1,12 @@
 use Rattle.std.proofs.Common.{◌≡◌, take}
 use Rattle.std.specs.Prelude.{Ok}
 use Rattle.command_answers.specs.Sinks.{sink_at}
-use Rattle.serving.specs.Lines.{step_lines}
-use Rattle.serving.specs.inside.Printing.{PutsLines}
-use Rattle.serving.proofs.printing.print_steps.Given as goal
+use Rattle.cause_output.specs.Putting.{PutsLines, lines_of}
+use Rattle.cause_output.proofs.putting.put_lines.Given as goal
 
-abbrev pub invariant-loop-step : goal.invariant-loop-step
-invariant-loop-step g l = record {
+abbrev pub invariant-loop-line : goal.invariant-loop-line
+invariant-loop-line g l = record {
   made_as : (g.O.Sink.outlet l.out).made_as ≡ (g.O.Sink.outlet l.fn.out).made_as;
-  puts : PutsLines g.O.Sink.tells (step_lines (take l.step-index l.steps))
+  puts : PutsLines g.O.Sink.tells (lines_of g.L.Line.line (take l.line-index l.lines))
       (sink_at (g.O.Sink.content l.fn.out) (g.O.Sink.outlet l.fn.out)) (sink_at (g.O.Sink.content l.out) (g.O.Sink.outlet l.out)) (Ok tt);
 }

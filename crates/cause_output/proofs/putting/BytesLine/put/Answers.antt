@@ -1,12 +1,12 @@
-use Rattle.std.proofs.Common.{◌≡◌, ap, subst, sym, true, ℕ, List}
+use Rattle.std.proofs.Common.{List, ℕ, subst}
 use Rattle.command_answers.specs.Sinks.{sink_at}
 use Rattle.host_calls.specs.Sink.{Puts}
-use Rattle.at_day.proofs.LineLemmas.{put_one}
-use Rattle.at_day.proofs.lines.put_line.Goals as goal
+use Rattle.cause_output.proofs.PutLemmas.{put_one}
+use Rattle.cause_output.proofs.putting.BytesLine.put.Goals as goal
 
 pub returns-clause-puts : goal.returns-clause-puts
 returns-clause-puts g c =
-    put_one g.O.Sink.tells c.args.line.now
+    put_one g.O.Sink.tells c.args.self.now
     (sink_at (g.O.Sink.content c.args.out.now) (g.O.Sink.outlet c.args.out.now))
     (sink_at (g.O.Sink.content c.put.new.self) (g.O.Sink.outlet c.put.new.self)) c.put.result c.put.ensures.cause
     (λ told. subst (λ (text : List ℕ). Puts text (g.O.Sink.content c.args.out.now) (g.O.Sink.content c.put.new.self) c.put.result)

@@ -1,0 +1,4 @@
+pub mod Ends
+pub mod Putting
+pub mod Saying
+pub mod Steps
