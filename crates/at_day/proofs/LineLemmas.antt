@@ -9,7 +9,7 @@ use Rattle.host_calls.specs.Causes.{HasCause, Rose}
 use Rattle.host_calls.specs.Sink.{Outlet, Puts}
 use Rattle.host_calls.specs.declared.fault.SinkFault.{SinkFault}
 use Rattle.host_calls.specs.declared.fault.SinkFault.TheVariants.{Failed, Memory}
-use Rattle.serving.specs.inside.Printing.{PutsLines, PutsText}
+use Rattle.serving.specs.Printing.{PutsLines, PutsText}
 use Rattle.serving.proofs.SinkLemmas.{cut_behind, cut_longer, part_behind, put_behind}
 use Rattle.serving.proofs.StepLemmas.{part_longer}
 

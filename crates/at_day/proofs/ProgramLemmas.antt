@@ -19,7 +19,7 @@ use Rattle.listing_text.specs.Cause.{cause_line_of}
 use Rattle.listing_text.specs.declared.cause.Cause.{Cause}
 use Rattle.listing_text.specs.declared.cause.Cause.TheVariants.{Done, Refused, FileFault, InputFault, OutputFault, Busy, Memory, Damaged, StillRunning}
 use Rattle.serving.specs.Saying.{IsSaid, SaysLine}
-use Rattle.serving.specs.inside.Printing.{PutsLines}
+use Rattle.serving.specs.Printing.{PutsLines}
 use Rattle.at_day.specs.declared.counts.Counts.{Counts}
 use Rattle.at_day.specs.Laws.{MadeDaysAreTold}
 use Rattle.at_day.specs.Lines.{day_lines}

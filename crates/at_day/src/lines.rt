@@ -2,7 +2,7 @@
 ghost use Rattle.std.specs.Prelude.{◌≡◌, IfOk};
 ghost use Rattle.std.specs.List.{concat};
 ghost use Rattle.command_answers.specs.Sinks.{sink_at};
-ghost use Rattle.serving.specs.inside.Printing.{PutsLines};
+ghost use Rattle.serving.specs.Printing.{PutsLines};
 ghost use Rattle.at_day.specs.Lines.{counted_line, day_lines};
 
 use crate::Counts;

@@ -9,4 +9,3 @@ pub mod Sinks
 pub mod Spool
 pub mod Times
 pub mod Verdict
-pub mod inside

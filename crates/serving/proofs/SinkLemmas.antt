@@ -16,7 +16,7 @@ use Rattle.serving.specs.Outcomes.{at_a_line, at_the_end}
 use Rattle.serving.specs.Saying.{IsSaid}
 use Rattle.serving.specs.Serving.{Prints, PutsUnless}
 use Rattle.serving.specs.inside.Ends.{SaysEndOr, cause_of_end, finds_memory}
-use Rattle.serving.specs.inside.Printing.{PutsLines}
+use Rattle.serving.specs.Printing.{PutsLines}
 use Rattle.serving.specs.inside.Progressing.{PrintsMore}
 
 -- What is put behind a text that was put.

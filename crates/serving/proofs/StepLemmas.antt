@@ -9,7 +9,7 @@ use Rattle.host_calls.specs.declared.fault.SinkFault.TheVariants.{Failed, Memory
 use Rattle.command_answers.specs.Sinks.{IsCut, IsPut, IsPutInPart, SinkAt}
 use Rattle.daemon_turn.specs.declared.step.TurnStep.{TurnStep}
 use Rattle.serving.specs.Lines.{step_line, step_lines}
-use Rattle.serving.specs.inside.Printing.{PutsLines, PutsText}
+use Rattle.serving.specs.Printing.{PutsLines, PutsText}
 use Rattle.serving.proofs.SinkLemmas.{cut_behind, cut_longer, nothing_put, part_behind, put_behind}
 
 lines_join : (front later : List TurnStep) → step_lines (front ++ later) ≡ step_lines front ++ step_lines later

@@ -3,6 +3,8 @@ pub mod Items
 pub mod Laws
 pub mod Lines
 pub mod Outcomes
+pub mod Outside
+pub mod Printing
 pub mod Saying
 pub mod Serves
 pub mod Serving

@@ -3,7 +3,7 @@ ghost use Rattle.std.specs.Prelude.{◌≡◌};
 ghost use Rattle.command_answers.specs.Sinks.{sink_at};
 ghost use Rattle.listing_text.specs.Lines.{turn_line_of};
 ghost use Rattle.serving.specs.Lines.{step_line, step_lines};
-ghost use Rattle.serving.specs.inside.Printing.{PutsLines};
+ghost use Rattle.serving.specs.Printing.{PutsLines};
 
 use daemon_turn::TurnStep;
 use host_calls::{Sink, SinkFault};

@@ -2,7 +2,7 @@ use Rattle.std.proofs.Common.{◌≡◌, take}
 use Rattle.std.specs.List.{concat}
 use Rattle.std.specs.Prelude.{Ok}
 use Rattle.command_answers.specs.Sinks.{sink_at}
-use Rattle.serving.specs.inside.Printing.{PutsLines}
+use Rattle.serving.specs.Printing.{PutsLines}
 use Rattle.at_day.proofs.lines.put_lines.Given as goal
 
 abbrev pub invariant-loop-line : goal.invariant-loop-line

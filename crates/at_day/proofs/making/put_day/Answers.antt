@@ -1,7 +1,7 @@
 use Rattle.std.proofs.Common.{◌∙◌, List, ℕ, subst}
 use Rattle.std.specs.List.{concat}
 use Rattle.command_answers.specs.Sinks.{sink_at}
-use Rattle.serving.specs.inside.Printing.{PutsLines}
+use Rattle.serving.specs.Printing.{PutsLines}
 use Rattle.at_day.proofs.ProgramLemmas.{day_put, day_unput}
 use Rattle.at_day.proofs.making.put_day.Goals as goal
 

@@ -2,7 +2,7 @@ use Rattle.std.proofs.Common.{◌≡◌, take}
 use Rattle.std.specs.Prelude.{Ok}
 use Rattle.command_answers.specs.Sinks.{sink_at}
 use Rattle.serving.specs.Lines.{step_lines}
-use Rattle.serving.specs.inside.Printing.{PutsLines}
+use Rattle.serving.specs.Printing.{PutsLines}
 use Rattle.serving.proofs.printing.print_steps.Given as goal
 
 abbrev pub invariant-loop-step : goal.invariant-loop-step
