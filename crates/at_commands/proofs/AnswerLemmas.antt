@@ -23,12 +23,12 @@ use Rattle.command_answers.specs.Causes.{cause_in, stopped_by}
 use Rattle.command_answers.specs.Checks.{Check, check_of, is_before, of_lock}
 use Rattle.command_answers.specs.Ends.{Ends, Holding, KeepsOrder, Telling, holding, telling}
 use Rattle.command_answers.specs.Found.{Finds, Found, answers_read}
-use Rattle.command_answers.specs.Carrying.{AreSessionSteps, Carries, Finding, IsSessionLine, IsSessionText}
+use Rattle.at_commands.specs.inside.Carrying.{AreSessionSteps, Carries, Finding, IsSessionLine, IsSessionText}
 use Rattle.command_answers.specs.Requested.{Prints, Says, next_number, passes_of, scripts_of}
 use Rattle.command_answers.specs.Sessions.{IsNotOpened, IsOpened}
 use Rattle.command_answers.specs.Sinks.{IsPut, NotesBy, PrintsBy, SinkAt}
 use Rattle.command_answers.specs.Verdict.{early_verdict, filter_check, first_refusal, is_unreadable, jobs_check, spool_verdict, user_check, zone_check}
-use Rattle.spool_session.specs.Entering.{IsOfEntry}
+use Rattle.at_commands.proofs.EntryLemmas.{IsOfEntry}
 use Rattle.at_commands.specs.inside.Answering.{EndsPrinting, EndsRemoving}
 use Rattle.at_commands.specs.inside.Printing.{PutsWhole}
 use Rattle.at_commands.specs.inside.Session.{IsNoOutput, IsOfSpool}

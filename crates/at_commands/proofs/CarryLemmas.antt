@@ -19,13 +19,13 @@ use Rattle.command_answers.specs.declared.caller.Caller.{Caller}
 use Rattle.command_answers.specs.Checks.{Check, ComesUpTo, check_of, is_before, of_access, of_folder, of_lists, of_lock, of_output, of_steps, place_of}
 use Rattle.command_answers.specs.Ends.{KeepsOrder, Reaches}
 use Rattle.command_answers.specs.Found.{AreInFolder, Found, allow_file, deny_file}
-use Rattle.command_answers.specs.Carrying.{AreSessionSteps, AreWorkSteps, Carries, Finding}
+use Rattle.at_commands.specs.inside.Carrying.{AreSessionSteps, AreWorkSteps, Carries, Finding}
 use Rattle.command_answers.specs.Sessions.{AreListsIn, IsNotOpened, IsOpened, Works, faults, lists_lack_memory, is_damaged, lacks_memory, refuses, lists_fault}
 use Rattle.command_answers.specs.Spool.{SpoolEnds}
 use Rattle.command_answers.specs.Verdict.{spool_verdict, table_verdict}
 use Rattle.command_answers.proofs.SessionLemmas.{works_end}
 use Rattle.command_answers.proofs.SpoolLemmas.{attempt_of, unbegun_same}
-use Rattle.spool_session.specs.Entering.{IsOfEntry}
+use Rattle.at_commands.proofs.EntryLemmas.{IsOfEntry}
 use Rattle.at_commands.proofs.KeptLemmas.{kept_decides}
 use Rattle.command_answers.proofs.CheckLemmas.{allowed_up_to, refused_up_to}
 use Rattle.at_commands.proofs.LateLemmas.{OnTable, any_memory, late_busy, late_file_fault, late_up_to_lists, late_up_to_lock, not_permitted, permitted, spool_late, table_on, table_up_to_folder}

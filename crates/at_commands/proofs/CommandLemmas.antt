@@ -1,5 +1,5 @@
 -- A command, from its words to its last line.
-use Rattle.std.proofs.Common.{◌≡◌, ◌≢◌, ◌⊎◌, ◌≤◌, List, ℕ, sym, subst, ◌∙◌, refl, inl, inr}
+use Rattle.std.proofs.Common.{◌≡◌, ◌≢◌, ◌⊎◌, ◌≤◌, List, [], ℕ, sym, subst, ◌∙◌, refl, inl, inr, arith, append-nil}
 use Rattle.std.proofs.Math.Nat.{le_trans}
 use Rattle.std.specs.Prelude.{Ok, Err}
 use Rattle.at_words.specs.Answers.{Answers}
@@ -7,6 +7,7 @@ use Rattle.at_words.specs.declared.fault.WordsFault.{WordsFault}
 use Rattle.at_words.specs.declared.fault.WordsFault.TheVariants as words
 use Rattle.at_words.specs.declared.tool_request.ToolRequest.TheVariants as request
 use Rattle.host_calls.specs.Causes.{Rose}
+use Rattle.host_calls.specs.Session.{IsLeft, IsOutside, Session}
 use Rattle.host_calls.specs.Sink.{Outlet}
 use Rattle.listing_text.specs.declared.cause.Cause.{Cause}
 use Rattle.listing_text.specs.declared.cause.Cause.TheVariants.{Done, Refused, FileFault, InputFault, OutputFault, Busy, Memory, Damaged, StillRunning}
@@ -16,6 +17,8 @@ use Rattle.command_answers.specs.Ends.{Ends, FailsToPrint, Holding, KeepsOrder, 
 use Rattle.command_answers.specs.Found.{Asked}
 use Rattle.command_answers.specs.Sinks.{NotesBy, SinkAt}
 use Rattle.command_answers.specs.Verdict.{verdict_of}
+use Rattle.serving.specs.Outside.{EndsOutside}
+use Rattle.at_commands.specs.Outside.{HasRisen, OutsideAt}
 use Rattle.command_answers.specs.Causes.{words_cause}
 use Rattle.at_commands.proofs.UnreadLemmas.{ends_at_words}
 use Rattle.at_commands.proofs.LateLemmas.{any_memory}
@@ -106,3 +109,34 @@ memory_output_fault is = cc
 pub ends_not_running : (Notes : Cause → (List ℕ → Type 0) → SinkAt → SinkAt → Type 0) (asked : Asked) (caller : Caller) (tells : Telling) (before after : Holding)
     (cause : Cause) → Ends Notes asked caller tells before after cause → cause ≢ StillRunning
 ends_not_running Notes asked caller tells before after cause ends is = subst (λ (of : Cause). Reaches of ends.reached) is ends.reach
+
+-- What is left of a session that was ended, and where none was begun.
+
+pub outside_left : (old new : Session) → IsLeft old new → EndsOutside old new
+outside_left old new left = record { outside = left.outside; kept = ([], left.children ∙ sym (append-nil old.children)); counts = left.counts }
+
+pub left_same : (session : Session) → IsOutside session → IsLeft session session
+left_same session outside = record {
+  outside = outside;
+  children = refl;
+  counts = record { made_as = refl; file_faults = omega arith; start_faults = omega arith; taken = omega arith };
+}
+
+-- Words that ask for nothing end with no fault of the outside.
+words_final : (fault : WordsFault) (final : Cause) → (final ≡ words_cause fault) ⊎ (final ≡ Memory) → IsOfWords final
+words_final fault final either = elim either [
+  | inl same ↦ subst (λ (of : Cause). IsOfWords of) (sym same) (words_come fault)
+  | inr lacks ↦ subst (λ (of : Cause). IsOfWords of) (sym lacks) tt
+]
+
+pub words_risen : (fault : WordsFault) (final : Cause) → (final ≡ words_cause fault) ⊎ (final ≡ Memory) → (asked : Asked) (old new : OutsideAt) →
+    HasRisen asked old new final
+words_risen fault final either asked old new = record {
+  file_fault = λ same. absurd (subst (λ (of : Cause). IsOfWords of) same (words_final fault final either));
+  busy = λ same. absurd (subst (λ (of : Cause). IsOfWords of) same (words_final fault final either));
+  input_fault = λ same. absurd (subst (λ (of : Cause). IsOfWords of) same (words_final fault final either));
+  output_fault = λ same. absurd (subst (λ (of : Cause). IsOfWords of) same (words_final fault final either));
+}
+
+pub words_not_running : (fault : WordsFault) (final : Cause) → (final ≡ words_cause fault) ⊎ (final ≡ Memory) → final ≢ StillRunning
+words_not_running fault final either same = subst (λ (of : Cause). IsOfWords of) same (words_final fault final either)

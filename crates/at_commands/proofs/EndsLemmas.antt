@@ -20,7 +20,7 @@ use Rattle.command_answers.specs.declared.caller.Caller.{Caller}
 use Rattle.command_answers.specs.Checks.{Check, ComesUpTo, check_of, is_before, of_lock, place_of}
 use Rattle.command_answers.specs.Ends.{Ends, Holding, IsNoRefusal, KeepsOrder, Reaches, Telling}
 use Rattle.command_answers.specs.Found.{Asked, Finds, Found, allow_file, answers_read, deny_file}
-use Rattle.command_answers.specs.Carrying.{AreSessionSteps, Carries, Finding, IsSessionLine, IsSessionText}
+use Rattle.at_commands.specs.inside.Carrying.{AreSessionSteps, Carries, Finding, IsSessionLine, IsSessionText}
 use Rattle.command_answers.specs.Requested.{AreAskedSteps, AreNoSteps, IsAskedLine, IsAskedText}
 use Rattle.command_answers.specs.Sinks.{EndsLine, IsPutInPart, IsPutOrCut, IsSilent, NotesBy, PrintsBy, PutsCut, PutsPart, SaysBy, SinkAt}
 use Rattle.command_answers.specs.Spool.{SpoolEnds}

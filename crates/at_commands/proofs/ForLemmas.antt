@@ -25,13 +25,12 @@ use Rattle.command_answers.specs.declared.caller.Caller.{Caller}
 use Rattle.command_answers.specs.declared.stopped.Stopped.{Stopped}
 use Rattle.command_answers.specs.Causes.{cause_in, stopped_by}
 use Rattle.command_answers.specs.Found.{Found}
-use Rattle.command_answers.specs.Carrying.{AreWorkSteps, Carries, IsSessionText}
+use Rattle.at_commands.specs.inside.Carrying.{AreWorkSteps, Carries, IsSessionText}
 use Rattle.command_answers.specs.Requested.{passes_of, scripts_of, steps_of}
 use Rattle.command_answers.specs.Sessions.{IsKeptOf, IsNotOpened, IsOpened, IsWorkedOut, Works}
-use Rattle.command_answers.specs.Sinks.{IsPut, IsPutInPart, IsSilent, PrintsBy, PutsPart, SinkAt}
+use Rattle.command_answers.specs.Sinks.{IsPut, IsPutInPart, IsSilent, PutsPart, SinkAt}
 use Rattle.command_answers.specs.Verdict.{filter_check, jobs_check, table_verdict}
-use Rattle.spool_session.specs.Entering.{IsOfEntry}
-use Rattle.at_commands.specs.inside.Session.{IsOfSession}
+use Rattle.at_commands.proofs.EntryLemmas.{IsOfEntry}
 use Rattle.at_commands.specs.inside.Sessions.{Lists, Shows, lists_alone}
 use Rattle.at_commands.proofs.CarryLemmas.{KeepsLists, carries_within, decides, not_entered, not_opened, work_done, work_fails, work_lacks_memory, work_refused, work_unsaid}
 use Rattle.at_commands.proofs.KeptLemmas.{kept_decides}
@@ -256,18 +255,6 @@ lists_within tells alone asked caller before entered left after result enters le
 }
 
 -- Showings.
-
--- nothing was printed where the session stopped before it
-pub session_silent : (cause : Cause) (IsText : List ℕ → Type 0) (old new : SinkAt) → IsOfSession cause → IsSilent old new → PrintsBy cause IsText old new
-session_silent FileFault IsText old new of_session silent = inl silent
-session_silent OutputFault IsText old new of_session silent = inl silent
-session_silent Memory IsText old new of_session silent = inl silent
-session_silent (Refused refusal) IsText old new of_session silent = silent
-session_silent (Damaged damage) IsText old new of_session silent = silent
-session_silent Done IsText old new of_session silent = absurd of_session
-session_silent InputFault IsText old new of_session silent = absurd of_session
-session_silent Busy IsText old new of_session silent = absurd of_session
-session_silent StillRunning IsText old new of_session silent = absurd of_session
 
 module _ (tells output : Bool) (numbers : List ℕ) (caller : Caller) (user : List ℕ) (same : caller.context.user ≡ user)
     (old middle new : World) (was is : SinkAt) (kept : Kept) (is_open : IsOpened tells user old middle kept) where

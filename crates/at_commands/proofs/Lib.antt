@@ -3,7 +3,9 @@ pub mod AtdLemmas
 pub mod CarryLemmas
 pub mod CommandLemmas
 pub mod EndsLemmas
+pub mod EntryLemmas
 pub mod ForLemmas
+pub mod InSessionLemmas
 pub mod JobsLemmas
 pub mod KeptLemmas
 pub mod LateLemmas

@@ -18,7 +18,7 @@ use Rattle.command_answers.specs.declared.stopped.Stopped.{Stopped}
 use Rattle.command_answers.specs.Checks.{Check, is_before, of_input, of_lock, of_variables, of_zone, place_of}
 use Rattle.command_answers.specs.Ends.{holding, telling}
 use Rattle.command_answers.specs.Found.{FindsInput, Found, answers_read, found_of}
-use Rattle.command_answers.specs.Carrying.{Finding, IsSessionLine}
+use Rattle.at_commands.specs.inside.Carrying.{Finding, IsSessionLine}
 use Rattle.command_answers.specs.Requested.{IsAcceptedLine}
 use Rattle.command_answers.specs.Sinks.{IsSilent, SinkAt}
 use Rattle.command_answers.specs.Times.{minute_in}

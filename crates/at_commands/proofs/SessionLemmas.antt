@@ -1,6 +1,8 @@
 -- Why a session ended, by its parts.
-use Rattle.std.proofs.Common.{◌≡◌, ◌≢◌, Bool, List, ℕ, ap, sym, subst}
+use Rattle.std.proofs.Common.{◌≡◌, ◌≢◌, Bool, List, ℕ, ap, refl, sym, subst, arith}
 use Rattle.std.specs.Prelude.{Result, Ok, Err, IfErr, IsErrOf}
+use Rattle.host_calls.specs.declared.host.Host.{Ghosts}
+use Rattle.host_calls.specs.Session.{IsOutside}
 use Rattle.host_calls.specs.World.{World}
 use Rattle.listing_text.specs.declared.cause.Cause.{Cause}
 use Rattle.listing_text.specs.declared.cause.Cause.TheVariants.{Done, Refused, FileFault, InputFault, OutputFault, Busy, Memory, Damaged, StillRunning}
@@ -9,10 +11,12 @@ use Rattle.spool_store.specs.declared.fault.StoreFault.TheVariants as store
 use Rattle.command_answers.specs.declared.stopped.Stopped.{Stopped}
 use Rattle.command_answers.specs.Causes.{cause_in, cause_of, stopped_by}
 use Rattle.command_answers.specs.Sessions.{IsNotOpened, faults, is_damaged, lacks_memory, lists_fault, lists_lack_memory, refuses}
+use Rattle.command_answers.proofs.SpoolLemmas.{goes_on_none}
 use Rattle.job_listing.specs.Scripts.{ComesOfShowing, IsOfShowing}
 use Rattle.job_removal.specs.Removing.{ComesOfRemoving, IsOfWork}
-use Rattle.spool_session.specs.Entering.{ComesOfEntering, IsOfEntry}
-use Rattle.at_commands.specs.inside.Session.{ComesOfSession, IsNoOutput, IsOfSession, IsOfSpool}
+use Rattle.spool_session.specs.Sessions.{ComesOfSession, HasRisenIn, IsOfSession, StaysQuiet}
+use Rattle.at_commands.specs.inside.Session.{IsNoOutput, IsOfSpool}
+use Rattle.at_commands.proofs.EntryLemmas.{IsOfEntry}
 
 -- no store was had
 pub not_opened_comes : (tells : Bool) (user : List ℕ) (old new : World) (cause : Cause) → IsNotOpened tells user old new cause → IsOfSession cause
@@ -30,12 +34,6 @@ store_comes (store.Damaged damage) = tt
 store_comes store.QueueFull = tt
 store_comes store.NumbersUsedUp = tt
 store_comes store.Memory = tt
-
--- within a session the lock is not taken
-pub not_busy : {T : Type 0} (result : Result T Stopped) → IfErr result ComesOfSession → IsErrOf result (stopped_by Busy) → ⊥
-not_busy (Ok value) comes is = let no : ◌≡◌ {A = Result _ Stopped} (Ok value) (Err (stopped_by Busy)) = is in cc
-not_busy (Err stopped) comes is =
-    let same : stopped ≡ stopped_by Busy = cc in subst (λ (of : Stopped). IsOfSession of.cause) same comes
 
 -- nor does the output fail where none is put
 pub not_opened_of_spool : (tells : Bool) (user : List ℕ) (old new : World) (cause : Cause) → IsNotOpened tells user old new cause → IsOfSpool cause
@@ -104,10 +102,9 @@ no_input_of_spool stopped is same = subst IsOfSpool same is
 pub no_output_of_spool : (stopped : Stopped) → IsNoOutput stopped → stopped.cause ≢ OutputFault
 no_output_of_spool stopped is same = subst IsOfSpool same is
 
-pub no_input_of_session : {T : Type 0} (result : Result T Stopped) → IfErr result ComesOfSession → IsErrOf result (stopped_by InputFault) → ⊥
-no_input_of_session (Ok value) comes is = let no : ◌≡◌ {A = Result _ Stopped} (Ok value) (Err (stopped_by InputFault)) = is in cc
-no_input_of_session (Err stopped) comes is =
-    let same : stopped ≡ stopped_by InputFault = cc in subst (λ (of : Stopped). IsOfSession of.cause) same comes
+pub comes_no_input : {T : Type 0} (result : Result T Stopped) → IfErr result ComesOfSession → cause_in result ≢ InputFault
+comes_no_input (Ok value) comes same = let no : Done ≡ InputFault = same in cc
+comes_no_input (Err stopped) comes same = subst IsOfSession same comes
 
 pub removing_comes : (result : Result (Unit {0}) Stopped) → IfErr result ComesOfRemoving → IfErr result ComesOfSession
 removing_comes (Ok value) comes = tt
@@ -121,22 +118,10 @@ pub showing_comes : (result : Result (Unit {0}) Stopped) → IfErr result ComesO
 showing_comes (Ok value) comes = tt
 showing_comes (Err stopped) comes = showing_of_session stopped.cause comes
 
--- the cause of an answer, where it is that of a fault of the outside
-pub cause_busy : {T : Type 0} (result : Result T Stopped) → cause_in result ≡ Busy → IsErrOf result (stopped_by Busy)
-cause_busy (Ok value) is = let no : Done ≡ Busy = is in cc
-cause_busy (Err stopped) is = ap (λ (of : Cause). Err (stopped_by of)) is
-
-pub cause_file_fault : {T : Type 0} (result : Result T Stopped) → cause_in result ≡ FileFault → IsErrOf result (stopped_by FileFault)
-cause_file_fault (Ok value) is = let no : Done ≡ FileFault = is in cc
-cause_file_fault (Err stopped) is = ap (λ (of : Cause). Err (stopped_by of)) is
-
+-- the cause of an answer, where it is that of a fault of the output
 pub cause_output_fault : {T : Type 0} (result : Result T Stopped) → cause_in result ≡ OutputFault → IsErrOf result (stopped_by OutputFault)
 cause_output_fault (Ok value) is = let no : Done ≡ OutputFault = is in cc
 cause_output_fault (Err stopped) is = ap (λ (of : Cause). Err (stopped_by of)) is
-
-pub cause_input_fault : {T : Type 0} (result : Result T Stopped) → cause_in result ≡ InputFault → IsErrOf result (stopped_by InputFault)
-cause_input_fault (Ok value) is = let no : Done ≡ InputFault = is in cc
-cause_input_fault (Err stopped) is = ap (λ (of : Cause). Err (stopped_by of)) is
 
 -- where no output comes of the spool
 pub no_input_in : {T : Type 0} (result : Result T Stopped) → IfErr result IsNoOutput → cause_in result ≢ InputFault
@@ -165,9 +150,20 @@ no_output_error (Err stopped) comes is =
 pub no_output_of_stopped : (stopped : Stopped) → IsNoOutput stopped → ◌≡◌ {A = Result (Unit {0}) Stopped} (Err stopped) (Err (stopped_by OutputFault)) → ⊥
 no_output_of_stopped stopped of_spool is = no_output_error (Err stopped) of_spool is
 
-pub entry_no_output : (stopped : Stopped) → ComesOfEntering stopped → ◌≡◌ {A = Result (Unit {0}) Stopped} (Err stopped) (Err (stopped_by OutputFault)) → ⊥
-entry_no_output stopped comes is = no_output_error (Err stopped) (entry_of_spool stopped.cause comes) is
+-- where nothing was done, the spool stays as it is
+pub quiet_none : {H : Type 0} (g : Ghosts H) (at : H) → IsOutside (g.session at) → StaysQuiet g at at
+quiet_none g at outside = record {
+  left = record {
+    outside = outside;
+    children = refl;
+    counts = record { made_as = refl; file_faults = omega arith; start_faults = omega arith; taken = omega arith };
+  };
+  goes_on = λ told. goes_on_none (g.world at) (g.world at) refl;
+}
 
-pub entry_no_input : (stopped : Stopped) → ComesOfEntering stopped → ◌≡◌ {A = Result (Unit {0}) Stopped} (Err stopped) (Err (stopped_by InputFault)) → ⊥
-entry_no_input stopped comes is =
-    let same : stopped ≡ stopped_by InputFault = cc in subst (λ (of : Stopped). IsOfEntry of.cause) same comes
+-- and no fault came of it, where the cause is none
+pub risen_none : {H : Type 0} (g : Ghosts H) (old new : H) (cause : Cause) → (cause ≡ FileFault → ⊥) → (cause ≡ Busy → ⊥) → HasRisenIn g old new cause
+risen_none g old new cause no_file_fault no_busy = record {
+  file_fault = λ same. absurd (no_file_fault same);
+  busy = λ same. absurd (no_busy same);
+}

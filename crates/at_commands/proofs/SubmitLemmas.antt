@@ -32,7 +32,7 @@ use Rattle.command_answers.specs.declared.caller.Caller.{Caller}
 use Rattle.command_answers.specs.declared.stopped.Stopped.{Stopped}
 use Rattle.command_answers.specs.Causes.{cause_in, cause_of, stopped_by}
 use Rattle.command_answers.specs.Found.{found_of}
-use Rattle.command_answers.specs.Carrying.{AreWorkSteps, Finding}
+use Rattle.at_commands.specs.inside.Carrying.{AreWorkSteps, Finding}
 use Rattle.command_answers.specs.Requested.{job_for}
 use Rattle.command_answers.specs.Sessions.{IsNotOpened, IsOpened, IsWorkedOn}
 use Rattle.command_answers.specs.Times.{minute_in}
@@ -40,7 +40,7 @@ use Rattle.command_answers.specs.Verdict.{first_refusal, number_check, room_chec
 use Rattle.at_commands.specs.inside.Storing.{IsJobOf, Stores}
 use Rattle.at_commands.proofs.CarryLemmas.{KeepsLists, carries_within, not_entered, not_opened, work_done, work_fails, work_lacks_memory, work_refused}
 use Rattle.at_commands.proofs.KeptLemmas.{kept_decides, kept_last}
-use Rattle.spool_session.specs.Entering.{IsOfEntry}
+use Rattle.at_commands.proofs.EntryLemmas.{IsOfEntry}
 
 -- the text of a job begins with the header of its user
 pub header_of_job : (caller : Caller) (mail : Bool) (commands script : List ℕ) → IsJobOf caller mail commands script →

@@ -1,3 +1,4 @@
+pub mod Outside
 pub mod Served
 pub mod Tools
 pub mod inside

@@ -1,16 +1,15 @@
 //! The command: what its words ask for, done.
-ghost use Rattle.std.specs.Prelude.{◌≡◌, ◌≢◌, ◌<◌, ◌≤◌, IsTrue, Ok, map, string_bytes};
+ghost use Rattle.std.specs.Prelude.{◌≡◌, ◌<◌, ◌≤◌, Ok, map, string_bytes};
 ghost use Rattle.at_words.specs.Queues.{HasQueueLetter};
 ghost use Rattle.at_words.specs.Requests.{request_of};
-ghost use Rattle.host_calls.specs.Causes.{Rose};
-ghost use Rattle.daemon_turn.specs.Kids.{KeepsChildren};
-ghost use Rattle.host_calls.specs.Session.{IsLeft, IsOutside, KeepsCounts};
-ghost use Rattle.host_calls.specs.World.{GoesOn};
+ghost use Rattle.host_calls.specs.Session.{IsOutside};
 ghost use Rattle.listing_text.specs.Cause.{status_of};
-ghost use Rattle.command_answers.specs.Ends.{Ends, FailsToPrint, holding, telling};
 ghost use Rattle.command_answers.specs.Sinks.{NotesBy, SaysBy, sink_at};
+ghost use Rattle.daemon_turn.specs.Daemons.{new_watch};
+ghost use Rattle.serving.specs.Outside.{EndsOutside, HasRisenServing, StaysMadeServing, work_at};
 ghost use Rattle.serving.specs.Serves.{serve_at, serve_telling};
-ghost use Rattle.at_commands.specs.Served.{IsNotServed, ServesAnew, WhereServed};
+ghost use Rattle.at_commands.specs.Outside.{EndsUnserved, HasRisen, ServesAsked, StaysMade, outside_at};
+ghost use Rattle.at_commands.specs.Served.{IsNotServed, ServesAnew};
 ghost use Rattle.at_commands.specs.Tools.{name_of, tool_name_of};
 
 use crate::listing::list;
@@ -41,52 +40,26 @@ pub fn command<H: Host, R: Readings, I: Inputs, O: Sink, E: Sink>(
     requires umask { caller.now.context.umask < 512 }
 
     ensures code { result ≡ status_of result.cause }
-    ensures outside { IsOutside (H.session host.new) }
-    ensures kept { KeepsChildren (H.session host.old).children (H.session host.new).children }
-    ensures counts { KeepsCounts (H.session host.old) (H.session host.new) }
+    ensures session { EndsOutside (H.session host.old) (H.session host.new) }
 
     // Each fault comes only where its count rose.
-    ensures file_fault { result.cause ≡ Cause.FileFault
-        → Rose (H.session host.old).file_faults (H.session host.new).file_faults }
-    ensures busy { result.cause ≡ Cause.Busy → Rose (H.session host.old).taken (H.session host.new).taken }
-    ensures input_fault { result.cause ≡ Cause.InputFault
-        → Rose (I.sources inputs.old).input_faults (I.sources inputs.new).input_faults }
-    ensures output_fault { result.cause ≡ Cause.OutputFault
-        → FailsToPrint (request_of (map string_bytes words.now))
-        (O.outlet out.old) (O.outlet out.new) (E.outlet err.old) (E.outlet err.new) }
+    ensures faults { HasRisen (request_of (map string_bytes words.now))
+        (outside_at H.Host R.Readings I.Inputs O.Sink E.Sink host.old readings.old inputs.old out.old err.old)
+        (outside_at H.Host R.Readings I.Inputs O.Sink E.Sink host.new readings.new inputs.new out.new err.new) result.cause }
 
-    // What no daemon does: it starts no child, hands nothing over, and its verdict and order, what each crash on the way
-    // and each image of the end show, and what is printed and said.
-    ensures left { IsNotServed (request_of (map string_bytes words.now))
-        → IsLeft (H.session host.old) (H.session host.new) }
-    ensures quiet { IsNotServed (request_of (map string_bytes words.now))
-        → IsTrue H.tells → GoesOn (H.world host.old) (H.world host.new) }
-    ensures not_running { IsNotServed (request_of (map string_bytes words.now)) → result.cause ≢ Cause.StillRunning }
+    // What no daemon does, and what a daemon does.
     ensures ends { IsNotServed (request_of (map string_bytes words.now)) →
-        Ends (SaysBy (tool_name_of (map string_bytes words.now)))
-        (request_of (map string_bytes words.now)) caller.now
-        (telling H.tells H.alone R.tells I.tells O.tells E.tells)
-        (holding (H.world host.old) (R.answers readings.old) (I.contents inputs.old)
-        (sink_at (O.content out.old) (O.outlet out.old)) (sink_at (E.content err.old) (E.outlet err.old)))
-        (holding (H.world host.new) (R.answers readings.new) (I.contents inputs.new)
-        (sink_at (O.content out.new) (O.outlet out.new)) (sink_at (E.content err.new) (E.outlet err.new))) result.cause }
-    ensures readers { IsNotServed (request_of (map string_bytes words.now))
-        → R.readers readings.new ≡ R.readers readings.old }
-
-    // What a daemon does: its turns, what is printed and said of them, and its cause.
-    ensures serves { WhereServed (request_of (map string_bytes words.now)) (λ limit interval once turns.
-        ServesAnew (serve_telling H.tells H.alone R.tells O.tells E.tells) limit interval once turns
-        (λ watch. serve_at (H.session host.old) (H.world host.old) watch (R.answers readings.old) (R.readers readings.old))
-        (λ watch. serve_at (H.session host.new) (H.world host.new) watch (R.answers readings.new) (R.readers readings.new))
-        (sink_at (O.content out.old) (O.outlet out.old)) (sink_at (O.content out.new) (O.outlet out.new))
-        (sink_at (E.content err.old) (E.outlet err.old)) (sink_at (E.content err.new) (E.outlet err.new)) result.cause) }
+        EndsUnserved (SaysBy (tool_name_of (map string_bytes words.now))) (request_of (map string_bytes words.now)) caller.now
+        (outside_at H.Host R.Readings I.Inputs O.Sink E.Sink host.old readings.old inputs.old out.old err.old)
+        (outside_at H.Host R.Readings I.Inputs O.Sink E.Sink host.new readings.new inputs.new out.new err.new) result.cause }
+    ensures serves { ServesAsked (request_of (map string_bytes words.now))
+        (outside_at H.Host R.Readings I.Inputs O.Sink E.Sink host.old readings.old inputs.old out.old err.old)
+        (outside_at H.Host R.Readings I.Inputs O.Sink E.Sink host.new readings.new inputs.new out.new err.new) result.cause }
 
     // What the others were made as stays.
-    ensures readers_made { (R.readers readings.new).made_as ≡ (R.readers readings.old).made_as }
-    ensures contents { I.contents inputs.new ≡ I.contents inputs.old }
-    ensures input_made { (I.sources inputs.new).made_as ≡ (I.sources inputs.old).made_as }
-    ensures out_made { (O.outlet out.new).made_as ≡ (O.outlet out.old).made_as }
-    ensures errors_made { (E.outlet err.new).made_as ≡ (E.outlet err.old).made_as }
+    ensures made { StaysMade
+        (outside_at H.Host R.Readings I.Inputs O.Sink E.Sink host.old readings.old inputs.old out.old err.old)
+        (outside_at H.Host R.Readings I.Inputs O.Sink E.Sink host.new readings.new inputs.new out.new err.new) }
 {
     match request(alloc, words) {
         Ok(asked) => match asked {
@@ -129,23 +102,18 @@ fn serve_anew<H: Host, R: Readings, O: Sink, E: Sink>(
     requires outside { IsOutside (H.session host.old) }
     requires turns { 1 ≤ turns }
     ensures code { result ≡ status_of result.cause }
-    ensures outside { IsOutside (H.session host.new) }
-    ensures kept { KeepsChildren (H.session host.old).children (H.session host.new).children }
-    ensures counts { KeepsCounts (H.session host.old) (H.session host.new) }
-    ensures file_fault { result.cause ≡ Cause.FileFault
-        → Rose (H.session host.old).file_faults (H.session host.new).file_faults }
-    ensures busy { result.cause ≡ Cause.Busy → Rose (H.session host.old).taken (H.session host.new).taken }
-    ensures no_input { result.cause ≢ Cause.InputFault }
-    ensures output_fault { result.cause ≡ Cause.OutputFault
-        → Rose (O.outlet out.old).sink_faults (O.outlet out.new).sink_faults }
+    ensures session { EndsOutside (H.session host.old) (H.session host.new) }
+    ensures faults { HasRisenServing
+        (work_at H.Host R.Readings O.Sink E.Sink (new_watch limit interval) host.old readings.old out.old err.old)
+        (work_at H.Host R.Readings O.Sink E.Sink (new_watch limit interval) host.new readings.new out.new err.new) result.cause }
     ensures serves { ServesAnew (serve_telling H.tells H.alone R.tells O.tells E.tells) limit interval once turns
         (λ watch. serve_at (H.session host.old) (H.world host.old) watch (R.answers readings.old) (R.readers readings.old))
         (λ watch. serve_at (H.session host.new) (H.world host.new) watch (R.answers readings.new) (R.readers readings.new))
         (sink_at (O.content out.old) (O.outlet out.old)) (sink_at (O.content out.new) (O.outlet out.new))
         (sink_at (E.content err.old) (E.outlet err.old)) (sink_at (E.content err.new) (E.outlet err.new)) result.cause }
-    ensures readers_made { (R.readers readings.new).made_as ≡ (R.readers readings.old).made_as }
-    ensures out_made { (O.outlet out.new).made_as ≡ (O.outlet out.old).made_as }
-    ensures errors_made { (E.outlet err.new).made_as ≡ (E.outlet err.old).made_as }
+    ensures made { StaysMadeServing
+        (work_at H.Host R.Readings O.Sink E.Sink (new_watch limit interval) host.old readings.old out.old err.old)
+        (work_at H.Host R.Readings O.Sink E.Sink (new_watch limit interval) host.new readings.new out.new err.new) }
 {
     let mut daemon = Daemon::new(alloc, limit, interval);
     serve(alloc, &mut daemon, turns, once, host, readings, out, err)
@@ -168,27 +136,15 @@ fn answer<H: Host, R: Readings, I: Inputs, O: Sink, E: Sink>(
     requires letter { HasQueueLetter asked }
     requires tool { IsNotServed (Ok asked) }
     ensures code { result ≡ status_of result.cause }
-    ensures left { IsLeft (H.session host.old) (H.session host.new) }
-    ensures quiet { IsTrue H.tells → GoesOn (H.world host.old) (H.world host.new) }
-    ensures file_fault { result.cause ≡ Cause.FileFault
-        → Rose (H.session host.old).file_faults (H.session host.new).file_faults }
-    ensures busy { result.cause ≡ Cause.Busy → Rose (H.session host.old).taken (H.session host.new).taken }
-    ensures input_fault { result.cause ≡ Cause.InputFault
-        → Rose (I.sources inputs.old).input_faults (I.sources inputs.new).input_faults }
-    ensures output_fault { result.cause ≡ Cause.OutputFault
-        → FailsToPrint (Ok asked) (O.outlet out.old) (O.outlet out.new) (E.outlet err.old) (E.outlet err.new) }
-    ensures not_running { result.cause ≢ Cause.StillRunning }
-    ensures ends { Ends (SaysBy tool.now) (Ok asked) caller.now
-        (telling H.tells H.alone R.tells I.tells O.tells E.tells)
-        (holding (H.world host.old) (R.answers readings.old) (I.contents inputs.old)
-        (sink_at (O.content out.old) (O.outlet out.old)) (sink_at (E.content err.old) (E.outlet err.old)))
-        (holding (H.world host.new) (R.answers readings.new) (I.contents inputs.new)
-        (sink_at (O.content out.new) (O.outlet out.new)) (sink_at (E.content err.new) (E.outlet err.new))) result.cause }
-    ensures readers { R.readers readings.new ≡ R.readers readings.old }
-    ensures contents { I.contents inputs.new ≡ I.contents inputs.old }
-    ensures input_made { (I.sources inputs.new).made_as ≡ (I.sources inputs.old).made_as }
-    ensures out_made { (O.outlet out.new).made_as ≡ (O.outlet out.old).made_as }
-    ensures errors_made { (E.outlet err.new).made_as ≡ (E.outlet err.old).made_as }
+    ensures faults { HasRisen (Ok asked)
+        (outside_at H.Host R.Readings I.Inputs O.Sink E.Sink host.old readings.old inputs.old out.old err.old)
+        (outside_at H.Host R.Readings I.Inputs O.Sink E.Sink host.new readings.new inputs.new out.new err.new) result.cause }
+    ensures ends { EndsUnserved (SaysBy tool.now) (Ok asked) caller.now
+        (outside_at H.Host R.Readings I.Inputs O.Sink E.Sink host.old readings.old inputs.old out.old err.old)
+        (outside_at H.Host R.Readings I.Inputs O.Sink E.Sink host.new readings.new inputs.new out.new err.new) result.cause }
+    ensures made { StaysMade
+        (outside_at H.Host R.Readings I.Inputs O.Sink E.Sink host.old readings.old inputs.old out.old err.old)
+        (outside_at H.Host R.Readings I.Inputs O.Sink E.Sink host.new readings.new inputs.new out.new err.new) }
 {
     let cause = carry_out(alloc, asked, caller, host, readings, inputs, out, err);
     Status::of(say_cause(alloc, tool, cause, err))
@@ -209,26 +165,15 @@ fn carry_out<H: Host, R: Readings, I: Inputs, O: Sink, E: Sink>(
     requires umask { caller.now.context.umask < 512 }
     requires letter { HasQueueLetter asked }
     requires tool { IsNotServed (Ok asked) }
-    ensures left { IsLeft (H.session host.old) (H.session host.new) }
-    ensures quiet { IsTrue H.tells → GoesOn (H.world host.old) (H.world host.new) }
-    ensures file_fault { result ≡ Cause.FileFault
-        → Rose (H.session host.old).file_faults (H.session host.new).file_faults }
-    ensures busy { result ≡ Cause.Busy → Rose (H.session host.old).taken (H.session host.new).taken }
-    ensures input_fault { result ≡ Cause.InputFault
-        → Rose (I.sources inputs.old).input_faults (I.sources inputs.new).input_faults }
-    ensures output_fault { result ≡ Cause.OutputFault
-        → FailsToPrint (Ok asked) (O.outlet out.old) (O.outlet out.new) (E.outlet err.old) (E.outlet err.new) }
-    ensures ends { Ends NotesBy (Ok asked) caller.now
-        (telling H.tells H.alone R.tells I.tells O.tells E.tells)
-        (holding (H.world host.old) (R.answers readings.old) (I.contents inputs.old)
-        (sink_at (O.content out.old) (O.outlet out.old)) (sink_at (E.content err.old) (E.outlet err.old)))
-        (holding (H.world host.new) (R.answers readings.new) (I.contents inputs.new)
-        (sink_at (O.content out.new) (O.outlet out.new)) (sink_at (E.content err.new) (E.outlet err.new))) result }
-    ensures readers { R.readers readings.new ≡ R.readers readings.old }
-    ensures contents { I.contents inputs.new ≡ I.contents inputs.old }
-    ensures input_made { (I.sources inputs.new).made_as ≡ (I.sources inputs.old).made_as }
-    ensures out_made { (O.outlet out.new).made_as ≡ (O.outlet out.old).made_as }
-    ensures errors_made { (E.outlet err.new).made_as ≡ (E.outlet err.old).made_as }
+    ensures faults { HasRisen (Ok asked)
+        (outside_at H.Host R.Readings I.Inputs O.Sink E.Sink host.old readings.old inputs.old out.old err.old)
+        (outside_at H.Host R.Readings I.Inputs O.Sink E.Sink host.new readings.new inputs.new out.new err.new) result }
+    ensures ends { EndsUnserved NotesBy (Ok asked) caller.now
+        (outside_at H.Host R.Readings I.Inputs O.Sink E.Sink host.old readings.old inputs.old out.old err.old)
+        (outside_at H.Host R.Readings I.Inputs O.Sink E.Sink host.new readings.new inputs.new out.new err.new) result }
+    ensures made { StaysMade
+        (outside_at H.Host R.Readings I.Inputs O.Sink E.Sink host.old readings.old inputs.old out.old err.old)
+        (outside_at H.Host R.Readings I.Inputs O.Sink E.Sink host.new readings.new inputs.new out.new err.new) }
 {
     match asked {
         ToolRequest::Submit {

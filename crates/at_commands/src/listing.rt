@@ -1,9 +1,9 @@
 //! Listings: `atq` and `at -l`.
-ghost use Rattle.std.specs.Prelude.{◌≡◌, ◌≢◌, ◌≤◌, IfErr, IfOk, IsErrOf, IsTrue, true};
+ghost use Rattle.std.specs.Prelude.{◌≡◌, ◌≢◌, IfErr, IfOk, IsTrue, true};
 ghost use Rattle.at_words.specs.declared.tool_request.ToolRequest.TheVariants as request;
 ghost use Rattle.civil_minute.specs.Zone.{IsReadable};
 ghost use Rattle.host_calls.specs.Causes.{Rose};
-ghost use Rattle.host_calls.specs.Session.{CallsInside, IsInside, IsLeft, IsOutside};
+ghost use Rattle.host_calls.specs.Session.{CallsInside, IsInside, IsOutside};
 ghost use Rattle.host_calls.specs.World.{GoesOn};
 ghost use Rattle.listing_text.specs.declared.cause.Cause.TheVariants as cause;
 ghost use Rattle.listing_text.specs.Listing.{IsListing};
@@ -14,7 +14,8 @@ ghost use Rattle.command_answers.specs.Sinks.{sink_at};
 ghost use Rattle.command_answers.specs.Verdict.{filter_check, is_unreadable};
 ghost use Rattle.at_commands.specs.inside.Answering.{EndsPrinting};
 ghost use Rattle.at_commands.specs.inside.Printing.{PutsWhole};
-ghost use Rattle.at_commands.specs.inside.Session.{ComesOfSession, IsNoOutput};
+ghost use Rattle.spool_session.specs.Sessions.{ComesOfSession, HasRisenIn, StaysQuiet};
+ghost use Rattle.at_commands.specs.inside.Session.{IsNoOutput};
 ghost use Rattle.at_commands.specs.inside.Sessions.{ListsFor};
 
 use at_words::Filter;
@@ -24,7 +25,7 @@ use host_calls::{Bytes, Host, Sink, SinkFault};
 use job_listing::listing;
 use listing_text::{Cause, Refusal};
 use spool_model::UserName;
-use spool_session::{enter, open, refusal_of_jobs};
+use spool_session::{in_session, open, refusal_of_jobs};
 use spool_store::Store;
 use std::alloc::Global;
 
@@ -37,11 +38,8 @@ pub(crate) fn list<H: Host, O: Sink>(
     out: &mut O,
 ) -> Cause
     requires { IsOutside (H.session host.old) }
-    ensures left { IsLeft (H.session host.old) (H.session host.new) }
-    ensures quiet { IsTrue H.tells → GoesOn (H.world host.old) (H.world host.new) }
-    ensures file_fault { result ≡ Cause.FileFault
-        → Rose (H.session host.old).file_faults (H.session host.new).file_faults }
-    ensures busy { result ≡ Cause.Busy → Rose (H.session host.old).taken (H.session host.new).taken }
+    ensures quiet { StaysQuiet H.Host host.old host.new }
+    ensures faults { HasRisenIn H.Host host.old host.new result }
     ensures no_input { result ≢ Cause.InputFault }
     ensures output_fault { result ≡ Cause.OutputFault
         → Rose (O.outlet out.old).sink_faults (O.outlet out.new).sink_faults }
@@ -68,11 +66,8 @@ fn list_for<H: Host, O: Sink>(
     requires outside { IsOutside (H.session host.old) }
     requires named { IsUserName caller.now.context.user }
     requires user { caller.now.context.user ≡ user.now }
-    ensures left { IsLeft (H.session host.old) (H.session host.new) }
-    ensures quiet { IsTrue H.tells → GoesOn (H.world host.old) (H.world host.new) }
-    ensures file_fault { result ≡ Cause.FileFault
-        → Rose (H.session host.old).file_faults (H.session host.new).file_faults }
-    ensures busy { result ≡ Cause.Busy → Rose (H.session host.old).taken (H.session host.new).taken }
+    ensures quiet { StaysQuiet H.Host host.old host.new }
+    ensures faults { HasRisenIn H.Host host.old host.new result }
     ensures no_input { result ≢ Cause.InputFault }
     ensures output_fault { result ≡ Cause.OutputFault
         → Rose (O.outlet out.old).sink_faults (O.outlet out.new).sink_faults }
@@ -85,7 +80,12 @@ fn list_for<H: Host, O: Sink>(
         return Cause::Refused(Refusal::BadZone);
     }
     // The session is left before the text is put, so that a slow reader does not hold the lock.
-    match list_in_session(alloc, user, which, &caller.zone, host) {
+    let zone = &caller.zone;
+    match in_session(
+        alloc,
+        host,
+        &mut |host| list_inside(alloc, user, which, zone, host),
+    ) {
         Ok(text) => put_whole(alloc, text.as_slice(), out),
         Err(stopped) => stopped.cause,
     }
@@ -110,32 +110,6 @@ fn put_whole<O: Sink>(alloc: Global, text: &[u8], out: &mut O) -> Cause
         Err(SinkFault::Failed) => Cause::OutputFault,
         Err(SinkFault::Memory) => Cause::Memory,
     }
-}
-
-// The lines of the jobs, made in a session of its own.
-fn list_in_session<H: Host>(
-    alloc: Global,
-    user: &UserName,
-    which: &Filter,
-    zone: &Zone,
-    host: &mut H,
-) -> Result<Bytes, Stopped>
-    requires outside { IsOutside (H.session host.old) }
-    requires zone { IsReadable zone.now }
-    ensures left { IsLeft (H.session host.old) (H.session host.new) }
-    ensures quiet { IsTrue H.tells → GoesOn (H.world host.old) (H.world host.new) }
-    ensures busy { IsErrOf result (stopped_by cause.Busy)
-        → Rose (H.session host.old).taken (H.session host.new).taken }
-    ensures file_fault { IsErrOf result (stopped_by cause.FileFault)
-        → Rose (H.session host.old).file_faults (H.session host.new).file_faults }
-    ensures no_output { IfErr result IsNoOutput }
-    ensures lists { ListsFor H.tells H.alone (request.List which.now) user.now zone.now
-        (H.world host.old) (H.world host.new) result }
-{
-    enter(alloc, host)?;
-    let text = list_inside(alloc, user, which, zone, host);
-    host.leave();
-    text
 }
 
 // The lines of the jobs.

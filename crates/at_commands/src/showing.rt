@@ -1,14 +1,14 @@
 //! The scripts of jobs: `at -c`.
-ghost use Rattle.std.specs.Prelude.{◌≡◌, ◌≢◌, ◌≤◌, IfErr, IsErrOf, IsTrue, true};
+ghost use Rattle.std.specs.Prelude.{◌≡◌, ◌≢◌, IfErr, IsErrOf, IsTrue, true};
 ghost use Rattle.at_words.specs.declared.tool_request.ToolRequest.TheVariants as request;
 ghost use Rattle.host_calls.specs.Causes.{Rose};
-ghost use Rattle.host_calls.specs.Session.{CallsInside, IsInside, IsLeft, IsOutside};
+ghost use Rattle.host_calls.specs.Session.{CallsInside, IsInside, IsOutside};
 ghost use Rattle.host_calls.specs.World.{GoesOn};
+ghost use Rattle.spool_session.specs.Sessions.{ComesOfSession, HasRisenIn, StaysQuiet};
 ghost use Rattle.listing_text.specs.declared.cause.Cause.TheVariants as cause;
 ghost use Rattle.command_answers.specs.Causes.{stopped_by};
 ghost use Rattle.command_answers.specs.Sinks.{sink_at};
 ghost use Rattle.at_commands.specs.inside.Answering.{EndsPrinting};
-ghost use Rattle.at_commands.specs.inside.Session.{ComesOfSession};
 ghost use Rattle.at_commands.specs.inside.Sessions.{ShowsFor};
 
 use crate::ended::cause_of;
@@ -18,7 +18,7 @@ use host_calls::{Host, Sink};
 use job_listing::put_scripts;
 use listing_text::{Cause, Refusal};
 use spool_model::UserName;
-use spool_session::{enter, open, refusal_of_jobs};
+use spool_session::{in_session, open, refusal_of_jobs};
 use std::alloc::Global;
 
 // Puts the scripts of the jobs of the numbers.
@@ -30,11 +30,8 @@ pub(crate) fn show<H: Host, O: Sink>(
     out: &mut O,
 ) -> Cause
     requires { IsOutside (H.session host.old) }
-    ensures left { IsLeft (H.session host.old) (H.session host.new) }
-    ensures quiet { IsTrue H.tells → GoesOn (H.world host.old) (H.world host.new) }
-    ensures file_fault { result ≡ Cause.FileFault
-        → Rose (H.session host.old).file_faults (H.session host.new).file_faults }
-    ensures busy { result ≡ Cause.Busy → Rose (H.session host.old).taken (H.session host.new).taken }
+    ensures quiet { StaysQuiet H.Host host.old host.new }
+    ensures faults { HasRisenIn H.Host host.old host.new result }
     ensures no_input { result ≢ Cause.InputFault }
     ensures output_fault { result ≡ Cause.OutputFault
         → Rose (O.outlet out.old).sink_faults (O.outlet out.new).sink_faults }
@@ -43,39 +40,16 @@ pub(crate) fn show<H: Host, O: Sink>(
         (H.world host.old) (H.world host.new)
         (sink_at (O.content out.old) (O.outlet out.old)) (sink_at (O.content out.new) (O.outlet out.new)) result }
 {
+    let numbers = numbers.as_slice();
+    // The session lasts as long as the scripts are read.
     match UserName::of(caller.context.user.as_str().as_bytes()) {
-        Some(user) => cause_of(show_in_session(alloc, &user, numbers.as_slice(), host, out)),
+        Some(user) => cause_of(in_session(
+            alloc,
+            host,
+            &mut |host| show_inside(alloc, &user, numbers, host, out),
+        )),
         None => Cause::Refused(Refusal::BadUser),
     }
-}
-
-// Puts the scripts in a session of its own, which lasts as long as they are read.
-fn show_in_session<H: Host, O: Sink>(
-    alloc: Global,
-    user: &UserName,
-    numbers: &[u32],
-    host: &mut H,
-    out: &mut O,
-) -> Result<(), Stopped>
-    requires { IsOutside (H.session host.old) }
-    ensures left { IsLeft (H.session host.old) (H.session host.new) }
-    ensures quiet { IsTrue H.tells → GoesOn (H.world host.old) (H.world host.new) }
-    ensures busy { IsErrOf result (stopped_by cause.Busy)
-        → Rose (H.session host.old).taken (H.session host.new).taken }
-    ensures file_fault { IsErrOf result (stopped_by cause.FileFault)
-        → Rose (H.session host.old).file_faults (H.session host.new).file_faults }
-    ensures no_input { IsErrOf result (stopped_by cause.InputFault) → ⊥ }
-    ensures output_fault { IsErrOf result (stopped_by cause.OutputFault)
-        → Rose (O.outlet out.old).sink_faults (O.outlet out.new).sink_faults }
-    ensures made_as { (O.outlet out.new).made_as ≡ (O.outlet out.old).made_as }
-    ensures shows { ShowsFor H.tells H.alone O.tells (request.Show numbers.now) user.now
-        (H.world host.old) (H.world host.new)
-        (sink_at (O.content out.old) (O.outlet out.old)) (sink_at (O.content out.new) (O.outlet out.new)) result }
-{
-    enter(alloc, host)?;
-    let shown = show_inside(alloc, user, numbers, host, out);
-    host.leave();
-    shown
 }
 
 // Puts the scripts.

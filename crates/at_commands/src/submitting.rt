@@ -1,22 +1,23 @@
 //! Submissions: `at` and `batch`.
-ghost use Rattle.std.specs.Prelude.{◌≡◌, ◌≢◌, ◌<◌, IfErr, IsErrOf, IsSome, IsTrue, option_copied, true};
+ghost use Rattle.std.specs.Prelude.{◌≡◌, ◌≢◌, ◌<◌, IfErr, IsSome, IsTrue, option_copied, true};
 ghost use Rattle.std.specs.Char.{is_ascii_alphabetic};
 ghost use Rattle.at_words.specs.declared.tool_request.ToolRequest.TheVariants as request;
 ghost use Rattle.civil_minute.specs.Zone.{IsReadable};
 ghost use Rattle.clock_range.specs.ClockRange.{IsClockMinute};
 ghost use Rattle.host_calls.specs.Causes.{Rose};
-ghost use Rattle.host_calls.specs.Session.{CallsInside, IsInside, IsLeft, IsOutside};
+ghost use Rattle.host_calls.specs.Session.{CallsInside, IsInside, IsOutside};
 ghost use Rattle.host_calls.specs.World.{GoesOn};
 ghost use Rattle.job_script.specs.HeaderIn.{header_in};
-ghost use Rattle.listing_text.specs.declared.cause.Cause.TheVariants as cause;
 ghost use Rattle.spool_model.specs.Users.{IsUserName};
-ghost use Rattle.command_answers.specs.Causes.{stopped_by};
+ghost use Rattle.listing_text.specs.declared.cause.Cause.TheVariants as cause;
 ghost use Rattle.command_answers.specs.declared.caller.Caller.{Caller as From};
 ghost use Rattle.command_answers.specs.Requested.{IsAcceptedLine};
 ghost use Rattle.command_answers.specs.Sinks.{sink_at};
 ghost use Rattle.at_commands.specs.inside.Answering.{Submits, held_by, tells_of};
 ghost use Rattle.at_commands.specs.inside.Saying.{Accepts};
-ghost use Rattle.at_commands.specs.inside.Session.{ComesOfSession, IsNoOutput};
+ghost use Rattle.command_answers.specs.Causes.{stopped_by};
+ghost use Rattle.spool_session.specs.Sessions.{ComesOfSession, HasRisenIn, StaysQuiet};
+ghost use Rattle.at_commands.specs.inside.Session.{IsNoOutput};
 ghost use Rattle.at_commands.specs.inside.Storing.{AnswersJob, StoresJob};
 
 use crate::saying::say_accepted;
@@ -26,7 +27,7 @@ use command_answers::{Caller, Stopped};
 use host_calls::{Host, Inputs, Readings, Sink, SinkFault, Text};
 use listing_text::Cause;
 use spool_model::UserName;
-use spool_session::{enter, open};
+use spool_session::{in_session, open};
 use std::alloc::Global;
 use submission_checks::{Submission, prepare};
 
@@ -46,11 +47,8 @@ pub(crate) fn submit<H: Host, R: Readings, I: Inputs, E: Sink>(
     requires outside { IsOutside (H.session host.old) }
     requires umask { caller.now.context.umask < 512 }
     requires queue { IsTrue (is_ascii_alphabetic queue) }
-    ensures left { IsLeft (H.session host.old) (H.session host.new) }
-    ensures quiet { IsTrue H.tells → GoesOn (H.world host.old) (H.world host.new) }
-    ensures file_fault { result ≡ Cause.FileFault
-        → Rose (H.session host.old).file_faults (H.session host.new).file_faults }
-    ensures busy { result ≡ Cause.Busy → Rose (H.session host.old).taken (H.session host.new).taken }
+    ensures quiet { StaysQuiet H.Host host.old host.new }
+    ensures faults { HasRisenIn H.Host host.old host.new result }
     ensures input_fault { result ≡ Cause.InputFault
         → Rose (I.sources inputs.old).input_faults (I.sources inputs.new).input_faults }
     ensures output_fault { result ≡ Cause.OutputFault
@@ -81,7 +79,7 @@ fn path_of(file: &Option<Text>) -> Option<&str>
     }
 }
 
-// Stores the job of a submission, and says so.
+// Stores the job of a submission in a session of its own, and says so.
 fn store_and_say<H: Host, E: Sink>(
     alloc: Global,
     caller: &Caller,
@@ -95,11 +93,8 @@ fn store_and_say<H: Host, E: Sink>(
     requires user { IsUserName caller.now.context.user }
     requires zone { IsReadable caller.now.zone }
     requires header { IsSome (header_in submission.now.script) }
-    ensures left { IsLeft (H.session host.old) (H.session host.new) }
-    ensures quiet { IsTrue H.tells → GoesOn (H.world host.old) (H.world host.new) }
-    ensures file_fault { result ≡ Cause.FileFault
-        → Rose (H.session host.old).file_faults (H.session host.new).file_faults }
-    ensures busy { result ≡ Cause.Busy → Rose (H.session host.old).taken (H.session host.new).taken }
+    ensures quiet { StaysQuiet H.Host host.old host.new }
+    ensures faults { HasRisenIn H.Host host.old host.new result }
     ensures no_input { result ≢ Cause.InputFault }
     ensures output_fault { result ≡ Cause.OutputFault
         → Rose (E.outlet err.old).sink_faults (E.outlet err.new).sink_faults }
@@ -108,8 +103,15 @@ fn store_and_say<H: Host, E: Sink>(
         (H.world host.old) (H.world host.new)
         (sink_at (E.content err.old) (E.outlet err.old)) (sink_at (E.content err.new) (E.outlet err.new)) result }
 {
-    match store_job(alloc, caller, queue, submission, host) {
-        Ok(number) => accept(alloc, number, submission.minute, &caller.zone, err),
+    let user = UserName::of(caller.context.user.as_str().as_bytes()).unwrap();
+    let minute = submission.minute;
+    let script = submission.script.as_slice();
+    match in_session(
+        alloc,
+        host,
+        &mut |host| store_inside(alloc, &user, queue, minute, script, host),
+    ) {
+        Ok(number) => accept(alloc, number, minute, &caller.zone, err),
         Err(stopped) => stopped.cause,
     }
 }
@@ -129,42 +131,6 @@ fn accept<E: Sink>(alloc: Global, number: u32, minute: u32, zone: &Zone, err: &m
         Err(SinkFault::Failed) => Cause::OutputFault,
         Err(SinkFault::Memory) => Cause::Memory,
     }
-}
-
-// Stores the job of a submission in a session of its own. Answers its number.
-fn store_job<H: Host>(
-    alloc: Global,
-    caller: &Caller,
-    queue: u8,
-    submission: &Submission,
-    host: &mut H,
-) -> Result<u32, Stopped>
-    requires outside { IsOutside (H.session host.old) }
-    requires queue { IsTrue (is_ascii_alphabetic queue) }
-    requires user { IsUserName caller.now.context.user }
-    requires header { IsSome (header_in submission.now.script) }
-    ensures left { IsLeft (H.session host.old) (H.session host.new) }
-    ensures quiet { IsTrue H.tells → GoesOn (H.world host.old) (H.world host.new) }
-    ensures busy { IsErrOf result (stopped_by cause.Busy)
-        → Rose (H.session host.old).taken (H.session host.new).taken }
-    ensures file_fault { IsErrOf result (stopped_by cause.FileFault)
-        → Rose (H.session host.old).file_faults (H.session host.new).file_faults }
-    ensures no_output { IfErr result IsNoOutput }
-    ensures stores { StoresJob H.tells H.alone caller.now queue submission.now.minute submission.now.script
-        (H.world host.old) (H.world host.new) result }
-{
-    let user = UserName::of(caller.context.user.as_str().as_bytes()).unwrap();
-    enter(alloc, host)?;
-    let stored = store_inside(
-        alloc,
-        &user,
-        queue,
-        submission.minute,
-        submission.script.as_slice(),
-        host,
-    );
-    host.leave();
-    stored
 }
 
 // Stores a job. Answers its number.

@@ -1,14 +1,21 @@
 -- The program (own): every tool, and beside them the days that are made from a number.
-use Rattle.std.specs.Prelude.{◌≡◌, ◌⊎◌, ◌≤◌, ℕ, Bool, true, false, List, Option, Some, None, Ok, Err}
+use Rattle.std.specs.Prelude.{◌≡◌, ◌≢◌, ◌⊎◌, ◌≤◌, ℕ, Bool, true, false, List, Option, Some, None, Ok, Err, codes}
 use Rattle.std.specs.List.{concat}
+use Rattle.at_commands.specs.Outside.{OutsideAt}
+use Rattle.at_commands.specs.Tools.{tool_name_of}
 use Rattle.at_words.specs.declared.fault.WordsFault.TheVariants as words
 use Rattle.at_words.specs.declared.tool.Tool.{Tool}
 use Rattle.at_words.specs.declared.tool.Tool.TheVariants.{At, Batch, Atq, Atrm, Atd, Atday}
 use Rattle.at_words.specs.declared.tool_request.ToolRequest.TheVariants as request
+use Rattle.at_words.specs.Requests.{request_of}
 use Rattle.at_words.specs.Tools.{tool_of_words}
+use Rattle.command_answers.specs.declared.caller.Caller.{Caller}
+use Rattle.command_answers.specs.Ends.{Ends}
 use Rattle.command_answers.specs.Found.{Asked}
-use Rattle.command_answers.specs.Sinks.{IsPut, IsPutInPart, IsSilent, SinkAt}
+use Rattle.command_answers.specs.Sinks.{EndsLine, IsPut, IsPutInPart, IsSilent, SaysBy, SinkAt}
 use Rattle.host_calls.specs.Causes.{Rose}
+use Rattle.host_calls.specs.Session.{IsLeft}
+use Rattle.host_calls.specs.World.{GoesOn}
 use Rattle.listing_text.specs.declared.cause.Cause.{Cause}
 use Rattle.listing_text.specs.declared.cause.Cause.TheVariants.{Done, Refused, FileFault, InputFault, OutputFault, Busy, Memory, Damaged, StillRunning}
 use Rattle.listing_text.specs.declared.refusal.Refusal.TheVariants.{Usage}
@@ -73,3 +80,24 @@ EndsDay tells (Ok (request.List filter)) old new cause = ⊥
 EndsDay tells (Ok (request.Remove numbers)) old new cause = ⊥
 EndsDay tells (Ok (request.Show numbers)) old new cause = ⊥
 EndsDay tells (Ok (request.Daemon limit interval once turns)) old new cause = ⊥
+
+-- How the program ends where no daemon is asked for: it starts no child, hands nothing over, reads no load, and does not end
+-- while jobs still run. Unless a day is asked for it ends as the commands do: its verdict and order, what each crash on the
+-- way and each image of the end show, and what is printed and said.
+pub record EndsUnservedUnlessDay (words : List (List ℕ)) (caller : Caller) (old new : OutsideAt) (cause : Cause) : Type 0 where
+  pub left : IsLeft old.session new.session
+  pub quiet : old.tells.files ≡ true → GoesOn old.holds.spool new.holds.spool
+  pub not_running : cause ≢ StillRunning
+  pub ends : asks_for_day words ≡ false →
+      Ends (SaysBy (tool_name_of words)) (request_of words) caller old.tells old.holds new.holds cause
+  pub readers : new.readers ≡ old.readers
+
+-- What words of atday do: what is handed over stays as it is but for the two sinks, and the day that they ask for was made
+-- and told, or the words are refused; and then the line of the cause is said.
+pub record MakesDay {H R I : Type 0} (asked : Asked) (host_old host_new : H) (readings_old readings_new : R)
+    (inputs_old inputs_new : I) (old new : OutsideAt) (cause : Cause) : Type 0 where
+  pub host_alone : host_new ≡ host_old
+  pub readings_alone : readings_new ≡ readings_old
+  pub inputs_alone : inputs_new ≡ inputs_old
+  pub day : EndsDay old.tells.output asked old.holds.output new.holds.output cause
+  pub says : old.tells.errors ≡ true → EndsLine (codes "atday") cause old.holds.errors new.holds.errors

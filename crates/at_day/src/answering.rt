@@ -1,18 +1,14 @@
 //! The program: what its words ask for, done.
-ghost use Rattle.std.specs.Prelude.{◌≡◌, ◌≢◌, ◌<◌, IsTrue, codes, false, map, string_bytes, true};
-ghost use Rattle.at_commands.specs.Served.{IsNotServed, ServesAnew, WhereServed};
-ghost use Rattle.at_commands.specs.Tools.{tool_name_of};
+ghost use Rattle.std.specs.Prelude.{◌≡◌, ◌<◌, codes, false, map, string_bytes, true};
+ghost use Rattle.at_commands.specs.Outside.{HasRisen, ServesAsked, StaysMade, outside_at};
+ghost use Rattle.at_commands.specs.Served.{IsNotServed};
 ghost use Rattle.at_words.specs.declared.tool_request.ToolRequest.TheVariants as request;
 ghost use Rattle.at_words.specs.Requests.{request_of};
-ghost use Rattle.command_answers.specs.Ends.{Ends, FailsToPrint, holding, telling};
-ghost use Rattle.command_answers.specs.Sinks.{EndsLine, SaysBy, sink_at};
-ghost use Rattle.daemon_turn.specs.Kids.{KeepsChildren};
-ghost use Rattle.host_calls.specs.Causes.{Rose};
-ghost use Rattle.host_calls.specs.Session.{IsLeft, IsOutside, KeepsCounts};
-ghost use Rattle.host_calls.specs.World.{GoesOn};
+ghost use Rattle.command_answers.specs.Sinks.{EndsLine, sink_at};
+ghost use Rattle.host_calls.specs.Session.{IsOutside};
 ghost use Rattle.listing_text.specs.Cause.{status_of};
-ghost use Rattle.serving.specs.Serves.{serve_at, serve_telling};
-ghost use Rattle.at_day.specs.Programs.{EndsDay, asks_for_day, makes_days};
+ghost use Rattle.serving.specs.Outside.{EndsOutside};
+ghost use Rattle.at_day.specs.Programs.{EndsDay, EndsUnservedUnlessDay, MakesDay, asks_for_day, makes_days};
 ghost use Rattle.at_day.specs.inside.Making.{IsDayRequest};
 
 use crate::making::tell_day;
@@ -43,65 +39,30 @@ pub fn program<H: Host, R: Readings, I: Inputs, O: Sink, E: Sink>(
     requires umask { caller.now.context.umask < 512 }
 
     ensures code { result ≡ status_of result.cause }
-    ensures outside { IsOutside (H.session host.new) }
-    ensures kept { KeepsChildren (H.session host.old).children (H.session host.new).children }
-    ensures counts { KeepsCounts (H.session host.old) (H.session host.new) }
+    ensures session { EndsOutside (H.session host.old) (H.session host.new) }
 
     // Each fault comes only where its count rose.
-    ensures file_fault { result.cause ≡ Cause.FileFault
-        → Rose (H.session host.old).file_faults (H.session host.new).file_faults }
-    ensures busy { result.cause ≡ Cause.Busy → Rose (H.session host.old).taken (H.session host.new).taken }
-    ensures input_fault { result.cause ≡ Cause.InputFault
-        → Rose (I.sources inputs.old).input_faults (I.sources inputs.new).input_faults }
-    ensures output_fault { result.cause ≡ Cause.OutputFault
-        → FailsToPrint (request_of (map string_bytes words.now))
-        (O.outlet out.old) (O.outlet out.new) (E.outlet err.old) (E.outlet err.new) }
+    ensures faults { HasRisen (request_of (map string_bytes words.now))
+        (outside_at H.Host R.Readings I.Inputs O.Sink E.Sink host.old readings.old inputs.old out.old err.old)
+        (outside_at H.Host R.Readings I.Inputs O.Sink E.Sink host.new readings.new inputs.new out.new err.new) result.cause }
 
-    // What no daemon does: it starts no child, hands nothing over, and its verdict and order, what each crash on the way
-    // and each image of the end show, and what is printed and said.
-    ensures left { IsNotServed (request_of (map string_bytes words.now))
-        → IsLeft (H.session host.old) (H.session host.new) }
-    ensures quiet { IsNotServed (request_of (map string_bytes words.now))
-        → IsTrue H.tells → GoesOn (H.world host.old) (H.world host.new) }
-    ensures not_running { IsNotServed (request_of (map string_bytes words.now)) → result.cause ≢ Cause.StillRunning }
-    ensures ends { asks_for_day (map string_bytes words.now) ≡ false
-        → IsNotServed (request_of (map string_bytes words.now)) →
-        Ends (SaysBy (tool_name_of (map string_bytes words.now)))
-        (request_of (map string_bytes words.now)) caller.now
-        (telling H.tells H.alone R.tells I.tells O.tells E.tells)
-        (holding (H.world host.old) (R.answers readings.old) (I.contents inputs.old)
-        (sink_at (O.content out.old) (O.outlet out.old)) (sink_at (E.content err.old) (E.outlet err.old)))
-        (holding (H.world host.new) (R.answers readings.new) (I.contents inputs.new)
-        (sink_at (O.content out.new) (O.outlet out.new)) (sink_at (E.content err.new) (E.outlet err.new))) result.cause }
-    ensures readers { IsNotServed (request_of (map string_bytes words.now))
-        → R.readers readings.new ≡ R.readers readings.old }
-
-    // What a daemon does: its turns, what is printed and said of them, and its cause.
-    ensures serves { WhereServed (request_of (map string_bytes words.now)) (λ limit interval once turns.
-        ServesAnew (serve_telling H.tells H.alone R.tells O.tells E.tells) limit interval once turns
-        (λ watch. serve_at (H.session host.old) (H.world host.old) watch (R.answers readings.old) (R.readers readings.old))
-        (λ watch. serve_at (H.session host.new) (H.world host.new) watch (R.answers readings.new) (R.readers readings.new))
-        (sink_at (O.content out.old) (O.outlet out.old)) (sink_at (O.content out.new) (O.outlet out.new))
-        (sink_at (E.content err.old) (E.outlet err.old)) (sink_at (E.content err.new) (E.outlet err.new)) result.cause) }
-
-    // What words of `atday` do: what is handed over stays as it is but for the two sinks, and the day that they ask for
-    // was made and told, or the words are refused.
-    ensures host_alone { asks_for_day (map string_bytes words.now) ≡ true → host.new ≡ host.old }
-    ensures readings_alone { asks_for_day (map string_bytes words.now) ≡ true → readings.new ≡ readings.old }
-    ensures inputs_alone { asks_for_day (map string_bytes words.now) ≡ true → inputs.new ≡ inputs.old }
+    // What no daemon does, what a daemon does, and what words of `atday` do.
+    ensures ends { IsNotServed (request_of (map string_bytes words.now)) →
+        EndsUnservedUnlessDay (map string_bytes words.now) caller.now
+        (outside_at H.Host R.Readings I.Inputs O.Sink E.Sink host.old readings.old inputs.old out.old err.old)
+        (outside_at H.Host R.Readings I.Inputs O.Sink E.Sink host.new readings.new inputs.new out.new err.new) result.cause }
+    ensures serves { ServesAsked (request_of (map string_bytes words.now))
+        (outside_at H.Host R.Readings I.Inputs O.Sink E.Sink host.old readings.old inputs.old out.old err.old)
+        (outside_at H.Host R.Readings I.Inputs O.Sink E.Sink host.new readings.new inputs.new out.new err.new) result.cause }
     ensures day { asks_for_day (map string_bytes words.now) ≡ true →
-        EndsDay O.tells (request_of (map string_bytes words.now))
-        (sink_at (O.content out.old) (O.outlet out.old)) (sink_at (O.content out.new) (O.outlet out.new)) result.cause }
-    ensures day_says { asks_for_day (map string_bytes words.now) ≡ true → E.tells ≡ true →
-        EndsLine (codes "atday") result.cause
-        (sink_at (E.content err.old) (E.outlet err.old)) (sink_at (E.content err.new) (E.outlet err.new)) }
+        MakesDay (request_of (map string_bytes words.now)) host.old host.new readings.old readings.new inputs.old inputs.new
+        (outside_at H.Host R.Readings I.Inputs O.Sink E.Sink host.old readings.old inputs.old out.old err.old)
+        (outside_at H.Host R.Readings I.Inputs O.Sink E.Sink host.new readings.new inputs.new out.new err.new) result.cause }
 
     // What the others were made as stays.
-    ensures readers_made { (R.readers readings.new).made_as ≡ (R.readers readings.old).made_as }
-    ensures contents { I.contents inputs.new ≡ I.contents inputs.old }
-    ensures input_made { (I.sources inputs.new).made_as ≡ (I.sources inputs.old).made_as }
-    ensures out_made { (O.outlet out.new).made_as ≡ (O.outlet out.old).made_as }
-    ensures errors_made { (E.outlet err.new).made_as ≡ (E.outlet err.old).made_as }
+    ensures made { StaysMade
+        (outside_at H.Host R.Readings I.Inputs O.Sink E.Sink host.old readings.old inputs.old out.old err.old)
+        (outside_at H.Host R.Readings I.Inputs O.Sink E.Sink host.new readings.new inputs.new out.new err.new) }
 {
     if asks_for_day(words) {
         return answer_day(alloc, words, out, err);

@@ -1,4 +1,3 @@
-pub mod Carrying
 pub mod Causes
 pub mod Checks
 pub mod Ends

@@ -101,8 +101,19 @@ ended_caused tells once turns first now out_first out_now err_first err_now err_
     (outcome_caused first.spool.session ended.last.spool.session out_first out_now ended.cut ended.prints.rose ended.stop once ended.items ended.last.spool.watch.kids
     (rose_first tells once first ended.items ended.last ended.serves))))
 
-pub caused_for : (final cause : Cause) (old new : Session) (was is : SinkAt) → IsCaused final old new was is → final ≡ cause → IsCaused cause old new was is
+caused_for : (final cause : Cause) (old new : Session) (was is : SinkAt) → IsCaused final old new was is → final ≡ cause → IsCaused cause old new was is
 caused_for final cause old new was is caused same = subst (λ (other : Cause). IsCaused other old new was is) same caused
+
+-- the faults that it can be, one by one
+pub risen_by : (final : Cause) (old new : Session) (was is : SinkAt) → IsCaused final old new was is →
+    (final ≡ cause.FileFault → Rose old.file_faults new.file_faults) × (final ≡ cause.Busy → Rose old.taken new.taken)
+    × (final ≡ cause.OutputFault → Rose was.faults is.faults) × (final ≡ cause.InputFault → ⊥)
+risen_by final old new was is caused = (
+  caused_for final cause.FileFault old new was is caused,
+  caused_for final cause.Busy old new was is caused,
+  caused_for final cause.OutputFault old new was is caused,
+  caused_for final cause.InputFault old new was is caused,
+)
 
 -- where a further turn is to come, the last one found no damage
 pub no_damage : (once : Bool) (last : Option Item) (kids : List Kid) (other : Outcome) → ends_behind once last kids ≡ false → last_outcome last other ≡ other

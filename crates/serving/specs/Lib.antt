@@ -3,6 +3,7 @@ pub mod Items
 pub mod Laws
 pub mod Lines
 pub mod Outcomes
+pub mod Outside
 pub mod Serves
 pub mod Serving
 pub mod inside

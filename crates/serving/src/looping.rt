@@ -1,12 +1,11 @@
 //! The loop of turns.
-ghost use Rattle.std.specs.Prelude.{◌≡◌, ◌≢◌, ◌≤◌};
+ghost use Rattle.std.specs.Prelude.{◌≡◌, ◌≤◌};
 ghost use Rattle.command_answers.specs.Sinks.{sink_at};
 ghost use Rattle.daemon_turn.specs.Kids.{AreChildren, KeepsChildren};
-ghost use Rattle.host_calls.specs.Causes.{Rose};
 ghost use Rattle.host_calls.specs.Session.{IsOutside, KeepsCounts};
 ghost use Rattle.listing_text.specs.Cause.{status_of};
+ghost use Rattle.serving.specs.Outside.{EndsOutside, HasRisenServing, IsServed, StaysMadeServing, work_at};
 ghost use Rattle.serving.specs.Serves.{serve_at, serve_telling};
-ghost use Rattle.serving.specs.Serving.{Serving};
 ghost use Rattle.serving.specs.inside.Progressing.{HasEnded};
 
 use crate::Outcome;
@@ -41,30 +40,23 @@ pub fn serve<H: Host, R: Readings, O: Sink, E: Sink>(
     requires children { AreChildren (H.session host.old).children daemon.old.kids }
 
     ensures code { result ≡ status_of result.cause }
-    ensures outside { IsOutside (H.session host.new) }
+    ensures session { EndsOutside (H.session host.old) (H.session host.new) }
     ensures children { AreChildren (H.session host.new).children daemon.new.kids }
-    ensures kept { KeepsChildren (H.session host.old).children (H.session host.new).children }
-    ensures counts { KeepsCounts (H.session host.old) (H.session host.new) }
 
     // Each fault comes only where its count rose.
-    ensures file_fault { result.cause ≡ Cause.FileFault
-        → Rose (H.session host.old).file_faults (H.session host.new).file_faults }
-    ensures busy { result.cause ≡ Cause.Busy → Rose (H.session host.old).taken (H.session host.new).taken }
-    ensures output_fault { result.cause ≡ Cause.OutputFault
-        → Rose (O.outlet out.old).sink_faults (O.outlet out.new).sink_faults }
-    ensures no_input { result.cause ≢ Cause.InputFault }
+    ensures faults { HasRisenServing
+        (work_at H.Host R.Readings O.Sink E.Sink daemon.old host.old readings.old out.old err.old)
+        (work_at H.Host R.Readings O.Sink E.Sink daemon.new host.new readings.new out.new err.new) result.cause }
 
     // The turns and the rests between them, what is printed and said of them, and the cause.
-    ensures serving { Serving (serve_telling H.tells H.alone R.tells O.tells E.tells) once turns
-        (serve_at (H.session host.old) (H.world host.old) daemon.old (R.answers readings.old) (R.readers readings.old))
-        (serve_at (H.session host.new) (H.world host.new) daemon.new (R.answers readings.new) (R.readers readings.new))
-        (sink_at (O.content out.old) (O.outlet out.old)) (sink_at (O.content out.new) (O.outlet out.new))
-        (sink_at (E.content err.old) (E.outlet err.old)) (sink_at (E.content err.new) (E.outlet err.new)) result.cause }
+    ensures serving { IsServed once turns
+        (work_at H.Host R.Readings O.Sink E.Sink daemon.old host.old readings.old out.old err.old)
+        (work_at H.Host R.Readings O.Sink E.Sink daemon.new host.new readings.new out.new err.new) result.cause }
 
     // What the others were made as stays.
-    ensures readers_made { (R.readers readings.new).made_as ≡ (R.readers readings.old).made_as }
-    ensures out_made { (O.outlet out.new).made_as ≡ (O.outlet out.old).made_as }
-    ensures errors_made { (E.outlet err.new).made_as ≡ (E.outlet err.old).made_as }
+    ensures made { StaysMadeServing
+        (work_at H.Host R.Readings O.Sink E.Sink daemon.old host.old readings.old out.old err.old)
+        (work_at H.Host R.Readings O.Sink E.Sink daemon.new host.new readings.new out.new err.new) }
 {
     let outcome = make_turns(alloc, daemon, turns, once, host, readings, out, err);
     Status::of(say_outcome(alloc, outcome, err))

@@ -1,12 +1,12 @@
-//! The session of a command: entering the spool, the lists of users, the recovery of the store, and which jobs the user
-//! may ask for.
+//! The session of a command: its work between entering and leaving the spool, the lists of users, the recovery of the
+//! store, and which jobs the user may ask for.
 #![tactic(auto)]
 
-mod entering;
 mod jobs;
 mod lists;
 mod opening;
+mod session;
 
-pub use entering::enter;
 pub use jobs::{is_seen_by, refusal_of_jobs};
 pub use opening::open;
+pub use session::in_session;

@@ -7,7 +7,7 @@ use Rattle.command_answers.specs.declared.caller.Caller.{Caller}
 use Rattle.command_answers.specs.declared.stopped.Stopped.{Stopped}
 use Rattle.command_answers.specs.Causes.{cause_in}
 use Rattle.command_answers.specs.Found.{found_of}
-use Rattle.command_answers.specs.Carrying.{Carries, Finding, IsSessionText}
+use Rattle.at_commands.specs.inside.Carrying.{Carries, Finding, IsSessionText}
 use Rattle.command_answers.specs.Sinks.{PrintsBy, SinkAt}
 
 -- nothing was found outside but the lists of users

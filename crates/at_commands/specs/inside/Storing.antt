@@ -12,7 +12,7 @@ use Rattle.command_answers.specs.declared.caller.Caller.{Caller}
 use Rattle.command_answers.specs.declared.stopped.Stopped.{Stopped}
 use Rattle.command_answers.specs.Causes.{cause_in}
 use Rattle.command_answers.specs.Found.{found_of}
-use Rattle.command_answers.specs.Carrying.{Carries, Finding, IsSessionLine}
+use Rattle.at_commands.specs.inside.Carrying.{Carries, Finding, IsSessionLine}
 use Rattle.command_answers.specs.Requested.{next_number}
 use Rattle.command_answers.specs.Sinks.{NotesBy, SinkAt}
 use Rattle.command_answers.specs.Times.{minute_in}

@@ -1,4 +1,4 @@
-use Rattle.std.proofs.Common.{subst, ap, ◌∙◌, List, ℕ, map, string_bytes}
+use Rattle.std.proofs.Common.{subst, ap, ◌∙◌, List, ℕ, map, refl, string_bytes}
 use Rattle.at_words.specs.Requests.{request_of}
 use Rattle.command_answers.specs.Ends.{holding, telling}
 use Rattle.command_answers.specs.Sinks.{sink_at}
@@ -9,7 +9,8 @@ use Rattle.serving.specs.Serves.{serve_at, serve_telling}
 use Rattle.command_answers.specs.Causes.{words_cause}
 use Rattle.at_commands.specs.Tools.{tool_name_of}
 use Rattle.at_commands.proofs.AtdLemmas.{nothing_served, words_served}
-use Rattle.at_commands.proofs.CommandLemmas.{words_end}
+use Rattle.command_answers.proofs.SpoolLemmas.{goes_on_none}
+use Rattle.at_commands.proofs.CommandLemmas.{left_same, outside_left, words_end, words_not_running, words_risen}
 use Rattle.at_commands.proofs.EndsLemmas.{ends_said}
 use Rattle.at_commands.proofs.ServedLemmas.{daemon_named, has_turns}
 use Rattle.at_commands.proofs.answering.command.Goals as goal
@@ -18,22 +19,38 @@ pub serve_anew-requires-clause-turns : goal.serve_anew-requires-clause-turns
 serve_anew-requires-clause-turns g c =
     has_turns (map string_bytes c.args.words.now) c.in-Daemon.limit c.in-Daemon.interval c.in-Daemon.once c.in-Daemon.turns (rw c.in-Daemon.is at c.in-Ok.ensures.asked)
 
+pub returns-in-Err-clause-session : goal.returns-in-Err-clause-session
+returns-in-Err-clause-session g c =
+    outside_left (g.H.Host.session c.args.host.now) _ (left_same (g.H.Host.session c.args.host.now) c.requires.outside)
+
+pub returns-in-Err-clause-faults : goal.returns-in-Err-clause-faults
+returns-in-Err-clause-faults g c = rw c.of.ensures
+    (words_risen c.in-Err.fault c.say_cause.result (rw c.cause_of_words.ensures at c.say_cause.ensures.same_or_memory) _ _ _)
+
+pub returns-in-Err-clause-made : goal.returns-in-Err-clause-made
+returns-in-Err-clause-made g c = record { readers = refl; contents = refl; inputs = refl; out = refl; err = c.say_cause.ensures.made_as }
+
 pub returns-in-Err-clause-ends : goal.returns-in-Err-clause-ends
-returns-in-Err-clause-ends g c = rw c.of.ensures (λ unserved.
-    ends_said (tool_name_of (map string_bytes c.args.words.now)) (request_of (map string_bytes c.args.words.now)) c.args.caller.now
-    (telling g.H.Host.tells g.H.Host.alone g.R.Readings.tells g.I.Inputs.tells g.O.Sink.tells g.E.Sink.tells)
-    (holding (g.H.Host.world c.args.host.now) (g.R.Readings.answers c.args.readings.now) (g.I.Inputs.contents c.args.inputs.now)
-    (sink_at (g.O.Sink.content c.args.out.now) (g.O.Sink.outlet c.args.out.now)) (sink_at (g.E.Sink.content c.args.err.now) (g.E.Sink.outlet c.args.err.now)))
-    (holding (g.H.Host.world c.args.host.now) (g.R.Readings.answers c.args.readings.now) (g.I.Inputs.contents c.args.inputs.now)
-    (sink_at (g.O.Sink.content c.args.out.now) (g.O.Sink.outlet c.args.out.now)) (sink_at (g.E.Sink.content c.say_cause.new.err) (g.E.Sink.outlet c.say_cause.new.err)))
-    (sink_at (g.E.Sink.content c.args.err.now) (g.E.Sink.outlet c.args.err.now))
-    c.cause_of_words.result
-    (rw c.cause_of_words.ensures (words_end (request_of (map string_bytes c.args.words.now)) c.args.caller.now
-    (telling g.H.Host.tells g.H.Host.alone g.R.Readings.tells g.I.Inputs.tells g.O.Sink.tells g.E.Sink.tells)
-    (holding (g.H.Host.world c.args.host.now) (g.R.Readings.answers c.args.readings.now) (g.I.Inputs.contents c.args.inputs.now)
-    (sink_at (g.O.Sink.content c.args.out.now) (g.O.Sink.outlet c.args.out.now)) (sink_at (g.E.Sink.content c.args.err.now) (g.E.Sink.outlet c.args.err.now)))
-    c.in-Err.fault c.in-Err.ensures.asked))
-    c.say_cause.result (rw c.tool_name-in-Err.ensures at c.say_cause.ensures.said))
+returns-in-Err-clause-ends g c = rw c.of.ensures (λ unserved. record {
+  left = left_same (g.H.Host.session c.args.host.now) c.requires.outside;
+  quiet = λ told. goes_on_none _ _ refl;
+  not_running = words_not_running c.in-Err.fault c.say_cause.result (rw c.cause_of_words.ensures at c.say_cause.ensures.same_or_memory);
+  readers = refl;
+  ends = ends_said (tool_name_of (map string_bytes c.args.words.now)) (request_of (map string_bytes c.args.words.now)) c.args.caller.now
+      (telling g.H.Host.tells g.H.Host.alone g.R.Readings.tells g.I.Inputs.tells g.O.Sink.tells g.E.Sink.tells)
+      (holding (g.H.Host.world c.args.host.now) (g.R.Readings.answers c.args.readings.now) (g.I.Inputs.contents c.args.inputs.now)
+      (sink_at (g.O.Sink.content c.args.out.now) (g.O.Sink.outlet c.args.out.now)) (sink_at (g.E.Sink.content c.args.err.now) (g.E.Sink.outlet c.args.err.now)))
+      (holding (g.H.Host.world c.args.host.now) (g.R.Readings.answers c.args.readings.now) (g.I.Inputs.contents c.args.inputs.now)
+      (sink_at (g.O.Sink.content c.args.out.now) (g.O.Sink.outlet c.args.out.now)) (sink_at (g.E.Sink.content c.say_cause.new.err) (g.E.Sink.outlet c.say_cause.new.err)))
+      (sink_at (g.E.Sink.content c.args.err.now) (g.E.Sink.outlet c.args.err.now))
+      c.cause_of_words.result
+      (rw c.cause_of_words.ensures (words_end (request_of (map string_bytes c.args.words.now)) c.args.caller.now
+      (telling g.H.Host.tells g.H.Host.alone g.R.Readings.tells g.I.Inputs.tells g.O.Sink.tells g.E.Sink.tells)
+      (holding (g.H.Host.world c.args.host.now) (g.R.Readings.answers c.args.readings.now) (g.I.Inputs.contents c.args.inputs.now)
+      (sink_at (g.O.Sink.content c.args.out.now) (g.O.Sink.outlet c.args.out.now)) (sink_at (g.E.Sink.content c.args.err.now) (g.E.Sink.outlet c.args.err.now)))
+      c.in-Err.fault c.in-Err.ensures.asked))
+      c.say_cause.result (rw c.tool_name-in-Err.ensures at c.say_cause.ensures.said);
+})
 
 pub returns-in-Err-clause-serves : goal.returns-in-Err-clause-serves
 returns-in-Err-clause-serves g c = rw c.of.ensures

@@ -1,7 +1,7 @@
 use Rattle.std.proofs.Common.{◌≡◌, ◌∙◌, refl, sym}
 use Rattle.command_answers.specs.Sinks.{sink_at}
-use Rattle.command_answers.proofs.SpoolLemmas.{goes_on_none}
 use Rattle.at_commands.proofs.AnswerLemmas.{listing_unnamed, named_user, unnamed_user}
+use Rattle.at_commands.proofs.SessionLemmas.{quiet_none}
 use Rattle.at_commands.proofs.listing.list.Goals as goal
 
 pub list_for-requires-clause-named : goal.list_for-requires-clause-named
@@ -15,7 +15,7 @@ list_for-requires-clause-user g c =
     sym bytes ∙ sym c.in-Some.ensures.value
 
 pub returns-in-None-clause-quiet : goal.returns-in-None-clause-quiet
-returns-in-None-clause-quiet g c = λ told. goes_on_none _ _ refl
+returns-in-None-clause-quiet g c = quiet_none g.H.Host c.args.host.now c.requires
 
 pub returns-in-None-clause-ends : goal.returns-in-None-clause-ends
 returns-in-None-clause-ends g c =

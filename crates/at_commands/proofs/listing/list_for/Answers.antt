@@ -1,14 +1,15 @@
-use Rattle.std.proofs.Common.{◌∙◌, List, refl, subst, sym, ℕ}
+use Rattle.std.proofs.Common.{◌∙◌, List, rules, subst, sym, ℕ}
+use Rattle.at_words.specs.declared.tool_request.ToolRequest.TheVariants as request
 use Rattle.command_answers.specs.Sinks.{sink_at}
-use Rattle.command_answers.proofs.SpoolLemmas.{goes_on_none}
 use Rattle.at_commands.specs.inside.Printing.{PutsWhole}
 use Rattle.at_commands.proofs.AnswerLemmas.{listing_put, listing_stopped, listing_unzoned, puts_no_busy, puts_no_file_fault, puts_no_input_fault}
-use Rattle.at_commands.proofs.SessionLemmas.{no_input_of_spool, no_output_of_spool}
+use Rattle.at_commands.proofs.InSessionLemmas.{lists_of_session, no_output_of_session}
+use Rattle.at_commands.proofs.SessionLemmas.{no_input_of_spool, no_output_of_spool, quiet_none, risen_none}
 use Rattle.at_commands.proofs.UserLemmas.{zone_readable}
 use Rattle.at_commands.proofs.listing.list_for.Goals as goal
 
 pub returns-then-is_unreadable-clause-quiet : goal.returns-then-is_unreadable-clause-quiet
-returns-then-is_unreadable-clause-quiet g c = λ told. goes_on_none _ _ refl
+returns-then-is_unreadable-clause-quiet g c = quiet_none g.H.Host c.args.host.now c.requires.outside
 
 pub returns-then-is_unreadable-clause-ends : goal.returns-then-is_unreadable-clause-ends
 returns-then-is_unreadable-clause-ends g c =
@@ -16,26 +17,29 @@ returns-then-is_unreadable-clause-ends g c =
     (sink_at (g.O.Sink.content c.args.out.now) (g.O.Sink.outlet c.args.out.now)) c.requires.named
     (sym c.is_unreadable.ensures ∙ c.if-is_unreadable.true)
 
-pub list_in_session-requires-clause-zone : goal.list_in_session-requires-clause-zone
-list_in_session-requires-clause-zone g c = zone_readable c.args.caller.now.zone (sym c.is_unreadable.ensures ∙ c.if-is_unreadable.false)
+pub in_session-requires-clause-may : goal.in_session-requires-clause-may
+in_session-requires-clause-may g c = λ at inside. search (rules, zone_readable c.args.caller.now.zone (sym c.is_unreadable.ensures ∙ c.if-is_unreadable.false))
 
 pub returns-in-Err-clause-no_input : goal.returns-in-Err-clause-no_input
-returns-in-Err-clause-no_input g c = no_input_of_spool c.in-Err.stopped c.in-Err.ensures.no_output
+returns-in-Err-clause-no_input g c = no_input_of_spool c.in-Err.stopped
+    (no_output_of_session g.H.Host _ _ _ _ _ _ c.in-Err.ensures.ends (λ first last did. search (rules, did)))
 
 pub returns-in-Err-clause-output_fault : goal.returns-in-Err-clause-output_fault
-returns-in-Err-clause-output_fault g c = λ same. absurd (no_output_of_spool c.in-Err.stopped c.in-Err.ensures.no_output same)
+returns-in-Err-clause-output_fault g c = λ same. absurd (no_output_of_spool c.in-Err.stopped
+    (no_output_of_session g.H.Host _ _ _ _ _ _ c.in-Err.ensures.ends (λ first last did. search (rules, did))) same)
 
 pub returns-in-Err-clause-ends : goal.returns-in-Err-clause-ends
 returns-in-Err-clause-ends g c =
     listing_stopped g.H.Host.tells g.H.Host.alone g.O.Sink.tells c.args.which.now c.args.caller.now (g.H.Host.world c.args.host.now)
-    (g.H.Host.world c.list_in_session.new.host) c.requires.named (sym c.is_unreadable.ensures ∙ c.if-is_unreadable.false)
-    c.in-Err.stopped (sink_at (g.O.Sink.content c.args.out.now) (g.O.Sink.outlet c.args.out.now)) c.in-Err.ensures.no_output (c.in-Err.ensures.lists c.args.caller.now c.requires.user refl)
+    (g.H.Host.world c.in_session.new.host) c.requires.named (sym c.is_unreadable.ensures ∙ c.if-is_unreadable.false)
+    c.in-Err.stopped (sink_at (g.O.Sink.content c.args.out.now) (g.O.Sink.outlet c.args.out.now))
+    (no_output_of_session g.H.Host _ _ _ _ _ _ c.in-Err.ensures.ends (λ first last did. search (rules, did)))
+    (lists_of_session g.H.Host _ _ _ _ _ _ (request.List c.args.which.now) c.args.caller.now c.in-Err.ensures.ends
+    (λ first last did. search (rules, did, c.requires.user)))
 
-pub returns-in-Ok-clause-file_fault : goal.returns-in-Ok-clause-file_fault
-returns-in-Ok-clause-file_fault g c = λ same. absurd (puts_no_file_fault _ _ _ _ c.put_whole.result c.put_whole.ensures.puts same)
-
-pub returns-in-Ok-clause-busy : goal.returns-in-Ok-clause-busy
-returns-in-Ok-clause-busy g c = λ same. absurd (puts_no_busy _ _ _ _ c.put_whole.result c.put_whole.ensures.puts same)
+pub returns-in-Ok-clause-faults : goal.returns-in-Ok-clause-faults
+returns-in-Ok-clause-faults g c = risen_none g.H.Host _ _ c.put_whole.result
+    (puts_no_file_fault _ _ _ _ c.put_whole.result c.put_whole.ensures.puts) (puts_no_busy _ _ _ _ c.put_whole.result c.put_whole.ensures.puts)
 
 pub returns-in-Ok-clause-no_input : goal.returns-in-Ok-clause-no_input
 returns-in-Ok-clause-no_input g c = puts_no_input_fault _ _ _ _ c.put_whole.result c.put_whole.ensures.puts
@@ -43,9 +47,10 @@ returns-in-Ok-clause-no_input g c = puts_no_input_fault _ _ _ _ c.put_whole.resu
 pub returns-in-Ok-clause-ends : goal.returns-in-Ok-clause-ends
 returns-in-Ok-clause-ends g c =
     listing_put g.H.Host.tells g.H.Host.alone g.O.Sink.tells c.args.which.now c.args.caller.now (g.H.Host.world c.args.host.now)
-    (g.H.Host.world c.list_in_session.new.host) c.requires.named (sym c.is_unreadable.ensures ∙ c.if-is_unreadable.false)
+    (g.H.Host.world c.in_session.new.host) c.requires.named (sym c.is_unreadable.ensures ∙ c.if-is_unreadable.false)
     c.put_whole.result c.in-Ok.text (sink_at (g.O.Sink.content c.args.out.now) (g.O.Sink.outlet c.args.out.now))
     (sink_at (g.O.Sink.content c.put_whole.new.out) (g.O.Sink.outlet c.put_whole.new.out))
-    (c.in-Ok.ensures.lists c.args.caller.now c.requires.user refl)
+    (lists_of_session g.H.Host _ _ _ _ _ _ (request.List c.args.which.now) c.args.caller.now c.in-Ok.ensures.ends
+    (λ first last did. search (rules, did, c.requires.user)))
     (subst (λ (of : List ℕ). PutsWhole g.O.Sink.tells of (sink_at (g.O.Sink.content c.args.out.now) (g.O.Sink.outlet c.args.out.now))
     (sink_at (g.O.Sink.content c.put_whole.new.out) (g.O.Sink.outlet c.put_whole.new.out)) c.put_whole.result) c.as_slice.ensures c.put_whole.ensures.puts)

@@ -4,20 +4,19 @@ use Rattle.listing_text.specs.declared.cause.Cause.{Cause}
 use Rattle.submission_checks.specs.Preparing.{IsOfPreparing}
 use Rattle.command_answers.specs.Causes.{stopped_by}
 use Rattle.command_answers.specs.Sinks.{sink_at}
-use Rattle.command_answers.proofs.SpoolLemmas.{goes_on_none}
 use Rattle.at_commands.specs.inside.Answering.{held_by, tells_of}
 use Rattle.at_commands.proofs.PreparedLemmas.{prepared_header, prepared_named, prepared_zoned, submission_answered, submission_stopped}
+use Rattle.at_commands.proofs.SessionLemmas.{quiet_none, risen_none}
 use Rattle.at_commands.proofs.UnreadLemmas.{silent}
 use Rattle.at_commands.proofs.submitting.submit.Goals as goal
 
 pub returns-in-Err-clause-quiet : goal.returns-in-Err-clause-quiet
-returns-in-Err-clause-quiet g c = λ told. goes_on_none _ _ refl
+returns-in-Err-clause-quiet g c = quiet_none g.H.Host c.args.host.now c.requires.outside
 
-pub returns-in-Err-clause-file_fault : goal.returns-in-Err-clause-file_fault
-returns-in-Err-clause-file_fault g c = λ same. absurd (subst (λ (of : Cause). IsOfPreparing of) same c.in-Err.ensures.prepares.ends.comes)
-
-pub returns-in-Err-clause-busy : goal.returns-in-Err-clause-busy
-returns-in-Err-clause-busy g c = λ same. absurd (subst (λ (of : Cause). IsOfPreparing of) same c.in-Err.ensures.prepares.ends.comes)
+pub returns-in-Err-clause-faults : goal.returns-in-Err-clause-faults
+returns-in-Err-clause-faults g c = risen_none g.H.Host _ _ c.in-Err.stopped.cause
+    (λ same. subst (λ (of : Cause). IsOfPreparing of) same c.in-Err.ensures.prepares.ends.comes)
+    (λ same. subst (λ (of : Cause). IsOfPreparing of) same c.in-Err.ensures.prepares.ends.comes)
 
 pub returns-in-Err-clause-output_fault : goal.returns-in-Err-clause-output_fault
 returns-in-Err-clause-output_fault g c = λ same. absurd (subst (λ (of : Cause). IsOfPreparing of) same c.in-Err.ensures.prepares.ends.comes)

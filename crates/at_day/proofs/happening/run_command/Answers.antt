@@ -38,20 +38,20 @@ returns-clause-given c =
       said_on = c.requires.err_made;
     })
     (record {
-      readers = e.readers unserved;
-      contents = e.contents;
-      sources = e.input_made;
-      printed_on = e.out_made;
-      said_on = e.errors_made;
+      readers = (e.ends unserved).readers;
+      contents = e.made.contents;
+      sources = e.made.inputs;
+      printed_on = e.made.out;
+      said_on = e.made.err;
     })
     (record {
       code = e.code;
-      left = e.left unserved;
-      quiet = e.quiet unserved refl;
-      file_fault = e.file_fault;
-      busy = e.busy;
-      input_fault = e.input_fault;
-      output_fault = e.output_fault;
-      not_running = e.not_running unserved;
-      ends = e.ends unserved;
+      left = (e.ends unserved).left;
+      quiet = (e.ends unserved).quiet refl;
+      file_fault = e.faults.file_fault;
+      busy = e.faults.busy;
+      input_fault = e.faults.input_fault;
+      output_fault = e.faults.output_fault;
+      not_running = (e.ends unserved).not_running;
+      ends = (e.ends unserved).ends;
     }))

@@ -1,0 +1,6 @@
+//! Work within a session of a host: the session is begun before it, and ended behind it.
+#![tactic(auto)]
+
+mod session;
+
+pub use session::in_session;

@@ -1,0 +1,73 @@
+-- What a session comes to, by its work.
+use Rattle.std.proofs.Common.{◌≡◌, ◌≤◌, true, ℕ, ◌∙◌, ap, refl, subst, arith}
+use Rattle.std.specs.Prelude.{Result, Ok, Err, IfErr, IsErrOf}
+use Rattle.host_calls.specs.Causes.{Rose}
+use Rattle.host_calls.specs.declared.fault.EnterFault.{EnterFault}
+use Rattle.host_calls.specs.declared.fault.EnterFault.TheVariants.{Failed, Memory as NoMemory, Taken}
+use Rattle.host_calls.specs.declared.host.Host.{Ghosts}
+use Rattle.host_calls.specs.Session.{KeepsCounts, Session}
+use Rattle.host_session.specs.Work.{Calls, IsDoneInside, IsUndone}
+use Rattle.listing_text.specs.declared.cause.Cause.{Cause}
+use Rattle.listing_text.specs.declared.cause.Cause.TheVariants.{Busy, Done, FileFault, Memory}
+use Rattle.command_answers.specs.Causes.{cause_in, cause_of_entry, stopped_by}
+use Rattle.command_answers.specs.declared.stopped.Stopped.{Stopped}
+use Rattle.command_answers.proofs.SpoolLemmas.{goes_on_then}
+use Rattle.spool_session.specs.Sessions.{ComesOfSession, HasRisenIn, IsOfSession, IsWork, StaysQuiet, WorksInside}
+
+pub counts_then : (old middle new : Session) → KeepsCounts old middle → KeepsCounts middle new → KeepsCounts old new
+counts_then old middle new before behind = record {
+  made_as = behind.made_as ∙ before.made_as;
+  file_faults = omega (arith, before.file_faults, behind.file_faults);
+  start_faults = omega (arith, before.start_faults, behind.start_faults);
+  taken = omega (arith, before.taken, behind.taken);
+}
+
+-- a count that rose on the way has risen in all
+rose_within : (first old new last : ℕ) → first ≤ old → new ≤ last → Rose old new → Rose first last
+rose_within first old new last before behind rose = omega arith
+
+-- the cause of an answer, where it is that of a fault of a file
+failed : {T : Type 0} (result : Result T Stopped) → cause_in result ≡ FileFault → IsErrOf result (stopped_by FileFault)
+failed (Ok value) is = let no : Done ≡ FileFault = is in cc
+failed (Err stopped) is = ap (λ (of : Cause). Err (stopped_by of)) is
+
+-- within a session the lock is not taken
+never_busy : {T : Type 0} (result : Result T Stopped) → IfErr result ComesOfSession → cause_in result ≡ Busy → ⊥
+never_busy (Ok value) comes is = let no : Done ≡ Busy = is in cc
+never_busy (Err stopped) comes is = subst IsOfSession is comes
+
+module _ {H F T : Type 0} (g : Ghosts H) (calls : Calls H F (Result T Stopped)) (work left : F) (old new : H) (result : Result T Stopped)
+    (is_work : IsWork g calls work) (done : IsDoneInside g calls work left old new result) where
+  abbrev works : WorksInside g done.first done.last result
+  works = is_work done.first done.last left result done.begun.inside done.did
+
+  pub quiet_done : StaysQuiet g old new
+  quiet_done = record {
+    left = record {
+      outside = done.over.outside;
+      children = done.over.children ∙ (works.inside.stays.children ∙ done.begun.children);
+      counts = counts_then (g.session old) (g.session done.first) (g.session new) done.begun.counts
+          (counts_then (g.session done.first) (g.session done.last) (g.session new) works.inside.stays.counts done.over.counts);
+    };
+    goes_on = λ told.
+        goes_on_then (g.world old) (g.world done.last) (g.world new)
+        (goes_on_then (g.world old) (g.world done.first) (g.world done.last) (done.begun.quiet.goes_on told) (works.goes_on told))
+        (done.quiet.goes_on told);
+  }
+
+  pub risen_done : HasRisenIn g old new (cause_in result)
+  risen_done = record {
+    file_fault = λ is.
+        rose_within (g.session old).file_faults (g.session done.first).file_faults (g.session done.last).file_faults (g.session new).file_faults
+        done.begun.counts.file_faults done.over.counts.file_faults (works.inside.cause.rose (failed result is));
+    busy = λ is. absurd (never_busy result works.comes is);
+  }
+
+module _ {H F : Type 0} (g : Ghosts H) (work left : F) (old new : H) where
+  pub quiet_undone : (fault : EnterFault) → IsUndone g work left old new fault → StaysQuiet g old new
+  quiet_undone fault undone = record { left = undone.refused.left; goes_on = undone.refused.quiet.goes_on }
+
+  pub risen_undone : (fault : EnterFault) → IsUndone g work left old new fault → HasRisenIn g old new (cause_of_entry fault)
+  risen_undone Taken undone = record { file_fault = λ is. (cc); busy = λ is. undone.refused.taken refl }
+  risen_undone Failed undone = record { file_fault = λ is. undone.refused.failed refl; busy = λ is. (cc) }
+  risen_undone NoMemory undone = record { file_fault = λ is. (cc); busy = λ is. (cc) }

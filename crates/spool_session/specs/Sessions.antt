@@ -1,0 +1,68 @@
+-- The session of a command, round its work (own).
+use Rattle.std.specs.Prelude.{◌≡◌, ◌⊎◌, true, Result, Err, IfErr}
+use Rattle.std.specs.Borrow.{MutBor}
+use Rattle.std.specs.Fn.{CalledAtMut, Takes}
+use Rattle.host_calls.specs.Causes.{Rose}
+use Rattle.host_calls.specs.declared.fault.EnterFault.{EnterFault}
+use Rattle.host_calls.specs.declared.host.Host.{Ghosts}
+use Rattle.host_calls.specs.Session.{CallsInside, IsInside, IsLeft}
+use Rattle.host_calls.specs.World.{GoesOn}
+use Rattle.host_session.specs.Work.{Calls, IsDoneInside, IsUndone}
+use Rattle.listing_text.specs.declared.cause.Cause.{Cause}
+use Rattle.listing_text.specs.declared.cause.Cause.TheVariants.{Done, Refused, FileFault, InputFault, OutputFault, Busy, Memory, Damaged, StillRunning}
+use Rattle.command_answers.specs.Causes.{cause_of_entry, stopped_by}
+use Rattle.command_answers.specs.declared.stopped.Stopped.{Stopped}
+
+-- a cause that comes within a session: the lock was had, and the inputs were read before
+abbrev pub IsOfSession : Cause → Type 0
+IsOfSession FileFault = Unit {0}
+IsOfSession OutputFault = Unit {0}
+IsOfSession Memory = Unit {0}
+IsOfSession (Refused refusal) = Unit {0}
+IsOfSession (Damaged damage) = Unit {0}
+IsOfSession Done = ⊥
+IsOfSession InputFault = ⊥
+IsOfSession Busy = ⊥
+IsOfSession StillRunning = ⊥
+
+-- the command was stopped by one of these
+abbrev pub ComesOfSession : Stopped → Type 0
+ComesOfSession stopped = IsOfSession stopped.cause
+
+-- the work may be done at each host within a session
+abbrev pub MayWorkInside : {H F T : Type 0} → Ghosts H → Calls H F T → F → Type 0
+MayWorkInside {H} g calls work = (at : MutBor H) → IsInside (g.session at.now) → Takes calls work (at, tt)
+
+-- Work within a session: it stays in the session and starts no child, it hands nothing over, and each fault of a file comes
+-- only where their count rose.
+pub record WorksInside {H T : Type 0} (g : Ghosts H) (old new : H) (result : Result T Stopped) : Type 0 where
+  pub inside : CallsInside (stopped_by FileFault) (g.session old) (g.session new) result
+  pub comes : IfErr result ComesOfSession
+  pub goes_on : g.tells ≡ true → GoesOn (g.world old) (g.world new)
+
+-- each call of it within a session is such work
+abbrev pub IsWork : {H F T : Type 0} → Ghosts H → Calls H F (Result T Stopped) → F → Type 0
+IsWork {H} {F} {T} g calls work =
+    (old new : H) (left : F) (result : Result T Stopped) → IsInside (g.session old) → CalledAtMut calls work old result left new →
+    WorksInside g old new result
+
+-- no session is on, no child was started, and nothing was handed over
+pub record StaysQuiet {H : Type 0} (g : Ghosts H) (old new : H) : Type 0 where
+  pub left : IsLeft (g.session old) (g.session new)
+  pub goes_on : g.tells ≡ true → GoesOn (g.world old) (g.world new)
+
+-- a fault of a file, or a lock that was taken, comes only where its count rose
+pub record HasRisenIn {H : Type 0} (g : Ghosts H) (old new : H) (cause : Cause) : Type 0 where
+  pub file_fault : cause ≡ FileFault → Rose (g.session old).file_faults (g.session new).file_faults
+  pub busy : cause ≡ Busy → Rose (g.session old).taken (g.session new).taken
+
+-- the session could not begin, and so nothing was done
+pub record IsUnentered {H F T : Type 0} (g : Ghosts H) (work left : F) (old new : H) (result : Result T Stopped) : Type 0 where
+  pub fault : EnterFault
+  pub is : result ≡ Err (stopped_by (cause_of_entry fault))
+  pub undone : IsUndone g work left old new fault
+
+-- how the session ends: it could not begin, or the work was done in it
+abbrev pub EndsSession : {H F T : Type 0} → Ghosts H → Calls H F (Result T Stopped) → F → F → H → H → Result T Stopped → Type 0
+EndsSession g calls work left old new result =
+    IsUnentered g work left old new result ⊎ IsDoneInside g calls work left old new result
