@@ -6,7 +6,8 @@ ghost use Rattle.memory_host.specs.Host.{memory_session, memory_world};
 ghost use Rattle.at_day.specs.Counting.{CountsBy, IsCounted, runs, waits, was_finished, was_interrupted, was_not_started, was_removed};
 
 use crate::Counts;
-use host_calls::{Ending, EnterFault, Host};
+use host_calls::{Ending, EnterFault};
+use host_session::in_session;
 use memory_host::MemoryHost;
 use spool_model::{Decided, Fate, Row, State};
 use spool_store::{Store, StoreFault};
@@ -17,15 +18,12 @@ pub fn counts(alloc: Global, host: &mut MemoryHost) -> Result<Counts, StoreFault
     requires { IsOutside (memory_session host.old) }
     ensures { IsCounted host.old host.new result }
 {
-    match host.enter(alloc) {
-        Ok(()) => {}
-        Err(EnterFault::Taken) => return Err(StoreFault::FileFault),
-        Err(EnterFault::Failed) => return Err(StoreFault::FileFault),
-        Err(EnterFault::Memory) => return Err(StoreFault::Memory),
+    match in_session(alloc, host, &mut |host| counted_within(alloc, host)) {
+        Ok(counted) => counted,
+        Err(EnterFault::Taken) => Err(StoreFault::FileFault),
+        Err(EnterFault::Failed) => Err(StoreFault::FileFault),
+        Err(EnterFault::Memory) => Err(StoreFault::Memory),
     }
-    let counted = counted_within(alloc, host);
-    host.leave();
-    counted
 }
 
 // The same within a session.

@@ -1,13 +1,17 @@
 -- A turn of the daemon: a session, and the work within it.
 use Rattle.std.proofs.Common.{◌≡◌, ◌++◌, ℕ, ℤ, Bool, true, List, [], append-nil, map, sym, ap, subst, ◌∙◌, refl, arith, inl, inr}
-use Rattle.std.specs.Prelude.{Option, Result, Ok, Err}
+use Rattle.std.specs.Prelude.{Option, Result, Ok, Err, IfErr, IfOk}
+use Rattle.std.specs.Fn.{CalledAtMut}
 use Rattle.host_calls.specs.declared.child.Child.{Child}
 use Rattle.host_calls.specs.declared.child.Ending.{Ending}
 use Rattle.host_calls.specs.declared.child.Handed.{Handed}
 use Rattle.host_calls.specs.declared.fault.EnterFault.{EnterFault}
+use Rattle.host_calls.specs.declared.fault.EnterFault.TheVariants as entry
+use Rattle.host_calls.specs.declared.host.Host.{Ghosts}
 use Rattle.host_calls.specs.Causes.{Rose}
 use Rattle.host_calls.specs.Session.{Enters, IsLeft, Session}
 use Rattle.host_calls.specs.World.{World, reading}
+use Rattle.host_session.specs.Work.{Calls, EndsSession, IsUndone}
 use Rattle.spool_model.specs.JobTable.{JobTable}
 use Rattle.spool_shows.specs.Shown.{shown_by}
 use Rattle.whole_file.proofs.OthersLemmas.{changes_none}
@@ -26,7 +30,8 @@ use Rattle.daemon_turn.specs.Daemons.{Watch}
 use Rattle.daemon_turn.specs.Kids.{AreByNumber, AreChildren}
 use Rattle.daemon_turn.specs.Leaving.{Gave, IfUnread, IsIdle, IsNone, IsStopped, IsWhole, DaemonAt, TurnLeaves, TurnsTo}
 use Rattle.daemon_turn.specs.Starting.{Turn, turn_of}
-use Rattle.daemon_turn.specs.inside.Working.{Works, end_after}
+use Rattle.spool_store.specs.Faults.{IsOfReading}
+use Rattle.daemon_turn.specs.inside.Working.{Works, end_after, end_of_session}
 use Rattle.daemon_turn.proofs.HandLemmas.{counts_on}
 
 abbrev stand : Session → World → Watch → DaemonAt
@@ -190,3 +195,43 @@ pub works_at : (tells : Bool) (watch : Watch) (written now : ℤ) (load : Option
     Works tells (turn_of watch (record { now = written; load = load; mode = mode })) old new steps result → Works tells (turn_of watch (record { now = now; load = load; mode = mode })) old new steps result
 works_at tells watch written now load mode old new steps result same works =
     subst (λ (of : ℤ). Works tells (turn_of watch (record { now = of; load = load; mode = mode })) old new steps result) same works
+
+-- What came of the session: it could not begin, or the work was done in it.
+module _ {H F : Type 0} (g : Ghosts H) (calls : Calls H F (Result (Unit {0}) StoreFault)) (work left : F) (old new : H) where
+  pub reads_of_session : (result : Result (Result (Unit {0}) StoreFault) EnterFault) → EndsSession g calls work left old new result →
+      ((first last : H) (done : Result (Unit {0}) StoreFault) → CalledAtMut calls work first done left last → IfErr done IsOfReading) →
+      IfOk result (λ done. IfErr done IsOfReading)
+  reads_of_session (Ok done) ends within = within ends.first ends.last done ends.did
+  reads_of_session (Err fault) ends within = tt
+
+  module _ (at : Occasion) (watch now : Watch) (limit : now.limit ≡ watch.limit) (interval : now.interval ≡ watch.interval)
+      (children : AreChildren (g.session old).children watch.kids) (ordered : AreByNumber watch.kids) (steps : List TurnStep)
+      (still : left ≡ work → (now ≡ watch) × (steps ≡ []))
+      (within : (first last : H) (done : Result (Unit {0}) StoreFault) → CalledAtMut calls work first done left last →
+      Works g.tells (turn_of watch at) (stand (g.session first) (g.world first) watch) (stand (g.session last) (g.world last) now) steps done) where
+    abbrev Turned : Watch → TurnEnd → Type 0
+    Turned is end = TurnsTo g.tells g.alone at (stand (g.session old) (g.world old) watch) (stand (g.session new) (g.world new) is) end steps
+
+    as_it_was : (fault : EnterFault) → IsUndone g work left old new fault → (end : TurnEnd) → Turned watch end → Turned now end
+    as_it_was fault undone end turned = subst (λ (is : Watch). Turned is end) (sym (still undone.same).0) turned
+
+    unentered : (fault : EnterFault) → IsUndone g work left old new fault → Enters {T = Unit {0}} (g.session old) (g.session new) (Err fault)
+    unentered fault undone =
+        record { inside = undone.refused.left.outside; children = undone.refused.left.children; counts = undone.refused.left.counts }
+
+    pub turn_of_session : (result : Result (Result (Unit {0}) StoreFault) EnterFault) → EndsSession g calls work left old new result →
+        Turned now (end_of_session result)
+    turn_of_session (Ok done) ends =
+        turn_worked g.tells g.alone at (g.session old) (g.session ends.first) (g.session ends.last) (g.session new)
+        (g.world old) (g.world ends.first) (g.world ends.last) (g.world new) watch now limit interval steps done
+        (record { inside = ends.begun.inside; children = ends.begun.children; counts = ends.begun.counts }) ends.begun.quiet.alone
+        (within ends.first ends.last done ends.did) ends.over ends.quiet.alone (end_after done) refl
+    turn_of_session (Err entry.Taken) ends =
+        as_it_was entry.Taken ends Busy (turn_busy g.tells g.alone at (g.session old) (g.session new) (g.world old) (g.world new) watch entry.Taken
+        (unentered entry.Taken ends) ends.refused.quiet.alone children ordered (ends.refused.taken refl) Busy steps refl (still ends.same).1)
+    turn_of_session (Err entry.Failed) ends =
+        as_it_was entry.Failed ends FileFault (turn_failed g.tells g.alone at (g.session old) (g.session new) (g.world old) (g.world new) watch entry.Failed
+        (unentered entry.Failed ends) ends.refused.quiet.alone children ordered (ends.refused.failed refl) FileFault steps refl (still ends.same).1)
+    turn_of_session (Err entry.Memory) ends =
+        as_it_was entry.Memory ends Memory (turn_wants g.tells g.alone at (g.session old) (g.session new) (g.world old) (g.world new) watch entry.Memory
+        (unentered entry.Memory ends) ends.refused.quiet.alone children ordered Memory steps refl (still ends.same).1)

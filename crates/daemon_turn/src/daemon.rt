@@ -1,16 +1,17 @@
 //! The daemon: it keeps the children that it started, and makes turns.
 ghost use Rattle.clock_range.specs.ClockRange.{IsClockSecond};
-ghost use Rattle.std.specs.Prelude.{◌≡◌, IfErr};
+ghost use Rattle.std.specs.Prelude.{◌≡◌, IfErr, IfOk};
 ghost use Rattle.host_calls.specs.Session.{IsOutside};
 ghost use Rattle.spool_store.specs.Faults.{IsOfReading};
 ghost use Rattle.daemon_turn.specs.Daemons.{new_watch};
 ghost use Rattle.daemon_turn.specs.Kids.{AreByNumber, AreChildren};
 ghost use Rattle.daemon_turn.specs.Leaving.{TurnsTo};
-ghost use Rattle.daemon_turn.specs.inside.Working.{end_after};
+ghost use Rattle.daemon_turn.specs.inside.Working.{end_after, end_of_session};
 
 use crate::working::work;
 use crate::{Kid, Mode, Occasion, TurnEnd, TurnReport, TurnStep, TurnSteps};
 use host_calls::{EnterFault, Host};
+use host_session::in_session;
 use spool_store::StoreFault;
 use std::alloc::Global;
 use std::marker::Model;
@@ -91,16 +92,14 @@ impl Daemon {
     {
         let limit = self.limit;
         let interval = self.interval;
-        let mut steps = Vec::new(alloc);
-        match host.enter(alloc) {
-            Ok(()) => {}
-            Err(EnterFault::Taken) => return report(TurnEnd::Busy, steps),
-            Err(EnterFault::Failed) => return report(TurnEnd::FileFault, steps),
-            Err(EnterFault::Memory) => return report(TurnEnd::Memory, steps),
-        }
         let at = Occasion { now, load, mode };
-        let worked = work(alloc, host, &mut self.kids, limit, interval, at, &mut steps);
-        host.leave();
+        let kids = &mut self.kids;
+        let mut steps = Vec::new(alloc);
+        let worked = in_session(
+            alloc,
+            host,
+            &mut |host| work(alloc, host, kids, limit, interval, at, &mut steps),
+        );
         report(end_of(worked), steps)
     }
 }
@@ -116,8 +115,21 @@ fn report(end: TurnEnd, steps: Vec<TurnStep>) -> TurnReport
     }
 }
 
+// The end of a turn, by what came of its session.
+fn end_of(worked: Result<Result<(), StoreFault>, EnterFault>) -> TurnEnd
+    requires { IfOk worked (λ done. IfErr done IsOfReading) }
+    ensures { result ≡ end_of_session worked }
+{
+    match worked {
+        Ok(done) => end_of_work(done),
+        Err(EnterFault::Taken) => TurnEnd::Busy,
+        Err(EnterFault::Failed) => TurnEnd::FileFault,
+        Err(EnterFault::Memory) => TurnEnd::Memory,
+    }
+}
+
 // The end of a turn, by what came of its work.
-fn end_of(worked: Result<(), StoreFault>) -> TurnEnd
+fn end_of_work(worked: Result<(), StoreFault>) -> TurnEnd
     requires { IfErr worked IsOfReading }
     ensures { result ≡ end_after worked }
 {

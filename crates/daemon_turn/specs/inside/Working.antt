@@ -2,6 +2,8 @@
 use Rattle.std.specs.Prelude.{◌≡◌, Bool, true, List, Option, Result, Ok, Err, IfErr}
 use Rattle.host_calls.specs.declared.child.Ending.{Ending}
 use Rattle.host_calls.specs.Causes.{HasCause}
+use Rattle.host_calls.specs.declared.fault.EnterFault.{EnterFault}
+use Rattle.host_calls.specs.declared.fault.EnterFault.TheVariants as entry
 use Rattle.host_calls.specs.Damages.{IfDamaged}
 use Rattle.host_calls.specs.Session.{IsInside, KeepsCounts, Session}
 use Rattle.host_calls.specs.World.{World}
@@ -11,7 +13,7 @@ use Rattle.spool_store.specs.declared.fault.StoreFault.TheVariants as fault
 use Rattle.spool_store.specs.Faults.{IsOfReading}
 use Rattle.daemon_turn.specs.declared.kid.Kid.{Kid}
 use Rattle.daemon_turn.specs.declared.report.TurnEnd.{TurnEnd}
-use Rattle.daemon_turn.specs.declared.report.TurnEnd.TheVariants.{Done, FileFault, Damaged, Memory}
+use Rattle.daemon_turn.specs.declared.report.TurnEnd.TheVariants.{Done, Busy, FileFault, Damaged, Memory}
 use Rattle.daemon_turn.specs.declared.step.TurnStep.{TurnStep}
 use Rattle.daemon_turn.specs.Decisions.{asked_kids, questions}
 use Rattle.daemon_turn.specs.Kids.{AreByNumber, AreChildren, AreKidsAfter, KeepsChildren}
@@ -51,6 +53,13 @@ end_by fault.NumbersUsedUp = Memory
 abbrev pub end_after : Result (Unit {0}) StoreFault → TurnEnd
 end_after (Ok done) = Done
 end_after (Err fault) = end_by fault
+
+-- the end of a turn, by what came of its session
+abbrev pub end_of_session : Result (Result (Unit {0}) StoreFault) EnterFault → TurnEnd
+end_of_session (Ok worked) = end_after worked
+end_of_session (Err entry.Taken) = Busy
+end_of_session (Err entry.Failed) = FileFault
+end_of_session (Err entry.Memory) = Memory
 
 -- The work of a turn: a recovery, and the steps.
 pub record Works (tells : Bool) (turn : Turn) (old new : DaemonAt) (steps : List TurnStep)

@@ -1,26 +1,29 @@
-use Rattle.std.proofs.Common.{ap, inl, inr}
-use Rattle.std.specs.Prelude.{Err}
-use Rattle.host_calls.specs.declared.fault.EnterFault.{EnterFault}
+use Rattle.std.proofs.Common.{inl, inr, refl, rules}
+use Rattle.host_calls.specs.Session.{StaysInside}
+use Rattle.job_runs.specs.Attempts.{IsUnbegun}
+use Rattle.memory_host.specs.Host.{memory_session, memory_world}
 use Rattle.at_day.proofs.CountedLemmas.{counted_in_session, not_entered}
 use Rattle.at_day.proofs.counting.counts.Goals as goal
 
+pub returns-in-Ok : goal.returns-in-Ok
+returns-in-Ok c =
+    let done = c.in-Ok.ensures.ends in
+    let stays : StaysInside (memory_session done.first) (memory_session done.last) = search (rules, done.did) in
+    counted_in_session c.args.host.now done.first done.last c.in_session.new.host c.in-Ok.counted done.begun.children done.begun.counts
+    (done.begun.quiet.alone refl refl) stays (search (rules, done.did)) (search (rules, done.did)) (search (rules, done.did))
+    done.over (done.quiet.alone refl refl)
+
 pub returns-in-Err-Taken : goal.returns-in-Err-Taken
 returns-in-Err-Taken c =
-    let e = c.in-Err-Taken.ensures in
-    not_entered c.args.host.now c.enter.new.self _
-    (record { outside = e.enters.inside; children = e.enters.children; counts = e.enters.counts })
-    e.world (inr (e.taken (ap (λ (fault : EnterFault). Err fault) c.in-Err-Taken.field-0-is)))
+    let refused = c.in-Err-Taken.ensures.ends.refused in
+    not_entered c.args.host.now c.in_session.new.host _ refused.left (refused.quiet.alone refl refl) (inr (refused.taken c.in-Err-Taken.field-0-is))
 
 pub returns-in-Err-Failed : goal.returns-in-Err-Failed
 returns-in-Err-Failed c =
-    let e = c.in-Err-Failed.ensures in
-    not_entered c.args.host.now c.enter.new.self _
-    (record { outside = e.enters.inside; children = e.enters.children; counts = e.enters.counts })
-    e.world (inl (e.failed (ap (λ (fault : EnterFault). Err fault) c.in-Err-Failed.field-0-is)))
+    let refused = c.in-Err-Failed.ensures.ends.refused in
+    not_entered c.args.host.now c.in_session.new.host _ refused.left (refused.quiet.alone refl refl) (inl (refused.failed c.in-Err-Failed.field-0-is))
 
-pub returns : goal.returns
-returns c =
-    let e = c.in-Ok.ensures in let w = c.counted_within-counted.ensures in
-    counted_in_session c.args.host.now c.enter.new.self c.counted_within-counted.new.host c.leave.new.self
-    c.counted_within-counted.result e.enters.children e.enters.counts e.world w.stays w.unbegun w.asked w.counts
-    c.leave.ensures.left c.leave.ensures.world
+pub returns-in-Err-Memory : goal.returns-in-Err-Memory
+returns-in-Err-Memory c =
+    let refused = c.in-Err-Memory.ensures.ends.refused in
+    not_entered c.args.host.now c.in_session.new.host _ refused.left (refused.quiet.alone refl refl) tt
