@@ -61,16 +61,41 @@ fn scenario_files(rt: &HostRuntime) -> Result<Vec<String>> {
 // Runs the scenarios of a file, and prints what happens in each.
 fn run_file(rt: &HostRuntime, path: &str) -> Result<()> {
     let text = fs::read(rt, path)?;
+    let ran = run_text(rt, &text);
+    drop(text);
+    ran
+}
+
+// Runs the scenarios of a text.
+fn run_text(rt: &HostRuntime, text: &[u8]) -> Result<()> {
     let mut scenes = Scenes::new();
+    let ran = run_lines(rt, text, &mut scenes);
+    drop(scenes);
+    ran
+}
+
+// Goes on by each line of a text.
+fn run_lines(rt: &HostRuntime, text: &[u8], scenes: &mut Scenes) -> Result<()> {
     for (index, line) in text.split(|byte| *byte == b'\n').enumerate() {
-        let mut transcript = Transcript::new(rt.alloc());
-        let taken = scenes.take(rt.alloc(), line, &mut transcript);
-        io::writer(rt).write_all(transcript.as_bytes())?;
-        match taken {
+        match run_line(rt, line, scenes)? {
             Ok(()) => {}
             Err(Why::Memory) => bail!("out of memory"),
             Err(why) => bail!("line {}: {why}", index + 1),
         }
     }
     Ok(())
+}
+
+// Does what a line says, and prints what happens.
+fn run_line(
+    rt: &HostRuntime,
+    line: &[u8],
+    scenes: &mut Scenes,
+) -> io::Result<std::result::Result<(), Why>> {
+    let mut transcript = Transcript::new(rt.alloc());
+    let taken = scenes.take(rt.alloc(), line, &mut transcript);
+    let printed = io::writer(rt).write_all(transcript.as_bytes());
+    drop(transcript);
+    printed?;
+    Ok(taken)
 }

@@ -47,18 +47,15 @@ impl Opening {
     /// Takes a line that begins with a word of the opening.
     pub fn take(&mut self, alloc: Global, word: &[u8], rest: &[Vec<u8>]) -> Result<(), Why> {
         match word {
-            b"file" => self.put_file(alloc, rest)?,
-            b"absent" => {
-                let _ = self.files.remove(&name(one(rest)?)?);
-            }
-            b"child" => self.add_child(alloc, rest)?,
-            b"failing-call" => self.add_failing(alloc, rest)?,
-            b"taken-call" => self.plan.taken.push(alloc, number(one(rest)?)?)?,
-            b"failing-start" => self.plan.failing_starts.push(alloc, number(one(rest)?)?)?,
-            b"fuse" => self.plan.fuse = Some(number(one(rest)?)?),
-            _ => return Err(Why::NoSuchLine),
+            b"file" => self.put_file(alloc, rest),
+            b"absent" => self.take_away(rest),
+            b"child" => self.add_child(alloc, rest),
+            b"failing-call" => self.add_failing(alloc, rest),
+            b"taken-call" => self.add_taken(alloc, rest),
+            b"failing-start" => self.add_failing_start(alloc, rest),
+            b"fuse" => self.set_fuse(rest),
+            _ => Err(Why::NoSuchLine),
         }
-        Ok(())
     }
 
     fn put_file(&mut self, alloc: Global, rest: &[Vec<u8>]) -> Result<(), Why> {
@@ -68,6 +65,12 @@ impl Opening {
             Ok(_) => Ok(()),
             Err(_) => Err(Why::Memory),
         }
+    }
+
+    fn take_away(&mut self, rest: &[Vec<u8>]) -> Result<(), Why> {
+        let called = name(one(rest)?)?;
+        drop(self.files.remove(&called));
+        Ok(())
     }
 
     fn add_child(&mut self, alloc: Global, rest: &[Vec<u8>]) -> Result<(), Why> {
@@ -93,6 +96,21 @@ impl Opening {
         };
         let call = number(call)?;
         Ok(self.plan.failing.push(alloc, Failing { call, part })?)
+    }
+
+    fn add_taken(&mut self, alloc: Global, rest: &[Vec<u8>]) -> Result<(), Why> {
+        let call = number(one(rest)?)?;
+        Ok(self.plan.taken.push(alloc, call)?)
+    }
+
+    fn add_failing_start(&mut self, alloc: Global, rest: &[Vec<u8>]) -> Result<(), Why> {
+        let call = number(one(rest)?)?;
+        Ok(self.plan.failing_starts.push(alloc, call)?)
+    }
+
+    fn set_fuse(&mut self, rest: &[Vec<u8>]) -> Result<(), Why> {
+        self.plan.fuse = Some(number(one(rest)?)?);
+        Ok(())
     }
 
     /// The host that begins so.

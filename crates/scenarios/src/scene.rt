@@ -42,10 +42,22 @@ impl Scenes {
             return Ok(());
         }
         let words = words_of(alloc, line)?;
-        match words.as_slice() {
+        let taken = self.take_words(alloc, &words, transcript);
+        drop(words);
+        taken
+    }
+
+    // Does what the words of a line say.
+    fn take_words(
+        &mut self,
+        alloc: Global,
+        words: &[Vec<u8>],
+        transcript: &mut Transcript,
+    ) -> Result<(), Why> {
+        match words {
             [] => Ok(()),
             [first, rest @ ..] if first.as_slice() == b"scenario".as_slice() => {
-                self.begin(alloc, text(one(rest)?)?, transcript)
+                self.begin(alloc, rest, transcript)
             }
             [first, rest @ ..] => match &mut self.last {
                 Some(scene) => scene.take(alloc, first, rest, transcript),
@@ -54,19 +66,31 @@ impl Scenes {
         }
     }
 
-    // Begins a scenario of this name.
-    fn begin(&mut self, alloc: Global, name: &str, transcript: &mut Transcript) -> Result<(), Why> {
-        self.last = Some(Scene {
-            settings: Settings::new(alloc)?,
-            opening: Opening::new(alloc)?,
-            machine: None,
-        });
+    // Begins a scenario of the name that the one word says.
+    fn begin(
+        &mut self,
+        alloc: Global,
+        rest: &[Vec<u8>],
+        transcript: &mut Transcript,
+    ) -> Result<(), Why> {
+        let name = text(one(rest)?)?;
+        self.last = Some(Scene::new(alloc)?);
         let line = format!(in alloc; "scenario {name}")?;
         Ok(transcript.line(line.as_str())?)
     }
 }
 
 impl Scene {
+    // No event has happened, and nothing is set.
+    fn new(alloc: Global) -> Result<Scene, Why> {
+        let settings = Settings::new(alloc)?;
+        Ok(Scene {
+            settings,
+            opening: Opening::new(alloc)?,
+            machine: None,
+        })
+    }
+
     // Does what a line within a scenario says.
     fn take(
         &mut self,

@@ -53,48 +53,111 @@ impl Settings {
 
     /// Takes a line, if it is one of the settings.
     pub fn take(&mut self, alloc: Global, word: &[u8], rest: &[Vec<u8>]) -> Result<bool, Why> {
-        Ok(self.take_caller(alloc, word, rest)? || self.take_outside(alloc, word, rest)?)
+        Ok(
+            self.take_caller(alloc, word, rest)?
+                || self.take_input(alloc, word, rest)?
+                || self.take_output(word, rest)?,
+        )
     }
 
     // Takes a line that says who calls.
     fn take_caller(&mut self, alloc: Global, word: &[u8], rest: &[Vec<u8>]) -> Result<bool, Why> {
-        let context = &mut self.caller.context;
-        match word {
-            b"user" => context.user = Text::of(alloc, text(one(rest)?)?)?,
-            b"directory" => context.directory = Text::of(alloc, text(one(rest)?)?)?,
-            b"umask" => context.umask = umask(one(rest)?)?,
-            b"no-variables" => {
-                none(rest)?;
-                context.environment = Variables::new(alloc);
-            }
-            b"variable" => {
-                let (name, value) = two(rest)?;
-                context.environment.push(alloc, text(name)?, text(value)?)?;
-            }
-            b"zone" => self.caller.zone = zone_of(alloc, Some(text(one(rest)?)?))?,
-            b"no-zone" => {
-                none(rest)?;
-                self.caller.zone = Zone::Utc;
-            }
+        let taken = match word {
+            b"user" => self.set_user(alloc, rest),
+            b"directory" => self.set_directory(alloc, rest),
+            b"umask" => self.set_umask(rest),
+            b"no-variables" => self.clear_variables(alloc, rest),
+            b"variable" => self.add_variable(alloc, rest),
+            b"zone" => self.set_zone(alloc, rest),
+            b"no-zone" => self.clear_zone(rest),
             _ => return Ok(false),
-        }
+        };
+        taken?;
         Ok(true)
     }
 
-    // Takes a line that says what calls read and write.
-    fn take_outside(&mut self, alloc: Global, word: &[u8], rest: &[Vec<u8>]) -> Result<bool, Why> {
+    fn set_user(&mut self, alloc: Global, rest: &[Vec<u8>]) -> Result<(), Why> {
+        self.caller.context.user = Text::of(alloc, text(one(rest)?)?)?;
+        Ok(())
+    }
+
+    fn set_directory(&mut self, alloc: Global, rest: &[Vec<u8>]) -> Result<(), Why> {
+        self.caller.context.directory = Text::of(alloc, text(one(rest)?)?)?;
+        Ok(())
+    }
+
+    fn set_umask(&mut self, rest: &[Vec<u8>]) -> Result<(), Why> {
+        self.caller.context.umask = umask(one(rest)?)?;
+        Ok(())
+    }
+
+    fn clear_variables(&mut self, alloc: Global, rest: &[Vec<u8>]) -> Result<(), Why> {
+        none(rest)?;
+        self.caller.context.environment = Variables::new(alloc);
+        Ok(())
+    }
+
+    fn add_variable(&mut self, alloc: Global, rest: &[Vec<u8>]) -> Result<(), Why> {
+        let (name, value) = two(rest)?;
+        let variables = &mut self.caller.context.environment;
+        Ok(variables.push(alloc, text(name)?, text(value)?)?)
+    }
+
+    fn set_zone(&mut self, alloc: Global, rest: &[Vec<u8>]) -> Result<(), Why> {
+        self.caller.zone = zone_of(alloc, Some(text(one(rest)?)?))?;
+        Ok(())
+    }
+
+    fn clear_zone(&mut self, rest: &[Vec<u8>]) -> Result<(), Why> {
+        none(rest)?;
+        self.caller.zone = Zone::Utc;
+        Ok(())
+    }
+
+    // Takes a line that says what calls read.
+    fn take_input(&mut self, alloc: Global, word: &[u8], rest: &[Vec<u8>]) -> Result<bool, Why> {
+        let taken = match word {
+            b"now" => self.set_nows(alloc, rest),
+            b"load" => self.set_loads(alloc, rest),
+            b"input" => self.set_input(alloc, rest),
+            b"no-file" => self.clear_file(rest),
+            b"failing-input" => self.fail_inputs(rest),
+            _ => return Ok(false),
+        };
+        taken?;
+        Ok(true)
+    }
+
+    fn set_nows(&mut self, alloc: Global, rest: &[Vec<u8>]) -> Result<(), Why> {
+        self.nows = each(alloc, rest, second)?;
+        Ok(())
+    }
+
+    fn set_loads(&mut self, alloc: Global, rest: &[Vec<u8>]) -> Result<(), Why> {
+        self.loads = each(alloc, rest, load)?;
+        Ok(())
+    }
+
+    fn set_input(&mut self, alloc: Global, rest: &[Vec<u8>]) -> Result<(), Why> {
+        self.input = Vec::from_slice(alloc, one(rest)?)?;
+        Ok(())
+    }
+
+    fn clear_file(&mut self, rest: &[Vec<u8>]) -> Result<(), Why> {
+        none(rest)?;
+        self.is_file = false;
+        Ok(())
+    }
+
+    fn fail_inputs(&mut self, rest: &[Vec<u8>]) -> Result<(), Why> {
+        none(rest)?;
+        self.inputs_fail = true;
+        Ok(())
+    }
+
+    // Takes a line that says how calls write, or that all is sound.
+    fn take_output(&mut self, word: &[u8], rest: &[Vec<u8>]) -> Result<bool, Why> {
         match word {
-            b"now" => self.nows = each(alloc, rest, second)?,
-            b"load" => self.loads = each(alloc, rest, load)?,
-            b"input" => self.input = Vec::from_slice(alloc, one(rest)?)?,
-            b"no-file" => {
-                none(rest)?;
-                self.is_file = false;
-            }
-            b"failing-input" => {
-                none(rest)?;
-                self.inputs_fail = true;
-            }
             b"failing-out" => self.failing_out = Some(number(one(rest)?)?),
             b"failing-err" => self.failing_err = Some(number(one(rest)?)?),
             b"sound-outside" => {

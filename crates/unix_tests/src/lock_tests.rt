@@ -9,6 +9,9 @@ use std::fs;
 use std::test::Fail;
 use std::time::{Clock, Duration};
 
+/// What a host is answered that enters a folder, twice.
+type Answers = (Result<(), EnterFault>, Result<(), EnterFault>);
+
 // How a session begins, which is left at once.
 fn entered<H: Host>(alloc: Global, host: &mut H) -> Result<(), EnterFault>
     requires outside { IsOutside (H.session host.old) }
@@ -24,7 +27,7 @@ fn answers_of_both<F: Host, S: Host>(
     alloc: Global,
     first: &mut F,
     second: &mut S,
-) -> Result<(Result<(), EnterFault>, Result<(), EnterFault>), HostFault>
+) -> Result<Answers, HostFault>
     requires first { IsOutside (F.session first.old) }
     requires second { IsOutside (S.session second.old) }
 {
@@ -40,13 +43,23 @@ fn answers_beside<F: Host>(
     rt: &HostRuntime,
     first: &mut F,
     path: &str,
-) -> Result<(Result<(), EnterFault>, Result<(), EnterFault>), HostFault>
+) -> Result<Answers, HostFault>
     requires { IsOutside (F.session first.old) }
 {
     let mut second = host_over(rt.clone()?, rt.alloc(), path)?;
     let answers = answers_of_both(rt.alloc(), first, &mut second);
     drop(second);
     answers
+}
+
+// The same beside a host of this folder, and how long it takes.
+fn answers_in_time(rt: &HostRuntime, path: &str, link: &str) -> Result<(Answers, Duration), Fail> {
+    let before = rt.monotonic()?;
+    let mut first = host_of(rt, path)?;
+    let answers = answers_beside(rt, &mut first, link);
+    drop(first);
+    let waited = rt.monotonic()?.saturating_sub(before);
+    Ok((answers?, waited))
 }
 
 // A spool and a link to it are one folder, with one lock. It is asked for ten times, by the system's clock: this waits for
@@ -56,13 +69,10 @@ fn a_host_is_refused_while_another_holds_the_lock(rt: HostRuntime) -> Result<(),
     let path = fresh_spool(&rt, "taken")?;
     let link = format!(in rt.alloc(); "{path}.link")?;
     line(&rt, "ln -s \"$1\" \"$1.link\"", path.as_str())?;
-    let before = rt.monotonic()?;
-    let mut first = host_of(&rt, path.as_str())?;
-    let answers = answers_beside(&rt, &mut first, link.as_str());
-    drop(first);
+    let seen = answers_in_time(&rt, path.as_str(), link.as_str());
     drop(link);
-    let waited = rt.monotonic()?.saturating_sub(before);
-    assert_eq!(rt; answers?, (Err(EnterFault::Taken), Ok(())));
+    let (answers, waited) = seen?;
+    assert_eq!(rt; answers, (Err(EnterFault::Taken), Ok(())));
     assert!(rt; waited >= Duration::from_secs(9) && waited < Duration::from_secs(30));
     let beside = line(&rt, "ls -d \"$1\"* | wc -l", path.as_str())?;
     assert_eq!(rt; beside.as_slice(), b"4\n".as_slice());
@@ -82,8 +92,7 @@ enum Work {
     Fail,
 }
 
-// A file is made and synced, moved, moved back with the names synced, or written; or the names alone are synced; or a call
-// fails.
+// What is named: a file is made and synced, `MoveBack` syncs the names too, and `Fail` is a call that fails.
 fn do_work<H: Host>(
     alloc: Global,
     host: &mut H,
@@ -194,9 +203,8 @@ fn byte_behind<H: Host>(
     line(rt, "cat \"$1.lock\"", path)
 }
 
-// A folder that is settled is not synced anew by each session. Each row's session leaves its byte only where the byte
-// before was told as what it says: none and `a` as the worst, which one sync of a new file does not end, as it would end
-// less; `n` as names alone, which a sync of the names ends; and `c` as nothing, so that a move has to raise it.
+// Each row's session leaves what it does only where the byte before it says so: none and `a` the worst, which the sync of
+// a new file does not end; `n` names alone, which a sync of the names ends; `c` nothing, so that a move raises it.
 #[test]
 fn the_byte_is_told(rt: HostRuntime) -> Result<(), Fail> {
     let path = fresh_spool(&rt, "told")?;

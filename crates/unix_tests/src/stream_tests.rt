@@ -3,6 +3,7 @@ use crate::outside::Outside;
 use crate::words::{clear, fresh_spool, line};
 use host_calls::{InputFault, Inputs, Readings, Sink, SinkFault};
 use load_reading::hundredths;
+use std::alloc::Global;
 use std::fmt::Display;
 use std::fs::File;
 use std::io::{self, Write};
@@ -24,10 +25,20 @@ fn the_clock_and_the_load_are_read(rt: HostRuntime) -> Result<(), Fail> {
     Ok(())
 }
 
+// How many bytes a file gives, of which at most so many are asked for.
+fn count_of<I: Inputs>(
+    alloc: Global,
+    inputs: &mut I,
+    path: &str,
+    most: usize,
+) -> Result<usize, InputFault> {
+    let bytes = inputs.file(alloc, path, most)?;
+    Ok(bytes.as_slice().len())
+}
+
 #[test]
 fn the_first_bytes_of_a_file_are_read(rt: HostRuntime) -> Result<(), Fail> {
     let path = fresh_spool(&rt, "input")?;
-    let alloc = rt.alloc();
     line(&rt, "head -c 10000 /dev/zero >\"$1\"", path.as_str())?;
     let mut inputs = UnixInputs::make(rt.clone()?);
     for (most, count) in [
@@ -37,20 +48,21 @@ fn the_first_bytes_of_a_file_are_read(rt: HostRuntime) -> Result<(), Fail> {
         (9_999, 9_999),
         (20_000, 10_000),
     ] {
-        let bytes = inputs.file(alloc, path.as_str(), most);
-        assert_eq!(rt; bytes.expect(&rt, "a file").as_slice().len(), count);
+        assert_eq!(rt;
+            count_of(rt.alloc(), &mut inputs, path.as_str(), most),
+            Ok(count)
+        );
     }
-    let none = inputs.standard(alloc, 0).expect(&rt, "nothing");
-    assert!(rt; none.as_slice().is_empty());
+    let nothing = inputs.standard(rt.alloc(), 0).expect(&rt, "nothing");
+    assert!(rt; nothing.as_slice().is_empty());
+    drop(nothing);
     clear(&rt, path.as_str())?;
-    assert_eq!(rt;
-        inputs.file(alloc, path.as_str(), 9).err(),
-        Some(InputFault::Failed)
-    );
-    assert_eq!(rt;
-        inputs.file(alloc, "/tmp", 9).err(),
-        Some(InputFault::Failed)
-    );
+    for none in [path.as_str(), "/tmp"] {
+        assert_eq!(rt;
+            count_of(rt.alloc(), &mut inputs, none, 9),
+            Err(InputFault::Failed)
+        );
+    }
     Ok(())
 }
 

@@ -25,30 +25,41 @@ fn refused<H: Host>(
     Ok((file, names, all))
 }
 
+/// Makes a spool with one file and the folder of its outputs, in a folder of its own.
+const MADE: &str = "rm -rf \"$1\"; mkdir -p \"$1/spool\" \"$1/spool.out\"; : >\"$1/spool/job\"";
+
+// What is refused of a spool in this place, where the path with that end is one of a device.
+fn refused_in(
+    rt: &HostRuntime,
+    place: &str,
+    device: &'static str,
+    job: &Name,
+) -> Result<(bool, bool, bool), Fail> {
+    line(rt, MADE, place)?;
+    let path = format!(in rt.alloc(); "{place}/spool")?;
+    let outside = Refusing {
+        rt: rt.clone()?,
+        device,
+    };
+    let mut host = host_over(outside, rt.alloc(), path.as_str())?;
+    let seen = refused(rt.alloc(), &mut host, job);
+    drop(host);
+    Ok(seen?)
+}
+
 // The file, the folder or the folder that it lies in can't be synced: each call that says it did fails then.
 #[test]
 fn a_sync_that_is_refused_is_a_fault(rt: HostRuntime) -> Result<(), Fail> {
     let place = fresh_spool(&rt, "refused")?;
-    let path = format!(in rt.alloc(); "{place}/spool")?;
+    let job = named(&rt, "job");
     for (device, wanted) in [
         ("none", (false, false, false)),
         ("/spool/job", (true, false, true)),
         ("/spool", (false, true, true)),
         ("_refused", (false, false, true)),
     ] {
-        line(
-            &rt,
-            "rm -rf \"$1\"; mkdir -p \"$1/spool\" \"$1/spool.out\"; : >\"$1/spool/job\"",
-            place.as_str(),
-        )?;
-        let outside = Refusing {
-            rt: rt.clone()?,
-            device,
-        };
-        let mut host = host_over(outside, rt.alloc(), path.as_str())?;
-        let seen = refused(rt.alloc(), &mut host, &named(&rt, "job"));
-        drop(host);
-        assert_eq!(rt; seen?, wanted, "{device}");
+        let seen = refused_in(&rt, place.as_str(), device, &job)?;
+        assert_eq!(rt; seen, wanted, "{device}");
     }
     clear(&rt, place.as_str())
 }
