@@ -1,13 +1,9 @@
 -- What is printed and said, one turn behind the other.
-use Rattle.std.proofs.Common.{◌≡◌, ◌≤◌, ℕ, Bool, true, false, List, [], ◌∷◌, ◌++◌, length, take, drop, refl, sym, ap, subst, ◌∙◌, inl, inr, append-nil, append_assoc, arith}
+use Rattle.std.proofs.Common.{◌≡◌, ◌≤◌, ℕ, Bool, true, false, List, [], ◌∷◌, ◌++◌, take, refl, sym, ap, subst, ◌∙◌, inl, inr, arith}
 use Rattle.std.specs.Prelude.{Err, Ok}
-use Rattle.std.proofs.Math.Seq.{take-append_seam}
-use Rattle.std.proofs.lemmas.List.{take-append-drop}
 use Rattle.host_calls.specs.Causes.{Rose}
 use Rattle.host_calls.specs.declared.fault.SinkFault.TheVariants.{Failed, Memory as NoMemory}
-use Rattle.listing_text.specs.declared.cause.Cause.{Cause}
-use Rattle.listing_text.specs.declared.cause.Cause.TheVariants as cause
-use Rattle.command_answers.specs.Sinks.{IsCut, IsPut, IsPutInPart, IsPutOrCut, IsSilent, SinkAt}
+use Rattle.command_answers.specs.Sinks.{IsPutInPart, IsPutOrCut, IsSilent, SinkAt}
 use Rattle.cause_output.specs.Ends.{SaysEnd, SaysEndOr}
 use Rattle.cause_output.specs.Putting.{PutsLines}
 use Rattle.cause_output.proofs.EndLemmas.{silent_same}
