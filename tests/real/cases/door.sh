@@ -242,6 +242,63 @@ END
   [ "$(cat said)" = $'job 1 at Tue Jan  1 00:00:00 2030\n1\tTue Jan  1 00:00:00 2030 a '"$me" ] || fail "it says: $(cat said)"
 }
 
+# Each refusal and each fault has a hint, of one line.
+case_door_hints_for_each_cause() {
+  doored
+  while read -r text; do
+    # shellcheck disable=SC2016
+    sh -c '_door_tool=at _door_status=1 _door_said="at: $2" _door_spool=/none/jobs _door_beside=/none/jobs; . "$1/hints"' _ "$libexec" "$text" 2>said
+    [ "$(head -n 1 said)" = "at: $text" ] && [ "$(wc -l <said)" = 2 ] && tail -n 1 said | grep -qE '^at: .{10,150}$' || fail "behind $text stands $(cat said)"
+  done <<'END'
+usage
+not allowed
+bad time at byte 12
+no such day
+time out of range
+time is past
+bad -t time
+bad TZ
+bad queue
+bad directory
+bad user name
+commands too long
+environment too large
+queue full
+job numbers used up
+no such job 4
+job 4 is not yours
+job 4 is running
+bad clock
+spool fault
+input fault
+output fault
+spool busy
+out of memory
+.SEQ damaged at 4
+END
+}
+
+# A disk without room, and a folder of another.
+steps_of_places() {
+  mkdir disk && mount -t tmpfs -o size=64k,mode=777 tmpfs disk || fail 'no small disk can be mounted'
+  mkdir -m 700 disk/spool disk/spool.out && : >disk/spool/at.deny && : >disk/spool.lock && chown -R $number:$number disk/spool*
+  head -c 90000 /dev/zero >disk/filler 2>/dev/null
+  mkdir -m 755 closed
+  while IFS='|' read -r folder hint; do
+    printf 'exec %s/at -t 203001010000 </dev/null\n' "$door" >steps
+    second env -i PATH=/usr/bin:/bin SHELL=/bin/sh LOGNAME=$second HOME="$PWD/home" ATSPOOL="$folder" TZ=UTC script -qec ". $PWD/steps" /dev/null </dev/null 2>&1 | tr -d '\r' >said
+    [ "$(head -n 1 said)" = 'at: spool fault' ] && [ "$(wc -l <said)" = 2 ] && tail -n 1 said | grep -qF -- "$hint" || fail "over $folder it says $(cat said)"
+  done <<END
+$PWD/disk/spool|the disk of $PWD/disk is full
+/var/spool/atjobs|/var/spool is not yours to write
+$PWD/closed/spool|$PWD/closed is not yours to write
+END
+}
+case_door_hints_on_places() {
+  command -v script >/dev/null || skip 'there is no script, which makes a terminal'
+  doored; apart steps_of_places
+}
+
 # What a caller exports does neither it nor a job harm, in each shell that may be /bin/sh.
 case_door_hostile_callers() {
   doored; opened 'a spool'
