@@ -26,13 +26,13 @@ apart() { # function
   command -v setpriv >/dev/null || skip 'there is no setpriv'
   export here
   # shellcheck disable=SC2016
-  unshare -m bash -c 'for file in "$here/words.sh" "$here"/cases/*.sh; do . "$file"; done; settle_apart; "$1"' _ "$1"
+  unshare -m bash -c 'for file in "$here/words.sh" "$here"/cases/*.sh; do . "$file"; done; settle_apart; "$1"' _ "$1" || exit
 }
 settle_apart() {
   second=at_second number=64321
   mkdir -p home/.config && chmod 755 . home && chown -R $number:$number home
   cp /etc/passwd passwd && printf '%s:*:%s:%s::%s/home:/bin/sh\n' $second $number $number "$PWD" >>passwd
-  mount --bind passwd /etc/passwd && mount -t tmpfs tmpfs /var/spool && mkdir -m 755 /var/spool/cron || fail 'nothing can be mounted'
+  mount --bind passwd /etc/passwd && mount -t tmpfs -o mode=755 tmpfs /var/spool && mkdir -m 755 /var/spool/cron || fail 'nothing can be mounted'
 }
 # Becomes the second user, with these words.
 second() { setpriv --reuid=$number --regid=$number --clear-groups "$@"; }
@@ -122,14 +122,14 @@ case_door_localtime() { doored; apart steps_of_localtime; }
 # With no room for a further process a submission fails, or is whole.
 steps_of_a_limit() {
   cd home || exit 1
-  for limit in 1 2 3 4 5 6 7 8; do
+  for limit in 1 2 3 4 5 6 7 8 50; do
     # shellcheck disable=SC2016
-    LOGNAME=$second HOME=$PWD second bash -c 'ulimit -u "$1"; exec "$2" -t 203001010000' _ $limit "$door/at" <<<'echo whole' >/dev/null 2>&1
+    LOGNAME=$second HOME=$PWD second bash -c 'ulimit -u "$1"; exec "$2" -t 203001010000' _ $limit "$door/at" <<<'echo whole' >>../said 2>&1
     # shellcheck disable=SC2016
-    LOGNAME=$second HOME=$PWD second bash -c 'exec 0< <(echo echo whole); ulimit -u "$1"; exec "$2" -t 203001010000' _ $limit "$door/at" >/dev/null 2>&1
+    LOGNAME=$second HOME=$PWD second bash -c 'exec 0< <(echo echo whole); ulimit -u "$1"; exec "$2" -t 203001010000' _ $limit "$door/at" >>../said 2>&1
   done
   tail -qn 1 .local/state/coefhird/jobs/a* >../lasts
-  [ -s ../lasts ] && ! grep -vx 'echo whole' ../lasts || fail 'a job has a part of its commands'
+  [ -s ../lasts ] && ! grep -vx 'echo whole' ../lasts || fail "a job has a part of its commands, or none stands: $(cat ../said)"
 }
 case_door_no_room_for_processes() { doored; apart steps_of_a_limit; }
 
