@@ -5,7 +5,7 @@ set -eu
 here=$(cd "$(dirname "$0")/.." && pwd)
 into=${1:?a folder for the package}
 shift
-version=${VERSION:-0.1}
+version=${VERSION:-$(cat "$here/VERSION")}
 work=$(mktemp -d)
 trap 'rm -rf "$work"' EXIT
 root=$work/root
@@ -21,7 +21,7 @@ rmdir "$root/usr/share/zsh/site-functions"
 
 # What a package of Debian's has besides.
 doc=$root/usr/share/doc/coefhird
-strip --remove-section=.comment --remove-section=.note "$root/usr/bin/at" 2>/dev/null || true
+strip --remove-section=.comment --remove-section=.note "$root/usr/libexec/coefhird/program" 2>/dev/null || true
 mkdir -p "$doc" "$root/etc/default"
 cp "$here/packaging/debian/copyright" "$doc/copyright"
 gzip -9nc "$here/packaging/debian/changelog" >"$doc/changelog.gz"
@@ -34,7 +34,7 @@ done
 echo /etc/default/coefhird >"$root/DEBIAN/conffiles"
 # What postinst puts back.
 install -D -m 644 "$root/usr/lib/systemd/system/atd.service" "$root/usr/share/coefhird/atd.service"
-for script in postinst prerm postrm; do
+for script in preinst postinst prerm postrm; do
     install -m 755 "$here/packaging/debian/$script" "$root/DEBIAN/$script"
 done
 size=$(du -sk "$root" | cut -f 1)

@@ -1,5 +1,6 @@
 #!/bin/sh
-# Installs at, batch, atq, atrm, atd and atday, with their man pages, completions and units.
+# Installs at, batch, atq, atrm, atd, atday, atout and atwhen, with their man pages, completions and units: the proved
+# program in PREFIX/libexec/coefhird, and before it, in PREFIX/bin, a script that sets what it takes from its surroundings.
 #
 #   packaging/install.sh                             for the machine, below /usr/local
 #   PREFIX="$HOME/.local" packaging/install.sh       for one user, without root
@@ -17,7 +18,12 @@ PREFIX=${PREFIX:-/usr/local}
 DESTDIR=${DESTDIR:-}
 to=$DESTDIR$PREFIX
 stops() { echo "install.sh: $1" >&2; exit 1; }
-case $PREFIX in /*) ;; *) stops "PREFIX is to begin with /" ;; esac
+case $PREFIX in
+    *[\'\"\|\&\\%]* | *"
+"*) stops 'PREFIX is to have no quotes, and none of |, &, \ and %' ;;
+    /*) ;;
+    *) stops 'PREFIX is to begin with /' ;;
+esac
 case $#,${1:-} in 0, | 2,--cpu) ;; *) stops 'usage: install.sh [--cpu NAME]' ;; esac
 [ $# = 0 ] || [ -z "${BINARY:-}" ] || stops 'a BINARY is built already: give no --cpu'
 
@@ -38,33 +44,55 @@ fi
 
 file() { install -D -m 644 "$1" "$2"; }
 
-install -D -m 755 "$BINARY" "$to/bin/at"
-for tool in batch atq atrm atday; do ln -sf at "$to/bin/$tool"; done
+# The program, and the doorstep before it, each by the names of the tools.
+libexec=$PREFIX/libexec/coefhird
+version=$(cat "$here/VERSION")
+commit=$(git -C "$here" rev-parse --short=12 HEAD 2>/dev/null) || commit=unknown
+[ "$commit" = unknown ] || [ -z "$(git -C "$here" status --porcelain 2>/dev/null)" ] || commit="$commit, changed"
+toolchain=$(sed -n 's/^.*this is proved with `\([^`]*\)`.*$/\1/p' "$here/README.md")
+filled() { # mode, file, where
+    mkdir -p "$(dirname "$3")"
+    sed -e "s|@LIBEXEC@|$libexec|; s|@BINDIR@|$PREFIX/bin|; s|@VERSION@|$version|; s|@COMMIT@|$commit|" \
+        -e "s|@TOOLCHAIN@|$toolchain|" "$2" >"$3.new"
+    chmod "$1" "$3.new"
+    mv -f "$3.new" "$3"
+}
+install -D -m 755 "$BINARY" "$to/libexec/coefhird/program"
+for tool in at batch atq atrm atd atday; do ln -sf program "$to/libexec/coefhird/$tool"; done
+for script in atout atwhen from-debian-at; do filled 755 "$here/packaging/doorstep/$script" "$to/libexec/coefhird/$script"; done
+for words in help hints; do filled 644 "$here/packaging/doorstep/$words" "$to/libexec/coefhird/$words"; done
+# (the program stood here before)
+rm -f "$to/bin/at"
+filled 755 "$here/packaging/doorstep/at" "$to/bin/at"
+for tool in batch atq atrm atd atday atout atwhen; do ln -sf at "$to/bin/$tool"; done
 mkdir -p "$to/sbin"
 ln -sf ../bin/at "$to/sbin/atd"
 
 for page in "$here"/man/*.[158]; do
     file "$page" "$to/share/man/man${page##*.}/$(basename "$page")"
 done
-for name in batch atq atrm; do ln -sf at.1 "$to/share/man/man1/$name.1"; done
+for name in batch atq atrm atout atwhen; do ln -sf at.1 "$to/share/man/man1/$name.1"; done
 ln -sf at.allow.5 "$to/share/man/man5/at.deny.5"
 
 file "$here/packaging/completions/at.bash" "$to/share/bash-completion/completions/at"
-for tool in batch atq atrm atd atday; do ln -sf at "$to/share/bash-completion/completions/$tool"; done
+for tool in batch atq atrm atd atday atout atwhen; do ln -sf at "$to/share/bash-completion/completions/$tool"; done
 file "$here/packaging/completions/_at" "$to/share/zsh/site-functions/_at"
-for tool in at batch atq atrm atd atday; do
+for tool in at batch atq atrm atd atday atout atwhen; do
     file "$here/packaging/completions/at.fish" "$to/share/fish/vendor_completions.d/$tool.fish"
 done
 
-# The units. That of the machine is not for a home folder.
+# How long outputs stay, and the units. That of the machine is not for a home folder.
 unit() {
     mkdir -p "$(dirname "$2")"
     sed "s|@SBINDIR@|$PREFIX/sbin|" "$1" >"$2"
     chmod 644 "$2"
 }
+file "$here/packaging/systemd/coefhird-user.tmpfiles" "$to/share/user-tmpfiles.d/coefhird.conf"
 case $PREFIX in
     "${HOME:-/nowhere}"/*)
         unit "$here/packaging/systemd/user-atd.service" "$to/share/systemd/user/atd.service"
+        # (it is for one user, whoever that is)
+        sed -i '/^# It is enabled/,/^ConditionUser/d' "$to/share/systemd/user/atd.service"
         ;;
     *)
         unit "$here/packaging/systemd/user-atd.service" "$to/lib/systemd/user/atd.service"
@@ -78,21 +106,21 @@ esac
 echo "installed below $PREFIX: see $PREFIX/share/man/man1/at.1"
 case $PREFIX in
     "${HOME:-/nowhere}"/*)
-        # A manager of units finds that of a user below ~/.local, else by a link, and tells its spool.
+        # A manager of units finds that of a user below ~/.local, else by a link.
         [ "$PREFIX" = "$HOME/.local" ] || systemctl --user link "$to/share/systemd/user/atd.service" 2>/dev/null || true
         systemctl --user daemon-reload 2>/dev/null || true
-        spool=$(systemctl --user show -P Environment atd 2>/dev/null | sed -n 's/^.*ATSPOOL=\([^ ]*\).*$/\1/p' || true)
-        spool=${spool:-${XDG_STATE_HOME:-$HOME/.local/state}/coefhird/jobs}
         echo 'for your profile:'
-        echo "  export PATH=$PREFIX/bin:$PREFIX/sbin:\$PATH ATSPOOL=$spool"
+        echo "  export PATH=$PREFIX/bin:\$PATH"
         echo 'to have atd run:'
-        echo "  systemctl --user enable --now atd && loginctl enable-linger"
+        echo '  systemctl --user enable --now atd && loginctl enable-linger'
         echo 'or, where no systemd runs it:'
-        echo "  mkdir -p -m 700 $spool && : >>$spool/at.deny; atd &"
+        echo '  setsid -f atd >/dev/null'
         ;;
     *)
         systemctl daemon-reload 2>/dev/null || true
-        echo 'to have atd run:'
-        echo '  systemctl enable --now atd'
+        echo 'to have an atd run for root, and one for each user from their next session on:'
+        echo '  systemctl enable --now atd && systemctl --global enable atd'
+        echo 'or, where no systemd runs it, as each user:'
+        echo '  setsid -f atd >/dev/null'
         ;;
 esac

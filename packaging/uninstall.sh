@@ -1,6 +1,6 @@
 #!/bin/sh
-# Removes what install.sh put below PREFIX. The spool folder and what lies in it stays. End atd before: that is
-# `systemctl disable --now atd`, with --user for a unit of one user.
+# Removes what install.sh put below PREFIX. Spools stay, and what lies beside them. End atd before: that is
+# `systemctl disable --now atd`, with --user for a unit of one user, and `systemctl --global disable atd` for those of all.
 set -eu
 PREFIX=${PREFIX:-/usr/local}
 to=${DESTDIR:-}$PREFIX
@@ -10,13 +10,26 @@ rm -f "$to/sbin/atd" \
     "$to/lib/systemd/user/atd.service" \
     "$to/lib/systemd/system/atd.service" \
     "$to/lib/tmpfiles.d/coefhird.conf" \
+    "$to/share/user-tmpfiles.d/coefhird.conf" \
     "$to/share/doc/coefhird/hardening.conf"
-for tool in at batch atq atrm atd atday; do
+for tool in at batch atq atrm atd atday atout atwhen; do
     rm -f "$to/bin/$tool" \
+        "$to/libexec/coefhird/$tool" \
         "$to/share/bash-completion/completions/$tool" \
         "$to/share/fish/vendor_completions.d/$tool.fish"
 done
-for page in at.1 batch.1 atq.1 atrm.1 atday.1; do rm -f "$to/share/man/man1/$page"; done
+for name in program help hints from-debian-at; do rm -f "$to/libexec/coefhird/$name"; done
+for page in at batch atq atrm atout atwhen atday; do rm -f "$to/share/man/man1/$page.1"; done
 for page in at.allow.5 at.deny.5 atjobs.5; do rm -f "$to/share/man/man5/$page"; done
 rm -f "$to/share/man/man8/atd.8"
-rmdir "$to/share/doc/coefhird" 2>/dev/null || true
+for folder in libexec/coefhird share/doc/coefhird; do rmdir "$to/$folder" 2>/dev/null || true; done
+
+# What is left: the jobs, their lock and their outputs.
+[ -z "${DESTDIR:-}" ] || exit 0
+case $PREFIX in
+    "${HOME:-/nowhere}"/*) set -- "$HOME/.local/state/coefhird/jobs" "${XDG_STATE_HOME:-$HOME/.local/state}/coefhird/jobs" "$HOME/.config/coefhird/jobs" ;;
+    *) set -- /var/spool/atjobs ;;
+esac
+for spool; do
+    for left in "$spool" "$spool.lock" "$spool.out"; do [ ! -e "$left" ] || echo "$left"; done
+done | sort -u | sed 's/^/uninstall.sh: stays: /'

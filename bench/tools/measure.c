@@ -22,7 +22,7 @@ static char *environment[8];
 
 /* The variables that are handed on. */
 static void settle_environment(void) {
-    static const char *const names[] = {"PATH", "ATSPOOL", "LOGNAME", "PWD", "TZ"};
+    static const char *const names[] = {"PATH", "ATSPOOL", "LOGNAME", "HOME", "PWD", "TZ"};
     int kept = 0;
     for (size_t n = 0; n < sizeof names / sizeof *names; n++) {
         const char *value = getenv(names[n]);

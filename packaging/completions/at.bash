@@ -1,4 +1,4 @@
-# Completions of at, batch, atq, atrm, atd and atday for bash.
+# Completions of at, batch, atq, atrm, atd, atday, atout and atwhen for bash.
 
 _coefhird_jobs() { atq 2>/dev/null | cut -f 1; }
 
@@ -69,9 +69,19 @@ _coefhird_atday() {
     esac
 }
 
+_coefhird_atout() {
+    mapfile -t COMPREPLY < <(compgen -W "-f $(_coefhird_jobs)" -- "${COMP_WORDS[COMP_CWORD]}")
+}
+
+_coefhird_atwhen() {
+    mapfile -t COMPREPLY < <(compgen -W "$(_coefhird_words)" -- "${COMP_WORDS[COMP_CWORD]}")
+}
+
 complete -F _coefhird_at at
 complete -F _coefhird_batch batch
 complete -F _coefhird_atq atq
 complete -F _coefhird_atrm atrm
 complete -F _coefhird_atd atd
 complete -F _coefhird_atday atday
+complete -F _coefhird_atout atout
+complete -F _coefhird_atwhen atwhen

@@ -1,4 +1,4 @@
-# Completions of at, batch, atq, atrm, atd and atday for fish.
+# Completions of at, batch, atq, atrm, atd, atday, atout and atwhen for fish.
 
 function __coefhird_jobs
     atq 2>/dev/null
@@ -42,3 +42,8 @@ complete -c atd -l turns -x -d 'make so many turns and end'
 
 complete -c atday -f
 complete -c atday -l make -x -d 'make so many events'
+
+complete -c atout -f -a '(__coefhird_jobs)'
+complete -c atout -s f -d 'wait for the job, and go on as it writes'
+
+complete -c atwhen -f -a "$words"

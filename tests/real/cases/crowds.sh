@@ -27,8 +27,10 @@ measured() {
   span=$(((($(date +%s%3N) - from) * 2) + 4))
 }
 
-# Makes a call, and kills it at a random moment.
+# Makes a call, and kills it at a random moment. What it says is of this call alone, also where it was killed before it
+# said anything.
 killed() { # input, what it says, word..
+  : >"$2"
   (becomes "$bin/$3" "${@:4}" <"$1" >>served 2>"$2") &
   local child=$! wait=$((RANDOM % span))
   sleep "$((wait / 1000)).$(printf %03d $((wait % 1000)))"

@@ -1,0 +1,54 @@
+# The package as a fresh user has it, and the move from Debian's at.
+
+# This machine's root under an overlay, in a mount namespace, so nothing of the machine is changed.
+steps_of_a_package() {
+  mkdir over && mount -t tmpfs tmpfs over && mkdir over/up over/work over/root \
+    && mount -t overlay overlay -o "lowerdir=/,upperdir=$PWD/over/up,workdir=$PWD/over/work" over/root 2>/dev/null || skip 'there is no overlay'
+  mount -t proc proc over/root/proc && mount --bind /dev over/root/dev || fail 'no /proc can be mounted'
+  cp coefhird_*.deb over/root/root/ && rm -rf over/root/var/spool/atjobs* over/root/var/spool/cron/atjobs
+  mount -t tmpfs -o mode=1777 tmpfs over/root/tmp || fail 'no /tmp can be mounted'
+  chroot over/root /bin/bash <<'STEPS' || exit 1
+fails() { printf '%s\n' "$1"; exit 1; }
+export DEBIAN_FRONTEND=noninteractive PATH=/usr/sbin:/usr/bin:/sbin:/bin HOME=/root
+unset TZ ATSPOOL LOGNAME USER
+dpkg --remove at >/dev/null 2>&1
+useradd -m fresh || fails 'there is no useradd'
+# Two jobs of Debian's wait: one of the user for 2030, and one of root whose time has passed.
+old=/var/spool/cron/atjobs
+mkdir -p $old
+printf '#!/bin/sh\n# atrun uid=%s gid=%s\n# mail fresh 1\numask 22\ncd /home/fresh || {\n\t echo no >&2\n\t exit 1\n}\necho moved "${TZ-no zone}"\n' "$(id -u fresh)" "$(id -g fresh)" >$old/c0000301e187e0
+printf '#!/bin/sh\n# atrun uid=0 gid=0\n# mail root 0\numask 22\ncd /root || {\n\t echo no >&2\n\t exit 1\n}\npwd\n' >$old/a0000201c8b522
+printf 'half' >$old/a0000401c8b522
+chown fresh $old/c0000301e187e0
+chmod 700 $old/a0000201c8b522 $old/c0000301e187e0; chmod 600 $old/a0000401c8b522
+dpkg -i --no-triggers /root/coefhird_*.deb >/root/said 2>&1 || fails "dpkg: $(tail -n 5 /root/said)"
+grep -q "2 jobs of Debian's at wait in $old" /root/said || fails "the package says nothing of the jobs that wait: $(cat /root/said)"
+/usr/libexec/coefhird/from-debian-at >/root/printed || fails 'from-debian-at prints nothing'
+[ "$(grep -c 'runuser -u' /root/printed)" = 2 ] && [ -e $old/a0000201c8b522 ] || fails "it prints $(cat /root/printed)"
+/usr/libexec/coefhird/from-debian-at --make 2>/root/made || fails "from-debian-at: $(cat /root/made)"
+grep -qx '2 of 2 jobs moved' /root/made || fails "it says $(cat /root/made)"
+/usr/libexec/coefhird/from-debian-at --make 2>/root/made; grep -qx '0 of 0 jobs moved' /root/made || fails 'it moves a job twice'
+[ "$(cat $old/a0000401c8b522)" = half ] || fails 'a job that is not whole was moved'
+# the user: by su, as a login, with nothing set
+su fresh -c 'cd; echo "pwd; echo \$LOGNAME" | at now' >/root/said 2>&1 || fails "at of a fresh user: $(cat /root/said)"
+su - fresh -c atq >/root/said 2>&1 || fails "atq of a fresh user: $(cat /root/said)"
+[ "$(grep -c ' a fresh$' /root/said) $(grep -c 'Tue Jan  1 .* 2030 c fresh$' /root/said)" = '1 1' ] || fails "their jobs are $(cat /root/said)"
+su fresh -c 'atd -s' >/root/said 2>&1 || fails "atd of a fresh user: $(cat /root/said)"
+[ "$(su fresh -c 'atout 2')" = $'/home/fresh\nfresh' ] || fails "their job prints $(su fresh -c 'atout 2' 2>&1)"
+[ "$(su fresh -c 'at -c 1' | sed -n 2p) $(su fresh -c 'at -c 1 | sh')" = '# at user=fresh mail=1 moved no zone' ] || fails "the moved job prints $(su fresh -c 'at -c 1 | sh')"
+[ -e /etc/systemd/user/default.target.wants/atd.service ] || fails 'the unit of users is not enabled'
+# root
+cd /tmp && echo 'echo of root' | at now 2>/root/said || fails "at of root: $(cat /root/said)"
+atd -s >/root/said 2>&1 || fails "atd of root: $(cat /root/said)"
+[ "$(atout 1) $(atout 2)" = '/root of root' ] || fails "root's jobs print $(atout 1) $(atout 2)"
+dpkg --purge --no-triggers coefhird >/root/said 2>&1 || fails "purge: $(cat /root/said)"
+[ ! -e /usr/bin/at ] && [ ! -e /usr/libexec/coefhird ] && [ -d /home/fresh/.local/state/coefhird/jobs ] || fails 'something stays'
+[ ! -e /etc/systemd/user/default.target.wants/atd.service ] && [ ! -L /etc/systemd/user/default.target.wants/atd.service ] || fails 'the unit stays enabled'
+STEPS
+}
+case_door_package() {
+  for tool in dpkg-deb gzip su runuser; do command -v $tool >/dev/null || skip "there is no $tool"; done
+  [ "$(id -u)" = 0 ] || skip 'only root installs a package, in a root of its own'
+  DPKG_DEB_COMPRESSOR_TYPE=none BINARY=$place/bin/program sh "$here/../../packaging/build-deb.sh" "$PWD" >said 2>&1 || fail "no package: $(cat said)"
+  apart steps_of_a_package
+}

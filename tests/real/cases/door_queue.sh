@@ -1,0 +1,109 @@
+# The queue at the door, and one atd on a spool.
+
+# A spool in which so many jobs wait.
+filled() { # count
+  opened
+  for ((made = 1; made <= $1; made++)); do
+    printf '#!/bin/sh\n# at user=%s mail=0\numask 0022\ncd '\''/'\'' || {\n\techo '\''Execution directory inaccessible'\'' >&2\n\texit 1\n}\ntrue\n' "$me" \
+      >"$spool/a$(printf %08x "$made")0fffffff"
+  done
+  printf '%08x\n' "$1" >"$spool/.SEQ"
+  export ATSPOOL=$spool TZ=UTC
+}
+
+case_door_submitters_at_once() {
+  doored; opened
+  export ATSPOOL=$spool TZ=UTC
+  for submitter in $(seq 8); do
+    (for job in $(seq 25); do printf 'echo %s of %s\n' "$job" "$submitter" | "$door/at" -t 203001010000 2>>"said_$submitter" || echo "$?" >>failed; done) &
+  done
+  wait
+  [ ! -e failed ] || fail "refused: $(wc -l <failed), $(grep -hv '^job ' said_* | sort | uniq -c)"
+  "$door/atq" >out
+  [ "$(cut -f1 out | sort -n | tr '\n' ' ')" = "$(seq 200 | tr '\n' ' ')" ] || fail "the numbers are $(cut -f1 out | tr '\n' ' ')"
+  tail -qn 1 spool/a* | sort >jobs
+  for submitter in $(seq 8); do for job in $(seq 25); do echo "echo $job of $submitter"; done; done | sort | cmp -s - jobs || fail 'a job is lost'
+}
+
+case_door_twenty_at_once() {
+  doored; filled 1000
+  printf true >commands
+  for caller in $(seq 20); do
+    case $((caller % 4)) in
+      0) "$door/at" -t 203001010000 <commands ;;
+      1) printf true | "$door/at" -t 203001010000 ;;
+      2) "$door/atq" | wc -l ;;
+      3) "$door/atrm" "$caller" ;;
+    esac >/dev/null 2>"said_$caller" || echo "$caller" >>failed &
+  done
+  wait
+  cat said_* | grep -v '^job ' >wrong
+  [ ! -s wrong ] && [ ! -e failed ] || fail "$(sort wrong | uniq -c)"
+  [ "$("$door/atq" | wc -l)" = 1005 ] || fail "there are $("$door/atq" | wc -l) jobs"
+}
+
+# Neither a producer that calls at itself, nor a reader that does, nor a pipe that is long in coming, holds up anyone.
+case_door_pipes_that_wait() {
+  doored; filled 2000
+  (echo true; "$door/at" -l 1 >&2) 2>err | timeout 20 "$door/at" -t 203001010000 2>said || fail "a producer that calls at: $(cat said err)"
+  # (these lines are more than a pipe holds)
+  timeout 20 "$door/atq" | { printf true | "$door/at" -t 203001010000 2>>said; wc -l >lines; } || fail "a reader that calls at: $(cat said)"
+  [ "$(cat lines)" = 2001 ] || fail "it reads $(cat lines) lines"
+  mkfifo late fifo
+  cat late | "$door/at" -t 203001010000 2>slow &
+  "$door/at" -f fifo -t 203001010000 2>slow_too &
+  sleep 0.3
+  printf true | timeout 20 "$door/at" -t 203001010000 2>>said || fail "beside pipes that are slow: $(cat said)"
+  timeout 20 "$door/atrm" 1 2>>said || fail "beside pipes that are slow: $(cat said)"
+  [ ! -s slow ] && [ ! -s slow_too ] || fail "the slow ones say $(cat slow slow_too)"
+  echo true >late; echo true >fifo
+  wait
+  [ "$(cat said slow slow_too | grep -c '^job ')" = 5 ] || fail "the jobs are $(cat said slow slow_too)"
+}
+
+# A caller that is first in the queue waits for whoever holds the spool: ten seconds are not all it has.
+case_door_a_long_turn() {
+  doored; filled 1
+  : >>"$spool.lock"
+  (flock 9; sleep 11) 9<"$spool.lock" &
+  sleep 0.2
+  "$door/atrm" 1 2>said || fail "it says $(cat said)"
+  wait
+}
+
+case_door_one_atd() {
+  needs_atd; doored; opened; ln -s spool link
+  export ATSPOOL=$spool TZ=UTC
+  printf 'touch begun; while [ ! -e go ]; do sleep 0.05; done; touch ended' >commands
+  "$door/at" now <commands 2>err || fail "no job: $(cat err)"
+  "$door/atd" >served 2>said </dev/null &
+  first=$!
+  awaits begun
+  for words in "$spool:" "$spool:-s" "$PWD/link:-s" "$spool/.:-s" "./spool//:-s --turns 1"; do
+    # shellcheck disable=SC2086
+    status=0; ATSPOOL=${words%%:*} timeout 5 "$door/atd" ${words#*:} >out 2>err </dev/null || status=$?
+    refused 5 'atd: spool busy'
+  done
+  kill -9 $first; wait $first 2>/dev/null
+  # the job runs on, and has not the lock
+  "$door/atd" -s >out 2>err </dev/null || fail "behind it: $(cat err)"
+  [ "$(cat out)" = 'job 1 interrupted' ] || fail "it says $(cat out)"
+  touch go; awaits ended
+}
+
+# An atd by setsid -f, as the printed lines have it, outlives ^C and the end of the terminal, and so do its jobs.
+case_door_an_atd_of_its_own_group() {
+  needs_atd; doored; opened
+  export ATSPOOL=$spool TZ=UTC
+  grep -q 'setsid -f atd' "$here/../../packaging/install.sh" && ! grep -qE 'atd &($|[^&])' "$here/../../packaging/install.sh" || fail 'another line is printed'
+  printf 'echo $PPID >begun; while [ ! -e go ]; do sleep 0.05; done; touch ended' >commands
+  "$door/at" now <commands 2>err || fail "no job: $(cat err)"
+  setsid bash -c 'setsid -f "$1" >/dev/null </dev/null; sleep 30' _ "$door/atd" 2>said &
+  shell=$!
+  awaits begun; sleep 0.1
+  daemon=$(cat begun)
+  kill -INT -- -$shell; kill -HUP -- -$shell; kill -KILL -- -$shell; wait $shell 2>/dev/null
+  kill -0 "$daemon" || fail 'atd is gone'
+  touch go; awaits ended
+  kill "$daemon"
+}
