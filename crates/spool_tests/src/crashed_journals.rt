@@ -1,17 +1,16 @@
-//! The journal after a crash at each host call that changes it, with several picks of what survived.
+//! The journal after a crash at each host call of a compaction, with several picks of what survived.
 ghost use Rattle.std.specs.Prelude.{IfOk};
 ghost use Rattle.host_calls.specs.Session.{IsOutside};
 ghost use Rattle.memory_host.specs.Host.{memory_session};
 
-use crate::journal_calls::{add_batch, compact};
+use crate::journal_calls::compact;
 use host_calls::{Host, Name};
 use memory_host::{Files, MemoryHost, Plan};
 use start_journal::{Journal, Mark};
 use std::alloc::{AllocError, Global};
 use std::test::Fail;
 
-// With 203 the byte at 96, the gate of the free slot, becomes `+` where it is uncertain.
-const PICKS: [u64; 4] = [0, 1, 203, u64::MAX];
+const PICKS: [u64; 4] = [0, 1, 255, u64::MAX];
 
 // A journal of one job that was removed, two batch starts and a free slot.
 const JOURNAL: &[u8] =
@@ -30,67 +29,39 @@ fn spool(alloc: Global, fuse: u64) -> Result<MemoryHost, AllocError>
     MemoryHost::make(alloc, files, plan)
 }
 
-// The calls are enter, settle, names, three that read the journal, and write and sync, of the slot behind its
-// gate and then of the gate.
-#[test]
-fn an_added_mark_stays(rt: HostRuntime) -> Result<(), Fail> {
-    let alloc = rt.alloc();
-    let old = [Mark::Removed(1), Mark::Batch(5), Mark::Batch(7)];
-    let new = [
-        Mark::Removed(1),
-        Mark::Batch(5),
-        Mark::Batch(7),
-        Mark::Batch(9),
-    ];
-    for fuse in 1..11 {
-        for pick in PICKS {
-            let mut host = spool(alloc, fuse)?;
-            host.enter(alloc).ok().expect(&rt, "a session");
-            let added = add_batch(alloc, &mut host, 9).ok().flatten();
-            assert_eq!(rt; added.is_some(), fuse == 10);
-            host.reboot(alloc, pick, None).ok().expect(&rt, "memory");
-            host.enter(alloc).ok().expect(&rt, "a session");
-            let journal = Journal::recall(alloc, &mut host, 1).ok();
-            let journal = journal.expect(&rt, "a journal");
-            let is_new = fuse == 10 || fuse == 9 && pick == 203;
-            let marks = if is_new {
-                new.as_slice()
-            } else {
-                old.as_slice()
-            };
-            assert_eq!(rt; journal.marks(), marks, "fuse {fuse}, pick {pick}");
-            assert_eq!(rt; journal.free(), if is_new { 0 } else { 1 });
-            drop(host);
-        }
-    }
-    Ok(())
+// Whether a compaction is done that stops at this call, and the journal behind a reboot of this pick.
+fn stopped(alloc: Global, fuse: u64, pick: u64) -> Result<(bool, Journal), Fail> {
+    let mut host = spool(alloc, fuse)?;
+    over_a_reboot(alloc, pick, &mut host)
 }
 
-// The last four calls are create, sync, rename and sync_names.
+fn over_a_reboot(alloc: Global, pick: u64, host: &mut MemoryHost) -> Result<(bool, Journal), Fail>
+    requires { IsOutside (memory_session host.old) }
+{
+    host.enter(alloc)?;
+    let is_done = matches!(compact(alloc, host), Ok(Some(_)));
+    host.reboot(alloc, pick, None)?;
+    host.enter(alloc)?;
+    Ok((is_done, Journal::recall(alloc, host, 1)?))
+}
+
+// The calls are enter, settle, names, three that read the journal, and create, sync, rename and sync_names.
 #[test]
 fn a_compaction_drops_what_counts_no_more(rt: HostRuntime) -> Result<(), Fail> {
-    let alloc = rt.alloc();
     let old = [Mark::Removed(1), Mark::Batch(5), Mark::Batch(7)];
     let new = [Mark::Removed(1), Mark::Batch(7)];
     for fuse in 1..11 {
         for pick in PICKS {
-            let mut host = spool(alloc, fuse)?;
-            host.enter(alloc).ok().expect(&rt, "a session");
-            let compacted = compact(alloc, &mut host).ok().flatten();
-            assert_eq!(rt; compacted.is_some(), fuse == 10);
-            host.reboot(alloc, pick, None).ok().expect(&rt, "memory");
-            host.enter(alloc).ok().expect(&rt, "a session");
-            let journal = Journal::recall(alloc, &mut host, 1).ok();
-            let journal = journal.expect(&rt, "a journal");
+            let (is_done, journal) = stopped(rt.alloc(), fuse, pick)?;
             let is_new = fuse == 10 || fuse == 9 && pick % 4 == 3;
-            let marks = if is_new {
-                new.as_slice()
+            let (marks, free) = if is_new {
+                (new.as_slice(), 256)
             } else {
-                old.as_slice()
+                (old.as_slice(), 1)
             };
+            assert_eq!(rt; is_done, fuse == 10);
             assert_eq!(rt; journal.marks(), marks, "fuse {fuse}, pick {pick}");
-            assert_eq!(rt; journal.free(), if is_new { 256 } else { 1 });
-            drop(host);
+            assert_eq!(rt; journal.free(), free);
         }
     }
     Ok(())
