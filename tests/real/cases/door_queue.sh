@@ -61,9 +61,14 @@ case_door_pipes_that_wait() {
   [ "$(cat said slow slow_too | grep -c '^job ')" = 5 ] || fail "the jobs are $(cat said slow slow_too)"
 }
 
-# A caller that is first in the queue waits for whoever holds the spool: ten seconds are not all it has.
+# A caller waits for its turn in the queue of the folder, whatever that is called, and at its front for whoever holds the spool:
+# ten seconds are not all it has.
 case_door_a_long_turn() {
   doored; filled 1
+  ln -s spool link
+  (flock 9; sleep 1; : >freed) 9<"$spool" &
+  sleep 0.2
+  ATSPOOL=$PWD/link "$door/atq" >out; [ -e freed ] || fail 'a caller went on without its turn'
   : >>"$spool.lock"
   (flock 9; sleep 11) 9<"$spool.lock" &
   sleep 0.2
