@@ -50,6 +50,8 @@ case_door_pipes_that_wait() {
   timeout 20 "$door/atq" | { printf true | "$door/at" -t 203001010000 2>>said; wc -l >lines; } || fail "a reader that calls at: $(cat said)"
   [ "$(cat lines)" = 2001 ] || fail "it reads $(cat lines) lines"
   mkfifo late fifo
+  # shellcheck disable=SC2046
+  trap 'kill $(jobs -p) 2>/dev/null' EXIT
   cat late | "$door/at" -t 203001010000 2>slow &
   "$door/at" -f fifo -t 203001010000 2>slow_too &
   sleep 0.3
@@ -61,9 +63,14 @@ case_door_pipes_that_wait() {
   [ "$(cat said slow slow_too | grep -c '^job ')" = 5 ] || fail "the jobs are $(cat said slow slow_too)"
 }
 
-# A caller that is first in the queue waits for whoever holds the spool: ten seconds are not all it has.
+# A caller waits for its turn in the queue of the folder, whatever that is called, and at its front for whoever holds the spool:
+# ten seconds are not all it has.
 case_door_a_long_turn() {
   doored; filled 1
+  ln -s spool link
+  (flock 9; sleep 1; : >freed) 9<"$spool" &
+  sleep 0.2
+  ATSPOOL=$PWD/link "$door/atq" >out; [ -e freed ] || fail 'a caller went on without its turn'
   : >>"$spool.lock"
   (flock 9; sleep 11) 9<"$spool.lock" &
   sleep 0.2
@@ -78,6 +85,7 @@ case_door_one_atd() {
   "$door/at" now <commands 2>err || fail "no job: $(cat err)"
   "$door/atd" >served 2>said </dev/null &
   first=$!
+  trap 'kill $first 2>/dev/null; : >go' EXIT
   awaits begun
   for words in "$spool:" "$spool:-s" "$PWD/link:-s" "$spool/.:-s" "./spool//:-s --turns 1"; do
     # shellcheck disable=SC2086
@@ -102,8 +110,8 @@ case_door_an_atd_of_its_own_group() {
   shell=$!
   awaits begun; sleep 0.1
   daemon=$(cat begun)
+  trap 'kill "$daemon" 2>/dev/null; : >go' EXIT
   kill -INT -- -$shell; kill -HUP -- -$shell; kill -KILL -- -$shell; wait $shell 2>/dev/null
   kill -0 "$daemon" || fail 'atd is gone'
   touch go; awaits ended
-  kill "$daemon"
 }
