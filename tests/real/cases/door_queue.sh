@@ -48,7 +48,8 @@ case_door_pipes_that_wait() {
   (echo true; "$door/at" -l 1 >&2) 2>err | timeout 20 "$door/at" -t 203001010000 2>said || fail "a producer that calls at: $(cat said err)"
   # (these lines are more than a pipe holds)
   timeout 20 "$door/atq" | { printf true | "$door/at" -t 203001010000 2>>said; wc -l >lines; } || fail "a reader that calls at: $(cat said)"
-  [ "$(cat lines)" = 2001 ] || fail "it reads $(cat lines) lines"
+  # Whichever of the two has its turn first.
+  case $(cat lines) in 2001 | 2002) ;; *) fail "it reads $(cat lines) lines" ;; esac
   mkfifo late fifo
   # shellcheck disable=SC2046
   trap 'kill $(jobs -p) 2>/dev/null' EXIT
