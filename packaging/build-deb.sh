@@ -1,6 +1,6 @@
 #!/bin/sh
 # Makes a Debian package of the proved program: packaging/build-deb.sh FOLDER puts coefhird_VERSION_amd64.deb into FOLDER.
-# BINARY, and --cpu NAME behind FOLDER, are as for install.sh. It needs dpkg-deb and no other tool of packages.
+# BINARY, and --cpu NAME after FOLDER, are as for install.sh. It needs dpkg-deb and no other tool of packages.
 set -eu
 here=$(cd "$(dirname "$0")/.." && pwd)
 into=${1:?a folder for the package}

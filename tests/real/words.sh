@@ -16,7 +16,7 @@ becomes() { exec env -i PATH=/usr/bin:/bin ATSPOOL="$spool" LOGNAME="$user" PWD=
 # Makes such a call.
 bare() { (becomes "$@"); }
 
-# Calls a tool with the words behind it, on what is on standard input. The answer lies in $status, ./out and ./err.
+# Calls a tool with the words after it, on what is on standard input. The answer lies in $status, ./out and ./err.
 call() { status=0; bare timeout -k 1 40 "$bin/$1" "${@:2}" >out 2>err || status=$?; }
 
 # The same with these commands as standard input.

@@ -8,8 +8,8 @@ use Rattle.at_words.specs.declared.tool_request.ToolRequest.TheVariants as reque
 use Rattle.civil_minute.specs.declared.zone.Zone.{Zone}
 use Rattle.host_calls.specs.World.{World}
 use Rattle.job_listing.specs.Scripts.{ComesOfShowing, PutsBy}
-use Rattle.job_runs.specs.Attempts.{Achieves}
-use Rattle.job_runs.specs.Current.{IsCurrent, Kept}
+use Rattle.step_runs.specs.Attempts.{Achieves}
+use Rattle.step_runs.specs.Current.{IsCurrent, Kept}
 use Rattle.listing_text.specs.declared.cause.Cause.{Cause}
 use Rattle.listing_text.specs.declared.cause.Cause.TheVariants.{Done, Refused, FileFault, InputFault, OutputFault, Busy, Memory, Damaged, StillRunning}
 use Rattle.listing_text.specs.declared.refusal.Refusal.{Refusal}
@@ -17,23 +17,23 @@ use Rattle.listing_text.specs.declared.refusal.Refusal.TheVariants.{BadUser, Bad
 use Rattle.listing_text.specs.Listing.{IsListing}
 use Rattle.spool_model.specs.JobTable.{JobTable}
 use Rattle.spool_model.specs.Users.{IsUserName}
-use Rattle.command_answers.specs.declared.caller.Caller.{Caller}
-use Rattle.command_answers.specs.declared.stopped.Stopped.{Stopped}
-use Rattle.command_answers.specs.Causes.{cause_in, stopped_by}
-use Rattle.command_answers.specs.Checks.{Check, check_of, is_before, of_lock}
-use Rattle.command_answers.specs.Ends.{Ends, Holding, KeepsOrder, Telling, holding, telling}
-use Rattle.command_answers.specs.Found.{Finds, Found, answers_read}
+use Rattle.command_rules.specs.declared.caller.Caller.{Caller}
+use Rattle.command_rules.specs.declared.command_error.CommandError.{CommandError}
+use Rattle.command_rules.specs.Causes.{cause_in, error_of}
+use Rattle.command_rules.specs.Checks.{Check, check_of, is_before, of_lock}
+use Rattle.command_rules.specs.Ends.{Ends, Holding, KeepsOrder, Telling, holding, telling}
+use Rattle.command_rules.specs.Found.{Finds, Found, answers_read}
 use Rattle.at_commands.specs.inside.Carrying.{AreSessionSteps, Carries, Finding, IsSessionLine, IsSessionText}
-use Rattle.command_answers.specs.Requested.{Prints, Says, next_number, passes_of, scripts_of}
-use Rattle.command_answers.specs.Sessions.{IsNotOpened, IsOpened}
-use Rattle.command_answers.specs.Sinks.{IsPut, NotesBy, PrintsBy, SinkAt}
-use Rattle.command_answers.specs.Verdict.{early_verdict, filter_check, first_refusal, is_unreadable, jobs_check, spool_verdict, user_check, zone_check}
+use Rattle.command_rules.specs.Requested.{Prints, Says, next_number, passes_of, scripts_of}
+use Rattle.command_rules.specs.Sessions.{IsNotOpened, IsOpened}
+use Rattle.command_rules.specs.Sinks.{IsPut, NotesBy, PrintsBy, SinkAt}
+use Rattle.command_rules.specs.Verdict.{early_verdict, filter_check, first_refusal, is_unreadable, jobs_check, spool_verdict, user_check, zone_check}
 use Rattle.at_commands.proofs.EntryLemmas.{IsOfEntry}
 use Rattle.at_commands.specs.inside.Answering.{EndsPrinting, EndsRemoving}
 use Rattle.at_commands.specs.inside.Printing.{PutsWhole}
 use Rattle.at_commands.specs.inside.Session.{IsNoOutput, IsOfSpool}
 use Rattle.at_commands.specs.inside.Sessions.{Lists, Shows, lists_alone}
-use Rattle.command_answers.proofs.CheckLemmas.{refused_up_to}
+use Rattle.command_rules.proofs.CheckLemmas.{refused_up_to}
 use Rattle.at_commands.proofs.CarryLemmas.{carries_no_memory, carries_unsaid, done_allowed, no_true}
 use Rattle.at_commands.proofs.EndsLemmas.{ends_carried, ends_early}
 use Rattle.at_commands.proofs.UnreadLemmas.{silent}
@@ -81,25 +81,25 @@ spool_notes StillRunning IsLine at is = absurd is
 module _ (tells alone : Bool) (asked : ToolRequest) (caller : Caller) (finding : Finding) (old new : World) where
   pub prints_nothing : (cause : Cause) (carries : Carries tells alone asked caller finding old new cause) → ((table : JobTable) → Prints asked caller table []) → (at : SinkAt) →
       tells ≡ true → alone ≡ true → PrintsBy cause (IsSessionText asked caller (finding carries.allow carries.deny) carries.shown) at at
-  prints_nothing Done carries none at told is_alone =
-      let ends : Achieves (AreSessionSteps asked caller (finding carries.allow carries.deny)) old new = carries.spool told is_alone in (
+  prints_nothing Done carries none at known is_alone =
+      let ends : Achieves (AreSessionSteps asked caller (finding carries.allow carries.deny)) old new = carries.spool known is_alone in (
         [],
         (
           ends.0,
-          (carries.folder told is_alone).table ∙ ends.3.begun.shown,
+          (carries.folder known is_alone).table ∙ ends.3.begun.shown,
           done_allowed (spool_verdict asked caller (finding carries.allow carries.deny) carries.shown) carries.order,
           none ends.0,
         ),
         none_put at,
       )
-  prints_nothing (Refused refusal) carries none at told is_alone = silent at
-  prints_nothing FileFault carries none at told is_alone = inl (silent at)
-  prints_nothing InputFault carries none at told is_alone = silent at
-  prints_nothing OutputFault carries none at told is_alone = inl (silent at)
-  prints_nothing Busy carries none at told is_alone = silent at
-  prints_nothing Memory carries none at told is_alone = inl (silent at)
-  prints_nothing (Damaged damage) carries none at told is_alone = silent at
-  prints_nothing StillRunning carries none at told is_alone = absurd carries.reach
+  prints_nothing (Refused refusal) carries none at known is_alone = silent at
+  prints_nothing FileFault carries none at known is_alone = inl (silent at)
+  prints_nothing InputFault carries none at known is_alone = silent at
+  prints_nothing OutputFault carries none at known is_alone = inl (silent at)
+  prints_nothing Busy carries none at known is_alone = silent at
+  prints_nothing Memory carries none at known is_alone = inl (silent at)
+  prints_nothing (Damaged damage) carries none at known is_alone = silent at
+  prints_nothing StillRunning carries none at known is_alone = absurd carries.reach
 
   notes_nothing : (cause : Cause) (carries : Carries tells alone asked caller finding old new cause) → ((zone : Zone) (found : Found) (number : ℕ) → Says asked zone found number []) →
       (at : SinkAt) → NotesBy cause (IsSessionLine asked caller (finding carries.allow carries.deny) carries.shown) at at
@@ -123,47 +123,47 @@ module _ (tells alone : Bool) (asked : ToolRequest) (caller : Caller) (finding :
 -- Sessions of requests that were not opened.
 
 pub listing_unentered : (tells alone : Bool) (asked : ToolRequest) (caller : Caller) (old new : World) (cause : Cause) → IsOfEntry cause →
-    (tells ≡ true → alone ≡ true → new ≡ old) → Lists tells alone asked caller old new (Err (stopped_by cause))
+    (tells ≡ true → alone ≡ true → new ≡ old) → Lists tells alone asked caller old new (Err (error_of cause))
 listing_unentered tells alone asked caller old new cause entry same = record { carries = carries_unentered tells alone asked caller old new cause entry same; text = tt }
 
 pub listing_unopened : (tells alone : Bool) (asked : ToolRequest) (caller : Caller) (old new : World) (user : List ℕ) (cause : Cause) → caller.context.user ≡ user →
-    IsNotOpened tells user old new cause → Lists tells alone asked caller old new (Err (stopped_by cause))
+    IsNotOpened tells user old new cause → Lists tells alone asked caller old new (Err (error_of cause))
 listing_unopened tells alone asked caller old new user cause same is =
     record { carries = carries_unopened tells alone asked caller old new user cause same is; text = tt }
 
 pub listing_of : (tells : Bool) (which : Filter) (caller : Caller) (user : List ℕ) (zone : Zone) (same : caller.context.user ≡ user) (same_zone : caller.zone ≡ zone)
     (old middle new : World) (kept : Kept) (is_open : IsOpened tells user old middle kept) → None ≡ filter_check user kept.table which → (tells ≡ true → new ≡ middle) →
-    (result : Result (List ℕ) Stopped) → IfOk result (IsListing zone kept.table user (passes_of which)) → IfErr result (λ stopped. stopped ≡ stopped_by Memory) →
+    (result : Result (List ℕ) CommandError) → IfOk result (IsListing zone kept.table user (passes_of which)) → IfErr result (λ stopped. stopped ≡ error_of Memory) →
     Lists tells true (request.List which) caller old new result
 listing_of tells which caller user zone same same_zone old middle new kept is_open none still (Ok text) is lacks =
     listing_made tells which caller user zone same same_zone old middle new kept is_open text none still is
 listing_of tells which caller user zone same same_zone old middle new kept is_open none still (Err stopped) is lacks =
-    subst (λ (of : Stopped). Lists tells true (request.List which) caller old new (Err of)) (sym lacks)
+    subst (λ (of : CommandError). Lists tells true (request.List which) caller old new (Err of)) (sym lacks)
     (listing_lacks tells which caller user zone same same_zone old middle new kept is_open still)
 
 pub showing_unentered : (tells alone output : Bool) (asked : ToolRequest) (caller : Caller) (old new : World) (at : SinkAt) (cause : Cause) → IsOfEntry cause →
-    (tells ≡ true → alone ≡ true → new ≡ old) → Shows tells alone output asked caller old new at at (Err (stopped_by cause))
+    (tells ≡ true → alone ≡ true → new ≡ old) → Shows tells alone output asked caller old new at at (Err (error_of cause))
 showing_unentered tells alone output asked caller old new at cause entry same =
     let carries : Carries tells alone asked caller lists_alone old new cause = carries_unentered tells alone asked caller old new cause entry same in
     record {
       carries = carries;
-      prints = λ told is_alone tells_output. spool_prints cause (IsSessionText asked caller (lists_alone carries.allow carries.deny) carries.shown) at (entry_of_spool cause entry);
+      prints = λ known is_alone tells_output. spool_prints cause (IsSessionText asked caller (lists_alone carries.allow carries.deny) carries.shown) at (entry_of_spool cause entry);
     }
 
 pub showing_unopened : (tells alone output : Bool) (asked : ToolRequest) (caller : Caller) (old new : World) (at : SinkAt) (user : List ℕ) (cause : Cause) →
-    caller.context.user ≡ user → IsNotOpened tells user old new cause → Shows tells alone output asked caller old new at at (Err (stopped_by cause))
+    caller.context.user ≡ user → IsNotOpened tells user old new cause → Shows tells alone output asked caller old new at at (Err (error_of cause))
 showing_unopened tells alone output asked caller old new at user cause same is =
     let carries : Carries tells alone asked caller lists_alone old new cause = carries_unopened tells alone asked caller old new user cause same is in
     record {
       carries = carries;
-      prints = λ told is_alone tells_output.
+      prints = λ known is_alone tells_output.
           spool_prints cause (IsSessionText asked caller (lists_alone carries.allow carries.deny) carries.shown) at (not_opened_of_spool tells user old new cause is);
     }
 
--- the scripts were put, or a front of them
+-- the scripts were put, or a prefix of them
 pub showing_of : (tells output : Bool) (numbers : List ℕ) (caller : Caller) (user : List ℕ) (same : caller.context.user ≡ user)
     (old middle new : World) (was is : SinkAt) (kept : Kept) (is_open : IsOpened tells user old middle kept) → None ≡ jobs_check user false kept.table numbers →
-    (tells ≡ true → new ≡ middle) → (result : Result (Unit {0}) Stopped) → IfErr result ComesOfShowing →
+    (tells ≡ true → new ≡ middle) → (result : Result (Unit {0}) CommandError) → IfErr result ComesOfShowing →
     (tells ≡ true → output ≡ true → (table : JobTable) → IsCurrent kept middle.now.folder table → PutsBy (scripts_of table numbers) was is result) →
     Shows tells true output (request.Show numbers) caller old new was is result
 showing_of tells output numbers caller user same old middle new was is kept is_open none still (Ok value) comes puts =
@@ -193,7 +193,7 @@ module _ (asked : ToolRequest) (caller : Caller) (tells : Telling) (at : Holding
       ends_early asked caller tells at at lists_alone keeps_lists (Refused refusal) (check_of refusal)
       (λ allow deny. subst (λ (of : Option Refusal). KeepsOrder of (Refused refusal)) (sym (verdict (lists_alone allow deny))) (inl refl)) tt refl ahead
       (λ allow deny. refused_up_to (early_verdict asked caller (lists_alone allow deny)) refusal (verdict (lists_alone allow deny)))
-      (λ allow deny told. sym (clock (check_of refusal))) (λ allow deny. finds (check_of refusal) (lists_alone allow deny)) refl (silent at.output) (silent at.errors)
+      (λ allow deny known. sym (clock (check_of refusal))) (λ allow deny. finds (check_of refusal) (lists_alone allow deny)) refl (silent at.output) (silent at.errors)
 
 first_refused : (refusal : Refusal) (later : List (Option Refusal)) (check : Option Refusal) → check ≡ Some refusal → first_refusal (check ∷ later) ≡ Some refusal
 first_refused refusal later check is = ap (λ (of : Option Refusal). first_refusal (of ∷ later)) is
@@ -237,22 +237,22 @@ pub removal_ends : (files alone : Bool) (numbers : List ℕ) (caller : Caller) (
 removal_ends files alone numbers caller old new cause named carries = λ output printed clock input errors answers contents said.
     ends_carried (request.Remove numbers) caller (telling files alone clock input output errors) (holding old answers contents printed said)
     (holding new answers contents printed said) lists_alone cause carries
-    (alone_is (user_check caller.context) ∙ user_passes caller.context named) (λ told. refl) tt
-    (λ told is_alone tells_output.
-    prints_nothing files alone (request.Remove numbers) caller lists_alone old new cause carries (λ table. refl) printed told is_alone)
-    (λ told. notes_nothing files alone (request.Remove numbers) caller lists_alone old new cause carries (λ zone found number. refl) said)
+    (alone_is (user_check caller.context) ∙ user_passes caller.context named) (λ known. refl) tt
+    (λ known is_alone tells_output.
+    prints_nothing files alone (request.Remove numbers) caller lists_alone old new cause carries (λ table. refl) printed known is_alone)
+    (λ known. notes_nothing files alone (request.Remove numbers) caller lists_alone old new cause carries (λ zone found number. refl) said)
 
 -- Showings.
 
-pub showing_ends : (files alone output : Bool) (numbers : List ℕ) (caller : Caller) (old new : World) (was is : SinkAt) (result : Result (Unit {0}) Stopped) →
+pub showing_ends : (files alone output : Bool) (numbers : List ℕ) (caller : Caller) (old new : World) (was is : SinkAt) (result : Result (Unit {0}) CommandError) →
     IsUserName caller.context.user → Shows files alone output (request.Show numbers) caller old new was is result →
     EndsPrinting files alone output (request.Show numbers) caller old new was is (cause_in result)
 showing_ends files alone output numbers caller old new was is result named shows = λ clock input errors answers contents said.
     ends_carried (request.Show numbers) caller (telling files alone clock input output errors) (holding old answers contents was said)
     (holding new answers contents is said) lists_alone (cause_in result) shows.carries
-    (alone_is (user_check caller.context) ∙ user_passes caller.context named) (λ told. refl) tt
+    (alone_is (user_check caller.context) ∙ user_passes caller.context named) (λ known. refl) tt
     shows.prints
-    (λ told. notes_nothing files alone (request.Show numbers) caller lists_alone old new (cause_in result) shows.carries (λ zone found number. refl) said)
+    (λ known. notes_nothing files alone (request.Show numbers) caller lists_alone old new (cause_in result) shows.carries (λ zone found number. refl) said)
 
 -- Listings.
 
@@ -264,14 +264,14 @@ module _ (files alone output : Bool) (which : Filter) (caller : Caller) (old new
       ∙ alone_is (zone_check caller.zone) ∙ zone_passes caller.zone readable
 
   -- no text was made
-  pub listing_stopped : (stopped : Stopped) (at : SinkAt) → IsNoOutput stopped → Lists files alone (request.List which) caller old new (Err stopped) →
+  pub listing_stopped : (stopped : CommandError) (at : SinkAt) → IsNoOutput stopped → Lists files alone (request.List which) caller old new (Err stopped) →
       EndsPrinting files alone output (request.List which) caller old new at at stopped.cause
   listing_stopped stopped at of_spool lists = λ clock input errors answers contents said.
       ends_carried (request.List which) caller (telling files alone clock input output errors) (holding old answers contents at said)
-      (holding new answers contents at said) lists_alone stopped.cause lists.carries passed (λ told. refl) tt
-      (λ told is_alone tells_output.
+      (holding new answers contents at said) lists_alone stopped.cause lists.carries passed (λ known. refl) tt
+      (λ known is_alone tells_output.
       spool_prints stopped.cause (IsSessionText (request.List which) caller (lists_alone lists.carries.allow lists.carries.deny) lists.carries.shown) at of_spool)
-      (λ told. spool_notes stopped.cause (IsSessionLine (request.List which) caller (lists_alone lists.carries.allow lists.carries.deny) lists.carries.shown) said of_spool)
+      (λ known. spool_notes stopped.cause (IsSessionLine (request.List which) caller (lists_alone lists.carries.allow lists.carries.deny) lists.carries.shown) said of_spool)
 
   -- the text was put, or not
   listing_by : (cause : Cause) (carries : Carries files alone (request.List which) caller lists_alone old new cause) (was is : SinkAt) →
@@ -280,19 +280,19 @@ module _ (files alone output : Bool) (which : Filter) (caller : Caller) (old new
       EndsPrinting files alone output (request.List which) caller old new was is cause
   listing_by cause carries was is prints = λ clock input errors answers contents said.
       ends_carried (request.List which) caller (telling files alone clock input output errors) (holding old answers contents was said)
-      (holding new answers contents is said) lists_alone cause carries passed (λ told. refl) tt prints
-      (λ told. notes_nothing files alone (request.List which) caller lists_alone old new cause carries (λ zone found number. refl) said)
+      (holding new answers contents is said) lists_alone cause carries passed (λ known. refl) tt prints
+      (λ known. notes_nothing files alone (request.List which) caller lists_alone old new cause carries (λ zone found number. refl) said)
 
   pub listing_put : (cause : Cause) (text : List ℕ) (was is : SinkAt) → Lists files alone (request.List which) caller old new (Ok text) →
       PutsWhole output text was is cause → EndsPrinting files alone output (request.List which) caller old new was is cause
   listing_put Done text was is lists puts =
-      listing_by Done lists.carries was is (λ told is_alone tells_output. (text, lists.text, puts tells_output))
+      listing_by Done lists.carries was is (λ known is_alone tells_output. (text, lists.text, puts tells_output))
   listing_put OutputFault text was is lists puts =
       listing_by OutputFault (carries_unsaid files alone (request.List which) caller lists_alone old new lists.carries) was is
-      (λ told is_alone tells_output. inr (text, lists.text, puts tells_output))
+      (λ known is_alone tells_output. inr (text, lists.text, puts tells_output))
   listing_put Memory text was is lists puts =
       listing_by Memory (carries_no_memory files alone (request.List which) caller lists_alone old new lists.carries) was is
-      (λ told is_alone tells_output. inl (puts tells_output))
+      (λ known is_alone tells_output. inl (puts tells_output))
   listing_put (Refused refusal) text was is lists puts = absurd puts
   listing_put FileFault text was is lists puts = absurd puts
   listing_put InputFault text was is lists puts = absurd puts

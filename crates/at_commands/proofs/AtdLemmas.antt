@@ -5,9 +5,9 @@ use Rattle.at_words.specs.Answers.{Answers}
 use Rattle.at_words.specs.declared.fault.WordsFault.{WordsFault}
 use Rattle.at_words.specs.declared.fault.WordsFault.TheVariants as words
 use Rattle.at_words.specs.declared.tool_request.ToolRequest.TheVariants as request
-use Rattle.command_answers.specs.Found.{Asked}
-use Rattle.command_answers.specs.Sinks.{SinkAt}
-use Rattle.daemon_turn.specs.Daemons.{Watch, new_watch}
+use Rattle.command_rules.specs.Found.{Asked}
+use Rattle.command_rules.specs.Sinks.{SinkAt}
+use Rattle.daemon_turn.specs.Daemons.{DaemonState, new_daemon}
 use Rattle.listing_text.specs.declared.cause.Cause.{Cause}
 use Rattle.listing_text.specs.declared.cause.Cause.TheVariants.{Memory}
 use Rattle.serving.specs.Outcomes.{at_a_line}
@@ -33,25 +33,25 @@ pub unserved_asked : (one other : Asked) → one ≡ other → IsNotServed other
 unserved_asked one other same is = subst IsNotServed (sym same) is
 
 -- no turn was made, since there was no memory to read the words
-pub nothing_served : (tells : ServeTelling) (limit interval : ℕ) (once : Bool) (turns : ℕ) (old : Watch → ServeAt) (out err err_new : SinkAt) (final : Cause)
+pub nothing_served : (tells : ServeTelling) (limit interval : ℕ) (once : Bool) (turns : ℕ) (old : DaemonState → ServeAt) (out err err_new : SinkAt) (final : Cause)
     → IsSaid (codes "atd") tells.errors Memory err err_new final → ServesAnew tells limit interval once turns old old out out err err_new final
 nothing_served tells limit interval once turns old out err err_new final said = record {
-  watch = new_watch limit interval;
+  daemon = new_daemon limit interval;
   serving = record {
     items = [];
-    last = old (new_watch limit interval);
+    last = old (new_daemon limit interval);
     stop = at_a_line;
-    cut = false;
+    output_failed = false;
     few = omega arith;
     serves = no_turn;
     stops = refl;
     prints = record {
       later = omega arith;
       rose = λ cut. absurd (cc);
-      puts = λ told. record { count = 0; content = sym (append-nil out.content); later = omega arith };
+      puts = λ known. record { count = 0; content = sym (append-nil out.content); later = omega arith };
     };
     between = err;
-    says = λ told. silent_same err err refl;
+    says = λ known. silent_same err err refl;
     outcome = said;
   };
 }

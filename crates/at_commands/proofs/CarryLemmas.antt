@@ -7,7 +7,7 @@ use Rattle.std.specs.FinMap as finite
 use Rattle.access_lists.specs.Access.{may_use}
 use Rattle.at_words.specs.declared.tool_request.ToolRequest.{ToolRequest}
 use Rattle.host_calls.specs.World.{World, reading}
-use Rattle.job_runs.specs.Current.{Kept}
+use Rattle.step_runs.specs.Current.{Kept}
 use Rattle.listing_text.specs.declared.cause.Cause.{Cause}
 use Rattle.listing_text.specs.declared.cause.Cause.TheVariants.{Done, Refused, FileFault, InputFault, OutputFault, Busy, Memory, Damaged, StillRunning}
 use Rattle.listing_text.specs.declared.refusal.Refusal.{Refusal}
@@ -15,19 +15,19 @@ use Rattle.listing_text.specs.declared.refusal.Refusal.TheVariants.{NotAllowed}
 use Rattle.spool_model.specs.declared.step.Step.{Step}
 use Rattle.spool_model.specs.JobTable.{JobTable}
 use Rattle.spool_shows.specs.Shown.{shown_by}
-use Rattle.command_answers.specs.declared.caller.Caller.{Caller}
-use Rattle.command_answers.specs.Checks.{Check, ComesUpTo, check_of, is_before, of_access, of_folder, of_lists, of_lock, of_output, of_steps, place_of}
-use Rattle.command_answers.specs.Ends.{KeepsOrder, Reaches}
-use Rattle.command_answers.specs.Found.{AreInFolder, Found, allow_file, deny_file}
+use Rattle.command_rules.specs.declared.caller.Caller.{Caller}
+use Rattle.command_rules.specs.Checks.{Check, ComesUpTo, check_of, is_before, of_access, of_folder, of_lists, of_lock, of_output, of_steps, place_of}
+use Rattle.command_rules.specs.Ends.{KeepsOrder, Reaches}
+use Rattle.command_rules.specs.Found.{AreInFolder, Found, allow_file, deny_file}
 use Rattle.at_commands.specs.inside.Carrying.{AreSessionSteps, AreWorkSteps, Carries, Finding}
-use Rattle.command_answers.specs.Sessions.{AreListsIn, IsNotOpened, IsOpened, Works, faults, lists_lack_memory, is_damaged, lacks_memory, refuses, lists_fault}
-use Rattle.command_answers.specs.Spool.{SpoolEnds}
-use Rattle.command_answers.specs.Verdict.{spool_verdict, table_verdict}
-use Rattle.command_answers.proofs.SessionLemmas.{works_end}
-use Rattle.command_answers.proofs.SpoolLemmas.{attempt_of, unbegun_same}
+use Rattle.command_rules.specs.Sessions.{AreListsIn, IsNotOpened, IsOpened, Works, faults, lists_lack_memory, is_damaged, lacks_memory, refuses, lists_fault}
+use Rattle.command_rules.specs.Spool.{SpoolEnds}
+use Rattle.command_rules.specs.Verdict.{spool_verdict, table_verdict}
+use Rattle.command_rules.proofs.SessionLemmas.{works_end}
+use Rattle.command_rules.proofs.SpoolLemmas.{attempt_of, unbegun_same}
 use Rattle.at_commands.proofs.EntryLemmas.{IsOfEntry}
 use Rattle.at_commands.proofs.KeptLemmas.{kept_decides}
-use Rattle.command_answers.proofs.CheckLemmas.{allowed_up_to, refused_up_to}
+use Rattle.command_rules.proofs.CheckLemmas.{allowed_up_to, refused_up_to}
 use Rattle.at_commands.proofs.LateLemmas.{OnTable, any_memory, late_busy, late_file_fault, late_up_to_lists, late_up_to_lock, not_permitted, permitted, spool_late, table_on, table_up_to_folder}
 
 pub no_true : false ≡ true → ⊥
@@ -73,7 +73,7 @@ module _ (tells alone : Bool) (asked : ToolRequest) (caller : Caller) (finding :
     order = order;
     up_to = late_up_to_lock _ (spool_late asked caller held (shown_by (reading old)));
     folder = lists;
-    apart = λ told is_alone early. same told is_alone;
+    apart = λ known is_alone early. same known is_alone;
     spool = spool;
   }
 
@@ -88,7 +88,7 @@ module _ (tells alone : Bool) (asked : ToolRequest) (caller : Caller) (finding :
 
   in_folder : tells ≡ true → alone ≡ true →
       AreInFolder (reading old) (finding (finite.get (reading old) allow_file) (finite.get (reading old) deny_file)) (shown_by (reading old))
-  in_folder told is_alone = record { allow = keeps.allow_is _ _; deny = keeps.deny_is _ _; table = refl }
+  in_folder known is_alone = record { allow = keeps.allow_is _ _; deny = keeps.deny_is _ _; table = refl }
 
   -- the spool could not be entered
   pub not_entered : (cause : Cause) → IsOfEntry cause → (tells ≡ true → alone ≡ true → new ≡ old) → Carries tells alone asked caller finding old new cause
@@ -96,10 +96,10 @@ module _ (tells alone : Bool) (asked : ToolRequest) (caller : Caller) (finding :
       untouched tells alone asked caller finding old new Busy refl (late_busy _ (spool_late asked caller here (shown_by (reading old)))) in_folder same same
   not_entered FileFault entry same =
       untouched tells alone asked caller finding old new FileFault (refl, refl) (late_file_fault _ (spool_late asked caller here (shown_by (reading old)))) in_folder same
-      (λ told is_alone. inl (unbegun_same old new (same told is_alone)))
+      (λ known is_alone. inl (unbegun_same old new (same known is_alone)))
   not_entered Memory entry same =
       untouched tells alone asked caller finding old new Memory tt (any_memory _) in_folder same
-      (λ told is_alone. inl (unbegun_same old new (same told is_alone)))
+      (λ known is_alone. inl (unbegun_same old new (same known is_alone)))
   not_entered Done entry same = absurd entry
   not_entered (Refused refusal) entry same = absurd entry
   not_entered InputFault entry same = absurd entry
@@ -124,7 +124,7 @@ module _ (tells alone : Bool) (asked : ToolRequest) (caller : Caller) (finding :
     order = order;
     up_to = late_up_to_lists _ (spool_late asked caller here (shown_by (reading old)));
     folder = in_folder;
-    apart = λ told is_alone early. same told;
+    apart = λ known is_alone early. same known;
     spool = spool;
   }
 
@@ -144,12 +144,12 @@ module _ (tells alone : Bool) (asked : ToolRequest) (caller : Caller) (finding :
     up_to = subst (λ (of : Option Refusal). ComesUpTo of of_folder)
         (sym (permitted asked caller (finding allow deny) (shown_by (reading old)) (rw (keeps.allow_is allow deny, keeps.deny_is allow deny) permits)))
         (table_up_to_folder (table_verdict asked caller (shown_by (reading old))) (table_on asked caller (shown_by (reading old))));
-    folder = λ told is_alone. record {
-      allow = keeps.allow_is allow deny ∙ (lists told).allow_is;
-      deny = keeps.deny_is allow deny ∙ (lists told).deny_is;
+    folder = λ known is_alone. record {
+      allow = keeps.allow_is allow deny ∙ (lists known).allow_is;
+      deny = keeps.deny_is allow deny ∙ (lists known).deny_is;
       table = refl;
     };
-    apart = λ told is_alone early. absurd (no_true early);
+    apart = λ known is_alone early. absurd (no_true early);
     spool = spool;
   }
 
@@ -158,14 +158,14 @@ module _ (tells alone : Bool) (asked : ToolRequest) (caller : Caller) (finding :
       Carries tells alone asked caller finding old new cause
   not_opened user cause same (lists_fault still) =
       stopped_at_lists FileFault (refl, refl) (late_file_fault _ (spool_late asked caller here (shown_by (reading old)))) still
-      (λ told is_alone. inl (unbegun_same old new (still told)))
+      (λ known is_alone. inl (unbegun_same old new (still known)))
   not_opened user cause same (lists_lack_memory still) =
-      stopped_at_lists Memory tt (any_memory _) still (λ told is_alone. inl (unbegun_same old new (still told)))
+      stopped_at_lists Memory tt (any_memory _) still (λ known is_alone. inl (unbegun_same old new (still known)))
   not_opened user cause same (faults allow deny permits lists unbegun) =
       stopped_at_folder allow deny (rw same permits) lists FileFault (refl, refl)
-      (late_file_fault _ (spool_late asked caller (finding allow deny) (shown_by (reading old)))) (λ told is_alone. inl (unbegun told))
+      (late_file_fault _ (spool_late asked caller (finding allow deny) (shown_by (reading old)))) (λ known is_alone. inl (unbegun known))
   not_opened user cause same (lacks_memory allow deny permits lists unbegun) =
-      stopped_at_folder allow deny (rw same permits) lists Memory tt (any_memory _) (λ told is_alone. inl (unbegun told))
+      stopped_at_folder allow deny (rw same permits) lists Memory tt (any_memory _) (λ known is_alone. inl (unbegun known))
   not_opened user cause same (refuses allow deny refused lists kept) = record {
     allow = allow;
     deny = deny;
@@ -175,13 +175,13 @@ module _ (tells alone : Bool) (asked : ToolRequest) (caller : Caller) (finding :
     reach = refl;
     order = subst (λ (of : Option Refusal). KeepsOrder of (Refused NotAllowed)) (sym (not_permitted asked caller (finding allow deny) (shown_by (reading old)) (rw (keeps.allow_is allow deny, keeps.deny_is allow deny, same) refused))) (inl refl);
     up_to = refused_up_to _ NotAllowed (not_permitted asked caller (finding allow deny) (shown_by (reading old)) (rw (keeps.allow_is allow deny, keeps.deny_is allow deny, same) refused));
-    folder = λ told is_alone. record {
-      allow = keeps.allow_is allow deny ∙ (lists told).allow_is;
-      deny = keeps.deny_is allow deny ∙ (lists told).deny_is;
+    folder = λ known is_alone. record {
+      allow = keeps.allow_is allow deny ∙ (lists known).allow_is;
+      deny = keeps.deny_is allow deny ∙ (lists known).deny_is;
       table = refl;
     };
-    apart = λ told is_alone early. kept told;
-    spool = λ told is_alone. kept told;
+    apart = λ known is_alone early. kept known;
+    spool = λ known is_alone. kept known;
   }
   not_opened user cause same (is_damaged damage allow deny permits lists shows) = record {
     allow = allow;
@@ -193,13 +193,13 @@ module _ (tells alone : Bool) (asked : ToolRequest) (caller : Caller) (finding :
     order = subst (λ (of : Option Refusal). KeepsOrder of (Damaged damage))
         (sym (permitted asked caller (finding allow deny) (Err damage) (rw (keeps.allow_is allow deny, keeps.deny_is allow deny, same) permits))) tt;
     up_to = allowed_up_to _ of_folder (permitted asked caller (finding allow deny) (Err damage) (rw (keeps.allow_is allow deny, keeps.deny_is allow deny, same) permits));
-    folder = λ told is_alone. record {
-      allow = keeps.allow_is allow deny ∙ (lists told).allow_is;
-      deny = keeps.deny_is allow deny ∙ (lists told).deny_is;
-      table = sym (shows told).shown;
+    folder = λ known is_alone. record {
+      allow = keeps.allow_is allow deny ∙ (lists known).allow_is;
+      deny = keeps.deny_is allow deny ∙ (lists known).deny_is;
+      table = sym (shows known).shown;
     };
-    apart = λ told is_alone early. absurd (no_true early);
-    spool = λ told is_alone. shows told;
+    apart = λ known is_alone early. absurd (no_true early);
+    spool = λ known is_alone. shows known;
   }
 
 -- What a store keeps decides as the table does.
@@ -222,12 +222,12 @@ module _ (tells alone : Bool) (asked : ToolRequest) (caller : Caller) (finding :
   pub work_to_session : (table : JobTable) (steps : List Step) → AreWorkSteps asked caller found table steps → AreSessionSteps asked caller found table steps
   work_to_session table steps are = record { none = decides_table table ∙ are.none; steps_are = are.steps_are }
 
-  -- the work behind the store that was opened
+  -- the work after the store that was opened
   abbrev worked_at : (cause : Cause) (reached : Check) → is_before reached of_lock ≡ false → is_before reached of_folder ≡ false → Reaches cause reached →
       KeepsOrder (table_verdict asked caller (Ok kept.table)) cause → ComesUpTo (table_verdict asked caller (Ok kept.table)) reached →
       (tells ≡ true → Works (AreWorkSteps asked caller found) opened.table middle new cause) →
       Carries tells alone asked caller finding old new cause
-  worked_at cause reached entered behind reach order up_to works = record {
+  worked_at cause reached entered later reach order up_to works = record {
     allow = opened.allow;
     deny = opened.deny;
     shown = Ok opened.table;
@@ -236,14 +236,14 @@ module _ (tells alone : Bool) (asked : ToolRequest) (caller : Caller) (finding :
     reach = reach;
     order = subst (λ (of : Option Refusal). KeepsOrder of cause) (sym decides) order;
     up_to = subst (λ (of : Option Refusal). ComesUpTo of reached) (sym decides) up_to;
-    folder = λ told is_alone. record {
-      allow = keeps.allow_is opened.allow opened.deny ∙ (opened.lists told).allow_is;
-      deny = keeps.deny_is opened.allow opened.deny ∙ (opened.lists told).deny_is;
-      table = sym (opened.recovered told).shown;
+    folder = λ known is_alone. record {
+      allow = keeps.allow_is opened.allow opened.deny ∙ (opened.lists known).allow_is;
+      deny = keeps.deny_is opened.allow opened.deny ∙ (opened.lists known).deny_is;
+      table = sym (opened.recovered known).shown;
     };
-    apart = λ told is_alone early. absurd (no_true (sym behind ∙ early));
-    spool = λ told is_alone. ends_map (AreWorkSteps asked caller found) (AreSessionSteps asked caller found) work_to_session old new cause
-        (works_end (AreWorkSteps asked caller found) old middle new opened.table kept (opened.recovered told) cause (works told));
+    apart = λ known is_alone early. absurd (no_true (sym later ∙ early));
+    spool = λ known is_alone. ends_map (AreWorkSteps asked caller found) (AreSessionSteps asked caller found) work_to_session old new cause
+        (works_end (AreWorkSteps asked caller found) old middle new opened.table kept (opened.recovered known) cause (works known));
   }
 
   -- a refusal keeps the order where it is that of the table
@@ -252,8 +252,8 @@ module _ (tells alone : Bool) (asked : ToolRequest) (caller : Caller) (finding :
   on_table (Some other) refusal on is =
       let same : other ≡ refusal = same_Some other refusal is in subst (λ of. is_before of_folder (check_of of) ≡ true) same on.1
 
-  behind : (place : ℕ) → nat_lt 14 place ≡ true → (nat_lt place 11 ≡ false) × (nat_lt place 14 ≡ false)
-  behind place is = (grind (arith, nat_tests), grind (arith, nat_tests))
+  later : (place : ℕ) → nat_lt 14 place ≡ true → (nat_lt place 11 ≡ false) × (nat_lt place 14 ≡ false)
+  later place is = (grind (arith, nat_tests), grind (arith, nat_tests))
 
   -- how far a command came that found no memory: to the check that refuses it, or to its steps
   abbrev pub reached_by : Option Refusal → Check
@@ -262,7 +262,7 @@ module _ (tells alone : Bool) (asked : ToolRequest) (caller : Caller) (finding :
 
   pub far_by : (verdict : Option Refusal) → OnTable verdict → (is_before (reached_by verdict) of_lock ≡ false) × (is_before (reached_by verdict) of_folder ≡ false)
   far_by None on = (refl, refl)
-  far_by (Some refusal) on = behind (place_of (check_of refusal)) on.1
+  far_by (Some refusal) on = later (place_of (check_of refusal)) on.1
 
   pub up_to_by : (verdict : Option Refusal) → ComesUpTo verdict (reached_by verdict)
   up_to_by None = tt
@@ -274,10 +274,10 @@ module _ (tells alone : Bool) (asked : ToolRequest) (caller : Caller) (finding :
   work_refused refusal is same =
       let late : is_before of_folder (check_of refusal) ≡ true =
       on_table (table_verdict asked caller (Ok kept.table)) refusal (table_on asked caller (Ok kept.table)) is in
-      let far : (nat_lt (place_of (check_of refusal)) 11 ≡ false) × (nat_lt (place_of (check_of refusal)) 14 ≡ false) = behind (place_of (check_of refusal)) late in
+      let far : (nat_lt (place_of (check_of refusal)) 11 ≡ false) × (nat_lt (place_of (check_of refusal)) 14 ≡ false) = later (place_of (check_of refusal)) late in
       worked_at (Refused refusal) (check_of refusal) far.0 far.1 refl
       (subst (λ (of : Option Refusal). KeepsOrder of (Refused refusal)) (sym is) (inl refl))
-      (refused_up_to (table_verdict asked caller (Ok kept.table)) refusal is) (λ told. (late, same told))
+      (refused_up_to (table_verdict asked caller (Ok kept.table)) refusal is) (λ known. (late, same known))
 
   -- the table doesn't refuse: the work was done, or a fault of a file or want of memory came
   abbrev pub work_done : table_verdict asked caller (Ok kept.table) ≡ None → (tells ≡ true → Works (AreWorkSteps asked caller found) opened.table middle new Done) →
@@ -318,13 +318,13 @@ carries_within tells alone asked caller finding before entered left after cause 
   reach = carries.reach;
   order = carries.order;
   up_to = carries.up_to;
-  folder = λ told is_alone.
-      subst (λ (of : World). AreInFolder (reading of) (finding carries.allow carries.deny) carries.shown) (enters told is_alone) (carries.folder told refl);
-  apart = λ told is_alone early. leaves told is_alone ∙ carries.apart told refl early ∙ enters told is_alone;
-  spool = λ told is_alone.
-      subst (λ (of : World). SpoolEnds (AreSessionSteps asked caller (finding carries.allow carries.deny)) of after cause) (enters told is_alone)
-      (subst (λ (of : World). SpoolEnds (AreSessionSteps asked caller (finding carries.allow carries.deny)) entered of cause) (sym (leaves told is_alone))
-      (carries.spool told refl));
+  folder = λ known is_alone.
+      subst (λ (of : World). AreInFolder (reading of) (finding carries.allow carries.deny) carries.shown) (enters known is_alone) (carries.folder known refl);
+  apart = λ known is_alone early. leaves known is_alone ∙ carries.apart known refl early ∙ enters known is_alone;
+  spool = λ known is_alone.
+      subst (λ (of : World). SpoolEnds (AreSessionSteps asked caller (finding carries.allow carries.deny)) of after cause) (enters known is_alone)
+      (subst (λ (of : World). SpoolEnds (AreSessionSteps asked caller (finding carries.allow carries.deny)) entered of cause) (sym (leaves known is_alone))
+      (carries.spool known refl));
 }
 
 -- the verdict of a session that is done is none
@@ -350,7 +350,7 @@ module _ (tells alone : Bool) (asked : ToolRequest) (caller : Caller) (finding :
     order = subst (λ (of : Option Refusal). KeepsOrder of OutputFault) (sym (done_allowed _ carries.order)) tt;
     up_to = allowed_up_to _ of_output (done_allowed _ carries.order);
     folder = carries.folder;
-    apart = λ told is_alone early. absurd (no_true early);
+    apart = λ known is_alone early. absurd (no_true early);
     spool = carries.spool;
   }
 
@@ -365,6 +365,6 @@ module _ (tells alone : Bool) (asked : ToolRequest) (caller : Caller) (finding :
     order = any_memory _;
     up_to = allowed_up_to _ of_output (done_allowed _ carries.order);
     folder = carries.folder;
-    apart = λ told is_alone early. absurd (no_true early);
-    spool = λ told is_alone. attempt_of (AreSessionSteps asked caller (finding carries.allow carries.deny)) old new Done (carries.spool told is_alone);
+    apart = λ known is_alone early. absurd (no_true early);
+    spool = λ known is_alone. attempt_of (AreSessionSteps asked caller (finding carries.allow carries.deny)) old new Done (carries.spool known is_alone);
   }

@@ -15,17 +15,17 @@ use Rattle.listing_text.specs.Cause.{cause_line_of}
 use Rattle.spool_model.specs.declared.step.Step.{Step}
 use Rattle.spool_model.specs.JobTable.{JobTable}
 use Rattle.spool_shows.specs.Shown.{shown_by}
-use Rattle.job_runs.specs.Attempts.{Achieves}
-use Rattle.command_answers.specs.declared.caller.Caller.{Caller}
-use Rattle.command_answers.specs.Checks.{Check, ComesUpTo, check_of, is_before, of_lock, place_of}
-use Rattle.command_answers.specs.Ends.{Ends, Holding, IsNoRefusal, KeepsOrder, Reaches, Telling}
-use Rattle.command_answers.specs.Found.{Asked, Finds, Found, allow_file, answers_read, deny_file}
+use Rattle.step_runs.specs.Attempts.{Achieves}
+use Rattle.command_rules.specs.declared.caller.Caller.{Caller}
+use Rattle.command_rules.specs.Checks.{Check, ComesUpTo, check_of, is_before, of_lock, place_of}
+use Rattle.command_rules.specs.Ends.{Ends, Holding, IsNoRefusal, KeepsOrder, Reaches, Telling}
+use Rattle.command_rules.specs.Found.{Asked, Finds, Found, allow_file, answers_read, deny_file}
 use Rattle.at_commands.specs.inside.Carrying.{AreSessionSteps, Carries, Finding, IsSessionLine, IsSessionText}
-use Rattle.command_answers.specs.Requested.{AreAskedSteps, AreNoSteps, IsAskedLine, IsAskedText}
-use Rattle.command_answers.specs.Sinks.{EndsLine, IsPutInPart, IsPutOrCut, IsSilent, NotesBy, PrintsBy, PutsCut, PutsPart, SaysBy, SinkAt}
-use Rattle.command_answers.specs.Spool.{SpoolEnds}
-use Rattle.command_answers.specs.Verdict.{early_verdict, first_refusal, spool_verdict, verdict_of}
-use Rattle.command_answers.proofs.SpoolLemmas.{attempt_of, unbegun_same}
+use Rattle.command_rules.specs.Requested.{AreAskedSteps, AreNoSteps, IsAskedLine, IsAskedText}
+use Rattle.command_rules.specs.Sinks.{EndsLine, IsPutInPart, IsPutOrCut, IsSilent, NotesBy, PrintsBy, PutsCut, PutsPart, SaysBy, SinkAt}
+use Rattle.command_rules.specs.Spool.{SpoolEnds}
+use Rattle.command_rules.specs.Verdict.{early_verdict, first_refusal, spool_verdict, verdict_of}
+use Rattle.command_rules.proofs.SpoolLemmas.{attempt_of, unbegun_same}
 use Rattle.cause_output.specs.Saying.{IsSaid, IsUndone, SaysLine}
 use Rattle.at_commands.proofs.CarryLemmas.{KeepsLists, ends_map}
 use Rattle.at_commands.proofs.LateLemmas.{any_memory, late_input, late_up_to, spool_late}
@@ -94,12 +94,12 @@ module _ (asked : ToolRequest) (caller : Caller) (tells : Telling) (before after
     finds = finds;
     folder = carries.folder;
     apart = carries.apart;
-    spool = λ told is_alone. ends_map (AreSessionSteps asked caller found) (AreAskedSteps (Ok asked) caller found)
+    spool = λ known is_alone. ends_map (AreSessionSteps asked caller found) (AreAskedSteps (Ok asked) caller found)
         (λ table steps are. record { none = verdict_late asked caller found (Ok table) none ∙ are.none; steps_are = are.steps_are })
-        before.spool after.spool cause (carries.spool told is_alone);
-    prints = λ told is_alone tells_output. prints_map (IsSessionText asked caller found carries.shown) (IsAskedText (Ok asked) caller found carries.shown)
+        before.spool after.spool cause (carries.spool known is_alone);
+    prints = λ known is_alone tells_output. prints_map (IsSessionText asked caller found carries.shown) (IsAskedText (Ok asked) caller found carries.shown)
         (λ text is. (is.0, is.1, verdict_late asked caller found carries.shown none ∙ is.2, is.3)) before.output after.output cause
-        (prints told is_alone tells_output);
+        (prints known is_alone tells_output);
     notes = λ tells_errors. notes_map (IsSessionLine asked caller found carries.shown) (IsAskedLine (Ok asked) caller found carries.shown)
         (λ line is. (verdict_late asked caller found carries.shown none ∙ is.0, is.1)) before.errors after.errors cause (notes tells_errors);
   }
@@ -144,7 +144,7 @@ up_to_early None asked caller found shown reached ahead up_to =
 pub no_true : false ≡ true → ⊥
 no_true is = cc
 
--- a check before the lock is not behind the folder
+-- a check before the lock is not after the folder
 before_folder : (place : ℕ) → nat_lt place 11 ≡ true → nat_lt 14 place ≡ false
 before_folder place is = grind (arith, nat_tests)
 
@@ -152,7 +152,7 @@ before_folder place is = grind (arith, nat_tests)
 pub untouched : (AreSteps : JobTable → List Step → Type 0) (old new : World) (cause : Cause) (reached : Check) → IsEarly cause → Reaches cause reached →
     is_before reached of_lock ≡ true → new ≡ old → SpoolEnds AreSteps old new cause
 untouched AreSteps old new (Refused refusal) reached early reach before same =
-    subst (λ (behind : Bool). MatchBool behind (Achieves AreNoSteps old new) (new ≡ old))
+    subst (λ (beyond : Bool). MatchBool beyond (Achieves AreNoSteps old new) (new ≡ old))
     (sym (before_folder (place_of (check_of refusal)) (subst (λ (of : Check). is_before of of_lock ≡ true) reach before))) same
 untouched AreSteps old new InputFault reached early reach before same = same
 untouched AreSteps old new Memory reached early reach before same = inl (unbegun_same old new same)
@@ -208,10 +208,10 @@ ends_early asked caller tells before after finding keeps cause reached order ear
       up_to = up_to_early (early_verdict asked caller (finding allow deny)) asked caller (finding allow deny) shown reached ahead (up_to allow deny);
       clock = clock allow deny;
       finds = finds allow deny;
-      folder = λ told is_alone. record { allow = keeps.allow_is allow deny; deny = keeps.deny_is allow deny; table = refl };
-      apart = λ told is_alone is. same;
-      spool = λ told is_alone. untouched (AreAskedSteps (Ok asked) caller (finding allow deny)) before.spool after.spool cause reached early reach ahead same;
-      prints = λ told is_alone tells_output. silent_prints cause (IsAskedText (Ok asked) caller (finding allow deny) shown) before.output after.output early silent;
+      folder = λ known is_alone. record { allow = keeps.allow_is allow deny; deny = keeps.deny_is allow deny; table = refl };
+      apart = λ known is_alone is. same;
+      spool = λ known is_alone. untouched (AreAskedSteps (Ok asked) caller (finding allow deny)) before.spool after.spool cause reached early reach ahead same;
+      prints = λ known is_alone tells_output. silent_prints cause (IsAskedText (Ok asked) caller (finding allow deny) shown) before.output after.output early silent;
       notes = λ tells_errors. silent_notes cause (IsAskedLine (Ok asked) caller (finding allow deny) shown) before.errors after.errors early quiet;
     }
 
@@ -293,7 +293,7 @@ module _ (tool : List ℕ) (asked : Asked) (caller : Caller) (tells : Telling) (
     apart = ends.apart;
     spool = ends.spool;
     prints = ends.prints;
-    notes = λ told. says_line tool (IsAskedLine asked caller ends.found ends.shown) before.errors between after.errors cause (ends.notes told) (says told);
+    notes = λ known. says_line tool (IsAskedLine asked caller ends.found ends.shown) before.errors between after.errors cause (ends.notes known) (says known);
   }
 
   ends_no_memory : IsUndone cause → (tells.errors ≡ true → IsSilent between after.errors) → Ends (SaysBy tool) asked caller tells before after Memory
@@ -308,11 +308,11 @@ module _ (tool : List ℕ) (asked : Asked) (caller : Caller) (tells : Telling) (
     finds = ends.finds;
     folder = ends.folder;
     apart = ends.apart;
-    spool = λ told is_alone. attempt_of (AreAskedSteps asked caller ends.found) before.spool after.spool cause (ends.spool told is_alone);
-    prints = λ told is_alone tells_output.
-        prints_no_memory cause (IsAskedText asked caller ends.found ends.shown) before.output after.output undone (ends.prints told is_alone tells_output);
-    notes = λ told. says_none tool (IsAskedLine asked caller ends.found ends.shown) before.errors between after.errors cause undone (ends.notes told)
-        (quiet told);
+    spool = λ known is_alone. attempt_of (AreAskedSteps asked caller ends.found) before.spool after.spool cause (ends.spool known is_alone);
+    prints = λ known is_alone tells_output.
+        prints_no_memory cause (IsAskedText asked caller ends.found ends.shown) before.output after.output undone (ends.prints known is_alone tells_output);
+    notes = λ known. says_none tool (IsAskedLine asked caller ends.found ends.shown) before.errors between after.errors cause undone (ends.notes known)
+        (quiet known);
   }
 
   pub ends_said : (final : Cause) → IsSaid tool tells.errors cause between after.errors final → Ends (SaysBy tool) asked caller tells before after final

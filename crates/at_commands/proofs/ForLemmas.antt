@@ -7,10 +7,10 @@ use Rattle.at_words.specs.declared.tool_request.ToolRequest.{ToolRequest}
 use Rattle.at_words.specs.declared.tool_request.ToolRequest.TheVariants as request
 use Rattle.civil_minute.specs.declared.zone.Zone.{Zone}
 use Rattle.host_calls.specs.World.{World}
-use Rattle.job_runs.specs.Current.{IsCurrent, Kept}
-use Rattle.job_runs.specs.Made.{AreMade}
-use Rattle.job_runs.proofs.ListLemmas.{lists_as_on_the_table}
-use Rattle.job_runs.proofs.MadeLemmas.{no_steps_are_made}
+use Rattle.step_runs.specs.Current.{IsCurrent, Kept}
+use Rattle.step_runs.specs.Made.{AreMade}
+use Rattle.step_runs.proofs.ListLemmas.{lists_as_on_the_table}
+use Rattle.step_runs.proofs.MadeLemmas.{no_steps_are_made}
 use Rattle.job_removal.specs.Removing.{AreRemoval, ComesOfRemoving, IsOfWork}
 use Rattle.job_listing.specs.Scripts.{IsOfShowing}
 use Rattle.listing_text.specs.declared.cause.Cause.{Cause}
@@ -21,15 +21,15 @@ use Rattle.spool_model.specs.declared.row.Row.{Row}
 use Rattle.spool_model.specs.declared.step.Step.{Step}
 use Rattle.spool_model.specs.JobTable.{JobTable}
 use Rattle.spool_model.specs.Lists.{live_rows}
-use Rattle.command_answers.specs.declared.caller.Caller.{Caller}
-use Rattle.command_answers.specs.declared.stopped.Stopped.{Stopped}
-use Rattle.command_answers.specs.Causes.{cause_in, stopped_by}
-use Rattle.command_answers.specs.Found.{Found}
+use Rattle.command_rules.specs.declared.caller.Caller.{Caller}
+use Rattle.command_rules.specs.declared.command_error.CommandError.{CommandError}
+use Rattle.command_rules.specs.Causes.{cause_in, error_of}
+use Rattle.command_rules.specs.Found.{Found}
 use Rattle.at_commands.specs.inside.Carrying.{AreWorkSteps, Carries, IsSessionText}
-use Rattle.command_answers.specs.Requested.{passes_of, scripts_of, steps_of}
-use Rattle.command_answers.specs.Sessions.{IsKeptOf, IsNotOpened, IsOpened, IsWorkedOut, Works}
-use Rattle.command_answers.specs.Sinks.{IsPut, IsPutInPart, IsSilent, PutsPart, SinkAt}
-use Rattle.command_answers.specs.Verdict.{filter_check, jobs_check, table_verdict}
+use Rattle.command_rules.specs.Requested.{passes_of, scripts_of, steps_of}
+use Rattle.command_rules.specs.Sessions.{IsKeptOf, IsNotOpened, IsOpened, IsWorkedOut, Works}
+use Rattle.command_rules.specs.Sinks.{IsPut, IsPutInPart, IsSilent, PutsPart, SinkAt}
+use Rattle.command_rules.specs.Verdict.{filter_check, jobs_check, table_verdict}
 use Rattle.at_commands.proofs.EntryLemmas.{IsOfEntry}
 use Rattle.at_commands.specs.inside.Sessions.{Lists, Shows, lists_alone}
 use Rattle.at_commands.proofs.CarryLemmas.{KeepsLists, carries_within, decides, not_entered, not_opened, work_done, work_fails, work_lacks_memory, work_refused, work_unsaid}
@@ -94,34 +94,34 @@ module _ (tells alone : Bool) (asked : ToolRequest) (caller : Caller) (user : Li
 
   -- a fault of a file came, before a step
   abbrev pub carries_failing : table_verdict asked caller (Ok kept.table) ≡ None → (tells ≡ true → new ≡ middle) → Carries tells alone asked caller lists_alone old new FileFault
-  carries_failing none still = work_fails tells alone asked caller lists_alone keeps_lists old middle new kept opened none (λ told. inl (still told))
+  carries_failing none still = work_fails tells alone asked caller lists_alone keeps_lists old middle new kept opened none (λ known. inl (still known))
 
   -- there was no memory
   abbrev pub carries_lacking_at : (tells ≡ true → new ≡ middle) → Carries tells alone asked caller lists_alone old new Memory
-  carries_lacking_at still = work_lacks_memory tells alone asked caller lists_alone keeps_lists old middle new kept opened (λ told. inl (still told))
+  carries_lacking_at still = work_lacks_memory tells alone asked caller lists_alone keeps_lists old middle new kept opened (λ known. inl (still known))
 
   pub carries_lacking : (tells ≡ true → new ≡ middle) → Carries tells alone asked caller lists_alone old new Memory
-  carries_lacking still = work_lacks_memory tells alone asked caller lists_alone keeps_lists old middle new kept opened (λ told. inl (still told))
+  carries_lacking still = work_lacks_memory tells alone asked caller lists_alone keeps_lists old middle new kept opened (λ known. inl (still known))
 
   -- a request without steps makes none
   pub work_none : ((table : JobTable) → steps_of asked caller found table ≡ []) → table_verdict asked caller (Ok kept.table) ≡ None → tells ≡ true → new ≡ middle →
       IsWorkedOut (AreWorkSteps asked caller found) is_open.table middle new
-  work_none steps none told still = record {
+  work_none steps none known still = record {
     steps = [];
     kept = kept;
     are = record { none = sym (kept_decides asked caller kept.table is_open.table is_open.keeps) ∙ none; steps_are = sym (steps is_open.table) };
-    made = subst (λ (at : World). AreMade is_open.table [] [] [] kept middle at) (sym still) (no_steps_are_made is_open.table kept middle (is_open.recovered told).current);
+    made = subst (λ (at : World). AreMade is_open.table [] [] [] kept middle at) (sym still) (no_steps_are_made is_open.table kept middle (is_open.recovered known).current);
   }
 
   abbrev pub carries_still_unsaid : ((table : JobTable) → steps_of asked caller found table ≡ []) → table_verdict asked caller (Ok kept.table) ≡ None →
       (tells ≡ true → new ≡ middle) → Carries tells alone asked caller lists_alone old new OutputFault
   carries_still_unsaid steps none still =
-      work_unsaid tells alone asked caller lists_alone keeps_lists old middle new kept opened none (λ told. work_none steps none told (still told))
+      work_unsaid tells alone asked caller lists_alone keeps_lists old middle new kept opened none (λ known. work_none steps none known (still known))
 
   abbrev pub carries_still : ((table : JobTable) → steps_of asked caller found table ≡ []) → table_verdict asked caller (Ok kept.table) ≡ None →
       (tells ≡ true → new ≡ middle) → Carries tells alone asked caller lists_alone old new Done
   carries_still steps none still =
-      work_done tells alone asked caller lists_alone keeps_lists old middle new kept opened none (λ told. work_none steps none told (still told))
+      work_done tells alone asked caller lists_alone keeps_lists old middle new kept opened none (λ known. work_none steps none known (still known))
 
 -- Removals.
 
@@ -151,12 +151,12 @@ module _ (tells alone : Bool) (numbers : List ℕ) (caller : Caller) (user : Lis
 
   removal_works : None ≡ jobs_check user true kept.table numbers → (cause : Cause) → (tells ≡ true → Works (AreRemoval numbers) is_open.table middle new cause) → tells ≡ true →
       Works (AreWorkSteps (request.Remove numbers) caller (lists_alone is_open.allow is_open.deny)) is_open.table middle new cause
-  removal_works none cause works told =
+  removal_works none cause works known =
       works_map (AreRemoval numbers) (AreWorkSteps (request.Remove numbers) caller (lists_alone is_open.allow is_open.deny)) is_open.table
       (λ steps are. record {
         none = sym (kept_decides (request.Remove numbers) caller kept.table is_open.table is_open.keeps) ∙ removal_decides None none;
         steps_are = are;
-      }) middle new cause (works told)
+      }) middle new cause (works known)
 
   pub removal_by : (cause : Cause) → None ≡ jobs_check user true kept.table numbers → IsOfRemoval cause → (tells ≡ true → Works (AreRemoval numbers) is_open.table middle new cause) →
       Carries tells alone (request.Remove numbers) caller lists_alone old new cause
@@ -177,7 +177,7 @@ module _ (tells alone : Bool) (numbers : List ℕ) (caller : Caller) (user : Lis
   removal_by StillRunning none of_work works = absurd of_work
 
 -- a removal is done, or stopped by a fault of a file or want of memory
-pub removal_comes : (result : Result (Unit {0}) Stopped) → IfErr result ComesOfRemoving → IsOfRemoval (cause_in result)
+pub removal_comes : (result : Result (Unit {0}) CommandError) → IfErr result ComesOfRemoving → IsOfRemoval (cause_in result)
 removal_comes (Ok value) comes = tt
 removal_comes (Err stopped) comes = by_cause stopped.cause comes where
   by_cause : (cause : Cause) → IsOfWork cause → IsOfRemoval cause
@@ -219,13 +219,13 @@ module _ (tells : Bool) (which : Filter) (caller : Caller) (user : List ℕ) (zo
       alone_is (filter_check caller.context.user kept.table which) ∙ ap (λ (of : List ℕ). filter_check of kept.table which) same ∙ sym is
 
   pub listing_refused : (refusal : Refusal) → Some refusal ≡ filter_check user kept.table which → (tells ≡ true → new ≡ middle) →
-      Lists tells true (request.List which) caller old new (Err (stopped_by (Refused refusal)))
+      Lists tells true (request.List which) caller old new (Err (error_of (Refused refusal)))
   listing_refused refusal is still = record {
     carries = carries_refused tells true (request.List which) caller user same old middle new kept is_open refusal (filter_decides (Some refusal) is) still;
     text = tt;
   }
 
-  pub listing_lacks : (tells ≡ true → new ≡ middle) → Lists tells true (request.List which) caller old new (Err (stopped_by Memory))
+  pub listing_lacks : (tells ≡ true → new ≡ middle) → Lists tells true (request.List which) caller old new (Err (error_of Memory))
   listing_lacks still = record { carries = carries_lacking tells true (request.List which) caller user same old middle new kept is_open still; text = tt }
 
   pub listing_made : (text : List ℕ) → None ≡ filter_check user kept.table which → (tells ≡ true → new ≡ middle) →
@@ -245,8 +245,8 @@ module _ (tells : Bool) (which : Filter) (caller : Caller) (user : List ℕ) (zo
         );
       }
 
--- what a session listed stands behind it
-pub lists_within : (tells alone : Bool) (asked : ToolRequest) (caller : Caller) (before entered left after : World) (result : Result (List ℕ) Stopped) →
+-- what a session listed stands after it
+pub lists_within : (tells alone : Bool) (asked : ToolRequest) (caller : Caller) (before entered left after : World) (result : Result (List ℕ) CommandError) →
     (tells ≡ true → alone ≡ true → entered ≡ before) → (tells ≡ true → alone ≡ true → after ≡ left) →
     Lists tells true asked caller entered left result → Lists tells alone asked caller before after result
 lists_within tells alone asked caller before entered left after result enters leaves lists = record {
@@ -264,10 +264,10 @@ module _ (tells output : Bool) (numbers : List ℕ) (caller : Caller) (user : Li
       alone_is (jobs_check caller.context.user false kept.table numbers) ∙ ap (λ (of : List ℕ). jobs_check of false kept.table numbers) same ∙ sym is
 
   pub showing_refused : (refusal : Refusal) → Some refusal ≡ jobs_check user false kept.table numbers → (tells ≡ true → new ≡ middle) → IsSilent was is →
-      Shows tells true output (request.Show numbers) caller old new was is (Err (stopped_by (Refused refusal)))
+      Shows tells true output (request.Show numbers) caller old new was is (Err (error_of (Refused refusal)))
   showing_refused refusal says still silent = record {
     carries = carries_refused tells true (request.Show numbers) caller user same old middle new kept is_open refusal (showing_decides (Some refusal) says) still;
-    prints = λ told is_alone tells_output. silent;
+    prints = λ known is_alone tells_output. silent;
   }
 
   module _ (none : None ≡ jobs_check user false kept.table numbers) (still : tells ≡ true → new ≡ middle) where
@@ -287,30 +287,30 @@ module _ (tells output : Bool) (numbers : List ℕ) (caller : Caller) (user : Li
         Shows tells true output (request.Show numbers) caller old new was is (Ok tt)
     showing_done puts = record {
       carries = carries_still tells true (request.Show numbers) caller user same old middle new kept is_open (λ table. refl) allowed still;
-      prints = λ told is_alone tells_output.
-          (scripts_of is_open.table numbers, shows_text, puts told tells_output is_open.table (is_open.recovered told).current);
+      prints = λ known is_alone tells_output.
+          (scripts_of is_open.table numbers, shows_text, puts known tells_output is_open.table (is_open.recovered known).current);
     }
 
     -- the scripts stopped on the way
     showing_part : (tells ≡ true → output ≡ true → (table : JobTable) → IsCurrent kept middle.now.folder table → IsPutInPart (scripts_of table numbers) was is) →
         tells ≡ true → output ≡ true → PutsPart (IsSessionText (request.Show numbers) caller (lists_alone is_open.allow is_open.deny) (Ok is_open.table)) was is
-    showing_part puts told tells_output =
-        inr (scripts_of is_open.table numbers, shows_text, puts told tells_output is_open.table (is_open.recovered told).current)
+    showing_part puts known tells_output =
+        inr (scripts_of is_open.table numbers, shows_text, puts known tells_output is_open.table (is_open.recovered known).current)
 
     pub showing_stopped : (cause : Cause) → IsOfShowing cause →
         (tells ≡ true → output ≡ true → (table : JobTable) → IsCurrent kept middle.now.folder table → IsPutInPart (scripts_of table numbers) was is) →
-        Shows tells true output (request.Show numbers) caller old new was is (Err (stopped_by cause))
+        Shows tells true output (request.Show numbers) caller old new was is (Err (error_of cause))
     showing_stopped FileFault of_showing puts = record {
       carries = carries_failing tells true (request.Show numbers) caller user same old middle new kept is_open allowed still;
-      prints = λ told is_alone tells_output. showing_part puts told tells_output;
+      prints = λ known is_alone tells_output. showing_part puts known tells_output;
     }
     showing_stopped OutputFault of_showing puts = record {
       carries = carries_still_unsaid tells true (request.Show numbers) caller user same old middle new kept is_open (λ table. refl) allowed still;
-      prints = λ told is_alone tells_output. showing_part puts told tells_output;
+      prints = λ known is_alone tells_output. showing_part puts known tells_output;
     }
     showing_stopped Memory of_showing puts = record {
       carries = carries_lacking_at tells true (request.Show numbers) caller user same old middle new kept is_open still;
-      prints = λ told is_alone tells_output. showing_part puts told tells_output;
+      prints = λ known is_alone tells_output. showing_part puts known tells_output;
     }
     showing_stopped Done of_showing puts = absurd of_showing
     showing_stopped (Refused refusal) of_showing puts = absurd of_showing
@@ -319,11 +319,11 @@ module _ (tells output : Bool) (numbers : List ℕ) (caller : Caller) (user : Li
     showing_stopped (Damaged damage) of_showing puts = absurd of_showing
     showing_stopped StillRunning of_showing puts = absurd of_showing
 
--- what a session showed stands behind it
-pub shows_within : (tells alone output : Bool) (asked : ToolRequest) (caller : Caller) (before entered left after : World) (was is : SinkAt) (result : Result (Unit {0}) Stopped) →
+-- what a session showed stands after it
+pub shows_within : (tells alone output : Bool) (asked : ToolRequest) (caller : Caller) (before entered left after : World) (was is : SinkAt) (result : Result (Unit {0}) CommandError) →
     (tells ≡ true → alone ≡ true → entered ≡ before) → (tells ≡ true → alone ≡ true → after ≡ left) →
     Shows tells true output asked caller entered left was is result → Shows tells alone output asked caller before after was is result
 shows_within tells alone output asked caller before entered left after was is result enters leaves shows = record {
   carries = carries_within tells alone asked caller lists_alone before entered left after (cause_in result) enters leaves shows.carries;
-  prints = λ told is_alone tells_output. shows.prints told refl tells_output;
+  prints = λ known is_alone tells_output. shows.prints known refl tells_output;
 }

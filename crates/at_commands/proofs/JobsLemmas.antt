@@ -17,10 +17,10 @@ use Rattle.spool_model.specs.Lists.{row_under}
 use Rattle.spool_model.specs.Steps.{AreLegal}
 use Rattle.spool_shows.proofs.Membership.{Has}
 use Rattle.spool_store.specs.Listed.{IsLive}
-use Rattle.command_answers.specs.Requested.{removes}
-use Rattle.command_answers.specs.Verdict.{jobs_check, row_at, row_check}
+use Rattle.command_rules.specs.Requested.{removes}
+use Rattle.command_rules.specs.Verdict.{jobs_check, row_at, row_check}
 use Rattle.job_removal.proofs.LegalLemmas.{removes_legal}
-use Rattle.job_runs.proofs.ApartLemmas.{Apart}
+use Rattle.step_runs.proofs.ApartLemmas.{Apart}
 use Rattle.at_commands.proofs.UserLemmas.{first_passed}
 
 -- no check of a number refuses

@@ -1,4 +1,4 @@
--- The checks within a session come behind those before it.
+-- The checks within a session come after those before it.
 use Rattle.std.proofs.Common.{◌≡◌, Bool, true, false, ℕ, List, [], ◌∷◌, refl, inl, inr, cond, arith}
 use Rattle.std.proofs.lemmas.Bool.Decides.{nat_tests}
 use Rattle.std.specs.Prelude.{◌&&◌, Option, Some, None, Result, Ok, Err, map, nat_le, nat_lt}
@@ -16,12 +16,12 @@ use Rattle.spool_model.specs.declared.number.TheConstants.{LAST_NUMBER}
 use Rattle.spool_model.specs.declared.row.Row.{Row}
 use Rattle.spool_model.specs.JobTable.{JobTable}
 use Rattle.spool_model.specs.Lists.{live_count}
-use Rattle.spool_store.specs.declared.submitting.TheConstants.{MAX_LIVE}
-use Rattle.command_answers.specs.declared.caller.Caller.{Caller}
-use Rattle.command_answers.specs.Checks.{Check, ComesUpTo, check_of, is_before, of_folder, of_input, of_lists, of_lock, place_of}
-use Rattle.command_answers.specs.Ends.{KeepsOrder}
-use Rattle.command_answers.specs.Found.{Found}
-use Rattle.command_answers.specs.Verdict.{first_refusal, jobs_check, number_check, room_check, row_at, row_check, spool_verdict, table_verdict}
+use Rattle.spool_store.specs.declared.submit.TheConstants.{MAX_LIVE}
+use Rattle.command_rules.specs.declared.caller.Caller.{Caller}
+use Rattle.command_rules.specs.Checks.{Check, ComesUpTo, check_of, is_before, of_folder, of_input, of_lists, of_lock, place_of}
+use Rattle.command_rules.specs.Ends.{KeepsOrder}
+use Rattle.command_rules.specs.Found.{Found}
+use Rattle.command_rules.specs.Verdict.{first_refusal, jobs_check, number_check, room_check, row_at, row_check, spool_verdict, table_verdict}
 
 -- a check within a session
 pub record IsLate (check : Check) : Type 0 where
@@ -64,8 +64,8 @@ row_on user removing number (Some row) = by_tests (may_see user row) (removing &
   by_tests false runs = (record { input = refl; lock = refl }, refl)
 
 first_more : (one : Option Refusal) (later : List (Option Refusal)) → OnTable one → OnTable (first_refusal later) → OnTable (first_refusal (one ∷ later))
-first_more (Some refusal) later on behind = on
-first_more None later on behind = behind
+first_more (Some refusal) later on after = on
+first_more None later on after = after
 
 jobs_on : (user : List ℕ) (removing : Bool) (table : JobTable) (numbers : List ℕ) → OnTable (jobs_check user removing table numbers)
 jobs_on user removing table [] = tt
@@ -122,7 +122,7 @@ any_memory (Some refusal) = inr (inl refl)
 
 -- How far a command comes whose refusal is late.
 
--- a check behind the lock is not before one that is not behind it, nor before the lists
+-- a check after the lock is not before one that is not after it, nor before the lists
 not_earlier : (place reached : ℕ) → nat_lt 11 place ≡ true → nat_lt reached 11 ≡ true → nat_lt place reached ≡ false
 not_earlier place reached late ahead = grind (arith, nat_tests)
 
@@ -133,7 +133,7 @@ not_at_lists : (place : ℕ) → nat_lt 11 place ≡ true → nat_lt place 12 �
 not_at_lists place late = grind (arith, nat_tests)
 
 not_at_folder : (place : ℕ) → nat_lt 14 place ≡ true → nat_lt place 14 ≡ false
-not_at_folder place behind = grind (arith, nat_tests)
+not_at_folder place after = grind (arith, nat_tests)
 
 pub late_up_to : (verdict : Option Refusal) (reached : Check) → AllLate verdict → is_before reached of_lock ≡ true → ComesUpTo verdict reached
 late_up_to None reached late ahead = tt

@@ -1,3 +1,4 @@
+mod PutLemmas
 pub mod AnswerLemmas
 pub mod AtdLemmas
 pub mod CarryLemmas

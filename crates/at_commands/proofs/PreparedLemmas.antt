@@ -13,16 +13,16 @@ use Rattle.listing_text.specs.declared.cause.Cause.{Cause}
 use Rattle.listing_text.specs.declared.cause.Cause.TheVariants.{Done, Refused, FileFault, InputFault, OutputFault, Busy, Memory, Damaged, StillRunning}
 use Rattle.listing_text.specs.declared.refusal.Refusal.{Refusal}
 use Rattle.spool_model.specs.Users.{IsUserName}
-use Rattle.command_answers.specs.declared.caller.Caller.{Caller}
-use Rattle.command_answers.specs.declared.stopped.Stopped.{Stopped}
-use Rattle.command_answers.specs.Checks.{Check, is_before, of_input, of_lock, of_variables, of_zone, place_of}
-use Rattle.command_answers.specs.Ends.{holding, telling}
-use Rattle.command_answers.specs.Found.{FindsInput, Found, answers_read, found_of}
+use Rattle.command_rules.specs.declared.caller.Caller.{Caller}
+use Rattle.command_rules.specs.declared.command_error.CommandError.{CommandError}
+use Rattle.command_rules.specs.Checks.{Check, is_before, of_input, of_lock, of_variables, of_zone, place_of}
+use Rattle.command_rules.specs.Ends.{holding, telling}
+use Rattle.command_rules.specs.Found.{FindsInput, Found, answers_read, found_of}
 use Rattle.at_commands.specs.inside.Carrying.{Finding, IsSessionLine}
-use Rattle.command_answers.specs.Requested.{IsAcceptedLine}
-use Rattle.command_answers.specs.Sinks.{IsSilent, SinkAt}
-use Rattle.command_answers.specs.Times.{minute_in}
-use Rattle.command_answers.specs.Verdict.{clock_check, directory_check, length_check, spool_verdict, time_check, user_check, variables_check, zone_check}
+use Rattle.command_rules.specs.Requested.{IsAcceptedLine}
+use Rattle.command_rules.specs.Sinks.{IsSilent, SinkAt}
+use Rattle.command_rules.specs.Times.{minute_in}
+use Rattle.command_rules.specs.Verdict.{clock_check, directory_check, length_check, spool_verdict, time_check, user_check, variables_check, zone_check}
 use Rattle.submission_checks.specs.declared.submission.Submission.{Submission}
 use Rattle.submission_checks.specs.Preparing.{IsOfPreparing, IsPrepared, IsStoppedEarly, Prepares}
 use Rattle.at_commands.specs.inside.Answering.{Held, Submits, Tells}
@@ -45,11 +45,11 @@ module _ (tells alone errors : Bool) (caller : Caller) (queue minute : ℕ) (scr
   abbrev finding : Finding
   finding = found_of now time commands
 
-  pub not_stored : (stopped : Stopped) (at : SinkAt) → IsNoOutput stopped → Stores tells alone asked caller finding old new (Err stopped) →
+  pub not_stored : (stopped : CommandError) (at : SinkAt) → IsNoOutput stopped → Stores tells alone asked caller finding old new (Err stopped) →
       StoresAndSays tells alone errors asked caller finding old new at at stopped.cause
   not_stored stopped at of_spool stores = record {
     carries = stores.carries;
-    notes = λ told. spool_notes stopped.cause (IsSessionLine asked caller (finding stores.carries.allow stores.carries.deny) stores.carries.shown) at of_spool;
+    notes = λ known. spool_notes stopped.cause (IsSessionLine asked caller (finding stores.carries.allow stores.carries.deny) stores.carries.shown) at of_spool;
   }
 
   module _ (number : ℕ) (stores : Stores tells alone asked caller finding old new (Ok number)) where
@@ -65,15 +65,15 @@ module _ (tells alone errors : Bool) (caller : Caller) (queue minute : ℕ) (scr
         StoresAndSays tells alone errors asked caller finding old new was is cause
     stored_and_said Done was is says = record {
       carries = stores.carries;
-      notes = λ told. (let put = says told in (put.0, line_is put.0 put.1, put.2));
+      notes = λ known. (let put = says known in (put.0, line_is put.0 put.1, put.2));
     }
     stored_and_said OutputFault was is says = record {
       carries = carries_unsaid tells alone asked caller finding old new stores.carries;
-      notes = λ told. (let put = says told in inr (put.0, line_is put.0 put.1, put.2));
+      notes = λ known. (let put = says known in inr (put.0, line_is put.0 put.1, put.2));
     }
     stored_and_said Memory was is says = record {
       carries = carries_no_memory tells alone asked caller finding old new stores.carries;
-      notes = λ told. inl (says told);
+      notes = λ known. inl (says known);
     }
     stored_and_said (Refused refusal) was is says = absurd says
     stored_and_said FileFault was is says = absurd says
@@ -93,7 +93,7 @@ early_of Memory is = tt
 early_of (Damaged damage) is = absurd is
 early_of StillRunning is = absurd is
 
--- what stands behind the lock stands behind the clock
+-- what stands after the lock stands after the clock
 late_place : (place : ℕ) → nat_lt place 11 ≡ false → nat_lt 4 place ≡ true
 late_place place is = grind (arith, nat_tests)
 
@@ -102,7 +102,7 @@ finding_keeps now time commands = record { allow_is = λ allow deny. refl; deny_
 
 module _ (tells : Tells) (queue : ℕ) (mail : Bool) (file : Option (List ℕ)) (when : When) (caller : Caller) (before after : Held) where
   -- a check refuses before the spool is entered, the inputs failed, or there was no memory
-  pub submission_stopped : (stopped : Stopped) → Prepares tells.clock tells.input caller mail file when before.answers after.answers before.contents (Err stopped) →
+  pub submission_stopped : (stopped : CommandError) → Prepares tells.clock tells.input caller mail file when before.answers after.answers before.contents (Err stopped) →
       after.spool ≡ before.spool → IsSilent before.sink after.sink → Submits tells (request.Submit queue mail file when) caller before after stopped.cause
   submission_stopped stopped prepares same quiet = λ output printed.
       let ends : IsStoppedEarly caller (found_of prepares.now prepares.time prepares.commands None None) prepares.reached stopped.cause = prepares.ends in
@@ -126,10 +126,10 @@ module _ (tells : Tells) (queue : ℕ) (mail : Bool) (file : Option (List ℕ)) 
 
     pub prepared_zoned : IsReadable caller.zone
     prepared_zoned =
-        let front = first_passed (user_check caller.context) (directory_check caller.context ∷ variables_check caller.context ∷ clock_check here
+        let prefix = first_passed (user_check caller.context) (directory_check caller.context ∷ variables_check caller.context ∷ clock_check here
         ∷ zone_check caller.zone ∷ time_check here ∷ length_check here ∷ []) prepared.none in
         let second = first_passed (directory_check caller.context) (variables_check caller.context ∷ clock_check here
-        ∷ zone_check caller.zone ∷ time_check here ∷ length_check here ∷ []) front.1 in
+        ∷ zone_check caller.zone ∷ time_check here ∷ length_check here ∷ []) prefix.1 in
         let third = first_passed (variables_check caller.context) (clock_check here
         ∷ zone_check caller.zone ∷ time_check here ∷ length_check here ∷ []) second.1 in
         let fourth = first_passed (clock_check here) (zone_check caller.zone ∷ time_check here ∷ length_check here ∷ []) third.1 in
@@ -144,16 +144,16 @@ module _ (tells : Tells) (queue : ℕ) (mail : Bool) (file : Option (List ℕ)) 
     -- the clock was read, the time found and the commands read
     clock_at : (reached : Check) → is_before reached of_lock ≡ false → tells.clock ≡ true →
         after.answers ≡ answers_read (Ok (request.Submit queue mail file when)) reached prepares.now before.answers
-    clock_at reached entered told =
+    clock_at reached entered known =
         let beyond : is_before of_variables prepares.reached ≡ true = ap (λ (of : Check). is_before of_variables of) prepared.all in
-        prepares.clock told
+        prepares.clock known
         ∙ ap (λ (read : Bool). if read then with_now prepares.now before.answers else before.answers) (beyond ∙ sym (late_place (place_of reached) entered))
 
     finds_at : (reached : Check) (allow deny : Option (List ℕ)) →
         FindsInput tells.input file when caller.zone before.contents reached (found_of prepares.now prepares.time prepares.commands allow deny)
     finds_at reached allow deny = record {
       time = λ beyond. prepares.finds.time (ap (λ (of : Check). is_before of_zone of) prepared.all);
-      commands = λ told beyond. prepares.finds.commands told (ap (λ (of : Check). is_before of_input of) prepared.all);
+      commands = λ known beyond. prepares.finds.commands known (ap (λ (of : Check). is_before of_input of) prepared.all);
     }
 
     -- its session
@@ -169,6 +169,6 @@ module _ (tells : Tells) (queue : ℕ) (mail : Bool) (file : Option (List ℕ)) 
         (found_of prepares.now prepares.time prepares.commands) cause answered.carries prepared.none
         (clock_at answered.carries.reached answered.carries.entered)
         (finds_at answered.carries.reached answered.carries.allow answered.carries.deny)
-        (λ told is_alone tells_output. prints_nothing tells.files tells.alone (request.Submit queue mail file when) caller
-        (found_of prepares.now prepares.time prepares.commands) before.spool after.spool cause answered.carries (λ table. refl) printed told is_alone)
+        (λ known is_alone tells_output. prints_nothing tells.files tells.alone (request.Submit queue mail file when) caller
+        (found_of prepares.now prepares.time prepares.commands) before.spool after.spool cause answered.carries (λ table. refl) printed known is_alone)
         answered.notes

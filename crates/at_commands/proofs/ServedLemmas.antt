@@ -21,7 +21,7 @@ use Rattle.at_words.specs.declared.tool.Tool.{Tool}
 use Rattle.at_words.specs.declared.tool.Tool.TheVariants.{At, Batch, Atq, Atrm, Atd, Atday}
 use Rattle.at_words.specs.declared.tool_request.ToolRequest.TheVariants as request
 use Rattle.at_words.specs.declared.when.When.{When}
-use Rattle.command_answers.specs.Found.{Asked}
+use Rattle.command_rules.specs.Found.{Asked}
 use Rattle.at_commands.specs.Served.{IsNotServed}
 use Rattle.at_commands.specs.Tools.{name_or_at, tool_name_of}
 

@@ -8,10 +8,10 @@ use Rattle.listing_text.specs.declared.cause.Cause.{Cause}
 use Rattle.listing_text.specs.declared.cause.Cause.TheVariants.{Done, Refused, FileFault, InputFault, OutputFault, Busy, Memory, Damaged, StillRunning}
 use Rattle.spool_store.specs.declared.fault.StoreFault.{StoreFault}
 use Rattle.spool_store.specs.declared.fault.StoreFault.TheVariants as store
-use Rattle.command_answers.specs.declared.stopped.Stopped.{Stopped}
-use Rattle.command_answers.specs.Causes.{cause_in, cause_of, stopped_by}
-use Rattle.command_answers.specs.Sessions.{IsNotOpened, faults, is_damaged, lacks_memory, lists_fault, lists_lack_memory, refuses}
-use Rattle.command_answers.proofs.SpoolLemmas.{goes_on_none}
+use Rattle.command_rules.specs.declared.command_error.CommandError.{CommandError}
+use Rattle.command_rules.specs.Causes.{cause_in, cause_of, error_of}
+use Rattle.command_rules.specs.Sessions.{IsNotOpened, faults, is_damaged, lacks_memory, lists_fault, lists_lack_memory, refuses}
+use Rattle.command_rules.proofs.SpoolLemmas.{goes_on_none}
 use Rattle.job_listing.specs.Scripts.{ComesOfShowing, IsOfShowing}
 use Rattle.job_removal.specs.Removing.{ComesOfRemoving, IsOfWork}
 use Rattle.spool_session.specs.Sessions.{ComesOfSession, HasRisenIn, IsOfSession, StaysQuiet}
@@ -96,58 +96,58 @@ showing_of_session (Damaged damage) is = absurd is
 showing_of_session StillRunning is = absurd is
 
 -- so neither the inputs nor the output
-pub no_input_of_spool : (stopped : Stopped) → IsNoOutput stopped → stopped.cause ≢ InputFault
+pub no_input_of_spool : (stopped : CommandError) → IsNoOutput stopped → stopped.cause ≢ InputFault
 no_input_of_spool stopped is same = subst IsOfSpool same is
 
-pub no_output_of_spool : (stopped : Stopped) → IsNoOutput stopped → stopped.cause ≢ OutputFault
+pub no_output_of_spool : (stopped : CommandError) → IsNoOutput stopped → stopped.cause ≢ OutputFault
 no_output_of_spool stopped is same = subst IsOfSpool same is
 
-pub comes_no_input : {T : Type 0} (result : Result T Stopped) → IfErr result ComesOfSession → cause_in result ≢ InputFault
+pub comes_no_input : {T : Type 0} (result : Result T CommandError) → IfErr result ComesOfSession → cause_in result ≢ InputFault
 comes_no_input (Ok value) comes same = let no : Done ≡ InputFault = same in cc
 comes_no_input (Err stopped) comes same = subst IsOfSession same comes
 
-pub removing_comes : (result : Result (Unit {0}) Stopped) → IfErr result ComesOfRemoving → IfErr result ComesOfSession
+pub removing_comes : (result : Result (Unit {0}) CommandError) → IfErr result ComesOfRemoving → IfErr result ComesOfSession
 removing_comes (Ok value) comes = tt
 removing_comes (Err stopped) comes = work_of_session stopped.cause comes
 
-pub removing_no_output : (result : Result (Unit {0}) Stopped) → IfErr result ComesOfRemoving → IfErr result IsNoOutput
+pub removing_no_output : (result : Result (Unit {0}) CommandError) → IfErr result ComesOfRemoving → IfErr result IsNoOutput
 removing_no_output (Ok value) comes = tt
 removing_no_output (Err stopped) comes = work_of_spool stopped.cause comes
 
-pub showing_comes : (result : Result (Unit {0}) Stopped) → IfErr result ComesOfShowing → IfErr result ComesOfSession
+pub showing_comes : (result : Result (Unit {0}) CommandError) → IfErr result ComesOfShowing → IfErr result ComesOfSession
 showing_comes (Ok value) comes = tt
 showing_comes (Err stopped) comes = showing_of_session stopped.cause comes
 
 -- the cause of an answer, where it is that of a fault of the output
-pub cause_output_fault : {T : Type 0} (result : Result T Stopped) → cause_in result ≡ OutputFault → IsErrOf result (stopped_by OutputFault)
+pub cause_output_fault : {T : Type 0} (result : Result T CommandError) → cause_in result ≡ OutputFault → IsErrOf result (error_of OutputFault)
 cause_output_fault (Ok value) is = let no : Done ≡ OutputFault = is in cc
-cause_output_fault (Err stopped) is = ap (λ (of : Cause). Err (stopped_by of)) is
+cause_output_fault (Err stopped) is = ap (λ (of : Cause). Err (error_of of)) is
 
 -- where no output comes of the spool
-pub no_input_in : {T : Type 0} (result : Result T Stopped) → IfErr result IsNoOutput → cause_in result ≢ InputFault
+pub no_input_in : {T : Type 0} (result : Result T CommandError) → IfErr result IsNoOutput → cause_in result ≢ InputFault
 no_input_in (Ok value) is same = let no : Done ≡ InputFault = same in cc
 no_input_in (Err stopped) is same = no_input_of_spool stopped is same
 
-pub no_output_in : {T : Type 0} (result : Result T Stopped) → IfErr result IsNoOutput → cause_in result ≢ OutputFault
+pub no_output_in : {T : Type 0} (result : Result T CommandError) → IfErr result IsNoOutput → cause_in result ≢ OutputFault
 no_output_in (Ok value) is same = let no : Done ≡ OutputFault = same in cc
 no_output_in (Err stopped) is same = no_output_of_spool stopped is same
 
 -- want of memory comes of the spool
-pub memory_comes : {T : Type 0} (result : Result T Stopped) → IfErr result (λ stopped. stopped ≡ stopped_by Memory) → IfErr result ComesOfSession
+pub memory_comes : {T : Type 0} (result : Result T CommandError) → IfErr result (λ stopped. stopped ≡ error_of Memory) → IfErr result ComesOfSession
 memory_comes (Ok value) lacks = tt
-memory_comes (Err stopped) lacks = subst (λ (of : Stopped). IsOfSession of.cause) (sym lacks) tt
+memory_comes (Err stopped) lacks = subst (λ (of : CommandError). IsOfSession of.cause) (sym lacks) tt
 
-pub memory_no_output : {T : Type 0} (result : Result T Stopped) → IfErr result (λ stopped. stopped ≡ stopped_by Memory) → IfErr result IsNoOutput
+pub memory_no_output : {T : Type 0} (result : Result T CommandError) → IfErr result (λ stopped. stopped ≡ error_of Memory) → IfErr result IsNoOutput
 memory_no_output (Ok value) lacks = tt
-memory_no_output (Err stopped) lacks = subst (λ (of : Stopped). IsOfSpool of.cause) (sym lacks) tt
+memory_no_output (Err stopped) lacks = subst (λ (of : CommandError). IsOfSpool of.cause) (sym lacks) tt
 
 -- where the spool stopped the session, its output did not fail
-pub no_output_error : {T : Type 0} (result : Result T Stopped) → IfErr result IsNoOutput → IsErrOf result (stopped_by OutputFault) → ⊥
-no_output_error (Ok value) comes is = let no : ◌≡◌ {A = Result _ Stopped} (Ok value) (Err (stopped_by OutputFault)) = is in cc
+pub no_output_error : {T : Type 0} (result : Result T CommandError) → IfErr result IsNoOutput → IsErrOf result (error_of OutputFault) → ⊥
+no_output_error (Ok value) comes is = let no : ◌≡◌ {A = Result _ CommandError} (Ok value) (Err (error_of OutputFault)) = is in cc
 no_output_error (Err stopped) comes is =
-    let same : stopped ≡ stopped_by OutputFault = cc in subst (λ (of : Stopped). IsOfSpool of.cause) same comes
+    let same : stopped ≡ error_of OutputFault = cc in subst (λ (of : CommandError). IsOfSpool of.cause) same comes
 
-pub no_output_of_stopped : (stopped : Stopped) → IsNoOutput stopped → ◌≡◌ {A = Result (Unit {0}) Stopped} (Err stopped) (Err (stopped_by OutputFault)) → ⊥
+pub no_output_of_stopped : (stopped : CommandError) → IsNoOutput stopped → ◌≡◌ {A = Result (Unit {0}) CommandError} (Err stopped) (Err (error_of OutputFault)) → ⊥
 no_output_of_stopped stopped of_spool is = no_output_error (Err stopped) of_spool is
 
 -- where nothing was done, the spool stays as it is
@@ -158,7 +158,7 @@ quiet_none g at outside = record {
     children = refl;
     counts = record { made_as = refl; file_faults = omega arith; start_faults = omega arith; taken = omega arith };
   };
-  goes_on = λ told. goes_on_none (g.world at) (g.world at) refl;
+  goes_on = λ known. goes_on_none (g.world at) (g.world at) refl;
 }
 
 -- and no fault came of it, where the cause is none

@@ -6,10 +6,10 @@ use Rattle.at_words.specs.declared.tool_request.ToolRequest.{ToolRequest}
 use Rattle.at_words.specs.declared.tool_request.ToolRequest.TheVariants as request
 use Rattle.at_words.specs.declared.when.When.{When}
 use Rattle.host_calls.specs.World.{World, reading}
-use Rattle.job_runs.specs.Calls.{StoreCall}
-use Rattle.job_runs.specs.Current.{IsCurrent, Kept}
-use Rattle.job_runs.proofs.MadeLemmas.{calls_make_their_steps}
-use Rattle.job_runs.proofs.RunLemmas.{calls_are_runs}
+use Rattle.step_runs.specs.Calls.{StoreCall}
+use Rattle.step_runs.specs.Current.{IsCurrent, Kept}
+use Rattle.step_runs.proofs.MadeLemmas.{calls_make_their_steps}
+use Rattle.step_runs.proofs.RunLemmas.{calls_are_runs}
 use Rattle.job_script.specs.HeaderIn.{header_in}
 use Rattle.job_script.proofs.HeaderInLemmas.{header_in-some}
 use Rattle.listing_text.specs.declared.cause.Cause.{Cause}
@@ -25,18 +25,18 @@ use Rattle.spool_shows.specs.Shown.{user_of}
 use Rattle.spool_shows.proofs.SoundTables.{shown_tables_are_sound}
 use Rattle.spool_store.specs.declared.fault.StoreFault.{StoreFault}
 use Rattle.spool_store.specs.declared.fault.StoreFault.TheVariants.{Damaged, FileFault as Failed, Memory as NoMemory, NumbersUsedUp, QueueFull}
-use Rattle.spool_store.specs.declared.submitting.TheConstants.{MAX_LIVE}
+use Rattle.spool_store.specs.declared.submit.TheConstants.{MAX_LIVE}
 use Rattle.spool_store.specs.Submitting.{HasRoom, IsAnswerOn, IsFull, IsUsedUp, job_of_script, submission}
 use Rattle.spool_store.proofs.SubmitStored.{submission_legal}
-use Rattle.command_answers.specs.declared.caller.Caller.{Caller}
-use Rattle.command_answers.specs.declared.stopped.Stopped.{Stopped}
-use Rattle.command_answers.specs.Causes.{cause_in, cause_of, stopped_by}
-use Rattle.command_answers.specs.Found.{found_of}
+use Rattle.command_rules.specs.declared.caller.Caller.{Caller}
+use Rattle.command_rules.specs.declared.command_error.CommandError.{CommandError}
+use Rattle.command_rules.specs.Causes.{cause_in, cause_of, error_of}
+use Rattle.command_rules.specs.Found.{found_of}
 use Rattle.at_commands.specs.inside.Carrying.{AreWorkSteps, Finding}
-use Rattle.command_answers.specs.Requested.{job_for}
-use Rattle.command_answers.specs.Sessions.{IsNotOpened, IsOpened, IsWorkedOn}
-use Rattle.command_answers.specs.Times.{minute_in}
-use Rattle.command_answers.specs.Verdict.{first_refusal, number_check, room_check, table_verdict}
+use Rattle.command_rules.specs.Requested.{job_for}
+use Rattle.command_rules.specs.Sessions.{IsNotOpened, IsOpened, IsWorkedOn}
+use Rattle.command_rules.specs.Times.{minute_in}
+use Rattle.command_rules.specs.Verdict.{first_refusal, number_check, room_check, table_verdict}
 use Rattle.at_commands.specs.inside.Storing.{IsJobOf, Stores}
 use Rattle.at_commands.proofs.CarryLemmas.{KeepsLists, carries_within, not_entered, not_opened, work_done, work_fails, work_lacks_memory, work_refused}
 use Rattle.at_commands.proofs.KeptLemmas.{kept_decides, kept_last}
@@ -101,7 +101,7 @@ module _ (tells : Bool) (caller : Caller) (queue minute : ℕ) (script : List �
 
   -- no store was had
   pub store_not_opened : (user : List ℕ) (cause : Cause) (old new : World) → caller.context.user ≡ user → IsNotOpened tells user old new cause →
-      Stores tells true asked caller finding old new (Err (stopped_by cause))
+      Stores tells true asked caller finding old new (Err (error_of cause))
   store_not_opened user cause old new same is = record { carries = not_opened tells true asked caller finding keeps old new user cause same is; number = tt }
 
   module _ (old middle new : World) (kept : Kept) (opened : IsOpened tells caller.context.user old middle kept) where
@@ -118,8 +118,8 @@ module _ (tells : Bool) (caller : Caller) (queue minute : ℕ) (script : List �
     }
 
     legal : tells ≡ true → HasRoom kept.table → AreLegal table steps
-    legal told room =
-        submission_legal table (job_of_script queue minute script) (shown_tables_are_sound (reading old) table (opened.recovered told).shown)
+    legal known room =
+        submission_legal table (job_of_script queue minute script) (shown_tables_are_sound (reading old) table (opened.recovered known).shown)
         (subst (λ (last : ℕ). last < LAST_NUMBER) (kept_last kept.table table opened.keeps) room.more)
 
     -- the submission failed on the way
@@ -127,27 +127,27 @@ module _ (tells : Bool) (caller : Caller) (queue minute : ℕ) (script : List �
         (tells ≡ true → (of : JobTable) → IsCurrent kept middle.now.folder of →
         StoreCall {E = StoreFault} of (submission of (job_of_script queue minute script)) middle new (Err fault)) →
         tells ≡ true → IsWorkedOn (AreWorkSteps asked caller (finding opened.allow opened.deny)) table middle new
-    worked_on fault room call told =
-        let current : IsCurrent kept middle.now.folder table = (opened.recovered told).current in
+    worked_on fault room call known =
+        let current : IsCurrent kept middle.now.folder table = (opened.recovered known).current in
         record {
           steps = steps;
           are = are (room_accepted kept.table room);
-          legal = legal told room;
-          run = calls_are_runs table steps middle new tt current.shows (call told table current).files;
+          legal = legal known room;
+          run = calls_are_runs table steps middle new tt current.shows (call known table current).files;
         }
 
     pub store_failed : (fault : StoreFault) → IsAnswerOn kept.table (Err fault) →
         (((fault ≡ QueueFull) ⊎ (fault ≡ NumbersUsedUp)) → tells ≡ true → new ≡ middle) →
         (tells ≡ true → (of : JobTable) → IsCurrent kept middle.now.folder of →
         StoreCall {E = StoreFault} of (submission of (job_of_script queue minute script)) middle new (Err fault)) →
-        Stores tells true asked caller finding old new (Err (stopped_by (cause_of fault)))
+        Stores tells true asked caller finding old new (Err (error_of (cause_of fault)))
     store_failed Failed answer same call = record {
       carries = work_fails tells true asked caller finding keeps old middle new kept opened (room_accepted kept.table answer)
-          (λ told. inr (worked_on Failed answer call told));
+          (λ known. inr (worked_on Failed answer call known));
       number = tt;
     }
     store_failed NoMemory answer same call = record {
-      carries = work_lacks_memory tells true asked caller finding keeps old middle new kept opened (λ told. inr (worked_on NoMemory answer call told));
+      carries = work_lacks_memory tells true asked caller finding keeps old middle new kept opened (λ known. inr (worked_on NoMemory answer call known));
       number = tt;
     }
     store_failed QueueFull answer same call = record {
@@ -165,25 +165,25 @@ module _ (tells : Bool) (caller : Caller) (queue minute : ℕ) (script : List �
         StoreCall {E = StoreFault} of (submission of (job_of_script queue minute script)) middle new (Ok store)) →
         Stores tells true asked caller finding old new (Ok number)
     stored store number answer call = record {
-      carries = work_done tells true asked caller finding keeps old middle new kept opened (room_accepted kept.table answer.0) (λ told.
-          (let current : IsCurrent kept middle.now.folder table = (opened.recovered told).current in
+      carries = work_done tells true asked caller finding keeps old middle new kept opened (room_accepted kept.table answer.0) (λ known.
+          (let current : IsCurrent kept middle.now.folder table = (opened.recovered known).current in
           record {
             steps = steps;
             kept = store;
             are = are (room_accepted kept.table answer.0);
-            made = calls_make_their_steps table steps store middle new (legal told answer.0) tt current.shows (call told table current).files
-                (call told table current).current (call told table current).others;
+            made = calls_make_their_steps table steps store middle new (legal known answer.0) tt current.shows (call known table current).files
+                (call known table current).current (call known table current).others;
           }));
       number = answer.1 ∙ ap (λ (last : ℕ). last + 1) (kept_last kept.table table opened.keeps);
     }
 
   -- the spool could not be entered
   pub store_not_entered : (alone : Bool) (cause : Cause) (old new : World) → IsOfEntry cause → (tells ≡ true → alone ≡ true → new ≡ old) →
-      Stores tells alone asked caller finding old new (Err (stopped_by cause))
+      Stores tells alone asked caller finding old new (Err (error_of cause))
   store_not_entered alone cause old new entry same = record { carries = not_entered tells alone asked caller finding keeps old new cause entry same; number = tt }
 
--- what a session stored stands behind it
-pub stores_within : (tells alone : Bool) (asked : ToolRequest) (caller : Caller) (finding : Finding) (before entered left after : World) (result : Result ℕ Stopped) →
+-- what a session stored stands after it
+pub stores_within : (tells alone : Bool) (asked : ToolRequest) (caller : Caller) (finding : Finding) (before entered left after : World) (result : Result ℕ CommandError) →
     (tells ≡ true → alone ≡ true → entered ≡ before) → (tells ≡ true → alone ≡ true → after ≡ left) →
     Stores tells true asked caller finding entered left result → Stores tells alone asked caller finding before after result
 stores_within tells alone asked caller finding before entered left after result enters leaves stores = record {

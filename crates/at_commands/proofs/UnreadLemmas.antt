@@ -12,13 +12,13 @@ use Rattle.listing_text.specs.declared.cause.Cause.{Cause}
 use Rattle.listing_text.specs.declared.refusal.Refusal.{Refusal}
 use Rattle.spool_model.specs.JobTable.{JobTable}
 use Rattle.spool_shows.specs.Shown.{shown_by}
-use Rattle.command_answers.specs.declared.caller.Caller.{Caller}
-use Rattle.command_answers.specs.Checks.{Check, ComesUpTo, check_of, is_before, of_access, of_clock, of_date, of_directory, of_folder, of_input, of_jobs, of_length, of_lists, of_lock, of_number, of_output, of_room, of_spelling, of_steps, of_user, of_variables, of_words, of_zone}
-use Rattle.command_answers.specs.Ends.{Ends, Holding, KeepsOrder, Reaches, Telling}
-use Rattle.command_answers.specs.Found.{Asked, Finds, Found, allow_file, answers_read, deny_file, found_of}
-use Rattle.command_answers.specs.Requested.{AreAskedSteps, IsAskedLine, IsAskedText}
-use Rattle.command_answers.specs.Sinks.{IsSilent, NotesBy, SinkAt}
-use Rattle.command_answers.specs.Verdict.{verdict_of}
+use Rattle.command_rules.specs.declared.caller.Caller.{Caller}
+use Rattle.command_rules.specs.Checks.{Check, ComesUpTo, check_of, is_before, of_access, of_clock, of_date, of_directory, of_folder, of_input, of_jobs, of_length, of_lists, of_lock, of_number, of_output, of_room, of_spelling, of_steps, of_user, of_variables, of_words, of_zone}
+use Rattle.command_rules.specs.Ends.{Ends, Holding, KeepsOrder, Reaches, Telling}
+use Rattle.command_rules.specs.Found.{Asked, Finds, Found, allow_file, answers_read, deny_file, found_of}
+use Rattle.command_rules.specs.Requested.{AreAskedSteps, IsAskedLine, IsAskedText}
+use Rattle.command_rules.specs.Sinks.{IsSilent, NotesBy, SinkAt}
+use Rattle.command_rules.specs.Verdict.{verdict_of}
 use Rattle.at_commands.proofs.EndsLemmas.{IsEarly, no_true, silent_notes, silent_prints, untouched}
 
 -- no check comes before that of the words
@@ -59,7 +59,7 @@ answers_unread (Err fault) now answers = refl
 
 finds_unread : (tells : Bool) (asked : Asked) (zone : Zone) (contents : Contents) (found : Found) → Finds tells asked zone contents of_words found
 finds_unread tells (Ok (request.Submit queue mail file when)) zone contents found =
-    record { time = λ beyond. absurd (no_true beyond); commands = λ told beyond. absurd (no_true beyond) }
+    record { time = λ beyond. absurd (no_true beyond); commands = λ known beyond. absurd (no_true beyond) }
 finds_unread tells (Ok (request.List filter)) zone contents found = tt
 finds_unread tells (Ok (request.Remove numbers)) zone contents found = tt
 finds_unread tells (Ok (request.Show numbers)) zone contents found = tt
@@ -86,11 +86,11 @@ ends_at_words asked caller tells at cause early reach order =
       reach = reach;
       order = order found shown;
       up_to = up_to_words (verdict_of asked caller found shown);
-      clock = λ told. sym (answers_unread asked (pos 0) at.answers);
+      clock = λ known. sym (answers_unread asked (pos 0) at.answers);
       finds = finds_unread tells.input asked caller.zone at.contents found;
-      folder = λ told is_alone. record { allow = refl; deny = refl; table = refl };
-      apart = λ told is_alone is. refl;
-      spool = λ told is_alone. untouched (AreAskedSteps asked caller found) at.spool at.spool cause of_words early reach refl refl;
-      prints = λ told is_alone tells_output. silent_prints cause (IsAskedText asked caller found shown) at.output at.output early (silent at.output);
+      folder = λ known is_alone. record { allow = refl; deny = refl; table = refl };
+      apart = λ known is_alone is. refl;
+      spool = λ known is_alone. untouched (AreAskedSteps asked caller found) at.spool at.spool cause of_words early reach refl refl;
+      prints = λ known is_alone tells_output. silent_prints cause (IsAskedText asked caller found shown) at.output at.output early (silent at.output);
       notes = λ tells_errors. silent_notes cause (IsAskedLine asked caller found shown) at.errors at.errors early (silent at.errors);
     }

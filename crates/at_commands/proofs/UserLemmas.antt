@@ -10,7 +10,7 @@ use Rattle.job_script.specs.declared.context.Context.{Context}
 use Rattle.listing_text.specs.declared.refusal.Refusal.{Refusal}
 use Rattle.listing_text.specs.declared.refusal.Refusal.TheVariants.{BadUser, BadZone}
 use Rattle.spool_model.specs.Users.{IsUserName}
-use Rattle.command_answers.specs.Verdict.{first_refusal, is_unreadable, user_check, zone_check}
+use Rattle.command_rules.specs.Verdict.{first_refusal, is_unreadable, user_check, zone_check}
 
 no_not : (b : Bool) → not b ≡ true → b ≡ false
 no_not true is = cc
@@ -24,12 +24,12 @@ yes_not false is = refl
 pub user_named : (name : List ℕ) → is_user_name name ≡ true → IsUserName name
 user_named name is =
     let whole = and_parts _ _ is in
-    let front = and_parts _ _ whole.0 in
-    let sizes = and_parts _ _ front.0 in
+    let prefix = and_parts _ _ whole.0 in
+    let sizes = and_parts _ _ prefix.0 in
     record {
       some = leb-true _ _ sizes.0;
       few = leb-true _ _ sizes.1;
-      each = front.1;
+      each = prefix.1;
       no_dash = λ same. (let no : (slice_index name 0 == 45) ≡ false = no_not (slice_index name 0 == 45) whole.1 in
           let yes : (slice_index name 0 == 45) ≡ true = eq-eqb (slice_index name 0) 45 same in
           let two : true ≡ false = sym yes ∙ no in cc);

@@ -1,10 +1,11 @@
 -- All that a command is handed, at a moment, and what a command leaves of it (own).
-use Rattle.std.specs.Prelude.{◌≡◌, ◌≢◌, ℕ, true, List}
-use Rattle.command_answers.specs.declared.caller.Caller.{Caller}
-use Rattle.command_answers.specs.Ends.{Ends, FailsToPrint, Holding, Telling, holding, telling}
-use Rattle.command_answers.specs.Found.{Asked}
-use Rattle.command_answers.specs.Sinks.{SinkAt, sink_at}
-use Rattle.daemon_turn.specs.Daemons.{Watch}
+use Rattle.std.specs.Prelude.{◌≡◌, ◌≢◌, ℕ, true, false, List, Err}
+use Rattle.at_words.specs.declared.fault.WordsFault.{WordsFault}
+use Rattle.command_rules.specs.declared.caller.Caller.{Caller}
+use Rattle.command_rules.specs.Ends.{Ends, FailsToPrint, Holding, Telling, holding, telling}
+use Rattle.command_rules.specs.Found.{Asked, is_submission}
+use Rattle.command_rules.specs.Sinks.{SinkAt, sink_at}
+use Rattle.daemon_turn.specs.Daemons.{DaemonState}
 use Rattle.host_calls.specs.Causes.{Rose}
 use Rattle.host_calls.specs.Clock.{Readers}
 use Rattle.host_calls.specs.declared.host.Host as host
@@ -53,7 +54,7 @@ pub record HasRisen (asked : Asked) (old new : OutsideAt) (cause : Cause) : Type
 
 -- How a command ends that asks for no daemon: it starts no child and hands nothing over; its verdict and order, what each
 -- crash on the way and each image of the end show, and what is printed and said. No load is read, and it does not end while
--- jobs still run.
+-- jobs still run. Words that ask for nothing leave the session alone: the lock is not asked for.
 pub record EndsUnserved (Notes : Cause → (List ℕ → Type 0) → SinkAt → SinkAt → Type 0) (asked : Asked) (caller : Caller)
     (old new : OutsideAt) (cause : Cause) : Type 0 where
   pub left : IsLeft old.session new.session
@@ -61,10 +62,11 @@ pub record EndsUnserved (Notes : Cause → (List ℕ → Type 0) → SinkAt → 
   pub ends : Ends Notes asked caller old.tells old.holds new.holds cause
   pub not_running : cause ≢ StillRunning
   pub readers : new.readers ≡ old.readers
+  pub unasked : (fault : WordsFault) → asked ≡ Err fault → new.session ≡ old.session
 
 -- what is served with, once the daemon keeps this
-abbrev pub served_at : OutsideAt → Watch → ServeAt
-served_at at watch = serve_at at.session at.holds.spool watch at.holds.answers at.readers
+abbrev pub served_at : OutsideAt → DaemonState → ServeAt
+served_at at daemon = serve_at at.session at.holds.spool daemon at.holds.answers at.readers
 
 abbrev pub telling_served : Telling → ServeTelling
 telling_served tells = serve_telling tells.files tells.alone tells.clock tells.output tells.errors
@@ -75,10 +77,12 @@ ServesAsked asked old new cause = WhereServed asked (λ limit interval once turn
     ServesAnew (telling_served old.tells) limit interval once turns (served_at old) (served_at new) old.holds.output new.holds.output
     old.holds.errors new.holds.errors cause)
 
--- what the readings, the inputs and the sinks were made as stays, and so does what the inputs hold
-pub record StaysMade (old new : OutsideAt) : Type 0 where
+-- What the readings, the inputs and the sinks were made as stays, and so does what the inputs hold. No input is asked for but
+-- by a submission.
+pub record StaysMade (asked : Asked) (old new : OutsideAt) : Type 0 where
   pub readers : new.readers.made_as ≡ old.readers.made_as
   pub contents : new.holds.contents ≡ old.holds.contents
   pub inputs : new.sources.made_as ≡ old.sources.made_as
+  pub unread : is_submission asked ≡ false → new.sources ≡ old.sources
   pub out : new.out.made_as ≡ old.out.made_as
   pub err : new.err.made_as ≡ old.err.made_as

@@ -1,9 +1,9 @@
 -- Which requests are served, and how (own).
 use Rattle.std.specs.Prelude.{ℕ, Bool, Ok, Err}
 use Rattle.at_words.specs.declared.tool_request.ToolRequest.TheVariants as request
-use Rattle.command_answers.specs.Found.{Asked}
-use Rattle.command_answers.specs.Sinks.{SinkAt}
-use Rattle.daemon_turn.specs.Daemons.{Watch, new_watch}
+use Rattle.command_rules.specs.Found.{Asked}
+use Rattle.command_rules.specs.Sinks.{SinkAt}
+use Rattle.daemon_turn.specs.Daemons.{DaemonState, new_daemon}
 use Rattle.listing_text.specs.declared.cause.Cause.{Cause}
 use Rattle.serving.specs.Serves.{ServeAt, ServeTelling}
 use Rattle.serving.specs.Serving.{Serving}
@@ -30,7 +30,7 @@ WhereServed (Ok (request.Make count)) IsSo = Unit {0}
 WhereServed (Err fault) IsSo = Unit {0}
 
 -- A daemon without kids served, and is gone. What it was served with is given by what the daemon keeps.
-pub record ServesAnew (tells : ServeTelling) (limit interval : ℕ) (once : Bool) (turns : ℕ) (old new : Watch → ServeAt)
+pub record ServesAnew (tells : ServeTelling) (limit interval : ℕ) (once : Bool) (turns : ℕ) (old new : DaemonState → ServeAt)
     (out_old out_new err_old err_new : SinkAt) (cause : Cause) : Type 0 where
-  pub watch : Watch
-  pub serving : Serving tells once turns (old (new_watch limit interval)) (new watch) out_old out_new err_old err_new cause
+  pub daemon : DaemonState
+  pub serving : Serving tells once turns (old (new_daemon limit interval)) (new daemon) out_old out_new err_old err_new cause

@@ -1,14 +1,14 @@
 //! The tools themselves: what the words of `at`, `batch`, `atq`, `atrm` and `atd` ask for, done.
 #![tactic(auto)]
 
-mod answering;
-mod ended;
-mod listing;
-mod removing;
-mod saying;
-mod showing;
-mod submitting;
+mod cause;
+mod list;
+mod remove;
+mod run_command;
+mod say_accepted;
+mod show;
+mod submit;
 
-pub use answering::command;
-pub use command_answers::Caller;
+pub use command_rules::Caller;
+pub use run_command::command;
 pub use serving::serve;

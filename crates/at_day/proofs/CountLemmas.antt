@@ -7,9 +7,9 @@ use Rattle.std.specs.declared.cmp.Ordering.TheVariants.{Less}
 use Rattle.std.proofs.lemmas.Cmp.{ranked}
 use Rattle.std.proofs.lemmas.List.{get_or-map, length-map}
 use Rattle.std.proofs.lemmas.List.Elements.{All-contains_itself}
-use Rattle.job_runs.specs.Bare.{bare, bare_entry}
-use Rattle.job_runs.proofs.BareLemmas.{entries_are_bare}
-use Rattle.job_runs.proofs.ListLemmas.{lists_as_on_the_table}
+use Rattle.step_runs.specs.WithoutScripts.{without_scripts, entry_without_script}
+use Rattle.step_runs.proofs.WithoutScriptsLemmas.{entries_are_without_scripts}
+use Rattle.step_runs.proofs.ListLemmas.{lists_as_on_the_table}
 use Rattle.spool_model.specs.declared.decided.Decided.{Decided}
 use Rattle.spool_model.specs.declared.entry.Entry.TheVariants.{Live, Done}
 use Rattle.spool_model.specs.declared.fate.Fate.{Fate}
@@ -38,25 +38,25 @@ count_same : {X Y : Type 0} (p : X → Bool) (q : Y → Bool) (f : Y → X) (ys 
 count_same p q f ys same = count_from p q f ys 0 same
 
 -- the rows of a store are those of the table
-pub live_is : (table kept : JobTable) (rows : List Row) → kept ≡ bare table → ListsLive kept rows → live_rows table ≡ rows
+pub live_is : (table kept : JobTable) (rows : List Row) → kept ≡ without_scripts table → ListsLive kept rows → live_rows table ≡ rows
 live_is table kept rows is lists =
     sym (lists_as_on_the_table table).rows
-    ∙ rows_listed (bare table) rows (subst (λ (of : JobTable). ListsLive of rows) is lists)
+    ∙ rows_listed (without_scripts table) rows (subst (λ (of : JobTable). ListsLive of rows) is lists)
 
-done_is : (table kept : JobTable) (decided : List Decided) → kept ≡ bare table → ListsDecided kept decided →
+done_is : (table kept : JobTable) (decided : List Decided) → kept ≡ without_scripts table → ListsDecided kept decided →
     done_numbers table ≡ map (λ (one : Decided). one.number) decided
 done_is table kept decided is lists =
     sym (lists_as_on_the_table table).done
-    ∙ decided_listed (bare table) decided (subst (λ (of : JobTable). ListsDecided of decided) is lists)
+    ∙ decided_listed (without_scripts table) decided (subst (λ (of : JobTable). ListsDecided of decided) is lists)
 
 -- what is done without its script is done so
-done_through : (passes : Fate → Bool) (found : Option JobEntry) (fate : Fate) → option_map bare_entry found ≡ Some (Done fate) →
+done_through : (passes : Fate → Bool) (found : Option JobEntry) (fate : Fate) → option_map entry_without_script found ≡ Some (Done fate) →
     is_done_so passes found ≡ passes fate
 done_through passes None fate is = cc
 done_through passes (Some (Live job state)) fate is = cc
 done_through passes (Some (Done of)) fate is = let same : of ≡ fate = cc in ap passes same
 
-pub done_counted : (passes : Fate → Bool) (table kept : JobTable) (decided : List Decided) → kept ≡ bare table →
+pub done_counted : (passes : Fate → Bool) (table kept : JobTable) (decided : List Decided) → kept ≡ without_scripts table →
     ListsDecided kept decided → done_so passes table ≡ count_by (λ one. passes one.fate) decided
 done_counted passes table kept decided is lists =
     ap (count_by (λ (number : ℕ). is_done_so passes (entry_at table number))) (done_is table kept decided is lists)
@@ -64,7 +64,7 @@ done_counted passes table kept decided is lists =
     (λ (one : Decided). one.number) decided (λ k d inside. fate_at (get_or decided k d) (All-contains_itself decided k d inside)) where
       fate_at : (one : Decided) → Contains decided one → is_done_so passes (entry_at table one.number) ≡ passes one.fate
       fate_at one has = done_through passes (entry_at table one.number) one.fate
-          (sym (entries_are_bare table one.number) ∙ (ap (λ (of : JobTable). entry_at of one.number) (sym is) ∙ lists.each one has))
+          (sym (entries_are_without_scripts table one.number) ∙ (ap (λ (of : JobTable). entry_at of one.number) (sym is) ∙ lists.each one has))
 
 -- entries that rise from above one number to another are no more than these lie apart
 few_between : (list : List (ℕ × JobEntry)) (low high : ℕ) → T (below_all nat_cmp low list) → T (is_sorted nat_cmp list) → low ≤ high →

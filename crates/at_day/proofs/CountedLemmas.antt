@@ -1,16 +1,16 @@
 -- A session in which the folder is recovered and counted.
 use Rattle.std.proofs.Common.{◌≡◌, ◌≤◌, ℕ, List, sym, ap, subst, ◌∙◌, inl, inr, arith}
 use Rattle.std.specs.Prelude.{Result, Ok, Err, count_by}
-use Rattle.command_answers.proofs.SpoolLemmas.{unbegun_same}
+use Rattle.command_rules.proofs.SpoolLemmas.{unbegun_same}
 use Rattle.daemon_turn.proofs.HandLemmas.{counts_on}
 use Rattle.host_calls.specs.Causes.{Rose}
 use Rattle.host_calls.specs.Session.{IsLeft, KeepsCounts, Session, StaysInside}
 use Rattle.host_calls.specs.World.{World}
-use Rattle.job_runs.specs.Attempts.{IsUnbegun}
+use Rattle.step_runs.specs.Attempts.{IsUnbegun}
 use Rattle.memory_host.specs.declared.memory_host.MemoryHost.{MemoryHost}
 use Rattle.memory_host.specs.Host.{memory_session, memory_world}
-use Rattle.job_runs.specs.Bare.{bare}
-use Rattle.job_runs.specs.Current.{Kept}
+use Rattle.step_runs.specs.WithoutScripts.{without_scripts}
+use Rattle.step_runs.specs.Current.{Kept}
 use Rattle.spool_model.specs.declared.decided.Decided.{Decided}
 use Rattle.spool_model.specs.declared.row.Row.{Row}
 use Rattle.spool_model.specs.JobTable.{JobTable}
@@ -25,19 +25,19 @@ use Rattle.at_day.proofs.CountLemmas.{done_counted, live_is}
 
 -- a count that rose on the way has risen in all
 rose_within : (first old new last : ℕ) → first ≤ old → new ≤ last → Rose old new → Rose first last
-rose_within first old new last before behind rose = omega arith
+rose_within first old new last before later rose = omega arith
 
 counts_within : (first old new last : Session) → KeepsCounts first old → KeepsCounts new last → (world : World)
     (result : Result Counts StoreFault) → CountsBy old new world result → CountsBy first last world result
-counts_within first old new last before behind world (Ok counts) counted = counted
-counts_within first old new last before behind world (Err fault.FileFault) (inl rose) =
-    inl (rose_within first.file_faults old.file_faults new.file_faults last.file_faults before.file_faults behind.file_faults rose)
-counts_within first old new last before behind world (Err fault.FileFault) (inr rose) =
-    inr (rose_within first.taken old.taken new.taken last.taken before.taken behind.taken rose)
-counts_within first old new last before behind world (Err (fault.Damaged damage)) counted = counted
-counts_within first old new last before behind world (Err fault.Memory) counted = tt
-counts_within first old new last before behind world (Err fault.QueueFull) counted = absurd counted
-counts_within first old new last before behind world (Err fault.NumbersUsedUp) counted = absurd counted
+counts_within first old new last before later world (Ok counts) counted = counted
+counts_within first old new last before later world (Err fault.FileFault) (inl rose) =
+    inl (rose_within first.file_faults old.file_faults new.file_faults last.file_faults before.file_faults later.file_faults rose)
+counts_within first old new last before later world (Err fault.FileFault) (inr rose) =
+    inr (rose_within first.taken old.taken new.taken last.taken before.taken later.taken rose)
+counts_within first old new last before later world (Err (fault.Damaged damage)) counted = counted
+counts_within first old new last before later world (Err fault.Memory) counted = tt
+counts_within first old new last before later world (Err fault.QueueFull) counted = absurd counted
+counts_within first old new last before later world (Err fault.NumbersUsedUp) counted = absurd counted
 
 -- these counts
 abbrev counts_of : (last pending running removed finished not_started interrupted : ℕ) → Counts
@@ -56,8 +56,8 @@ same_counts : (a b c d e f g p q r s t u v : ℕ) → a ≡ p → b ≡ q → c 
     counts_of a b c d e f g ≡ counts_of p q r s t u v
 same_counts a b c d e f g p q r s t u v first second third fourth fifth sixth seventh = cc
 
-last_is : (table kept : JobTable) → kept ≡ bare table → kept.last ≡ table.last
-unfolding bare
+last_is : (table kept : JobTable) → kept ≡ without_scripts table → kept.last ≡ table.last
+unfolding without_scripts
 last_is table kept is = ap (λ (of : JobTable). of.last) is
 
 -- a recovery, and the counts of what it kept
@@ -69,7 +69,7 @@ pub counted : (old new : Session) (before after : World) (kept : Kept) → IsRec
     counts.not_started ≡ count_by (λ one. was_not_started one.fate) decided →
     counts.interrupted ≡ count_by (λ one. was_interrupted one.fate) decided → CountsBy old new before (Ok counts)
 counted old new before after kept recovered rows live decided done counts last pending running removed finished not_started interrupted =
-    let is : kept.table ≡ bare recovered.table = recovered.current.bare_is in
+    let is : kept.table ≡ without_scripts recovered.table = recovered.current.without_scripts_is in
     let listed : live_rows recovered.table ≡ rows = live_is recovered.table kept.table rows is live in
     let first : counts.last ≡ recovered.table.last = last ∙ last_is recovered.table kept.table is in
     let second : counts.pending ≡ count_by waits (live_rows recovered.table) = pending ∙ ap (count_by waits) (sym listed) in

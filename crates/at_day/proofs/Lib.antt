@@ -1,11 +1,11 @@
-pub mod CommandMoves
+pub mod CommandEffects
 pub mod CountLemmas
 pub mod CountedLemmas
-pub mod DeedLemmas
+pub mod OutcomeLemmas
 pub mod HappeningLemmas
 pub mod LineLemmas
 pub mod MadeLemmas
-pub mod MoveLemmas
+pub mod EffectLemmas
 pub mod ProgramLemmas
 pub mod RequestLemmas
 pub mod SoundLemmas

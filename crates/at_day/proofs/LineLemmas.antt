@@ -1,9 +1,9 @@
--- Lines pushed one behind another.
+-- Lines pushed one after another.
 use Rattle.std.proofs.Common.{◌≡◌, ◌++◌, [], ◌∷◌, ℕ, List, refl, ap, ◌∙◌}
 use Rattle.std.specs.List.{concat}
 use Rattle.cause_output.specs.Putting.{lines_of}
 
--- one line pushed behind others
+-- one line pushed after others
 pub pushed : (before after lines : List (List ℕ)) (line wanted : List ℕ) → before ≡ lines → after ≡ before ++ line ∷ [] →
     line ≡ wanted → after ≡ lines ++ wanted ∷ []
 pushed before after lines line wanted so is same =

@@ -51,9 +51,9 @@ pub made_events_of_day : (count : ℕ) → count ≤ MAX_EVENTS → list_all is_
 unfolding made_events
 made_events_of_day zero few = refl
 made_events_of_day (suc number) few =
-    let front : list_all is_day_event (made_events number) ≡ true = made_events_of_day number (omega arith) in
+    let prefix : list_all is_day_event (made_events number) ≡ true = made_events_of_day number (omega arith) in
     let last : is_day_event (made_event number) ≡ true = event_of_day number (omega arith) in
-    list_all-append is_day_event (made_events number) (made_event number ∷ []) ∙ rw (front, last) refl
+    list_all-append is_day_event (made_events number) (made_event number ∷ []) ∙ rw (prefix, last) refl
 
 -- no reboot of theirs lights a fuse
 
@@ -66,7 +66,7 @@ abbrev pub LightNoFuse : List Event → Type 0
 LightNoFuse [] = Unit {0}
 LightNoFuse (event ∷ later) = LightsNoFuse event × LightNoFuse later
 
-none_lit : (front : List Event) (event : Event) → LightNoFuse front → LightsNoFuse event → LightNoFuse (front ++ event ∷ [])
+none_lit : (prefix : List Event) (event : Event) → LightNoFuse prefix → LightsNoFuse event → LightNoFuse (prefix ++ event ∷ [])
 none_lit [] event none one = (one, tt)
 none_lit (earlier ∷ later) event none one = (none.0, none_lit later event none.1 one)
 

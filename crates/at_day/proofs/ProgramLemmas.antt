@@ -8,10 +8,10 @@ use Rattle.at_words.specs.declared.fault.WordsFault.{WordsFault}
 use Rattle.at_words.specs.declared.fault.WordsFault.TheVariants as words
 use Rattle.at_words.specs.declared.tool_request.ToolRequest.{ToolRequest}
 use Rattle.at_words.specs.declared.tool_request.ToolRequest.TheVariants as request
-use Rattle.command_answers.specs.Causes.{words_cause}
-use Rattle.command_answers.specs.Ends.{FailsToPrint}
-use Rattle.command_answers.specs.Found.{Asked}
-use Rattle.command_answers.specs.Sinks.{EndsLine, IsCut, IsPut, IsPutInPart, IsPutOrCut, IsSilent, SinkAt, sink_at}
+use Rattle.command_rules.specs.Causes.{words_cause}
+use Rattle.command_rules.specs.Ends.{FailsToPrint}
+use Rattle.command_rules.specs.Found.{Asked}
+use Rattle.command_rules.specs.Sinks.{EndsLine, IsCut, IsPut, IsPutInPart, IsPutOrCut, IsSilent, SinkAt, sink_at}
 use Rattle.host_calls.specs.Causes.{Rose}
 use Rattle.host_calls.specs.Sink.{Outlet}
 use Rattle.host_calls.specs.declared.fault.SinkFault.{SinkFault}
@@ -22,7 +22,7 @@ use Rattle.listing_text.specs.declared.cause.Cause.TheVariants.{Done, Refused, F
 use Rattle.cause_output.specs.Saying.{IsSaid, SaysLine}
 use Rattle.cause_output.specs.Putting.{PutsLines}
 use Rattle.at_day.specs.declared.counts.Counts.{Counts}
-use Rattle.at_day.specs.Laws.{MadeDaysAreTold}
+use Rattle.at_day.specs.Laws.{MadeDaysAreReported}
 use Rattle.at_day.specs.Lines.{day_lines}
 use Rattle.at_day.specs.MadeDays.{ComesTo}
 use Rattle.at_day.specs.Programs.{EndsDay, EndsMade, EndsRefused, TellsDay}
@@ -32,12 +32,12 @@ use Rattle.at_day.proofs.RequestLemmas.{IsDayAsked}
 silent : (at : SinkAt) → IsSilent at at
 silent at = record { content = refl; later = omega arith }
 
--- Fronts.
+-- Prefixes.
 
 whole_in_part : (text : List ℕ) (old new : SinkAt) → IsPut text old new → IsPutInPart text old new
 whole_in_part text old new put = record {
   count = length text;
-  content = put.content ∙ ap (λ (front : List ℕ). old.content ++ front) (sym (take-length text));
+  content = put.content ∙ ap (λ (prefix : List ℕ). old.content ++ prefix) (sym (take-length text));
   later = put.later;
 }
 
@@ -54,13 +54,13 @@ pub day_put : (tells : Bool) (count : ℕ) (counts : Counts) (old new : SinkAt) 
 day_put tells count counts old new (Ok done) comes puts = record { counts = counts; comes = comes; puts = puts.puts }
 day_put tells count counts old new (Err sink.Failed) comes puts = (
   puts.failed refl,
-  record { counts = counts; comes = comes; puts = λ told. cut_in_part (concat (day_lines count counts)) old new (puts.puts told) },
+  record { counts = counts; comes = comes; puts = λ known. cut_in_part (concat (day_lines count counts)) old new (puts.puts known) },
 )
 day_put tells count counts old new (Err sink.Memory) comes puts = inr (record { counts = counts; comes = comes; puts = puts.puts })
 
 -- no memory was found before the first of them
 pub day_unput : (tells : Bool) (count : ℕ) (at : SinkAt) → PutsDay tells count at at (Err sink.Memory)
-day_unput tells count at = inl (λ told. silent at)
+day_unput tells count at = inl (λ known. silent at)
 
 -- What was asked for.
 
@@ -70,8 +70,8 @@ ends_asked tells asked made count old new cause is made_is ends =
     subst (λ (of : Asked). EndsDay tells of old new cause) (sym (ap (λ (of : ToolRequest). Ok of) made_is) ∙ is) ends
 
 unread : (tells : Bool) (asked : Asked) (at : SinkAt) → IsDayAsked asked → EndsDay tells asked at at Memory
-unread tells (Ok (request.Make count)) at is = inl (λ told. silent at)
-unread tells (Err words.Usage) at is = record { refused = inr refl; nothing = λ told. silent at }
+unread tells (Ok (request.Make count)) at is = inl (λ known. silent at)
+unread tells (Err words.Usage) at is = record { refused = inr refl; nothing = λ known. silent at }
 unread tells (Err words.BadQueue) at is = absurd is
 unread tells (Err words.Memory) at is = absurd is
 unread tells (Ok (request.Submit queue mail file when)) at is = absurd is
@@ -84,7 +84,7 @@ pub ends_unasked : (tells : Bool) (asked : Asked) (fault : WordsFault) (at : Sin
     Answers {T = ToolRequest} asked (Err fault) → EndsDay tells asked at at (words_cause fault)
 ends_unasked tells asked words.Usage at is answers =
     subst (λ (of : Asked). EndsDay tells of at at (words_cause words.Usage)) answers
-    (record { refused = inl refl; nothing = λ told. silent at })
+    (record { refused = inl refl; nothing = λ known. silent at })
 ends_unasked tells asked words.BadQueue at is answers = absurd (subst IsDayAsked (sym answers) is)
 ends_unasked tells asked words.Memory at is answers = unread tells asked at is
 
@@ -95,7 +95,7 @@ module _ (tells : Bool) (count : ℕ) (old new : SinkAt) where
   made_without_line Done ends = inr (record {
     counts = ends.counts;
     comes = ends.comes;
-    puts = λ told. whole_in_part (concat (day_lines count ends.counts)) old new (ends.puts told);
+    puts = λ known. whole_in_part (concat (day_lines count ends.counts)) old new (ends.puts known);
   })
   made_without_line OutputFault ends = inr ends.1
   made_without_line Memory ends = ends
@@ -141,9 +141,9 @@ module _ (tool : List ℕ) (old new : SinkAt) where
 
   pub line_said : (tells : Bool) (cause final : Cause) → IsSaid tool tells cause old new final → tells ≡ true →
       EndsLine tool final old new
-  line_said tells cause final (inl as_is) told = subst (λ (of : Cause). EndsLine tool of old new) (sym as_is.0) (line_ends cause (as_is.1 told))
-  line_said tells cause final (inr lacks) told =
-      subst (λ (of : Cause). EndsLine tool of old new) (sym lacks.1) (none_in_part (cause_line_of tool Memory) old new (lacks.2 told))
+  line_said tells cause final (inl as_is) known = subst (λ (of : Cause). EndsLine tool of old new) (sym as_is.0) (line_ends cause (as_is.1 known))
+  line_said tells cause final (inr lacks) known =
+      subst (λ (of : Cause). EndsLine tool of old new) (sym lacks.1) (none_in_part (cause_line_of tool Memory) old new (lacks.2 known))
 
 -- What a cause of these words can be.
 
@@ -216,13 +216,13 @@ day_fails tells out_old out_new err_old err_new old new asked cause ends same =
 
 -- The law.
 
-pub made_days_are_told : MadeDaysAreTold
-made_days_are_told tells count old new Done ends none = inl refl
-made_days_are_told tells count old new Memory ends none = inr refl
-made_days_are_told tells count old new OutputFault ends none = absurd (none ends.0)
-made_days_are_told tells count old new (Refused refusal) ends none = absurd ends
-made_days_are_told tells count old new FileFault ends none = absurd ends
-made_days_are_told tells count old new InputFault ends none = absurd ends
-made_days_are_told tells count old new Busy ends none = absurd ends
-made_days_are_told tells count old new (Damaged damage) ends none = absurd ends
-made_days_are_told tells count old new StillRunning ends none = absurd ends
+pub made_days_are_reported : MadeDaysAreReported
+made_days_are_reported tells count old new Done ends none = inl refl
+made_days_are_reported tells count old new Memory ends none = inr refl
+made_days_are_reported tells count old new OutputFault ends none = absurd (none ends.0)
+made_days_are_reported tells count old new (Refused refusal) ends none = absurd ends
+made_days_are_reported tells count old new FileFault ends none = absurd ends
+made_days_are_reported tells count old new InputFault ends none = absurd ends
+made_days_are_reported tells count old new Busy ends none = absurd ends
+made_days_are_reported tells count old new (Damaged damage) ends none = absurd ends
+made_days_are_reported tells count old new StillRunning ends none = absurd ends

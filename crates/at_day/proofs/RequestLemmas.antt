@@ -17,7 +17,7 @@ use Rattle.at_words.specs.declared.fault.WordsFault.TheVariants as words
 use Rattle.at_words.specs.declared.tool.Tool.{Tool}
 use Rattle.at_words.specs.declared.tool.Tool.TheVariants.{At, Batch, Atq, Atrm, Atd, Atday}
 use Rattle.at_words.specs.declared.tool_request.ToolRequest.TheVariants as request
-use Rattle.command_answers.specs.Found.{Asked}
+use Rattle.command_rules.specs.Found.{Asked}
 use Rattle.at_words.specs.declared.atday.TheConstants.{MAX_EVENTS}
 use Rattle.at_day.specs.Programs.{asks_for_day, finds_day_maker}
 use Rattle.at_day.specs.inside.Making.{IsDayRequest}

@@ -4,18 +4,18 @@ use Rattle.std.specs.Prelude.{Option, Some, None, Result, Ok, Err, false, option
 use Rattle.std.specs.List.{list_any}
 use Rattle.std.specs.Cmp.Lexicographic.{nat_list_cmp_total}
 use Rattle.std.specs.FinMap.{empty, entries, entries-insert, from_entries, insert, len-empty, len-entries}
-use Rattle.command_answers.specs.Found.{deny_file}
+use Rattle.command_rules.specs.Found.{deny_file}
 use Rattle.day_events.specs.declared.event.Event.{Event}
 use Rattle.day_events.specs.declared.event.Event.TheVariants.{Command, Turn, Reboot}
 use Rattle.day_events.specs.declared.report.EventReport.{EventReport}
-use Rattle.day_events.specs.declared.report.EventReport.TheVariants as told
-use Rattle.day_runs.specs.Moves.{world_after}
+use Rattle.day_events.specs.declared.report.EventReport.TheVariants as known
+use Rattle.headline.specs.Effects.{world_after}
 use Rattle.host_calls.specs.Causes.{Rose}
 use Rattle.host_calls.specs.Folder.{Files, IsImage, name_cmp}
 use Rattle.host_calls.specs.Session.{Session}
 use Rattle.host_calls.specs.World.{World, reading}
 use Rattle.host_calls.proofs.FolderLemmas.{reading_is_image}
-use Rattle.job_runs.specs.Current.{EachShows}
+use Rattle.step_runs.specs.Current.{EachShows}
 use Rattle.day_events.specs.Made.{made_events}
 use Rattle.day_events.specs.Plans.{made_plan}
 use Rattle.memory_host.specs.Host.{IsNew, memory_session, memory_world}
@@ -33,7 +33,7 @@ use Rattle.at_day.specs.declared.counts.Counts.{Counts}
 use Rattle.at_day.specs.declared.report.DayReport.{DayReport}
 use Rattle.at_day.specs.Counting.{CountsBy, IsCounted}
 use Rattle.at_day.specs.Days.{IsDay, IsDayOf, first_machine}
-use Rattle.at_day.specs.Deeds.{AreDoneOn, Deed, events_of, machine_after, passed_of}
+use Rattle.at_day.specs.EventOutcomes.{AreDoneOn, EventOutcome, events_of, machine_after, passed_of}
 use Rattle.at_day.specs.Happening.{Happens}
 use Rattle.at_day.specs.Machines.{Machine, machine, session_of, spool_of}
 use Rattle.at_day.specs.MadeDays.{ComesTo, deny_alone, lacks_memory}
@@ -63,20 +63,20 @@ pub shows_at_first : (count : ℕ) (host : MemoryHost) → IsNew deny_alone (mad
 shows_at_first count host new image is =
     subst (λ (files : Files). Shows files (without_jobs 0)) (sym (new.settled image is)) no_jobs
 
--- What it shows behind the events.
+-- What it shows after the events.
 
-world_left : (first : Machine) (deeds : List Deed) → world_after (spool_of first) (passed_of deeds) ≡ spool_of (machine_after first deeds)
+world_left : (first : Machine) (outcomes : List EventOutcome) → world_after (spool_of first) (passed_of outcomes) ≡ spool_of (machine_after first outcomes)
 world_left first [] = refl
-world_left first (deed ∷ later) = world_left deed.left later
+world_left first (outcome ∷ later) = world_left outcome.left later
 
-pub table_behind : (events : List Event) (reports : List EventReport) (first left : MemoryHost) →
+pub table_after : (events : List Event) (reports : List EventReport) (first left : MemoryHost) →
     IsDayOf events reports (first_machine first) left → (opening : JobTable) → EachShows (memory_world first).now.folder opening →
     (table : JobTable) × Shows (reading (memory_world left)) table
-table_behind events reports first left day opening shows =
-    let behind : world_after (memory_world first) (passed_of day.deeds) ≡ memory_world left =
-    world_left (first_machine first) day.deeds ∙ ap memory_world day.last_is in
+table_after events reports first left day opening shows =
+    let after : world_after (memory_world first) (passed_of day.outcomes) ≡ memory_world left =
+    world_left (first_machine first) day.outcomes ∙ ap memory_world day.last_is in
     let shown_so = (day.keeps opening shows).shows (reading (memory_world left))
-    (subst (λ (world : World). IsImage world.now.folder (reading (memory_world left))) (sym behind)
+    (subst (λ (world : World). IsImage world.now.folder (reading (memory_world left))) (sym after)
     (reading_is_image (memory_world left).now.folder)) in
     (shown_so.0, shown_so.1)
 
@@ -84,32 +84,32 @@ table_behind events reports first left day opening shows =
 
 as_made_event : (event : Event) (answer : EventReport) (old new : Machine) → Happens event answer old new → LightsNoFuse event →
     (session_of new).made_as ≡ (session_of old).made_as
-as_made_event (Command words caller input now) (told.Command status out err) old new given none = given.host.left.counts.made_as
-as_made_event (Turn now load) (told.Turn turned) old new turns none = turns.counts.made_as
-as_made_event (Reboot pick fuse) told.Rebooted old new up none =
+as_made_event (Command words caller input now) (known.Command status out err) old new given none = given.host.left.counts.made_as
+as_made_event (Turn now load) (known.Turn turned) old new turns none = turns.counts.made_as
+as_made_event (Reboot pick fuse) known.Rebooted old new up none =
     up.host.made_as
     ∙ (ap (λ (lit : Option ℕ). spelled old.host.plan (old.host.fuses.items ++ option_to_list lit)) none
     ∙ ap (λ (fuses : List ℕ). spelled old.host.plan fuses) (append-nil old.host.fuses.items))
-as_made_event (Command words caller input now) (told.Turn turned) old new happens none = absurd happens
-as_made_event (Command words caller input now) told.Rebooted old new happens none = absurd happens
-as_made_event (Turn now load) (told.Command status out err) old new happens none = absurd happens
-as_made_event (Turn now load) told.Rebooted old new happens none = absurd happens
-as_made_event (Reboot pick fuse) (told.Command status out err) old new happens none = absurd happens
-as_made_event (Reboot pick fuse) (told.Turn turned) old new happens none = absurd happens
+as_made_event (Command words caller input now) (known.Turn turned) old new happens none = absurd happens
+as_made_event (Command words caller input now) known.Rebooted old new happens none = absurd happens
+as_made_event (Turn now load) (known.Command status out err) old new happens none = absurd happens
+as_made_event (Turn now load) known.Rebooted old new happens none = absurd happens
+as_made_event (Reboot pick fuse) (known.Command status out err) old new happens none = absurd happens
+as_made_event (Reboot pick fuse) (known.Turn turned) old new happens none = absurd happens
 
-as_made : (first : Machine) (deeds : List Deed) → AreDoneOn first deeds → LightNoFuse (events_of deeds) →
-    (session_of (machine_after first deeds)).made_as ≡ (session_of first).made_as
+as_made : (first : Machine) (outcomes : List EventOutcome) → AreDoneOn first outcomes → LightNoFuse (events_of outcomes) →
+    (session_of (machine_after first outcomes)).made_as ≡ (session_of first).made_as
 as_made first [] done none = refl
-as_made first (deed ∷ later) done none =
-    as_made deed.left later done.1 none.1
-    ∙ as_made_event deed.event deed.report first deed.left done.0.happens none.0
+as_made first (outcome ∷ later) done none =
+    as_made outcome.left later done.1 none.1
+    ∙ as_made_event outcome.event outcome.report first outcome.left done.0.happens none.0
 
-pub as_made_behind : (events : List Event) (reports : List EventReport) (first left : MemoryHost) →
+pub as_made_after : (events : List Event) (reports : List EventReport) (first left : MemoryHost) →
     IsDayOf events reports (first_machine first) left → LightNoFuse events →
     (memory_session left).made_as ≡ (memory_session first).made_as
-as_made_behind events reports first left day none =
+as_made_after events reports first left day none =
     sym (ap (λ (host : MemoryHost). (memory_session host).made_as) day.last_is)
-    ∙ as_made (first_machine first) day.deeds day.done (subst LightNoFuse (sym day.events_are) none)
+    ∙ as_made (first_machine first) day.outcomes day.done (subst LightNoFuse (sym day.events_are) none)
 
 -- So nothing but want of memory is in the way of its counts.
 
@@ -132,9 +132,9 @@ sound_of between last (Err fault.NumbersUsedUp) quiet table shows by = absurd by
 pub counts_are_sound : (count : ℕ) (first last : MemoryHost) (report : DayReport) → IsNew deny_alone (made_plan count) first →
     IsDay (made_events count) first last report → IsSound report.counts
 counts_are_sound count first last report new day =
-    let table = table_behind (made_events count) report.events first day.between day.day (without_jobs 0) (shows_at_first count first new) in
+    let table = table_after (made_events count) report.events first day.between day.day (without_jobs 0) (shows_at_first count first new) in
     let made = day.counted.left.counts.made_as
-    ∙ (as_made_behind (made_events count) report.events first day.between day.day (made_events_light_none count)
+    ∙ (as_made_after (made_events count) report.events first day.between day.day (made_events_light_none count)
     ∙ ap (λ (session : Session). session.made_as) new.session) in
     sound_of day.between last report.counts
     (quiet_hosts_have_no_fault last (made_plan count) made (record { failing = refl; taken = refl; failing_starts = refl; fuse = refl }))

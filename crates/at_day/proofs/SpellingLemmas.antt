@@ -10,11 +10,11 @@ use Rattle.at_words.specs.Tools.{tool_of_words}
 use Rattle.at_commands.specs.Served.{IsNotServed}
 use Rattle.at_commands.proofs.ServedLemmas.{not_served}
 use Rattle.day_events.specs.Days.{is_day_tool}
-use Rattle.command_answers.specs.declared.caller.Caller.{Caller}
-use Rattle.command_answers.specs.Checks.{Check}
-use Rattle.command_answers.specs.Ends.{Ends, FailsToPrint, Holding, holding}
-use Rattle.command_answers.specs.Found.{Asked, answers_read}
-use Rattle.command_answers.specs.Sinks.{SaysBy, SinkAt, sink_at}
+use Rattle.command_rules.specs.declared.caller.Caller.{Caller}
+use Rattle.command_rules.specs.Checks.{Check}
+use Rattle.command_rules.specs.Ends.{Ends, FailsToPrint, Holding, holding}
+use Rattle.command_rules.specs.Found.{Asked, answers_read}
+use Rattle.command_rules.specs.Sinks.{SaysBy, SinkAt, sink_at}
 use Rattle.host_calls.specs.Causes.{Rose}
 use Rattle.host_calls.specs.Clock.{Answers, Readers, with_now}
 use Rattle.host_calls.specs.Inputs.{Contents}
@@ -39,7 +39,7 @@ use Rattle.memory_host.specs.Sink.{sink_spelling}
 use Rattle.memory_host.proofs.InputsLemmas.{inputs_keep}
 use Rattle.memory_host.proofs.ReadingsLemmas.{readings_keep}
 use Rattle.memory_host.proofs.SinkLemmas.{sink_keeps}
-use Rattle.at_day.specs.Giving.{HasReadClock, IsGiven, all_told, at_first, at_last, unfailing}
+use Rattle.at_day.specs.Giving.{HasReadClock, IsGiven, all_known, at_first, at_last, unfailing}
 
 -- the words of a tool of a day ask for no daemon
 alone_by : (words : List (List ℕ)) (found : Option (Tool × ℕ)) → tool_of_words words ≡ found → is_day_tool found ≡ true →
@@ -133,7 +133,7 @@ pub record HasEnded (words : List (List ℕ)) (caller : Caller) (old new : Memor
   pub output_fault : status.cause ≡ OutputFault →
       FailsToPrint (request_of words) (outlet_so_far out) (outlet_so_far out_new) (outlet_so_far err) (outlet_so_far err_new)
   pub not_running : status.cause ≢ StillRunning
-  pub ends : Ends (SaysBy (tool_name_of words)) (request_of words) caller all_told
+  pub ends : Ends (SaysBy (tool_name_of words)) (request_of words) caller all_known
       (holding (memory_world old) (answers_so_far readings) (contents_given inputs)
       (sink_at (content_so_far out) (outlet_so_far out)) (sink_at (content_so_far err) (outlet_so_far err)))
       (holding (memory_world new) (answers_so_far readings_new) (contents_given inputs_new)
@@ -142,7 +142,7 @@ pub record HasEnded (words : List (List ℕ)) (caller : Caller) (old new : Memor
 -- the ends of the command, over what it was handed and what it left
 abbrev GivenEnds : List (List ℕ) → Caller → List ℕ → World → World → Answers → List ℕ → List ℕ → Cause → Type 0
 GivenEnds words caller input old new answers out err cause =
-    Ends (SaysBy (tool_name_of words)) (request_of words) caller all_told (at_first old input) (at_last new answers input out err) cause
+    Ends (SaysBy (tool_name_of words)) (request_of words) caller all_known (at_first old input) (at_last new answers input out err) cause
 
 module _ (words : List (List ℕ)) (caller : Caller) (input : List ℕ) (now : ℤ) (old new : MemoryHost) (readings readings_new : ListReadings)
     (inputs inputs_new : MemoryInputs) (out out_new err err_new : MemorySink) (status : Status)
@@ -179,9 +179,9 @@ module _ (words : List (List ℕ)) (caller : Caller) (input : List ℕ) (now : �
   given_ends : GivenEnds words caller input (memory_world old) (memory_world new) (answers_so_far readings_new)
       (content_so_far out_new) (content_so_far err_new) status.cause
   given_ends =
-      subst (λ (after : Holding). Ends (SaysBy (tool_name_of words)) (request_of words) caller all_told
+      subst (λ (after : Holding). Ends (SaysBy (tool_name_of words)) (request_of words) caller all_known
       (at_first (memory_world old) input) after status.cause) last_is
-      (subst (λ (before : Holding). Ends (SaysBy (tool_name_of words)) (request_of words) caller all_told before
+      (subst (λ (before : Holding). Ends (SaysBy (tool_name_of words)) (request_of words) caller all_known before
       (holding (memory_world new) (answers_so_far readings_new) (contents_given inputs_new)
       (sink_at (content_so_far out_new) (outlet_so_far out_new)) (sink_at (content_so_far err_new) (outlet_so_far err_new))) status.cause)
       first_is ended.ends)

@@ -4,7 +4,7 @@ use Rattle.host_calls.specs.declared.child.Ending.TheVariants.{Exit, Signal, Not
 use Rattle.host_calls.specs.Causes.{Rose}
 use Rattle.host_calls.specs.Session.{IsLeft, Session}
 use Rattle.host_calls.specs.World.{World, reading}
-use Rattle.job_runs.specs.Attempts.{IsUnbegun}
+use Rattle.step_runs.specs.Attempts.{IsUnbegun}
 use Rattle.memory_host.specs.declared.memory_host.MemoryHost.{MemoryHost}
 use Rattle.memory_host.specs.Host.{memory_session, memory_world}
 use Rattle.spool_model.specs.declared.entry.Entry.TheVariants.{Live, Done}

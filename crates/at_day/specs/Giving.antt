@@ -2,11 +2,11 @@
 use Rattle.std.specs.Prelude.{◌≡◌, ◌≢◌, ◌⊎◌, ◌&&◌, [], ℕ, ℤ, true, List, Some}
 use Rattle.at_commands.specs.Tools.{tool_name_of}
 use Rattle.at_words.specs.Requests.{request_of}
-use Rattle.command_answers.specs.declared.caller.Caller.{Caller}
-use Rattle.command_answers.specs.Checks.{Check, is_before, of_variables}
-use Rattle.command_answers.specs.Ends.{Ends, Holding, holding, Telling, telling}
-use Rattle.command_answers.specs.Found.{Asked, is_submission}
-use Rattle.command_answers.specs.Sinks.{SaysBy, SinkAt}
+use Rattle.command_rules.specs.declared.caller.Caller.{Caller}
+use Rattle.command_rules.specs.Checks.{Check, is_before, of_variables}
+use Rattle.command_rules.specs.Ends.{Ends, Holding, holding, Telling, telling}
+use Rattle.command_rules.specs.Found.{Asked, is_submission}
+use Rattle.command_rules.specs.Sinks.{SaysBy, SinkAt}
 use Rattle.host_calls.specs.Causes.{Rose}
 use Rattle.host_calls.specs.Clock.{Answers}
 use Rattle.host_calls.specs.Session.{IsLeft}
@@ -16,7 +16,7 @@ use Rattle.listing_text.specs.declared.cause.Cause.TheVariants.{Busy, FileFault,
 use Rattle.listing_text.specs.declared.status.Status.{Status}
 use Rattle.memory_host.specs.declared.memory_host.MemoryHost.{MemoryHost}
 use Rattle.day_events.specs.declared.report.EventReport.{EventReport}
-use Rattle.day_events.specs.declared.report.EventReport.TheVariants as told
+use Rattle.day_events.specs.declared.report.EventReport.TheVariants as known
 use Rattle.memory_host.specs.Host.{IsUnchanged, memory_session, memory_world}
 use Rattle.memory_host.specs.Inputs.{given_contents}
 use Rattle.memory_host.specs.Readings.{no_answers}
@@ -26,8 +26,8 @@ abbrev pub unfailing : List ℕ → SinkAt
 unfailing text = record { content = text; faults = 0 }
 
 -- all that the command is handed tells what it holds
-abbrev pub all_told : Telling
-all_told = telling true true true true true true
+abbrev pub all_known : Telling
+all_known = telling true true true true true true
 
 -- what the command is handed at first: the spool, a clock that was not asked, the input, and two empty sinks
 abbrev pub at_first : World → List ℕ → Holding
@@ -54,15 +54,15 @@ pub record IsGiven (words : List (List ℕ)) (caller : Caller) (input : List ℕ
   pub no_output_fault : status.cause ≢ OutputFault
   pub not_running : status.cause ≢ StillRunning
   pub answers : Answers
-  pub ends : Ends (SaysBy (tool_name_of words)) (request_of words) caller all_told
+  pub ends : Ends (SaysBy (tool_name_of words)) (request_of words) caller all_known
       (at_first (memory_world old) input) (at_last (memory_world new) answers input out err) status.cause
   pub clock : HasReadClock (request_of words) ends.reached → ends.found.now ≡ now
 
 -- the report of the command is of what was given
 abbrev pub GivesReport : List (List ℕ) → Caller → List ℕ → ℤ → EventReport → MemoryHost → MemoryHost → Type 0
-GivesReport words caller input now (told.Command status out err) old new = IsGiven words caller input now status out err old new
-GivesReport words caller input now (told.Turn turned) old new = ⊥
-GivesReport words caller input now told.Rebooted old new = ⊥
+GivesReport words caller input now (known.Command status out err) old new = IsGiven words caller input now status out err old new
+GivesReport words caller input now (known.Turn turned) old new = ⊥
+GivesReport words caller input now known.Rebooted old new = ⊥
 
 -- no memory was found for the command or its report: the host is as it was, or as the command left it
 abbrev pub IsGivenUnreported : List (List ℕ) → Caller → List ℕ → ℤ → MemoryHost → MemoryHost → Type 0

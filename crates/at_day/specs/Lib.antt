@@ -1,6 +1,6 @@
 pub mod Counting
 pub mod Days
-pub mod Deeds
+pub mod EventOutcomes
 pub mod Giving
 pub mod Happening
 pub mod Laws

@@ -1,5 +1,5 @@
 -- A machine at one moment (own).
-use Rattle.daemon_turn.specs.Daemons.{Watch}
+use Rattle.daemon_turn.specs.Daemons.{DaemonState}
 use Rattle.daemon_turn.specs.Leaving.{DaemonAt}
 use Rattle.host_calls.specs.Session.{Session}
 use Rattle.host_calls.specs.World.{World}
@@ -9,10 +9,10 @@ use Rattle.memory_host.specs.declared.memory_host.MemoryHost.{MemoryHost}
 -- its host, and what the daemon that works on it keeps
 pub record Machine : Type 0 where
   pub host : MemoryHost
-  pub watch : Watch
+  pub daemon : DaemonState
 
-abbrev pub machine : MemoryHost → Watch → Machine
-machine host watch = record { host = host; watch = watch }
+abbrev pub machine : MemoryHost → DaemonState → Machine
+machine host daemon = record { host = host; daemon = daemon }
 
 -- what its host tells as every host does
 abbrev pub session_of : Machine → Session
@@ -24,4 +24,4 @@ spool_of at = memory_world at.host
 
 -- the daemon and its host, as a turn sees them
 abbrev pub daemon_at : Machine → DaemonAt
-daemon_at at = record { session = memory_session at.host; world = memory_world at.host; watch = at.watch }
+daemon_at at = record { session = memory_session at.host; world = memory_world at.host; daemon = at.daemon }

@@ -2,9 +2,9 @@
 use Rattle.std.specs.Prelude.{◌≡◌, [], ◌∷◌, ℕ, Bool, true, false, List, Ok}
 use Rattle.std.specs.FinMap.{from_entries}
 use Rattle.std.specs.List.{list_any}
-use Rattle.command_answers.specs.Found.{deny_file}
+use Rattle.command_rules.specs.Found.{deny_file}
 use Rattle.day_events.specs.declared.report.EventReport.{EventReport}
-use Rattle.day_events.specs.declared.report.EventReport.TheVariants as told
+use Rattle.day_events.specs.declared.report.EventReport.TheVariants as known
 use Rattle.host_calls.specs.Folder.{Files}
 use Rattle.listing_text.specs.Cause.{is_memory}
 use Rattle.day_events.specs.Made.{made_events}
@@ -21,12 +21,12 @@ deny_alone = from_entries ((deny_file, []) ∷ [])
 
 -- the event ended with want of memory
 abbrev pub lacks_memory : EventReport → Bool
-lacks_memory (told.Command status out err) = is_memory status.cause
-lacks_memory (told.Turn turned) = is_wanting turned.end
-lacks_memory told.Rebooted = false
+lacks_memory (known.Command status out err) = is_memory status.cause
+lacks_memory (known.Turn turned) = is_wanting turned.end
+lacks_memory known.Rebooted = false
 
 -- The made day of so many events comes to these counts: on a host of its plan, which holds an empty list of users who may
--- not use at and no other file, its events were made one behind another; none of them ended with want of memory; and
+-- not use at and no other file, its events were made one after another; none of them ended with want of memory; and
 -- this is what the folder counts that they left.
 pub record ComesTo (count : ℕ) (counts : Counts) : Type 0 where
   pub first : MemoryHost

@@ -3,16 +3,17 @@ use Rattle.std.specs.Prelude.{◌≡◌, ◌≢◌, ◌⊎◌, ◌≤◌, ℕ, B
 use Rattle.std.specs.List.{concat}
 use Rattle.at_commands.specs.Outside.{OutsideAt}
 use Rattle.at_commands.specs.Tools.{tool_name_of}
+use Rattle.at_words.specs.declared.fault.WordsFault.{WordsFault}
 use Rattle.at_words.specs.declared.fault.WordsFault.TheVariants as words
 use Rattle.at_words.specs.declared.tool.Tool.{Tool}
 use Rattle.at_words.specs.declared.tool.Tool.TheVariants.{At, Batch, Atq, Atrm, Atd, Atday}
 use Rattle.at_words.specs.declared.tool_request.ToolRequest.TheVariants as request
 use Rattle.at_words.specs.Requests.{request_of}
 use Rattle.at_words.specs.Tools.{tool_of_words}
-use Rattle.command_answers.specs.declared.caller.Caller.{Caller}
-use Rattle.command_answers.specs.Ends.{Ends}
-use Rattle.command_answers.specs.Found.{Asked}
-use Rattle.command_answers.specs.Sinks.{EndsLine, IsPut, IsPutInPart, IsSilent, SaysBy, SinkAt}
+use Rattle.command_rules.specs.declared.caller.Caller.{Caller}
+use Rattle.command_rules.specs.Ends.{Ends}
+use Rattle.command_rules.specs.Found.{Asked}
+use Rattle.command_rules.specs.Sinks.{EndsLine, IsPut, IsPutInPart, IsSilent, SaysBy, SinkAt}
 use Rattle.host_calls.specs.Causes.{Rose}
 use Rattle.host_calls.specs.Session.{IsLeft}
 use Rattle.host_calls.specs.World.{GoesOn}
@@ -51,8 +52,8 @@ pub record TellsDay (Puts : List ℕ → SinkAt → SinkAt → Type 0) (tells : 
 abbrev pub TellsNothing : Bool → SinkAt → SinkAt → Type 0
 TellsNothing tells old new = tells ≡ true → IsSilent old new
 
--- How a day of so many events ends, by its cause: with all of its lines, with a front of them where the sink failed, and
--- with a front or nothing where no memory was found. There is no other cause.
+-- How a day of so many events ends, by its cause: with all of its lines, with a prefix of them where the sink failed, and
+-- with a prefix or nothing where no memory was found. There is no other cause.
 abbrev pub EndsMade : Bool → ℕ → SinkAt → SinkAt → Cause → Type 0
 EndsMade tells count old new Done = TellsDay IsPut tells count old new
 EndsMade tells count old new OutputFault = Rose old.faults new.faults × TellsDay IsPutInPart tells count old new
@@ -91,6 +92,7 @@ pub record EndsUnservedUnlessDay (words : List (List ℕ)) (caller : Caller) (ol
   pub ends : asks_for_day words ≡ false →
       Ends (SaysBy (tool_name_of words)) (request_of words) caller old.tells old.holds new.holds cause
   pub readers : new.readers ≡ old.readers
+  pub unasked : (fault : WordsFault) → request_of words ≡ Err fault → new.session ≡ old.session
 
 -- What words of atday do: what is handed over stays as it is but for the two sinks, and the day that they ask for was made
 -- and told, or the words are refused; and then the line of the cause is said.

@@ -1,15 +1,15 @@
 -- The promise. Over every list of events on a machine (commands, turns of the daemon, reboots at any moment) whose folder
--- shows one table in each image: behind each event the host stands where its event left it; over all of them no script is
+-- shows one table in each image: after each event the host stands where its event left it; over all of them no script is
 -- handed over twice, each is that of a job that was pending at first or was accepted since, and each start survives every
 -- crash from the moment on at which its script is handed over.
 use Rattle.std.specs.Prelude.{List}
-use Rattle.day_runs.specs.Headline.{Headline}
-use Rattle.job_runs.specs.Current.{EachShows}
+use Rattle.headline.specs.Headline.{Headline}
+use Rattle.step_runs.specs.Current.{EachShows}
 use Rattle.spool_model.specs.JobTable.{JobTable}
-use Rattle.at_day.specs.Deeds.{Deed, passed_of}
+use Rattle.at_day.specs.EventOutcomes.{EventOutcome, passed_of}
 use Rattle.at_day.specs.Machines.{Machine, spool_of}
 
--- the promise of deeds on a machine
-abbrev pub KeepsPromise : Machine → List Deed → Type 0
-KeepsPromise first deeds = (opening : JobTable) → EachShows (spool_of first).now.folder opening →
-    Headline opening (passed_of deeds) (spool_of first)
+-- the promise of outcomes on a machine
+abbrev pub KeepsPromise : Machine → List EventOutcome → Type 0
+KeepsPromise first outcomes = (opening : JobTable) → EachShows (spool_of first).now.folder opening →
+    Headline opening (passed_of outcomes) (spool_of first)

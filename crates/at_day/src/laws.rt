@@ -1,7 +1,7 @@
 //! What follows of a made day, as the contract of a function.
-ghost use Rattle.at_day.specs.Laws.{MadeDaysAreTold};
+ghost use Rattle.at_day.specs.Laws.{MadeDaysAreReported};
 
 /// Where the output doesn't fail, a day that is asked for is told, or no memory is found for it.
-pub fn made_days_are_told()
-    ensures { MadeDaysAreTold }
+pub fn made_days_are_reported()
+    ensures { MadeDaysAreReported }
 {}

@@ -9,7 +9,7 @@ ghost use Rattle.memory_host.specs.Host.{memory_session};
 use at_day::{Caller, asks_for_day, program};
 use host_calls::Host;
 use memory_host::{Files, MemoryHost, Plan};
-use process_input::{Unstarted, caller_of, held_streams, say_unstarted, text_of, words_of};
+use process_input::{StartupError, caller_of, held_streams, say_startup_error, text_of, words_of};
 use std::alloc::{AllocError, Global};
 use std::process::ExitCode;
 use unix_host::{UnixErr, UnixHost, UnixInputs, UnixOut, UnixReadings};
@@ -25,27 +25,21 @@ fn main(rt: HostRuntime) -> ExitCode {
     let _streams = held_streams(&rt);
     match run(&rt) {
         Ok(code) => ExitCode::from(code),
-        Err(why) => ExitCode::from(say_unstarted(&rt, TOOL, why)),
+        Err(why) => ExitCode::from(say_startup_error(&rt, TOOL, why)),
     }
 }
 
-// Does what the words of this process ask for over the real things, and gives the exit status.
-fn run(rt: &HostRuntime) -> Result<u8, Unstarted> {
+// Does what the words of this process ask for over the real things, and gives the exit status. A day is handed a host
+// in memory in place of the real one, which it would leave alone.
+fn run(rt: &HostRuntime) -> Result<u8, StartupError> {
     let words = words_of(rt)?;
     let caller = caller_of(rt)?;
-    Ok(run_for(rt, &words, &caller)?)
-}
-
-// Does what the words ask for, for the caller. A day is handed a host in memory in place of the real one, which it
-// would leave alone.
-fn run_for(rt: &HostRuntime, words: &[String], caller: &Caller) -> Result<u8, AllocError>
-    requires umask { caller.now.context.umask < 512 }
-{
-    if asks_for_day(words) {
-        return answer(rt, words, caller, &mut no_spool(rt.alloc())?);
+    if asks_for_day(&words) {
+        let mut host = no_spool(rt.alloc())?;
+        return Ok(answer(rt, &words, &caller, &mut host)?);
     }
     let mut host = UnixHost::make(rt.clone()?, rt.alloc(), text_of(rt, "ATSPOOL", SPOOL)?)?;
-    answer(rt, words, caller, &mut host)
+    Ok(answer(rt, &words, &caller, &mut host)?)
 }
 
 // Does what the words ask for over the host and the real things beside it, and gives the exit status.

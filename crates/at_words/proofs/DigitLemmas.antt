@@ -8,11 +8,11 @@ use Rattle.std.proofs.lemmas.Bool.{cases_lt}
 use Rattle.std.proofs.lemmas.Bool.Decides.{nat_tests}
 use Rattle.std.proofs.lemmas.Str.Parse.{IsNumeralModel, numerals_by_fold, parse_digits}
 use Rattle.clap.proofs.WalkLemmas.{both}
-use Rattle.at_words.specs.Digits.{are_decimal_digits, digits_behind, decimal_in, decimal_of, within}
+use Rattle.at_words.specs.Digits.{are_decimal_digits, digits_after, decimal_in, decimal_of, within}
 
 -- digits and the number that they write, for `parse`
-own_numerals : IsNumeralModel (λ digits. list_all is_ascii_digit digits ≡ true) (digits_behind 0)
-own_numerals = numerals_by_fold _ (search rules) digits_behind (search rules)
+own_numerals : IsNumeralModel (λ digits. list_all is_ascii_digit digits ≡ true) (digits_after 0)
+own_numerals = numerals_by_fold _ (search rules) digits_after (search rules)
 
 -- a test of an order tells it
 le_true : (first second : ℕ) → nat_le first second ≡ true → first ≤ second

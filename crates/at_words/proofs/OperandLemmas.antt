@@ -23,7 +23,7 @@ numbers-end [] (suc place) numbers past = refl
 numbers-end (first ∷ others) zero numbers past = absurd (omega arith)
 numbers-end (first ∷ others) (suc place) numbers past = numbers-end others place numbers (omega arith)
 
--- what is made of texts behind references
+-- what is made of texts after references
 flat_map-texts : (separator : List ℕ) (operands : List (Bor (List ℕ))) → flat_map (λ (operand : Bor (List ℕ)). separator ++ operand.now) operands ≡ flat_map (λ text. separator ++ text) (texts operands)
 flat_map-texts separator [] = refl
 flat_map-texts separator (first ∷ others) = ap (λ rest. (separator ++ first.now) ++ rest) (flat_map-texts separator others)

@@ -5,13 +5,13 @@ use Rattle.std.specs.Char.{is_ascii_digit}
 use Rattle.at_words.specs.declared.digits.TheConstants.{MAX_WHOLE_LOAD}
 
 -- the number that the digits write when they follow those of another
-abbrev pub digits_behind : ℕ → List ℕ → ℕ
-digits_behind number [] = number
-digits_behind number (digit ∷ others) = digits_behind (10 * number + (digit - 48)) others
+abbrev pub digits_after : ℕ → List ℕ → ℕ
+digits_after number [] = number
+digits_after number (digit ∷ others) = digits_after (10 * number + (digit - 48)) others
 
 -- the number that the digits write
 abbrev pub decimal_of : List ℕ → ℕ
-decimal_of digits = digits_behind 0 digits
+decimal_of digits = digits_after 0 digits
 
 -- the text is digits alone: one, or more up to so many
 abbrev pub are_decimal_digits : ℕ → List ℕ → Bool
@@ -26,7 +26,7 @@ abbrev pub decimal_in : ℕ → ℕ → ℕ → List ℕ → Option ℕ
 decimal_in most least greatest text =
     if are_decimal_digits most text then within least greatest (decimal_of text) else None
 
--- the hundredths that the digits behind a point write: one or two
+-- the hundredths that the digits after a point write: one or two
 abbrev pub fraction_of : List ℕ → Option ℕ
 fraction_of text =
     if length text == 1 then option_map (λ tenths. tenths * 10) (decimal_in 1 0 9 text) else decimal_in 2 0 99 text

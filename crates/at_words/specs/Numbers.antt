@@ -7,7 +7,7 @@ use Rattle.at_words.specs.Digits.{decimal_in}
 abbrev pub with_number : List ℕ → ℕ → List ℕ
 with_number numbers number = if list_any (λ other. other == number) numbers then numbers else numbers ++ number ∷ []
 
--- no number of the list is one of those behind it
+-- no number of the list is one of those after it
 abbrev pub are_distinct : List ℕ → Bool
 are_distinct [] = true
 are_distinct (number ∷ others) = not (list_any (λ other. other == number) others) && are_distinct others

@@ -21,7 +21,7 @@ request_to Atrm words = asked_of atrm_app atrm_asked words
 request_to Atd words = asked_of atd_app atd_asked words
 request_to Atday words = asked_of atday_app atday_asked words
 
--- what the words behind the tool's name ask for
+-- what the words after the tool's name ask for
 abbrev pub request_by : Option (Tool × ℕ) → List Text → Result ToolRequest WordsFault
 request_by None words = Err Usage
 request_by (Some found) words = request_to found.0 (drop (found.1 - 1) words)

@@ -4,14 +4,14 @@ use Rattle.std.specs.Str.{bytes_eq}
 use Rattle.at_words.specs.declared.tool.Tool.{Tool}
 use Rattle.at_words.specs.declared.tool.Tool.TheVariants.{At, Batch, Atq, Atrm, Atd, Atday}
 
--- what stands behind the last slash of a word, where this stands behind the last one so far
-abbrev pub part_behind : List ℕ → List ℕ → List ℕ
-part_behind part [] = part
-part_behind part (byte ∷ others) = part_behind (if byte == 47 then others else part) others
+-- what stands after the last slash of a word, where this stands after the last one so far
+abbrev pub part_after : List ℕ → List ℕ → List ℕ
+part_after part [] = part
+part_after part (byte ∷ others) = part_after (if byte == 47 then others else part) others
 
--- the part of a word behind its last slash, or the word
+-- the part of a word after its last slash, or the word
 abbrev pub last_part : List ℕ → List ℕ
-last_part word = part_behind word word
+last_part word = part_after word word
 
 -- the tool of a name
 unfoldable pub tool_of_name : List ℕ → Option Tool

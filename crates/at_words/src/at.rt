@@ -10,7 +10,7 @@ ghost use Rattle.at_words.specs.Commands.{at_app};
 ghost use Rattle.at_words.specs.Rows.{text_of};
 
 use crate::arguments::{has_flag, has_value, operands, parsed, text, value};
-use crate::building::{bare, with_flag, with_operands, with_value};
+use crate::builder::{bare, with_flag, with_operands, with_value};
 use crate::jobs::{filter, one_or_more};
 use crate::{Numbers, ToolRequest, When, WordsFault, queue};
 use clap::{ArgMatches, Command};

@@ -9,7 +9,7 @@ ghost use Rattle.at_words.specs.Daemons.{atd_asked, interval_asked, limit_asked,
 ghost use Rattle.at_words.specs.Rows.{text_of};
 
 use crate::arguments::{has_flag, parsed, value};
-use crate::building::{bare, with_flag, with_long, with_value};
+use crate::builder::{bare, with_flag, with_long, with_value};
 use crate::{ToolRequest, WordsFault, digits};
 use clap::{ArgMatches, Command};
 use std::alloc::{AllocError, Global};

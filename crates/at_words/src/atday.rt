@@ -9,7 +9,7 @@ ghost use Rattle.at_words.specs.Daemons.{atday_asked, make_asked};
 ghost use Rattle.at_words.specs.Rows.{text_of};
 
 use crate::arguments::{parsed, value};
-use crate::building::{bare, with_long};
+use crate::builder::{bare, with_long};
 use crate::{ToolRequest, WordsFault, digits};
 use clap::{ArgMatches, Command};
 use std::alloc::{AllocError, Global};

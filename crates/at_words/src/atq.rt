@@ -8,7 +8,7 @@ ghost use Rattle.at_words.specs.Asked.{atq_asked};
 ghost use Rattle.at_words.specs.Commands.{atq_app};
 
 use crate::arguments::{parsed, value};
-use crate::building::{bare, with_value};
+use crate::builder::{bare, with_value};
 use crate::jobs::filter;
 use crate::{ToolRequest, WordsFault};
 use clap::{ArgMatches, Command};

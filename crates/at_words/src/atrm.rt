@@ -8,7 +8,7 @@ ghost use Rattle.at_words.specs.Asked.{atrm_asked};
 ghost use Rattle.at_words.specs.Commands.{atrm_app};
 
 use crate::arguments::{operands, parsed};
-use crate::building::{bare, with_operands};
+use crate::builder::{bare, with_operands};
 use crate::jobs::one_or_more;
 use crate::{ToolRequest, WordsFault};
 use clap::{ArgMatches, Command};

@@ -8,7 +8,7 @@ ghost use Rattle.at_words.specs.Asked.{batch_asked};
 ghost use Rattle.at_words.specs.Commands.{batch_app};
 
 use crate::arguments::{parsed, text};
-use crate::building::{bare, with_value};
+use crate::builder::{bare, with_value};
 use crate::{ToolRequest, When, WordsFault};
 use clap::{ArgMatches, Command};
 use host_calls::Text;

@@ -60,7 +60,7 @@ fn are_all_digits(bytes: &[u8]) -> bool
     bytes.iter().all(|byte| byte.is_ascii_digit())
 }
 
-/// A load in hundredths, from digits with at most two places behind a point.
+/// A load in hundredths, from digits with at most two places after a point.
 pub fn limit(text: &str) -> Option<u32>
     ensures { result ≡ limit_of text.now }
 {
@@ -73,7 +73,7 @@ pub fn limit(text: &str) -> Option<u32>
     }
 }
 
-// What one or two digits behind a point write.
+// What one or two digits after a point write.
 fn hundredths(text: &str) -> Option<u32>
     ensures value { result ≡ fraction_of text.now }
     ensures few { IfSome result (λ value. value < 100) }

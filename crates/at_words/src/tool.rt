@@ -37,7 +37,7 @@ fn second_tool(words: &[String]) -> Option<(Tool, usize)>
     Some((named(word.as_bytes())?, 2))
 }
 
-// The part of a word behind its last slash.
+// The part of a word after its last slash.
 fn file_name(word: &[u8]) -> &[u8]
     ensures { result.now ≡ last_part word.now }
 {

@@ -1,25 +1,39 @@
 //! The request that words make.
-ghost use Rattle.std.specs.Prelude.{IfOk, map, string_bytes};
+ghost use Rattle.std.specs.Prelude.{◌≤◌, IfOk, IfSome, length, map, string_bytes};
 ghost use Rattle.at_words.specs.Answers.{Answers};
 ghost use Rattle.at_words.specs.Queues.{HasQueueLetter};
-ghost use Rattle.at_words.specs.Requests.{request_of, request_to};
+ghost use Rattle.at_words.specs.Requests.{request_by, request_of, request_to};
 
 use crate::{Tool, ToolRequest, WordsFault, at, atd, atday, atq, atrm, batch, tool_of};
 use std::alloc::Global;
 
-/// What the words ask for: the tool that they name, with what stands behind its name.
+/// What the words ask for: the tool that they name, with what stands after its name.
 pub fn request(alloc: Global, words: &[String]) -> Result<ToolRequest, WordsFault>
     ensures asked { Answers (request_of (map string_bytes words.now)) result }
     ensures letter { IfOk result HasQueueLetter }
 {
-    match tool_of(words) {
-        Some((tool, start)) => request_by(alloc, tool, &words[start - 1..]),
+    request_by(alloc, tool_of(words), words)
+}
+
+/// What the words ask for, where the tool that they name is known, with the place at which its own words begin.
+pub fn request_by(
+    alloc: Global,
+    named: Option<(Tool, usize)>,
+    words: &[String],
+) -> Result<ToolRequest, WordsFault>
+    requires some { IfSome named (λ found. 1 ≤ found.1) }
+    requires within { IfSome named (λ found. found.1 ≤ length words.now) }
+    ensures asked { Answers (request_by named (map string_bytes words.now)) result }
+    ensures letter { IfOk result HasQueueLetter }
+{
+    match named {
+        Some((tool, start)) => request_to(alloc, tool, &words[start - 1..]),
         None => Err(WordsFault::Usage),
     }
 }
 
 // What the tool is asked for by these words, the first of which stands for its name.
-fn request_by(alloc: Global, tool: Tool, words: &[String]) -> Result<ToolRequest, WordsFault>
+fn request_to(alloc: Global, tool: Tool, words: &[String]) -> Result<ToolRequest, WordsFault>
     ensures { Answers (request_to tool (map string_bytes words.now)) result }
 {
     match tool {

@@ -7,8 +7,8 @@ pub fn after_blanks(line: &[u8]) -> &[u8]
     ensures { result.now ≡ after_blanks line.now }
 {
     let mut rest = line;
-    while let [b' ' | b'\t', behind @ ..] = rest {
-        rest = behind;
+    while let [b' ' | b'\t', after @ ..] = rest {
+        rest = after;
     }
     rest
 }

@@ -1,26 +1,26 @@
--- Lines that are put one behind another, up to one that could not be put.
+-- Lines that are put one after another, up to one that could not be put.
 use Rattle.std.proofs.Common.{◌≡◌, ◌+◌, ◌<◌, ◌≤◌, ℕ, Bool, List, [], ◌∷◌, ◌++◌, length, take, drop, get_or, refl, sym, ap, subst, ◌∙◌, append-nil, append_assoc, arith}
 use Rattle.std.specs.Prelude.{Err, IsErrAnd, Ok, Result}
 use Rattle.std.proofs.lemmas.List.{take-append-drop, take_all, take_more}
 use Rattle.host_calls.specs.Causes.{Rose}
 use Rattle.host_calls.specs.declared.fault.SinkFault.{SinkFault}
 use Rattle.host_calls.specs.declared.fault.SinkFault.TheVariants.{Failed, Memory}
-use Rattle.command_answers.specs.Sinks.{IsCut, IsPut, IsPutInPart, SinkAt}
+use Rattle.command_rules.specs.Sinks.{IsCut, IsPut, IsPutInPart, SinkAt}
 use Rattle.cause_output.specs.Putting.{PutsLines, PutsText, lines_of}
-use Rattle.cause_output.proofs.PutLemmas.{cut_behind, cut_longer, part_behind, part_longer, put_behind}
+use Rattle.cause_output.proofs.PutLemmas.{cut_after, cut_longer, part_after, part_longer, put_after}
 
-lines_join : {T : Type 0} (line : T → List ℕ) (front later : List T) →
-    lines_of line (front ++ later) ≡ lines_of line front ++ lines_of line later
+lines_join : {T : Type 0} (line : T → List ℕ) (prefix later : List T) →
+    lines_of line (prefix ++ later) ≡ lines_of line prefix ++ lines_of line later
 lines_join line [] later = refl
-lines_join line (told ∷ front) later =
-    ap (λ (rest : List ℕ). line told ++ rest) (lines_join line front later)
-    ∙ sym (append_assoc (line told) (lines_of line front) (lines_of line later))
+lines_join line (known ∷ prefix) later =
+    ap (λ (rest : List ℕ). line known ++ rest) (lines_join line prefix later)
+    ∙ sym (append_assoc (line known) (lines_of line prefix) (lines_of line later))
 
 module _ {T : Type 0} (tells : Bool) (line : T → List ℕ) (lines : List T) (index : ℕ) (item : T) (old mid new : SinkAt)
     (done : Unit {0}) (inside : index < length lines) (is : item ≡ get_or lines index item)
     (first : PutsLines tells (lines_of line (take index lines)) old mid (Ok done)) where
-  front : lines_of line (take (index + 1) lines) ≡ lines_of line (take index lines) ++ line item
-  front =
+  prefix : lines_of line (take (index + 1) lines) ≡ lines_of line (take index lines) ++ line item
+  prefix =
       ap (λ (some : List T). lines_of line some) (take_more lines index item inside)
       ∙ lines_join line (take index lines) (get_or lines index item ∷ [])
       ∙ ap (λ (text : List ℕ). lines_of line (take index lines) ++ text) (append-nil (line (get_or lines index item)))
@@ -30,7 +30,7 @@ module _ {T : Type 0} (tells : Bool) (line : T → List ℕ) (lines : List T) (i
   whole =
       ap (λ (some : List T). lines_of line some) (sym (take-append-drop (index + 1) lines))
       ∙ lines_join line (take (index + 1) lines) (drop (index + 1) lines)
-      ∙ ap (λ (text : List ℕ). text ++ lines_of line (drop (index + 1) lines)) front
+      ∙ ap (λ (text : List ℕ). text ++ lines_of line (drop (index + 1) lines)) prefix
 
   -- one line more
   pub one_more : (value : Unit {0}) → PutsLines tells (line item) mid new (Ok value) →
@@ -38,18 +38,18 @@ module _ {T : Type 0} (tells : Bool) (line : T → List ℕ) (lines : List T) (i
   one_more value second = record {
     later = omega (arith, first.later, second.later);
     failed = λ is. absurd (cc);
-    puts = λ told. subst (λ (text : List ℕ). IsPut text old new) (sym front)
-        (put_behind (lines_of line (take index lines)) (line item) old mid new (first.puts told) (second.puts told));
+    puts = λ known. subst (λ (text : List ℕ). IsPut text old new) (sym prefix)
+        (put_after (lines_of line (take index lines)) (line item) old mid new (first.puts known) (second.puts known));
   }
 
   stopped_text : (fault : SinkFault) → IsPut (lines_of line (take index lines)) old mid → PutsText (line item) mid new (Err fault) →
       PutsText (lines_of line lines) old new (Err fault)
-  stopped_text Failed before behind = subst (λ (text : List ℕ). IsCut text old new) (sym whole)
+  stopped_text Failed before after = subst (λ (text : List ℕ). IsCut text old new) (sym whole)
       (cut_longer (lines_of line (take index lines) ++ line item) (lines_of line (drop (index + 1) lines)) old new
-      (cut_behind (lines_of line (take index lines)) (line item) old mid new before behind))
-  stopped_text Memory before behind = subst (λ (text : List ℕ). IsPutInPart text old new) (sym whole)
+      (cut_after (lines_of line (take index lines)) (line item) old mid new before after))
+  stopped_text Memory before after = subst (λ (text : List ℕ). IsPutInPart text old new) (sym whole)
       (part_longer (lines_of line (take index lines) ++ line item) (lines_of line (drop (index + 1) lines)) old new
-      (part_behind (lines_of line (take index lines)) (line item) old mid new before behind))
+      (part_after (lines_of line (take index lines)) (line item) old mid new before after))
 
   stopped_here : (fault : SinkFault) → PutsLines tells (line item) mid new (Err fault) →
       PutsLines tells (lines_of line lines) old new (Err fault)
@@ -57,7 +57,7 @@ module _ {T : Type 0} (tells : Bool) (line : T → List ℕ) (lines : List T) (i
     later = omega (arith, first.later, second.later);
     failed = λ is. (let earlier : old.faults ≤ mid.faults = first.later in
         let rose : Rose mid.faults new.faults = second.failed (cc) in omega arith);
-    puts = λ told. stopped_text fault (first.puts told) (second.puts told);
+    puts = λ known. stopped_text fault (first.puts known) (second.puts known);
   }
 
   -- a line that could not be put

@@ -1,4 +1,4 @@
--- Texts put one behind another.
+-- Texts put one after another.
 use Rattle.std.proofs.Common.{◌≡◌, ◌≤◌, ℕ, Bool, true, List, [], ◌++◌, length, take, drop, refl, sym, ap, ◌∙◌, append-nil, append_assoc, arith}
 use Rattle.std.specs.Prelude.{Err, Ok, Result}
 use Rattle.std.proofs.Math.Seq.{take-append_seam}
@@ -7,50 +7,50 @@ use Rattle.host_calls.specs.Causes.{HasCause, Rose}
 use Rattle.host_calls.specs.Sink.{Puts}
 use Rattle.host_calls.specs.declared.fault.SinkFault.{SinkFault}
 use Rattle.host_calls.specs.declared.fault.SinkFault.TheVariants.{Failed, Memory}
-use Rattle.command_answers.specs.Sinks.{IsCut, IsPut, IsPutInPart, SinkAt}
+use Rattle.command_rules.specs.Sinks.{IsCut, IsPut, IsPutInPart, SinkAt}
 use Rattle.cause_output.specs.Putting.{PutsLines, PutsText}
 
--- What is put behind a text that was put.
+-- What is put after a text that was put.
 
--- a front of the second text behind the first is a front of both
+-- a prefix of the second text after the first is a prefix of both
 module _ (first second : List ℕ) (start mid new : SinkAt) (put : IsPut first start mid) where
-  joined : (front rest : List ℕ) → second ≡ front ++ rest → new.content ≡ mid.content ++ front
-      → new.content ≡ start.content ++ take (length (first ++ front)) (first ++ second)
-  joined front rest split content =
+  joined : (prefix rest : List ℕ) → second ≡ prefix ++ rest → new.content ≡ mid.content ++ prefix
+      → new.content ≡ start.content ++ take (length (first ++ prefix)) (first ++ second)
+  joined prefix rest split content =
       content
-      ∙ ap (λ (before : List ℕ). before ++ front) put.content
-      ∙ append_assoc start.content first front
-      ∙ ap (λ (text : List ℕ). start.content ++ text) (sym (take-append_seam (first ++ front) rest)
-      ∙ ap (λ (text : List ℕ). take (length (first ++ front)) text) (append_assoc first front rest ∙ ap (λ (text : List ℕ). first ++ text) (sym split)))
+      ∙ ap (λ (before : List ℕ). before ++ prefix) put.content
+      ∙ append_assoc start.content first prefix
+      ∙ ap (λ (text : List ℕ). start.content ++ text) (sym (take-append_seam (first ++ prefix) rest)
+      ∙ ap (λ (text : List ℕ). take (length (first ++ prefix)) text) (append_assoc first prefix rest ∙ ap (λ (text : List ℕ). first ++ text) (sym split)))
 
-  pub put_behind : IsPut second mid new → IsPut (first ++ second) start new
-  put_behind behind = record {
-    content = behind.content ∙ ap (λ (before : List ℕ). before ++ second) put.content ∙ append_assoc start.content first second;
-    later = omega (arith, put.later, behind.later);
+  pub put_after : IsPut second mid new → IsPut (first ++ second) start new
+  put_after after = record {
+    content = after.content ∙ ap (λ (before : List ℕ). before ++ second) put.content ∙ append_assoc start.content first second;
+    later = omega (arith, put.later, after.later);
   }
 
-  pub part_behind : IsPutInPart second mid new → IsPutInPart (first ++ second) start new
-  part_behind behind = record {
-    count = length (first ++ take behind.count second);
-    content = joined (take behind.count second) (drop behind.count second) (sym (take-append-drop behind.count second)) behind.content;
-    later = omega (arith, put.later, behind.later);
+  pub part_after : IsPutInPart second mid new → IsPutInPart (first ++ second) start new
+  part_after after = record {
+    count = length (first ++ take after.count second);
+    content = joined (take after.count second) (drop after.count second) (sym (take-append-drop after.count second)) after.content;
+    later = omega (arith, put.later, after.later);
   }
 
-  pub cut_behind : IsCut second mid new → IsCut (first ++ second) start new
-  cut_behind behind = record {
-    count = length (first ++ take behind.count second);
-    content = joined (take behind.count second) (drop behind.count second) (sym (take-append-drop behind.count second)) behind.content;
-    later = omega (arith, put.later, behind.later);
-    rose = let before : start.faults ≤ mid.faults = put.later in let rose : Rose mid.faults new.faults = behind.rose in omega arith;
+  pub cut_after : IsCut second mid new → IsCut (first ++ second) start new
+  cut_after after = record {
+    count = length (first ++ take after.count second);
+    content = joined (take after.count second) (drop after.count second) (sym (take-append-drop after.count second)) after.content;
+    later = omega (arith, put.later, after.later);
+    rose = let before : start.faults ≤ mid.faults = put.later in let rose : Rose mid.faults new.faults = after.rose in omega arith;
   }
 
--- what was cut is a front of any longer text
+-- what was cut is a prefix of any longer text
 pub cut_longer : (text more : List ℕ) (old new : SinkAt) → IsCut text old new → IsCut (text ++ more) old new
 cut_longer text more old new cut = record {
   count = length (take cut.count text);
   content =
       cut.content
-      ∙ ap (λ (front : List ℕ). old.content ++ front) (sym (take-append_seam (take cut.count text) (drop cut.count text ++ more))
+      ∙ ap (λ (prefix : List ℕ). old.content ++ prefix) (sym (take-append_seam (take cut.count text) (drop cut.count text ++ more))
       ∙ ap (λ (whole : List ℕ). take (length (take cut.count text)) whole)
       (sym (append_assoc (take cut.count text) (drop cut.count text) more) ∙ ap (λ (whole : List ℕ). whole ++ more) (take-append-drop cut.count text)));
   later = cut.later;
@@ -60,7 +60,7 @@ cut_longer text more old new cut = record {
 pub part_of_put : (text : List ℕ) (old new : SinkAt) → IsPut text old new → IsPutInPart text old new
 part_of_put text old new put = record {
   count = length text;
-  content = put.content ∙ ap (λ (front : List ℕ). old.content ++ front) (sym (take-append_seam text []) ∙ ap (λ (whole : List ℕ). take (length text) whole) (append-nil text));
+  content = put.content ∙ ap (λ (prefix : List ℕ). old.content ++ prefix) (sym (take-append_seam text []) ∙ ap (λ (whole : List ℕ). take (length text) whole) (append-nil text));
   later = put.later;
 }
 
@@ -71,15 +71,15 @@ pub nothing_put : (at : SinkAt) → IsPut [] at at
 nothing_put at = record { content = sym (append-nil at.content); later = omega arith }
 
 pub none_put : (tells : Bool) (at : SinkAt) (done : Unit {0}) → PutsLines tells [] at at (Ok done)
-none_put tells at done = record { later = omega arith; failed = λ is. absurd (cc); puts = λ told. nothing_put at }
+none_put tells at done = record { later = omega arith; failed = λ is. absurd (cc); puts = λ known. nothing_put at }
 
--- a front of a text is a front of any longer one
+-- a prefix of a text is a prefix of any longer one
 pub part_longer : (text more : List ℕ) (old new : SinkAt) → IsPutInPart text old new → IsPutInPart (text ++ more) old new
 part_longer text more old new part = record {
   count = length (take part.count text);
   content =
       part.content
-      ∙ ap (λ (front : List ℕ). old.content ++ front) (sym (take-append_seam (take part.count text) (drop part.count text ++ more))
+      ∙ ap (λ (prefix : List ℕ). old.content ++ prefix) (sym (take-append_seam (take part.count text) (drop part.count text ++ more))
       ∙ ap (λ (whole : List ℕ). take (length (take part.count text)) whole)
       (sym (append_assoc (take part.count text) (drop part.count text) more) ∙ ap (λ (whole : List ℕ). whole ++ more) (take-append-drop part.count text)));
   later = part.later;
@@ -99,5 +99,5 @@ pub put_one : (tells : Bool) (text : List ℕ) (old new : SinkAt) (result : Resu
 put_one tells text old new result cause puts = record {
   later = cause.later;
   failed = cause.rose;
-  puts = λ told. put_text text old new result cause.later cause (puts told);
+  puts = λ known. put_text text old new result cause.later cause (puts known);
 }

@@ -1,16 +1,16 @@
--- Lines that are put one behind another, by the answer of the call that puts them (own).
+-- Lines that are put one after another, by the answer of the call that puts them (own).
 use Rattle.std.specs.Prelude.{◌≡◌, ◌≤◌, ◌++◌, [], ◌∷◌, ℕ, Bool, true, List, Result, Ok, Err, IsErrOf}
 use Rattle.host_calls.specs.Causes.{Rose}
 use Rattle.host_calls.specs.declared.fault.SinkFault.{SinkFault}
 use Rattle.host_calls.specs.declared.fault.SinkFault.TheVariants.{Failed, Memory}
-use Rattle.command_answers.specs.Sinks.{IsCut, IsPut, IsPutInPart, SinkAt}
+use Rattle.command_rules.specs.Sinks.{IsCut, IsPut, IsPutInPart, SinkAt}
 
--- the lines of what is told, one behind another
+-- the lines of what is told, one after another
 abbrev pub lines_of : {T : Type 0} → (T → List ℕ) → List T → List ℕ
 lines_of line [] = []
-lines_of line (told ∷ others) = line told ++ lines_of line others
+lines_of line (known ∷ others) = line known ++ lines_of line others
 
--- all of the text was put, a front of it up to a put that failed, or up to a line that found no memory
+-- all of the text was put, a prefix of it up to a put that failed, or up to a line that found no memory
 abbrev pub PutsText : List ℕ → SinkAt → SinkAt → Result (Unit {0}) SinkFault → Type 0
 PutsText text old new (Ok done) = IsPut text old new
 PutsText text old new (Err Failed) = IsCut text old new

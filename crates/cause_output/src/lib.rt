@@ -1,10 +1,10 @@
-//! What a tool puts and says at its end: lines one behind another, the line of a cause, and that of the end of a turn. The
+//! What a tool puts and says at its end: lines one after another, the line of a cause, and that of the end of a turn. The
 //! name of the tool is handed in.
 #![tactic(auto)]
 
-mod putting;
-mod saying;
+mod cause_line;
+mod lines;
 mod steps;
 
-pub use putting::{Line, put_lines};
-pub use saying::{say_cause, say_end};
+pub use cause_line::{say_cause, say_end};
+pub use lines::{Line, put_lines};

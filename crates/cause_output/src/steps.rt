@@ -1,6 +1,6 @@
 //! The lines of the steps of a turn.
 ghost use Rattle.std.specs.Prelude.{◌≡◌};
-ghost use Rattle.command_answers.specs.Sinks.{sink_at};
+ghost use Rattle.command_rules.specs.Sinks.{sink_at};
 ghost use Rattle.listing_text.specs.Lines.{turn_line_of};
 ghost use Rattle.cause_output.specs.Putting.{PutsLines};
 ghost use Rattle.cause_output.specs.Steps.{step_line};

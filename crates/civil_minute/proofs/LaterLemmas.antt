@@ -60,7 +60,7 @@ instant_found zone local given nanos start seconds whole instant floor = record 
   local = local;
   shows = rw seconds;
   whole = whole;
-  behind = omega (arith, signed_arith, civil_nanos-civil_seconds local);
+  after = omega (arith, signed_arith, civil_nanos-civil_seconds local);
 }
 
 -- a civil time whose instant `jiff` does not have lies outside of the clock's range
@@ -70,6 +70,6 @@ pub instant_outside : (zone : Zone) (local : DateTime) (given : ℕ) → time_se
 unfolding civil_seconds
 instant_outside zone local given seconds whole beyond = record {
   start = civil_seconds local -ℤ offset_before zone local;
-  instant = record { local = local; shows = rw seconds; whole = whole; behind = refl };
+  instant = record { local = local; shows = rw seconds; whole = whole; after = refl };
   outside = λ within. beyond (omega (arith, signed_arith, civil_nanos-civil_seconds local));
 }

@@ -56,7 +56,7 @@ one_instant zone day given a b first second =
     let whole : (first.local.time.subsec_nanosecond ≡ 0) × (second.local.time.subsec_nanosecond ≡ 0) = (first.whole, second.whole) in
     let nanos : civil_nanos first.local ≡ civil_nanos second.local =
     omega (arith, signed_arith, civil_nanos-civil_seconds first.local, civil_nanos-civil_seconds second.local) in
-    first.behind ∙ ap (λ (local : DateTime). civil_seconds local -ℤ offset_before zone local) (same_datetime first.local second.local nanos) ∙ sym second.behind
+    first.after ∙ ap (λ (local : DateTime). civil_seconds local -ℤ offset_before zone local) (same_datetime first.local second.local nanos) ∙ sym second.after
 
 one_start : (instant : Bool) (zone : Zone) (now day : ℤ) (given : ℕ) (a b : ℤ) → IsBaseInstant instant zone now day given a → IsBaseInstant instant zone now day given b → a ≡ b
 one_start true zone now day given a b first second = first ∙ sym second

@@ -138,7 +138,7 @@ pub record IsInstantOf (zone : Zone) (day : ℤ) (given : ℕ) (start : ℤ) : T
   pub local : DateTime
   pub shows : civil_seconds local ≡ day *ℤ pos SECONDS_A_DAY +ℤ pos given
   pub whole : local.time.subsec_nanosecond ≡ 0
-  pub behind : start ≡ civil_seconds local -ℤ offset_before zone local
+  pub after : start ≡ civil_seconds local -ℤ offset_before zone local
 
 -- the instant to which minutes and hours are added
 abbrev pub IsBaseInstant : Bool → Zone → ℤ → ℤ → ℕ → ℤ → Type 0

@@ -1,4 +1,4 @@
--- Kids that are asked one behind another.
+-- Kids that are asked one after another.
 use Rattle.std.proofs.Common.{◌≡◌, ◌<◌, ◌+◌, ◌++◌, ℕ, zero, suc, Bool, true, List, [], ◌∷◌, append_assoc, append-nil, length, length-append, get_or, sym, ap, subst, ◌∙◌, refl, arith}
 use Rattle.std.proofs.lemmas.List.Elements.{Contains-get_or}
 use Rattle.std.specs.Prelude.{Contains, IsErrAnd, Option, Result, Ok, Err}
@@ -7,10 +7,10 @@ use Rattle.host_calls.specs.declared.child.Child.{Child}
 use Rattle.host_calls.specs.declared.child.Ending.{Ending}
 use Rattle.host_calls.specs.World.{Asks, World}
 use Rattle.spool_model.specs.JobTable.{JobTable}
-use Rattle.job_runs.specs.Current.{IsCurrent, Kept}
-use Rattle.job_runs.specs.Made.{AreMade}
-use Rattle.job_runs.proofs.MadeLemmas.{no_steps_are_made}
-use Rattle.job_runs.proofs.TurnLemmas.{question_behind}
+use Rattle.step_runs.specs.Current.{IsCurrent, Kept}
+use Rattle.step_runs.specs.Made.{AreMade}
+use Rattle.step_runs.proofs.MadeLemmas.{no_steps_are_made}
+use Rattle.step_runs.proofs.TurnLemmas.{question_after}
 use Rattle.daemon_turn.specs.declared.kid.Kid.{Kid}
 use Rattle.daemon_turn.specs.declared.step.TurnStep.{TurnStep}
 use Rattle.daemon_turn.specs.inside.Asking.{AsksAll}
@@ -89,7 +89,7 @@ one_asked tells kids count before after last old middle new default answer below
           ∙ ap (λ (l : List TurnStep). before ++ l) (sym (ends_of_next kids has.answers kid answer below_now at_now));
       asked = λ is kept table current.
           subst (λ (asked : List Asked). AreMade table [] [] asked kept old new) (sym (questions_of_next kids has.answers kid answer below_now at_now))
-          (question_behind table [] [] (questions kids has.answers) kept old middle new (has.asked is kept table current) kid.child answer (asks is));
+          (question_after table [] [] (questions kids has.answers) kept old middle new (has.asked is kept table current) kid.child answer (asks is));
     }
 
 -- all kids have answered

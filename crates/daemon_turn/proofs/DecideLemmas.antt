@@ -13,17 +13,17 @@ use Rattle.spool_model.specs.declared.row.Row.{Row}
 use Rattle.spool_model.specs.JobTable.{JobTable}
 use Rattle.spool_model.specs.Lists.{live_rows}
 use Rattle.spool_model.specs.Steps.{AreLegal, after_steps}
-use Rattle.spool_model.specs.Laws.{FrontAndRest}
-use Rattle.spool_model.proofs.StepLemmas.{fronts_are_legal}
-use Rattle.job_runs.specs.Current.{IsCurrent, Kept}
-use Rattle.job_runs.specs.Hands.{StartNothing}
+use Rattle.spool_model.specs.Laws.{PrefixAndRest}
+use Rattle.spool_model.proofs.StepLemmas.{prefixes_are_legal}
+use Rattle.step_runs.specs.Current.{IsCurrent, Kept}
+use Rattle.step_runs.specs.Hands.{StartNothing}
 use Rattle.spool_store.specs.declared.fault.StoreFault.{StoreFault}
 use Rattle.spool_store.specs.declared.fault.StoreFault.TheVariants.{Memory}
 use Rattle.spool_shows.proofs.Membership.{Has, has_left, made_has}
 use Rattle.daemon_turn.specs.declared.kid.Kid.{Kid}
 use Rattle.daemon_turn.specs.declared.step.TurnStep.{TurnStep}
 use Rattle.daemon_turn.specs.declared.step.TurnStep.TheVariants.{Ended, Interrupted}
-use Rattle.daemon_turn.specs.Decisions.{ends, interrupts, is_left, questions, runs_in}
+use Rattle.daemon_turn.specs.Decisions.{ends, interrupts, is_without_kid, questions, runs_in}
 use Rattle.daemon_turn.specs.Kids.{AreByNumber, AreChildren, tells_end_of}
 use Rattle.daemon_turn.specs.StepsOf.{number_of, steps_of}
 use Rattle.daemon_turn.specs.inside.Asking.{AsksAll}
@@ -31,7 +31,7 @@ use Rattle.daemon_turn.specs.inside.Deciding.{AreDecided, MakesDecisions, MayDec
 use Rattle.daemon_turn.specs.inside.Ended.{AreEndsByNumber, is_end, without_ended}
 use Rattle.daemon_turn.specs.inside.Going.{Goes, Part, joined}
 use Rattle.daemon_turn.specs.inside.Making.{MakesAll, MayMake}
-use Rattle.job_runs.proofs.ApartLemmas.{Apart, all_each, each_all, filter_alike, pairs_cons, pairs_head, pairs_nil, pairs_tail, rise_apart}
+use Rattle.step_runs.proofs.ApartLemmas.{Apart, all_each, each_all, filter_alike, pairs_cons, pairs_head, pairs_nil, pairs_tail, rise_apart}
 use Rattle.daemon_turn.proofs.AskLemmas.{ends_of_none, questions_of_none}
 use Rattle.daemon_turn.proofs.DecisionLemmas.{EachRuns, decisions_legal, end_of_kid}
 use Rattle.daemon_turn.proofs.GoLemmas.{asked_part, asks_go, goes_then, made_part, makes_go, memory_goes, steps_join}
@@ -59,23 +59,23 @@ module _ (tells : Bool) (session : Session) (world : World) (kept : Kept) (kids 
   pub kids_apart : Apart (map kid_number kids)
   kids_apart = rise_apart kid_number kids may.ordered
 
-  legal_parts : (answers : List (Option Ending)) → FrontAndRest kept.table (steps_of (interrupts kept.table kids)) (steps_of (ends kids answers))
+  legal_parts : (answers : List (Option Ending)) → PrefixAndRest kept.table (steps_of (interrupts kept.table kids)) (steps_of (ends kids answers))
   legal_parts answers =
-      fronts_are_legal kept.table (steps_of (interrupts kept.table kids)) (steps_of (ends kids answers))
+      prefixes_are_legal kept.table (steps_of (interrupts kept.table kids)) (steps_of (ends kids answers))
       (subst (AreLegal kept.table) (steps_join (interrupts kept.table kids) (ends kids answers)) (decisions_legal kept.table kids kids_apart each_runs answers))
 
-  pub may_give_up : (lost : List TurnStep) → lost ≡ interrupts kept.table kids → MayMake tells session world kept lost
-  may_give_up lost is = record {
+  pub may_give_up : (interrupted : List TurnStep) → interrupted ≡ interrupts kept.table kids → MayMake tells session world kept interrupted
+  may_give_up interrupted is = record {
     inside = may.go.inside;
-    legal = subst (λ (steps : List TurnStep). AreLegal kept.table (steps_of steps)) (sym is) (legal_parts []).front_legal;
-    quiet = subst (λ (steps : List TurnStep). StartNothing (steps_of steps)) (sym is) (quiet_interrupts (filter (is_left kids) (live_rows kept.table)));
+    legal = subst (λ (steps : List TurnStep). AreLegal kept.table (steps_of steps)) (sym is) (legal_parts []).prefix_legal;
+    quiet = subst (λ (steps : List TurnStep). StartNothing (steps_of steps)) (sym is) (quiet_interrupts (filter (is_without_kid kids) (live_rows kept.table)));
     current = may.go.current;
   }
 
-  pub may_end_all : (now : Kept) (between : Session) (middle : World) (told : List TurnStep) (answers : List (Option Ending)) → IsInside between →
-      now.table ≡ after_steps kept.table (steps_of (interrupts kept.table kids)) → told ≡ ends kids answers →
-      (tells ≡ true → (table : JobTable) × IsCurrent now middle.now.folder table) → MayMake tells between middle now told
-  may_end_all now between middle told answers inside table_is is current = record {
+  pub may_end_all : (now : Kept) (between : Session) (middle : World) (known : List TurnStep) (answers : List (Option Ending)) → IsInside between →
+      now.table ≡ after_steps kept.table (steps_of (interrupts kept.table kids)) → known ≡ ends kids answers →
+      (tells ≡ true → (table : JobTable) × IsCurrent now middle.now.folder table) → MayMake tells between middle now known
+  may_end_all now between middle known answers inside table_is is current = record {
     inside = inside;
     legal = subst (λ (steps : List TurnStep). AreLegal now.table (steps_of steps)) (sym is)
         (subst (λ (table : JobTable). AreLegal table (steps_of (ends kids answers))) (sym table_is) (legal_parts answers).rest_legal);
@@ -89,32 +89,32 @@ children_stay before after kids stays are = subst (λ l. AreChildren l kids) (sy
 
 -- The steps that were made.
 
--- steps that were made, and the next one, are a front of all
-pub made_front : (steps : List TurnStep) (made : ℕ) → (behind : List TurnStep) × (steps ≡ (take made steps ++ take 1 (drop made steps)) ++ behind)
-made_front steps made = (
+-- steps that were made, and the next one, are a prefix of all
+pub made_prefix : (steps : List TurnStep) (made : ℕ) → (beyond : List TurnStep) × (steps ≡ (take made steps ++ take 1 (drop made steps)) ++ beyond)
+made_prefix steps made = (
   drop 1 (drop made steps),
   sym (take-append-drop made steps)
       ∙ ap (λ (l : List TurnStep). take made steps ++ l) (sym (take-append-drop 1 (drop made steps)))
       ∙ sym (append_assoc (take made steps) (take 1 (drop made steps)) (drop 1 (drop made steps))),
 )
 
-module _ (tells : Bool) (before : Session) (old : World) (kept : Kept) (kids : List Kid) (lost : List TurnStep) (was : List TurnStep) (lost_is : lost ≡ interrupts kept.table kids) where
+module _ (tells : Bool) (before : Session) (old : World) (kept : Kept) (kids : List Kid) (interrupted : List TurnStep) (was : List TurnStep) (lost_is : interrupted ≡ interrupts kept.table kids) where
   -- stopped at a job that is given up
   pub stopped_giving_up : (after : Session) (new : World) (is : List TurnStep) (fault : StoreFault) (result : Result Kept StoreFault) → IsErrAnd result (λ other. other ≡ fault) →
-      MakesAll tells before after old new kept lost was is (Err fault) → MakesDecisions tells before after old new kept kids was is result
+      MakesAll tells before after old new kept interrupted was is (Err fault) → MakesDecisions tells before after old new kept kids was is result
   stopped_giving_up after new is fault (Ok store) err makes = absurd err
   stopped_giving_up after new is fault (Err other) err makes = subst (λ (of : StoreFault). MakesDecisions tells before after old new kept kids was is (Err of)) (sym err) (
-      let front = made_front lost makes.made in
+      let prefix = made_prefix interrupted makes.made in
       record {
-        part = made_part lost makes.made (Err fault);
-        goes = makes_go tells before after old new kept lost was is (Err fault) makes;
+        part = made_part interrupted makes.made (Err fault);
+        goes = makes_go tells before after old new kept interrupted was is (Err fault) makes;
         decided = record {
           answers = [];
           few = omega arith;
-          front = (
-            front.0 ++ [],
-            ap (λ (l : List TurnStep). l ++ ends kids []) (sym lost_is) ∙ ap (λ (l : List TurnStep). lost ++ l) (ends_of_none kids) ∙ append-nil lost ∙ front.1
-                ∙ ap (λ (l : List TurnStep). (take makes.made lost ++ take 1 (drop makes.made lost)) ++ l) (sym (append-nil front.0)),
+          prefix = (
+            prefix.0 ++ [],
+            ap (λ (l : List TurnStep). l ++ ends kids []) (sym lost_is) ∙ ap (λ (l : List TurnStep). interrupted ++ l) (ends_of_none kids) ∙ append-nil interrupted ∙ prefix.1
+                ∙ ap (λ (l : List TurnStep). (take makes.made interrupted ++ take 1 (drop makes.made interrupted)) ++ l) (sym (append-nil prefix.0)),
           );
           all = tt;
           asked = sym (questions_of_none kids);
@@ -124,114 +124,114 @@ module _ (tells : Bool) (before : Session) (old : World) (kept : Kept) (kids : L
         written = makes.written;
       })
 
-  -- behind all of them
-  module _ (first : Session) (given_up : World) (now : Kept) (between : List TurnStep) (makes : MakesAll tells before first old given_up kept lost was between (Ok now)) where
+  -- after all of them
+  module _ (first : Session) (given_up : World) (now : Kept) (between : List TurnStep) (makes : MakesAll tells before first old given_up kept interrupted was between (Ok now)) where
     abbrev giving : Part
-    giving = made_part lost makes.made (Ok now)
+    giving = made_part interrupted makes.made (Ok now)
 
-    given_all : take makes.made lost ≡ lost
-    given_all = ap (λ (n : ℕ). take n lost) makes.all ∙ take-length lost
+    given_all : take makes.made interrupted ≡ interrupted
+    given_all = ap (λ (n : ℕ). take n interrupted) makes.all ∙ take-length interrupted
 
     giving_goes : Goes tells before first old given_up kept giving (Ok now)
-    giving_goes = makes_go tells before first old given_up kept lost was between (Ok now) makes
+    giving_goes = makes_go tells before first old given_up kept interrupted was between (Ok now) makes
 
     pub given_up_table : now.table ≡ after_steps kept.table (steps_of (interrupts kept.table kids))
     given_up_table = makes.table_is ∙ ap (λ (steps : List TurnStep). after_steps kept.table (steps_of steps)) lost_is
 
     -- stopped at a question
-    pub stopped_asking : {E : Type 0} (after : Session) (new : World) (told_was told : List TurnStep) (asked : Result (Unit {0}) E) (result : Result Kept StoreFault) → IsErrAnd result (λ other. other ≡ Memory) →
-        StaysInside first after → AsksAll tells kids told_was told given_up new asked → MakesDecisions tells before after old new kept kids was between result
-    stopped_asking after new told_was told asked (Ok store) err stays asks = absurd err
-    stopped_asking after new told_was told asked (Err other) err stays asks = subst (λ (of : StoreFault). MakesDecisions tells before after old new kept kids was between (Err of)) (sym err) (record {
+    pub stopped_asking : {E : Type 0} (after : Session) (new : World) (known_was known : List TurnStep) (asked : Result (Unit {0}) E) (result : Result Kept StoreFault) → IsErrAnd result (λ other. other ≡ Memory) →
+        StaysInside first after → AsksAll tells kids known_was known given_up new asked → MakesDecisions tells before after old new kept kids was between result
+    stopped_asking after new known_was known asked (Ok store) err stays asks = absurd err
+    stopped_asking after new known_was known asked (Err other) err stays asks = subst (λ (of : StoreFault). MakesDecisions tells before after old new kept kids was between (Err of)) (sym err) (record {
       part = joined giving (asked_part (questions kids asks.answers));
       goes = goes_then tells before first after old given_up new kept now giving (asked_part (questions kids asks.answers)) (Err Memory) giving_goes
           (memory_goes tells first after given_up new now (questions kids asks.answers) stays asks.asked);
       decided = record {
         answers = asks.answers;
         few = asks.few;
-        front = (
+        prefix = (
           ends kids asks.answers,
           ap (λ (l : List TurnStep). l ++ ends kids asks.answers) (sym lost_is ∙ sym given_all
-              ∙ sym (append-nil (take makes.made lost ++ []) ∙ append-nil (take makes.made lost))),
+              ∙ sym (append-nil (take makes.made interrupted ++ []) ∙ append-nil (take makes.made interrupted))),
         );
         all = tt;
         asked = refl;
         flags = refl;
         added = refl;
       };
-      written = makes.written ∙ ap (λ (l : List TurnStep). was ++ l) (sym (append-nil (take makes.made lost)));
+      written = makes.written ∙ ap (λ (l : List TurnStep). was ++ l) (sym (append-nil (take makes.made interrupted)));
     })
 
     -- all were asked, and their ends made, or the first of them
-    pub ended_all : {E : Type 0} (asked_at after : Session) (middle new : World) (told : List TurnStep) (is : List TurnStep) (result : Result Kept StoreFault) →
-        StaysInside first asked_at → (asks : AsksAll {E = E} tells kids [] told given_up middle (Ok tt)) → MakesAll tells asked_at after middle new now told between is result →
+    pub ended_all : {E : Type 0} (asked_at after : Session) (middle new : World) (known : List TurnStep) (is : List TurnStep) (result : Result Kept StoreFault) →
+        StaysInside first asked_at → (asks : AsksAll {E = E} tells kids [] known given_up middle (Ok tt)) → MakesAll tells asked_at after middle new now known between is result →
         MakesDecisions tells before after old new kept kids was is result
-    ended_all asked_at after middle new told is result stays asks ended = record {
+    ended_all asked_at after middle new known is result stays asks ended = record {
       part = whole;
       goes = goes_then tells before asked_at after old middle new kept now (joined giving (asked_part (questions kids asks.answers))) ending result
           (goes_then tells before first asked_at old given_up middle kept now giving (asked_part (questions kids asks.answers)) (Ok now) giving_goes
           (asks_go tells first asked_at given_up middle now (questions kids asks.answers) stays asks.asked))
-          (makes_go tells asked_at after middle new now told between is result ended);
+          (makes_go tells asked_at after middle new now known between is result ended);
       decided = record {
         answers = asks.answers;
         few = asks.few;
-        front = front_of result ended;
+        prefix = prefix_of result ended;
         all = all_of result ended;
         asked = append-nil (questions kids asks.answers);
         flags = refl;
         added = refl;
       };
-      written = ended.written ∙ ap (λ (l : List TurnStep). l ++ take ended.made told) makes.written ∙ append_assoc was (take makes.made lost) (take ended.made told)
-          ∙ ap (λ (l : List TurnStep). was ++ (l ++ take ended.made told)) (sym (append-nil (take makes.made lost)));
+      written = ended.written ∙ ap (λ (l : List TurnStep). l ++ take ended.made known) makes.written ∙ append_assoc was (take makes.made interrupted) (take ended.made known)
+          ∙ ap (λ (l : List TurnStep). was ++ (l ++ take ended.made known)) (sym (append-nil (take makes.made interrupted)));
     } where
       ending : Part
-      ending = made_part told ended.made result
+      ending = made_part known ended.made result
 
       whole : Part
       whole = joined (joined giving (asked_part (questions kids asks.answers))) ending
 
-      first_part : take makes.made lost ++ [] ≡ interrupts kept.table kids
-      first_part = append-nil (take makes.made lost) ∙ given_all ∙ lost_is
+      first_part : take makes.made interrupted ++ [] ≡ interrupts kept.table kids
+      first_part = append-nil (take makes.made interrupted) ∙ given_all ∙ lost_is
 
-      front_of : (of : Result Kept StoreFault) (makes_ends : MakesAll tells asked_at after middle new now told between is of) →
-          (behind : List TurnStep) × (interrupts kept.table kids ++ ends kids asks.answers ≡ (((take makes.made lost ++ []) ++ take makes_ends.made told) ++ (made_part told makes_ends.made of).next) ++ behind)
-      front_of (Ok store) makes_ends = (
+      prefix_of : (of : Result Kept StoreFault) (makes_ends : MakesAll tells asked_at after middle new now known between is of) →
+          (beyond : List TurnStep) × (interrupts kept.table kids ++ ends kids asks.answers ≡ (((take makes.made interrupted ++ []) ++ take makes_ends.made known) ++ (made_part known makes_ends.made of).next) ++ beyond)
+      prefix_of (Ok store) makes_ends = (
         [],
         ap (λ (l : List TurnStep). l ++ ends kids asks.answers) (sym first_part)
-            ∙ ap (λ (l : List TurnStep). (take makes.made lost ++ []) ++ l) (sym asks.ended ∙ sym (ap (λ (n : ℕ). take n told) makes_ends.all ∙ take-length told))
-            ∙ sym (append-nil ((take makes.made lost ++ []) ++ take makes_ends.made told))
-            ∙ sym (append-nil (((take makes.made lost ++ []) ++ take makes_ends.made told) ++ [])),
+            ∙ ap (λ (l : List TurnStep). (take makes.made interrupted ++ []) ++ l) (sym asks.ended ∙ sym (ap (λ (n : ℕ). take n known) makes_ends.all ∙ take-length known))
+            ∙ sym (append-nil ((take makes.made interrupted ++ []) ++ take makes_ends.made known))
+            ∙ sym (append-nil (((take makes.made interrupted ++ []) ++ take makes_ends.made known) ++ [])),
       )
-      front_of (Err fault) makes_ends = (
-        (made_front told makes_ends.made).0,
+      prefix_of (Err fault) makes_ends = (
+        (made_prefix known makes_ends.made).0,
         ap (λ (l : List TurnStep). l ++ ends kids asks.answers) (sym first_part)
-            ∙ ap (λ (l : List TurnStep). (take makes.made lost ++ []) ++ l) (sym asks.ended ∙ (made_front told makes_ends.made).1)
-            ∙ regroup (take makes.made lost ++ []) (take makes_ends.made told) (take 1 (drop makes_ends.made told)) (made_front told makes_ends.made).0,
+            ∙ ap (λ (l : List TurnStep). (take makes.made interrupted ++ []) ++ l) (sym asks.ended ∙ (made_prefix known makes_ends.made).1)
+            ∙ regroup (take makes.made interrupted ++ []) (take makes_ends.made known) (take 1 (drop makes_ends.made known)) (made_prefix known makes_ends.made).0,
       ) where
         regroup : (a b c d : List TurnStep) → a ++ ((b ++ c) ++ d) ≡ ((a ++ b) ++ c) ++ d
         regroup a b c d = simp append_assoc
 
-      all_of : (of : Result Kept StoreFault) (makes_ends : MakesAll tells asked_at after middle new now told between is of) →
-          IfOk of (λ store. (length asks.answers ≡ length kids) × ((take makes.made lost ++ []) ++ take makes_ends.made told ≡ interrupts kept.table kids ++ ends kids asks.answers))
+      all_of : (of : Result Kept StoreFault) (makes_ends : MakesAll tells asked_at after middle new now known between is of) →
+          IfOk of (λ store. (length asks.answers ≡ length kids) × ((take makes.made interrupted ++ []) ++ take makes_ends.made known ≡ interrupts kept.table kids ++ ends kids asks.answers))
       all_of (Ok store) makes_ends = (
         asks.all,
-        ap (λ (l : List TurnStep). l ++ take makes_ends.made told) first_part
-            ∙ ap (λ (l : List TurnStep). interrupts kept.table kids ++ l) (ap (λ (n : ℕ). take n told) makes_ends.all ∙ take-length told ∙ asks.ended),
+        ap (λ (l : List TurnStep). l ++ take makes_ends.made known) first_part
+            ∙ ap (λ (l : List TurnStep). interrupts kept.table kids ++ l) (ap (λ (n : ℕ). take n known) makes_ends.all ∙ take-length known ∙ asks.ended),
       )
       all_of (Err fault) makes_ends = tt
 
 -- Of the steps that were written down, the ends.
 
 -- a list that begins as two others do begins with the first, or as it does
-split : (lost later steps rest : List TurnStep) → lost ++ later ≡ steps ++ rest →
-    ((behind : List TurnStep) × (later ≡ drop (length lost) steps ++ behind)) × ((others : List TurnStep) × (lost ≡ take (length lost) steps ++ others))
+split : (interrupted later steps rest : List TurnStep) → interrupted ++ later ≡ steps ++ rest →
+    ((beyond : List TurnStep) × (later ≡ drop (length interrupted) steps ++ beyond)) × ((others : List TurnStep) × (interrupted ≡ take (length interrupted) steps ++ others))
 split [] later steps rest is = ((rest, is), ([], refl))
-split (first ∷ lost) later [] rest is = ((later, refl), (first ∷ lost, refl))
-split (first ∷ lost) later (step ∷ steps) rest is =
+split (first ∷ interrupted) later [] rest is = ((later, refl), (first ∷ interrupted, refl))
+split (first ∷ interrupted) later (step ∷ steps) rest is =
     let same : first ≡ step = cc in
-    let others : lost ++ later ≡ steps ++ rest = cc in
-    let parts = split lost later steps rest others in
-    (parts.0, (parts.1.0, ap (λ (one : TurnStep). one ∷ lost) same ∙ ap (λ (l : List TurnStep). step ∷ l) parts.1.1))
+    let others : interrupted ++ later ≡ steps ++ rest = cc in
+    let parts = split interrupted later steps rest others in
+    (parts.0, (parts.1.0, ap (λ (one : TurnStep). one ∷ interrupted) same ∙ ap (λ (l : List TurnStep). step ∷ l) parts.1.1))
 
 pairs_left : {X : Type 0} (R : X → X → Type 0) (xs ys : List X) → AllPairs R (xs ++ ys) → AllPairs R xs
 pairs_left R [] ys pairs = pairs_nil R
@@ -246,19 +246,19 @@ ends_rise (kid ∷ kids) [] rise = pairs_nil IsBelow
 ends_rise (kid ∷ kids) (None ∷ answers) rise = ends_rise kids answers (pairs_tail (λ one other. one.number < other.number) kid kids rise)
 ends_rise (kid ∷ kids) (Some ending ∷ answers) rise =
     pairs_cons IsBelow (Ended kid.number ending) (ends kids answers)
-    (λ step has. (let of : (other : Kid) × (told : Ending) × Has kids other × (Ended other.number told ≡ step) = end_of_kid kids answers step has in
+    (λ step has. (let of : (other : Kid) × (known : Ending) × Has kids other × (Ended other.number known ≡ step) = end_of_kid kids answers step has in
     subst (λ (one : TurnStep). kid.number < number_of one) of.3 (pairs_head (λ one other. one.number < other.number) kid kids rise of.0 of.2)))
     (ends_rise kids answers (pairs_tail (λ one other. one.number < other.number) kid kids rise))
 
 ends_each : (kids : List Kid) (answers : List (Option Ending)) (step : TurnStep) → Has (ends kids answers) step → is_end step ≡ true
 ends_each kids answers step has =
-    let of : (other : Kid) × (told : Ending) × Has kids other × (Ended other.number told ≡ step) = end_of_kid kids answers step has in
+    let of : (other : Kid) × (known : Ending) × Has kids other × (Ended other.number known ≡ step) = end_of_kid kids answers step has in
     ap is_end (sym of.3)
 
-front_of_ends : (kids : List Kid) (answers : List (Option Ending)) (front behind : List TurnStep) → AreByNumber kids → ends kids answers ≡ front ++ behind → AreEndsByNumber front
-front_of_ends kids answers front behind rise is = record {
-  each = each_all (λ step. is_end step ≡ true) front (λ step has. ends_each kids answers step (subst (λ (l : List TurnStep). Has l step) (sym is) (has_left front behind step has)));
-  ordered = pairs_left IsBelow front behind (subst (AllPairs IsBelow) is (ends_rise kids answers rise));
+prefix_of_ends : (kids : List Kid) (answers : List (Option Ending)) (prefix beyond : List TurnStep) → AreByNumber kids → ends kids answers ≡ prefix ++ beyond → AreEndsByNumber prefix
+prefix_of_ends kids answers prefix beyond rise is = record {
+  each = each_all (λ step. is_end step ≡ true) prefix (λ step has. ends_each kids answers step (subst (λ (l : List TurnStep). Has l step) (sym is) (has_left prefix beyond step has)));
+  ordered = pairs_left IsBelow prefix beyond (subst (AllPairs IsBelow) is (ends_rise kids answers rise));
 }
 
 -- what is given up tells of no end
@@ -268,34 +268,34 @@ no_end rows number step has =
     ap (tells_end_of number) (sym of.2)
 
 module _ (table : JobTable) (kids : List Kid) (part : Part) (result : Result Kept StoreFault) (decided : AreDecided table kids part result) (rise : AreByNumber kids) where
-  abbrev lost : List TurnStep
-  lost = interrupts table kids
+  abbrev interrupted : List TurnStep
+  interrupted = interrupts table kids
 
-  parts : ((behind : List TurnStep) × (ends kids decided.answers ≡ drop (length lost) part.steps ++ behind)) × ((others : List TurnStep) × (lost ≡ take (length lost) part.steps ++ others))
-  parts = split lost (ends kids decided.answers) part.steps (part.next ++ decided.front.0)
-      (decided.front.1 ∙ append_assoc part.steps part.next decided.front.0)
+  parts : ((beyond : List TurnStep) × (ends kids decided.answers ≡ drop (length interrupted) part.steps ++ beyond)) × ((others : List TurnStep) × (interrupted ≡ take (length interrupted) part.steps ++ others))
+  parts = split interrupted (ends kids decided.answers) part.steps (part.next ++ decided.prefix.0)
+      (decided.prefix.1 ∙ append_assoc part.steps part.next decided.prefix.0)
 
-  pub reported_ends : AreEndsByNumber (drop (length lost) part.steps)
-  reported_ends = front_of_ends kids decided.answers (drop (length lost) part.steps) parts.0.0 rise parts.0.1
+  pub reported_ends : AreEndsByNumber (drop (length interrupted) part.steps)
+  reported_ends = prefix_of_ends kids decided.answers (drop (length interrupted) part.steps) parts.0.0 rise parts.0.1
 
-  none_lost : (number : ℕ) → list_any (tells_end_of number) (take (length lost) part.steps) ≡ false
-  none_lost number = list_any_none (tells_end_of number) (take (length lost) part.steps)
-      (each_all (λ step. tells_end_of number step ≡ false) (take (length lost) part.steps) (λ step has.
-      no_end (filter (is_left kids) (live_rows table)) number step
-      (subst (λ (l : List TurnStep). Has l step) (sym parts.1.1) (has_left (take (length lost) part.steps) parts.1.0 step has))))
+  none_lost : (number : ℕ) → list_any (tells_end_of number) (take (length interrupted) part.steps) ≡ false
+  none_lost number = list_any_none (tells_end_of number) (take (length interrupted) part.steps)
+      (each_all (λ step. tells_end_of number step ≡ false) (take (length interrupted) part.steps) (λ step has.
+      no_end (filter (is_without_kid kids) (live_rows table)) number step
+      (subst (λ (l : List TurnStep). Has l step) (sym parts.1.1) (has_left (take (length interrupted) part.steps) parts.1.0 step has))))
 
-  ends_alike : (number : ℕ) → list_any (tells_end_of number) (drop (length lost) part.steps) ≡ list_any (tells_end_of number) part.steps
+  ends_alike : (number : ℕ) → list_any (tells_end_of number) (drop (length interrupted) part.steps) ≡ list_any (tells_end_of number) part.steps
   ends_alike number =
-      ap (λ b. b || list_any (tells_end_of number) (drop (length lost) part.steps)) (sym (none_lost number))
-      ∙ sym (list_any-append (tells_end_of number) (take (length lost) part.steps) (drop (length lost) part.steps))
-      ∙ ap (list_any (tells_end_of number)) (take-append-drop (length lost) part.steps)
+      ap (λ b. b || list_any (tells_end_of number) (drop (length interrupted) part.steps)) (sym (none_lost number))
+      ∙ sym (list_any-append (tells_end_of number) (take (length interrupted) part.steps) (drop (length interrupted) part.steps))
+      ∙ ap (list_any (tells_end_of number)) (take-append-drop (length interrupted) part.steps)
 
-  pub reported_without : (all : List Kid) → without_ended (drop (length lost) part.steps) all ≡ without_ended part.steps all
+  pub reported_without : (all : List Kid) → without_ended (drop (length interrupted) part.steps) all ≡ without_ended part.steps all
   reported_without all =
-      filter_alike (λ (kid : Kid). not (list_any (tells_end_of kid.number) (drop (length lost) part.steps))) (λ (kid : Kid). not (list_any (tells_end_of kid.number) part.steps)) all
+      filter_alike (λ (kid : Kid). not (list_any (tells_end_of kid.number) (drop (length interrupted) part.steps))) (λ (kid : Kid). not (list_any (tells_end_of kid.number) part.steps)) all
       (λ kid has. ap not (ends_alike kid.number))
 
--- The slice of the steps that were written down behind those that give jobs up.
+-- The slice of the steps that were written down after those that give jobs up.
 
 drop_past : (count : ℕ) (steps : List TurnStep) → length steps ≤ count → drop count steps ≡ []
 drop_past zero [] past = refl
@@ -312,31 +312,31 @@ drop_least count steps = elim (cases_lt count (length steps)) [
 rest_taken : (count : ℕ) (steps : List TurnStep) → take (length steps - count) (drop count steps) ≡ drop count steps
 rest_taken count steps = ap (λ (n : ℕ). take n (drop count steps)) (let is : length steps - count ≡ length (drop count steps) = omega (arith, length-drop count steps) in is) ∙ take-length (drop count steps)
 
-pub reported_slice : (lost all steps reported : List TurnStep) (first counted : ℕ) → lost ≡ all → reported ≡ steps → first ≡ min (length lost) counted → counted ≡ length reported →
+pub reported_slice : (interrupted all steps reported : List TurnStep) (first counted : ℕ) → interrupted ≡ all → reported ≡ steps → first ≡ min (length interrupted) counted → counted ≡ length reported →
     take (length reported - first) (drop first reported) ≡ drop (length all) steps
-reported_slice lost all steps reported first counted lost_is same is count =
+reported_slice interrupted all steps reported first counted lost_is same is count =
     rest_taken first reported
-    ∙ ap (λ (n : ℕ). drop n reported) (is ∙ ap (min (length lost)) count)
-    ∙ drop_least (length lost) reported
+    ∙ ap (λ (n : ℕ). drop n reported) (is ∙ ap (min (length interrupted)) count)
+    ∙ drop_least (length interrupted) reported
     ∙ ap (λ (l : List TurnStep). drop (length l) reported) lost_is
     ∙ ap (drop (length all)) same
 
 -- What is known once all have answered.
 
-pub asked_as : {E : Type 0} (tells : Bool) (kids : List Kid) (was told : List TurnStep) (old new : World) (result : Result (Unit {0}) E) (done : Unit {0}) → result ≡ Ok done → was ≡ [] →
-    AsksAll tells kids was told old new result → AsksAll {E = E} tells kids [] told old new (Ok done)
-asked_as {E} tells kids was told old new result done is none asks =
-    subst (λ (l : List TurnStep). AsksAll {E = E} tells kids l told old new (Ok done)) none (subst (λ (of : Result (Unit {0}) E). AsksAll tells kids was told old new of) is asks)
+pub asked_as : {E : Type 0} (tells : Bool) (kids : List Kid) (was known : List TurnStep) (old new : World) (result : Result (Unit {0}) E) (done : Unit {0}) → result ≡ Ok done → was ≡ [] →
+    AsksAll tells kids was known old new result → AsksAll {E = E} tells kids [] known old new (Ok done)
+asked_as {E} tells kids was known old new result done is none asks =
+    subst (λ (l : List TurnStep). AsksAll {E = E} tells kids l known old new (Ok done)) none (subst (λ (of : Result (Unit {0}) E). AsksAll tells kids was known old new of) is asks)
 
-pub asked_slice : {E : Type 0} (tells : Bool) (kids : List Kid) (slice told : List TurnStep) (old new : World) → slice ≡ told →
-    AsksAll {E = E} tells kids [] told old new (Ok tt) → AsksAll {E = E} tells kids [] slice old new (Ok tt)
-asked_slice {E} tells kids slice told old new same asks = subst (λ (l : List TurnStep). AsksAll {E = E} tells kids [] l old new (Ok tt)) (sym same) asks
+pub asked_slice : {E : Type 0} (tells : Bool) (kids : List Kid) (slice known : List TurnStep) (old new : World) → slice ≡ known →
+    AsksAll {E = E} tells kids [] known old new (Ok tt) → AsksAll {E = E} tells kids [] slice old new (Ok tt)
+asked_slice {E} tells kids slice known old new same asks = subst (λ (l : List TurnStep). AsksAll {E = E} tells kids [] l old new (Ok tt)) (sym same) asks
 
 -- what is kept is current still
-pub now_current : {E : Type 0} (tells : Bool) (before first : Session) (old given_up middle : World) (kept now : Kept) (lost : List TurnStep) (kids : List Kid) (was between told : List TurnStep) →
-    (tells ≡ true → (table : JobTable) × IsCurrent kept old.now.folder table) → MakesAll tells before first old given_up kept lost was between (Ok now) →
-    AsksAll {E = E} tells kids [] told given_up middle (Ok tt) → tells ≡ true → (table : JobTable) × IsCurrent now middle.now.folder table
-now_current tells before first old given_up middle kept now lost kids was between told current makes asks is =
+pub now_current : {E : Type 0} (tells : Bool) (before first : Session) (old given_up middle : World) (kept now : Kept) (interrupted : List TurnStep) (kids : List Kid) (was between known : List TurnStep) →
+    (tells ≡ true → (table : JobTable) × IsCurrent kept old.now.folder table) → MakesAll tells before first old given_up kept interrupted was between (Ok now) →
+    AsksAll {E = E} tells kids [] known given_up middle (Ok tt) → tells ≡ true → (table : JobTable) × IsCurrent now middle.now.folder table
+now_current tells before first old given_up middle kept now interrupted kids was between known current makes asks is =
     let table : JobTable = (current is).0 in
     let made = makes.files is table (current is).1 in
-    (after_steps table (steps_of lost), (asks.asked is now (after_steps table (steps_of lost)) made.current).current)
+    (after_steps table (steps_of interrupted), (asks.asked is now (after_steps table (steps_of interrupted)) made.current).current)

@@ -17,11 +17,11 @@ use Rattle.daemon_turn.specs.declared.kid.Kid.{Kid}
 use Rattle.daemon_turn.specs.declared.step.TurnStep.{TurnStep}
 use Rattle.daemon_turn.specs.declared.step.TurnStep.TheVariants.{Ended, Interrupted}
 use Rattle.spool_model.specs.Lists.{is_running}
-use Rattle.daemon_turn.specs.Decisions.{ends, has_kid, interrupts, is_left, is_running_entry, runs_in}
+use Rattle.daemon_turn.specs.Decisions.{ends, has_kid, interrupts, is_without_kid, is_running_entry, runs_in}
 use Rattle.daemon_turn.specs.StepsOf.{number_of, step_of, steps_of}
-use Rattle.job_runs.proofs.ApartLemmas.{Apart, apart_append, apart_filter}
+use Rattle.step_runs.proofs.ApartLemmas.{Apart, apart_append, apart_filter}
 use Rattle.daemon_turn.proofs.LegalLemmas.{legal_apart}
-use Rattle.job_runs.proofs.RowLemmas.{row_held, rows_apart}
+use Rattle.step_runs.proofs.RowLemmas.{row_held, rows_apart}
 
 -- a job that runs by its entry
 running_entry : (found : Option JobEntry) → is_running_entry found ≡ true → (job : Job) × (second : ℤ) × (found ≡ Some (Live job (Running second)))
@@ -49,11 +49,11 @@ asked_run table kids kid has = (filtered_has (runs_in table) kids kid has).1
 
 -- an interrupt is that of a row without a kid
 pub interrupt_of : (table : JobTable) (kids : List Kid) (step : TurnStep) → Has (interrupts table kids) step →
-    (row : Row) × Has (live_rows table) row × (is_left kids row ≡ true) × (Interrupted row.number ≡ step)
+    (row : Row) × Has (live_rows table) row × (is_without_kid kids row ≡ true) × (Interrupted row.number ≡ step)
 interrupt_of table kids step has =
-    let made : (row : Row) × Has (filter (is_left kids) (live_rows table)) row × (Interrupted row.number ≡ step) =
-    made_has (λ (row : Row). Interrupted row.number) (filter (is_left kids) (live_rows table)) step has in
-    let kept : Has (live_rows table) made.0 × (is_left kids made.0 ≡ true) = filtered_has (is_left kids) (live_rows table) made.0 made.1 in
+    let made : (row : Row) × Has (filter (is_without_kid kids) (live_rows table)) row × (Interrupted row.number ≡ step) =
+    made_has (λ (row : Row). Interrupted row.number) (filter (is_without_kid kids) (live_rows table)) step has in
+    let kept : Has (live_rows table) made.0 × (is_without_kid kids made.0 ≡ true) = filtered_has (is_without_kid kids) (live_rows table) made.0 made.1 in
     (made.0, kept.0, kept.1, made.2)
 
 -- an end is that of a kid
@@ -103,28 +103,28 @@ module _ (table : JobTable) (kids : List Kid) (apart : Apart (map kid_number kid
   abbrev decided : List TurnStep
   decided = interrupts table kids ++ ends kids answers
 
-  decided_numbers : map number_of decided ≡ map (λ (row : Row). row.number) (filter (is_left kids) (live_rows table)) ++ map number_of (ends kids answers)
+  decided_numbers : map number_of decided ≡ map (λ (row : Row). row.number) (filter (is_without_kid kids) (live_rows table)) ++ map number_of (ends kids answers)
   decided_numbers =
       map-append number_of (interrupts table kids) (ends kids answers)
-      ∙ ap (λ (numbers : List ℕ). numbers ++ map number_of (ends kids answers)) (numbers_of_rows (filter (is_left kids) (live_rows table)))
+      ∙ ap (λ (numbers : List ℕ). numbers ++ map number_of (ends kids answers)) (numbers_of_rows (filter (is_without_kid kids) (live_rows table)))
 
   -- a row without a kid has no kid
-  no_kid : (number : ℕ) → Has (map (λ (row : Row). row.number) (filter (is_left kids) (live_rows table))) number → Has (map number_of (ends kids answers)) number → ⊥
+  no_kid : (number : ℕ) → Has (map (λ (row : Row). row.number) (filter (is_without_kid kids) (live_rows table))) number → Has (map number_of (ends kids answers)) number → ⊥
   no_kid number has other =
-      let row : (row : Row) × Has (filter (is_left kids) (live_rows table)) row × (row.number ≡ number) = made_has (λ (row : Row). row.number) (filter (is_left kids) (live_rows table)) number has in
+      let row : (row : Row) × Has (filter (is_without_kid kids) (live_rows table)) row × (row.number ≡ number) = made_has (λ (row : Row). row.number) (filter (is_without_kid kids) (live_rows table)) number has in
       let kid : (kid : Kid) × Has kids kid × (kid.number ≡ number) = made_has kid_number kids number (end_numbers kids answers number other) in
-      let left : is_left kids row.0 ≡ true = (filtered_has (is_left kids) (live_rows table) row.0 row.1).1 in
+      let left : is_without_kid kids row.0 ≡ true = (filtered_has (is_without_kid kids) (live_rows table) row.0 row.1).1 in
       not_true (has_kid kids row.0.number) (kid_found kids kid.0 row.0.number kid.1 (kid.2 ∙ sym row.2)) (and_parts (is_running row.0.state) (not (has_kid kids row.0.number)) left).1
 
   pub decided_apart : Apart (map number_of decided)
   decided_apart = subst Apart (sym decided_numbers)
-      (apart_append (map (λ (row : Row). row.number) (filter (is_left kids) (live_rows table))) (map number_of (ends kids answers))
-      (apart_filter (λ (row : Row). row.number) (is_left kids) (live_rows table) (rows_apart table)) (ends_apart kids answers apart) no_kid)
+      (apart_append (map (λ (row : Row). row.number) (filter (is_without_kid kids) (live_rows table))) (map number_of (ends kids answers))
+      (apart_filter (λ (row : Row). row.number) (is_without_kid kids) (live_rows table) (rows_apart table)) (ends_apart kids answers apart) no_kid)
 
   pub decided_legal : (step : TurnStep) → Has decided step → IsLegal table (step_of step)
   decided_legal step has = elim (has_either (interrupts table kids) (ends kids answers) step has) [
-    | inl lost ↦
-        let of : (row : Row) × Has (live_rows table) row × (is_left kids row ≡ true) × (Interrupted row.number ≡ step) = interrupt_of table kids step lost in
+    | inl interrupted ↦
+        let of : (row : Row) × Has (live_rows table) row × (is_without_kid kids row ≡ true) × (Interrupted row.number ≡ step) = interrupt_of table kids step interrupted in
         subst (λ (one : TurnStep). IsLegal table (step_of one)) of.3 (row_runs table of.0 of.1 (and_parts (is_running of.0.state) (not (has_kid kids of.0.number)) of.2).0)
     | inr ended ↦
         let of : (kid : Kid) × (ending : Ending) × Has kids kid × (Ended kid.number ending ≡ step) = end_of_kid kids answers step ended in
@@ -139,8 +139,8 @@ module _ (table : JobTable) (kids : List Kid) (apart : Apart (map kid_number kid
   decided_run number has =
       let made : (step : TurnStep) × Has decided step × (number_of step ≡ number) = made_has number_of decided number has in
       elim (has_either (interrupts table kids) (ends kids answers) made.0 made.1) [
-        | inl lost ↦
-            let of : (row : Row) × Has (live_rows table) row × (is_left kids row ≡ true) × (Interrupted row.number ≡ made.0) = interrupt_of table kids made.0 lost in
+        | inl interrupted ↦
+            let of : (row : Row) × Has (live_rows table) row × (is_without_kid kids row ≡ true) × (Interrupted row.number ≡ made.0) = interrupt_of table kids made.0 interrupted in
             subst (IsRunning table) (ap number_of of.3 ∙ made.2) (row_runs table of.0 of.1 (and_parts (is_running of.0.state) (not (has_kid kids of.0.number)) of.2).0)
         | inr ended ↦
             let of : (kid : Kid) × (ending : Ending) × Has kids kid × (Ended kid.number ending ≡ made.0) = end_of_kid kids answers made.0 ended in

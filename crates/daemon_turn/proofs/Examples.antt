@@ -7,11 +7,11 @@ use Rattle.daemon_turn.specs.declared.step.TurnStep.TheVariants.{Ended, HandedOv
 use Rattle.daemon_turn.specs.Decisions.{ends}
 use Rattle.daemon_turn.specs.Starting.{starts}
 
--- a start that failed is ended, and the job behind it is started
+-- a start that failed is ended, and the job after it is started
 failed_start : starts (1 ∷ 2 ∷ []) (pos 1735689600) (false ∷ true ∷ []) ≡ HandedOver 1 (pos 1735689600) ∷ Ended 1 NotStarted ∷ HandedOver 2 (pos 1735689600) ∷ []
 failed_start = refl
 
--- where no start has answered yet, the next one may stand, and none behind it
+-- where no start has answered yet, the next one may stand, and none after it
 first_start : starts (1 ∷ 2 ∷ []) (pos 1735689600) [] ≡ HandedOver 1 (pos 1735689600) ∷ []
 first_start = refl
 

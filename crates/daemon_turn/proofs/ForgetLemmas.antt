@@ -5,9 +5,9 @@ use Rattle.std.proofs.Math.Seq.{take-length}
 use Rattle.host_calls.specs.Session.{IsInside, Session}
 use Rattle.host_calls.specs.World.{World}
 use Rattle.spool_model.specs.Steps.{AreLegal, IsLegal}
-use Rattle.job_runs.specs.Current.{Kept}
-use Rattle.job_runs.specs.Hands.{StartNothing}
-use Rattle.job_runs.proofs.MadeLemmas.{no_steps_are_made}
+use Rattle.step_runs.specs.Current.{Kept}
+use Rattle.step_runs.specs.Hands.{StartNothing}
+use Rattle.step_runs.proofs.MadeLemmas.{no_steps_are_made}
 use Rattle.spool_store.specs.declared.fault.StoreFault.{StoreFault}
 use Rattle.spool_store.specs.declared.fault.StoreFault.TheVariants.{Memory}
 use Rattle.spool_shows.proofs.Membership.{Has, made_has}
@@ -24,11 +24,11 @@ use Rattle.daemon_turn.specs.StepsOf.{number_of, step_of, steps_of}
 use Rattle.daemon_turn.specs.inside.Forgetting.{Forgets}
 use Rattle.daemon_turn.specs.inside.Going.{MayGo}
 use Rattle.daemon_turn.specs.inside.Making.{MakesAll, MayMake}
-use Rattle.job_runs.proofs.ApartLemmas.{Apart}
-use Rattle.daemon_turn.proofs.DecideLemmas.{made_front}
+use Rattle.step_runs.proofs.ApartLemmas.{Apart}
+use Rattle.daemon_turn.proofs.DecideLemmas.{made_prefix}
 use Rattle.daemon_turn.proofs.GoLemmas.{asked_part, made_part, makes_go, memory_goes, stays_inside}
 use Rattle.daemon_turn.proofs.LegalLemmas.{legal_apart}
-use Rattle.job_runs.proofs.RowLemmas.{done_apart, done_held, take_apart, take_has}
+use Rattle.step_runs.proofs.RowLemmas.{done_apart, done_held, take_apart, take_has}
 
 -- as many numbers as are done
 length_numbers : (decided : List Decided) → length (map (λ (done : Decided). done.number) decided) ≡ length decided
@@ -86,8 +86,8 @@ pub forgot_nothing : (tells : Bool) (session : Session) (world : World) (kept : 
 forgot_nothing tells session world kept was (Ok store) err inside = absurd err
 forgot_nothing tells session world kept was (Err other) err inside = subst (λ (of : StoreFault). Forgets tells session session world world kept was was (Err of)) (sym err) (record {
   part = asked_part [];
-  goes = memory_goes tells session session world world kept [] (stays_inside session inside) (λ told now table current. no_steps_are_made table now world current);
-  forgotten = record { front = (forgets kept.table, refl); all = tt; asked = refl; flags = refl; added = refl };
+  goes = memory_goes tells session session world world kept [] (stays_inside session inside) (λ known now table current. no_steps_are_made table now world current);
+  forgotten = record { prefix = (forgets kept.table, refl); all = tt; asked = refl; flags = refl; added = refl };
   written = sym (append-nil was);
 })
 
@@ -97,15 +97,15 @@ pub forgot_all : (tells : Bool) (before after : Session) (old new : World) (kept
 forgot_all tells before after old new kept steps was is result steps_are makes = record {
   part = made_part steps makes.made result;
   goes = makes_go tells before after old new kept steps was is result makes;
-  forgotten = record { front = front_of result makes; all = all_of result makes; asked = refl; flags = refl; added = refl };
+  forgotten = record { prefix = prefix_of result makes; all = all_of result makes; asked = refl; flags = refl; added = refl };
   written = makes.written;
 } where
-  front_of : (of : Result Kept StoreFault) (made : MakesAll tells before after old new kept steps was is of) →
-      (behind : List TurnStep) × (forgets kept.table ≡ (take made.made steps ++ (made_part steps made.made of).next) ++ behind)
-  front_of (Ok store) made = ([], sym steps_are ∙ sym (all_taken store made) ∙ sym (append-nil (take made.made steps)) ∙ sym (append-nil (take made.made steps ++ []))) where
+  prefix_of : (of : Result Kept StoreFault) (made : MakesAll tells before after old new kept steps was is of) →
+      (later : List TurnStep) × (forgets kept.table ≡ (take made.made steps ++ (made_part steps made.made of).next) ++ later)
+  prefix_of (Ok store) made = ([], sym steps_are ∙ sym (all_taken store made) ∙ sym (append-nil (take made.made steps)) ∙ sym (append-nil (take made.made steps ++ []))) where
     all_taken : (store : Kept) (made : MakesAll tells before after old new kept steps was is (Ok store)) → take made.made steps ≡ steps
     all_taken store made = ap (λ (n : ℕ). take n steps) made.all ∙ take-length steps
-  front_of (Err fault) made = (let front = made_front steps made.made in (front.0, sym steps_are ∙ front.1))
+  prefix_of (Err fault) made = (let prefix = made_prefix steps made.made in (prefix.0, sym steps_are ∙ prefix.1))
 
   all_of : (of : Result Kept StoreFault) (made : MakesAll tells before after old new kept steps was is of) → IfOk of (λ store. take made.made steps ≡ forgets kept.table)
   all_of (Ok store) made = ap (λ (n : ℕ). take n steps) made.all ∙ take-length steps ∙ steps_are

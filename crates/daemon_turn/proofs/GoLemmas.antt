@@ -1,4 +1,4 @@
--- Parts of a turn, one behind another.
+-- Parts of a turn, one after another.
 use Rattle.std.proofs.Common.{◌≡◌, ◌++◌, ℕ, ℤ, Bool, true, false, List, [], ◌∷◌, append_assoc, append-nil, drop, filter, length, map, take, sym, ap, subst, ◌∙◌, refl, arith}
 use Rattle.std.specs.Prelude.{IfOk, Option, Some, None, Result, Ok, Err, is_some, option_to_list}
 use Rattle.std.proofs.lemmas.List.{map-append}
@@ -12,13 +12,13 @@ use Rattle.host_calls.specs.World.{World}
 use Rattle.spool_model.specs.declared.step.Step.{Step}
 use Rattle.spool_model.specs.JobTable.{JobTable}
 use Rattle.spool_model.specs.Steps.{IsLegal, after_steps}
-use Rattle.job_runs.specs.Calls.{StoreCall}
-use Rattle.job_runs.specs.Current.{IsCurrent, Kept}
-use Rattle.job_runs.specs.Hands.{StartNothing}
-use Rattle.job_runs.specs.Made.{AreMade, AreStopped, IsStarted, flags_of}
-use Rattle.job_runs.proofs.HandsLemmas.{steps_then}
-use Rattle.job_runs.proofs.MadeLemmas.{calls_make_their_steps, calls_stop_at_their_step, made_steps_are_stopped, no_steps_are_made, steps_are_made_behind, steps_are_stopped_behind}
-use Rattle.job_runs.proofs.TurnLemmas.{legal_when_kept}
+use Rattle.step_runs.specs.Calls.{StoreCall}
+use Rattle.step_runs.specs.Current.{IsCurrent, Kept}
+use Rattle.step_runs.specs.Hands.{StartNothing}
+use Rattle.step_runs.specs.Made.{AreMade, AreStopped, IsStarted, flags_of}
+use Rattle.step_runs.proofs.HandsLemmas.{steps_then}
+use Rattle.step_runs.proofs.MadeLemmas.{calls_make_their_steps, calls_stop_at_their_step, made_steps_are_stopped, no_steps_are_made, steps_are_made_after, steps_are_stopped_after}
+use Rattle.step_runs.proofs.TurnLemmas.{legal_when_kept}
 use Rattle.spool_store.specs.declared.fault.StoreFault.{StoreFault}
 use Rattle.spool_store.specs.declared.fault.StoreFault.TheVariants.{FileFault, Memory}
 use Rattle.spool_store.specs.Stepping.{MakesStep}
@@ -31,7 +31,7 @@ use Rattle.daemon_turn.specs.inside.Going.{Gives, Goes, Part, PartEnds, joined}
 use Rattle.daemon_turn.specs.inside.Handing.{HandsJobOver}
 use Rattle.daemon_turn.specs.inside.Making.{MakesAll}
 use Rattle.daemon_turn.proofs.HandLemmas.{counts_on}
-use Rattle.daemon_turn.proofs.MakeLemmas.{bare_is}
+use Rattle.daemon_turn.proofs.MakeLemmas.{without_scripts_is}
 
 no_fault : {T E : Type 0} (value : T) (fault : E) → ◌≡◌ {A = Result T E} (Ok value) (Err fault) → ⊥
 no_fault value fault is = cc
@@ -55,7 +55,7 @@ goes_none tells session world kept inside = record {
   children = sym (append-nil session.children);
   table_is = refl;
   whole = refl;
-  files = λ told table current. record { given = []; flagged = refl; numbered = refl; ends = no_steps_are_made table kept world current };
+  files = λ known table current. record { given = []; flagged = refl; numbered = refl; ends = no_steps_are_made table kept world current };
 }
 
 -- the steps of two parts
@@ -72,20 +72,20 @@ started_join given more =
 
 table_then : (kept middle : Kept) (first later : List TurnStep) (result : Result Kept StoreFault) → middle.table ≡ after_steps kept.table (steps_of first) →
     IfOk result (λ store. store.table ≡ after_steps middle.table (steps_of later)) → IfOk result (λ store. store.table ≡ after_steps kept.table (steps_of (first ++ later)))
-table_then kept middle first later (Ok store) before behind = behind ∙ ap (λ (table : JobTable). after_steps table (steps_of later)) before ∙ sym (after_join kept.table first later)
-table_then kept middle first later (Err fault) before behind = tt
+table_then kept middle first later (Ok store) before beyond = beyond ∙ ap (λ (table : JobTable). after_steps table (steps_of later)) before ∙ sym (after_join kept.table first later)
+table_then kept middle first later (Err fault) before beyond = tt
 
 ends_then : (table : JobTable) (first later : Part) (given more : List Handed) (middle : Kept) (start between end : World) (result : Result Kept StoreFault) →
     PartEnds table first given start between (Ok middle) → PartEnds (after_steps table (steps_of first.steps)) later more between end result →
     PartEnds table (joined first later) (given ++ more) start end result
-ends_then table first later given more middle start between end (Ok kept) before behind =
+ends_then table first later given more middle start between end (Ok kept) before beyond =
     subst (λ (steps : List Step). AreMade table steps (given ++ more) (first.questions ++ later.questions) kept start end) (sym (steps_join first.steps later.steps))
-    (steps_are_made_behind table (steps_of first.steps) (steps_of later.steps) given more first.questions later.questions middle kept start between end before behind)
-ends_then table first later given more middle start between end (Err fault) before behind =
+    (steps_are_made_after table (steps_of first.steps) (steps_of later.steps) given more first.questions later.questions middle kept start between end before beyond)
+ends_then table first later given more middle start between end (Err fault) before beyond =
     subst (λ (steps : List Step). AreStopped table steps (steps_of later.next) (given ++ more) (first.questions ++ later.questions) start end) (sym (steps_join first.steps later.steps))
-    (steps_are_stopped_behind table (steps_of first.steps) (steps_of later.steps) (steps_of later.next) given more first.questions later.questions middle start between end before behind)
+    (steps_are_stopped_after table (steps_of first.steps) (steps_of later.steps) (steps_of later.next) given more first.questions later.questions middle start between end before beyond)
 
--- one part behind another, which was made
+-- one part after another, which was made
 pub goes_then : (tells : Bool) (before between after : Session) (start middle end : World) (kept now : Kept) (first later : Part) (result : Result Kept StoreFault) →
     Goes tells before between start middle kept first (Ok now) → Goes tells between after middle end now later result →
     Goes tells before after start end kept (joined first later) result
@@ -102,10 +102,10 @@ goes_then tells before between after start middle end kept now first later resul
       ∙ ap (λ (l : List Child). before.children ++ l) (sym (map-append (λ (kid : Kid). kid.child) first.added later.added));
   table_is = table_then kept now first.steps later.steps result one.table_is other.table_is;
   whole = other.whole;
-  files = λ told table current.
-      let was : Gives table first start middle (Ok now) = one.files told table current in
+  files = λ known table current.
+      let was : Gives table first start middle (Ok now) = one.files known table current in
       let made : AreMade table (steps_of first.steps) was.given first.questions now start middle = was.ends in
-      let is : Gives (after_steps table (steps_of first.steps)) later middle end result = other.files told (after_steps table (steps_of first.steps)) made.current in
+      let is : Gives (after_steps table (steps_of first.steps)) later middle end result = other.files known (after_steps table (steps_of first.steps)) made.current in
       record {
         given = was.given ++ is.given;
         flagged = map-append (λ (handed : Handed). handed.started) was.given is.given ∙ ap (λ (l : List Bool). l ++ flags_of is.given) was.flagged ∙ ap (λ (l : List Bool). first.flags ++ l) is.flagged;
@@ -138,11 +138,11 @@ makes_go tells before after old new kept steps was is (Ok store) makes =
       children = makes.inside.stays.children ∙ sym (append-nil before.children);
       table_is = makes.table_is ∙ ap (λ (l : List TurnStep). after_steps kept.table (steps_of l)) (sym all);
       whole = refl;
-      files = λ told table current. record {
+      files = λ known table current. record {
         given = [];
         flagged = refl;
         numbered = refl;
-        ends = subst (λ (l : List TurnStep). AreMade table (steps_of l) [] [] store old new) (sym all) (makes.files told table current);
+        ends = subst (λ (l : List TurnStep). AreMade table (steps_of l) [] [] store old new) (sym all) (makes.files known table current);
       };
     }
 makes_go tells before after old new kept steps was is (Err fault) makes = record {
@@ -153,7 +153,7 @@ makes_go tells before after old new kept steps was is (Err fault) makes = record
   children = makes.inside.stays.children ∙ sym (append-nil before.children);
   table_is = tt;
   whole = tt;
-  files = λ told table current. record { given = []; flagged = refl; numbered = refl; ends = makes.files told table current };
+  files = λ known table current. record { given = []; flagged = refl; numbered = refl; ends = makes.files known table current };
 }
 
 -- Questions.
@@ -172,7 +172,7 @@ asks_go tells before after old new kept questions stays asked = record {
   children = stays.children ∙ sym (append-nil before.children);
   table_is = refl;
   whole = refl;
-  files = λ told table current. record { given = []; flagged = refl; numbered = refl; ends = asked told kept table current };
+  files = λ known table current. record { given = []; flagged = refl; numbered = refl; ends = asked known kept table current };
 }
 
 not_memory : {T : Type 0} → ◌≡◌ {A = Result T StoreFault} (Err Memory) (Err FileFault) → ⊥
@@ -190,11 +190,11 @@ memory_goes tells before after old new kept questions stays asked = record {
   children = stays.children ∙ sym (append-nil before.children);
   table_is = tt;
   whole = tt;
-  files = λ told table current. record {
+  files = λ known table current. record {
     given = [];
     flagged = refl;
     numbered = refl;
-    ends = made_steps_are_stopped table [] [] questions kept old new (asked told kept table current);
+    ends = made_steps_are_stopped table [] [] questions kept old new (asked known kept table current);
   };
 }
 
@@ -242,8 +242,8 @@ hands_go tells before after old new kept number second (Ok started) hands = reco
   children = hands.children ∙ ap (λ (l : List Child). before.children ++ l) (child_of number started.1);
   table_is = hands.table_is;
   whole = refl;
-  files = λ told table current.
-      let start : IsStarted table number second (is_some started.1) started.0 old new = hands.files told table current in
+  files = λ known table current.
+      let start : IsStarted table number second (is_some started.1) started.0 old new = hands.files known table current in
       record {
         given = start.handed ∷ [];
         flagged = start.flagged;
@@ -259,7 +259,7 @@ hands_go tells before after old new kept number second (Err fault) hands = recor
   children = hands.children;
   table_is = tt;
   whole = tt;
-  files = λ told table current. record { given = []; flagged = refl; numbered = refl; ends = hands.files told table current };
+  files = λ known table current. record { given = []; flagged = refl; numbered = refl; ends = hands.files known table current };
 } where
   same_fault : (one : StoreFault) → ◌≡◌ {A = Result Kept StoreFault} (Err one) (Err FileFault) → one ≡ FileFault
   same_fault one is = cc
@@ -281,14 +281,14 @@ step_goes tells before after old new kept step (Ok store) legal quiet makes = re
   children = makes.inside.stays.children ∙ sym (append-nil before.children);
   table_is = makes.table_is;
   whole = refl;
-  files = λ told table current.
-      let call : StoreCall {E = StoreFault} table (step_of step ∷ []) old new (Ok store) = makes.files told table current in
+  files = λ known table current.
+      let call : StoreCall {E = StoreFault} table (step_of step ∷ []) old new (Ok store) = makes.files known table current in
       record {
         given = [];
         flagged = refl;
         numbered = refl;
         ends = calls_make_their_steps table (step_of step ∷ []) store old new
-            (legal_when_kept kept old.now.folder table (step_of step) current (subst (IsLegal kept.table) (sym (bare_is step)) legal), tt) quiet current.shows call.files call.current call.others;
+            (legal_when_kept kept old.now.folder table (step_of step) current (subst (IsLegal kept.table) (sym (without_scripts_is step)) legal), tt) quiet current.shows call.files call.current call.others;
       };
 }
 step_goes tells before after old new kept step (Err fault) legal quiet makes = record {
@@ -299,13 +299,13 @@ step_goes tells before after old new kept step (Err fault) legal quiet makes = r
   children = makes.inside.stays.children ∙ sym (append-nil before.children);
   table_is = tt;
   whole = tt;
-  files = λ told table current.
-      let call : StoreCall {E = StoreFault} table (step_of step ∷ []) old new (Err fault) = makes.files told table current in
+  files = λ known table current.
+      let call : StoreCall {E = StoreFault} table (step_of step ∷ []) old new (Err fault) = makes.files known table current in
       record {
         given = [];
         flagged = refl;
         numbered = refl;
         ends = calls_stop_at_their_step table (step_of step) old new
-            (legal_when_kept kept old.now.folder table (step_of step) current (subst (IsLegal kept.table) (sym (bare_is step)) legal)) current.shows call.files;
+            (legal_when_kept kept old.now.folder table (step_of step) current (subst (IsLegal kept.table) (sym (without_scripts_is step)) legal)) current.shows call.files;
       };
 }

@@ -1,4 +1,4 @@
--- A start, and the call of the host behind it.
+-- A start, and the call of the host after it.
 use Rattle.std.proofs.Common.{◌≡◌, ◌++◌, ℕ, ℤ, Bool, true, List, [], ◌∷◌, append-nil, arith, sym, ap, subst, ◌∙◌, refl}
 use Rattle.std.specs.Prelude.{Option, Some, None, IfNone, IsErrAnd, IsSome, IsSomeAnd, Result, Ok, Err, option_map}
 use Rattle.std.specs.FinMap as finite
@@ -17,14 +17,14 @@ use Rattle.spool_model.specs.declared.step.Step.TheVariants.{Start}
 use Rattle.spool_model.specs.JobTable.{JobEntry, JobState, JobTable, entry_at}
 use Rattle.spool_model.specs.Steps.{IsLegal, after_step, with_state}
 use Rattle.spool_model.proofs.TableLemmas.{get-put_same}
-use Rattle.job_runs.specs.Bare.{bare, bare_entry, bare_job}
-use Rattle.job_runs.specs.Calls.{StoreCall}
-use Rattle.job_runs.specs.Current.{IsCurrent, Kept, is_wide}
-use Rattle.job_runs.specs.Made.{IsScriptFile, StartEnds}
-use Rattle.job_runs.proofs.BareLemmas.{entries_are_bare}
-use Rattle.job_runs.proofs.MadeLemmas.{calls_stop_at_their_step}
-use Rattle.job_runs.proofs.StartedLemmas.{starts_end}
-use Rattle.job_runs.proofs.TurnLemmas.{legal_when_kept}
+use Rattle.step_runs.specs.WithoutScripts.{without_scripts, entry_without_script, job_without_script}
+use Rattle.step_runs.specs.Calls.{StoreCall}
+use Rattle.step_runs.specs.Current.{IsCurrent, Kept, is_new_form}
+use Rattle.step_runs.specs.Made.{IsScriptFile, StartEnds}
+use Rattle.step_runs.proofs.WithoutScriptsLemmas.{entries_are_without_scripts}
+use Rattle.step_runs.proofs.MadeLemmas.{calls_stop_at_their_step}
+use Rattle.step_runs.proofs.StartedLemmas.{starts_end}
+use Rattle.step_runs.proofs.TurnLemmas.{legal_when_kept}
 use Rattle.spool_store.specs.declared.fault.StoreFault.{StoreFault}
 use Rattle.spool_store.specs.declared.fault.StoreFault.TheVariants.{FileFault, Memory}
 use Rattle.spool_store.specs.Listed.{IsLive}
@@ -48,15 +48,15 @@ same_job : (one other : Job) (state since : JobState) → ◌≡◌ {A = Option 
 same_job one other state since is = cc
 
 -- the file of a live job has its script, and the niceness of its name's queue is that of the job's
-pub script_is : (kept : Kept) (folder : Folder) (table : JobTable) (number : ℕ) (name : List ℕ) (queue nice : ℕ) (file : IsFileOf kept.table kept.narrow number name) →
+pub script_is : (kept : Kept) (folder : Folder) (table : JobTable) (number : ℕ) (name : List ℕ) (queue nice : ℕ) (file : IsFileOf kept.table kept.old_form number name) →
     queue ≡ file.job.queue → nice ≡ niceness_of queue → IsCurrent kept folder table → HoldsScript table folder number name →
     IsScriptFile table (reading_of folder) number name nice
 script_is kept folder table number name queue nice file queue_is nice_is current holds =
-    let shown : entry_at (bare table) number ≡ Some (Live (bare_job holds.script.job) holds.script.state) =
-    entries_are_bare table number ∙ ap (option_map bare_entry) holds.script.lives in
-    let told : entry_at (bare table) number ≡ Some (Live file.job file.state) =
-    subst (λ (t : JobTable). entry_at t number ≡ Some (Live file.job file.state)) current.bare_is file.lives in
-    let job_is : file.job ≡ bare_job holds.script.job = same_job file.job (bare_job holds.script.job) file.state holds.script.state (sym told ∙ shown) in
+    let shown : entry_at (without_scripts table) number ≡ Some (Live (job_without_script holds.script.job) holds.script.state) =
+    entries_are_without_scripts table number ∙ ap (option_map entry_without_script) holds.script.lives in
+    let known : entry_at (without_scripts table) number ≡ Some (Live file.job file.state) =
+    subst (λ (t : JobTable). entry_at t number ≡ Some (Live file.job file.state)) current.without_scripts_is file.lives in
+    let job_is : file.job ≡ job_without_script holds.script.job = same_job file.job (job_without_script holds.script.job) file.state holds.script.state (sym known ∙ shown) in
     record {
       job = holds.script.job;
       state = holds.script.state;
@@ -114,8 +114,8 @@ pub and_some : {X : Type 0} (P : X → Type 0) (found : Option X) (value : X) �
 and_some {X = X} P found value is holds = subst (λ (some : Option X). IsSomeAnd some P) is holds
 
 -- the name of a live job's file is that of its queue
-pub named : (table : JobTable) (narrow : List ℕ) (number : ℕ) (name bytes : List ℕ) → bytes ≡ name → (file : IsFileOf table narrow number name) → SpellsJobName bytes file.job.queue number file.job.minute (is_wide narrow number)
-named table narrow number name bytes same file = subst (λ (of : List ℕ). SpellsJobName of file.job.queue number file.job.minute (is_wide narrow number)) (sym same) file.spelled
+pub named : (table : JobTable) (old_form : List ℕ) (number : ℕ) (name bytes : List ℕ) → bytes ≡ name → (file : IsFileOf table old_form number name) → SpellsJobName bytes file.job.queue number file.job.minute (is_new_form old_form number)
+named table old_form number name bytes same file = subst (λ (of : List ℕ). SpellsJobName of file.job.queue number file.job.minute (is_new_form old_form number)) (sym same) file.spelled
 
 -- the host's files have the script
 pub script_held : (table : JobTable) (files : Files) (number : ℕ) (name : List ℕ) (nice : ℕ) → IsScriptFile table files number name nice → IsSome (finite.get files name)
@@ -123,11 +123,11 @@ script_held table files number name nice file = subst IsSome (sym file.held) ref
 
 -- counts go on
 pub counts_on : (old middle new : Session) → KeepsCounts old middle → KeepsCounts middle new → KeepsCounts old new
-counts_on old middle new before behind = record {
-  made_as = behind.made_as ∙ before.made_as;
-  file_faults = omega (arith, before.file_faults, behind.file_faults);
-  start_faults = omega (arith, before.start_faults, behind.start_faults);
-  taken = omega (arith, before.taken, behind.taken);
+counts_on old middle new before beyond = record {
+  made_as = beyond.made_as ∙ before.made_as;
+  file_faults = omega (arith, before.file_faults, beyond.file_faults);
+  start_faults = omega (arith, before.start_faults, beyond.start_faults);
+  taken = omega (arith, before.taken, beyond.taken);
 }
 
 same_fault : {T : Type 0} (one other : StoreFault) → ◌≡◌ {A = Result T StoreFault} (Err one) (Err other) → one ≡ other
@@ -155,10 +155,10 @@ not_started tells before after old new kept number second fault (Err other) is l
       };
       faults = makes.faults;
       table_is = tt;
-      files = λ told table current. start_stopped kept number second old new legal fault table current (makes.files told table current);
+      files = λ known table current. start_stopped kept number second old new legal fault table current (makes.files known table current);
     })
 
--- Behind the store's start, which was made:
+-- After the store's start, which was made:
 module _ (tells : Bool) (before between after : Session) (old middle new : World) (kept last : Kept) (number : ℕ) (second : ℤ) (legal : IsLegal kept.table (Start number second)) (makes : MakesStep tells before between old middle kept (Start number second) (Ok last)) (name : List ℕ) (nice : ℕ) (file : (folder : Folder) (shown : JobTable) → IsCurrent last folder shown → IsScriptFile shown (reading_of folder) number name nice) where
   pub given_child : (child : Child) → Starts {E = StartFault} between after (Ok child) →
       (tells ≡ true → StartCall {T = Child} number name nice middle new (Ok child)) →
@@ -170,8 +170,8 @@ module _ (tells : Bool) (before between after : Session) (old middle new : World
     cause = record { later = omega (arith, makes.inside.stays.counts.file_faults, starts.counts.file_faults); rose = λ bad. absurd (no_fault (last, Some child) FileFault bad) };
     faults = tt;
     table_is = makes.table_is;
-    files = λ told table current.
-        child_came kept number second old middle legal last name nice new child table current (makes.files told table current) file (call told);
+    files = λ known table current.
+        child_came kept number second old middle legal last name nice new child table current (makes.files known table current) file (call known);
   }
 
   pub given_none : Starts {E = StartFault} between after (Err Failed) →
@@ -184,8 +184,8 @@ module _ (tells : Bool) (before between after : Session) (old middle new : World
     cause = record { later = omega (arith, makes.inside.stays.counts.file_faults, starts.counts.file_faults); rose = λ bad. absurd (no_fault (last, None) FileFault bad) };
     faults = tt;
     table_is = makes.table_is;
-    files = λ told table current.
-        no_child_came kept number second old middle legal last name nice new table current (makes.files told table current) file (call told);
+    files = λ known table current.
+        no_child_came kept number second old middle legal last name nice new table current (makes.files known table current) file (call known);
   }
 
   pub given_no_memory : Starts {E = StartFault} between after (Err NoMemory) →
@@ -198,16 +198,16 @@ module _ (tells : Bool) (before between after : Session) (old middle new : World
     cause = record { later = omega (arith, makes.inside.stays.counts.file_faults, starts.counts.file_faults); rose = λ bad. absurd (not_memory bad) };
     faults = tt;
     table_is = tt;
-    files = λ told table current.
-        no_memory kept number second old middle legal last name nice new table current (makes.files told table current) file (call told);
+    files = λ known table current.
+        no_memory kept number second old middle legal last name nice new table current (makes.files known table current) file (call known);
   }
 
   -- the script is there when the host is called
   pub held_now : (tells ≡ true → (table : JobTable) × IsCurrent kept old.now.folder table) → tells ≡ true → IsSome (finite.get (reading middle) name)
-  held_now current told =
-      let table : JobTable = (current told).0 in
+  held_now current known =
+      let table : JobTable = (current known).0 in
       script_held (after_step table (Start number second)) (reading middle) number name nice
-      (file middle.now.folder (after_step table (Start number second)) (makes.files told table (current told).1).current)
+      (file middle.now.folder (after_step table (Start number second)) (makes.files known table (current known).1).current)
 
 -- the store's start, at the second as it is written
 pub made_at : (tells : Bool) (before after : Session) (old new : World) (kept : Kept) (number : ℕ) (written second : ℤ) (result : Result Kept StoreFault) → written ≡ second →

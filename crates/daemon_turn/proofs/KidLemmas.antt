@@ -14,13 +14,13 @@ use Rattle.daemon_turn.specs.declared.kid.Kid.{Kid}
 use Rattle.daemon_turn.specs.declared.step.TurnStep.{TurnStep}
 use Rattle.daemon_turn.specs.declared.step.TurnStep.TheVariants.{HandedOver, Ended, Interrupted, Forgotten}
 use Rattle.spool_model.specs.Lists.{is_running}
-use Rattle.daemon_turn.specs.Decisions.{asked_kids, has_kid, interrupts, is_left, is_running_entry, runs_in}
+use Rattle.daemon_turn.specs.Decisions.{asked_kids, has_kid, interrupts, is_without_kid, is_running_entry, runs_in}
 use Rattle.daemon_turn.specs.Kids.{kept_kids, tells_end_of}
 use Rattle.daemon_turn.specs.StepsOf.{number_of}
 use Rattle.daemon_turn.specs.inside.Ended.{without_ended}
 use Rattle.daemon_turn.specs.inside.Waiting.{started_of}
-use Rattle.job_runs.proofs.ApartLemmas.{Apart, filter_alike}
-use Rattle.job_runs.proofs.RowLemmas.{row_held}
+use Rattle.step_runs.proofs.ApartLemmas.{Apart, filter_alike}
+use Rattle.step_runs.proofs.RowLemmas.{row_held}
 
 -- what passes two tests
 filter_both : {X : Type 0} (one other : X → Bool) (xs : List X) → filter (λ x. one x && other x) xs ≡ filter other (filter one xs)
@@ -75,13 +75,13 @@ any_kept {X} one other (x ∷ xs) implies = by_tests (one x) (other x) refl refl
 pub interrupts_asked : (table : JobTable) (kids : List Kid) → interrupts table (asked_kids table kids) ≡ interrupts table kids
 interrupts_asked table kids =
     ap (map (λ (row : Row). Interrupted row.number))
-    (filter_alike (is_left (asked_kids table kids)) (is_left kids) (live_rows table) (λ row has. by_state (is_running row.state) row has refl)) where
+    (filter_alike (is_without_kid (asked_kids table kids)) (is_without_kid kids) (live_rows table) (λ row has. by_state (is_running row.state) row has refl)) where
       running_kid : (row : Row) → Has (live_rows table) row → is_running row.state ≡ true → (kid : Kid) → Has kids kid → (kid.number == row.number) ≡ true → runs_in table kid ≡ true
       running_kid row has is kid there same =
           let held : (job : Job) × (entry_at table row.number ≡ Some (Live job row.state)) = row_held table row has in
           ap (λ (n : ℕ). is_running_entry (entry_at table n)) (eqb-true kid.number row.number same) ∙ ap is_running_entry held.1 ∙ is
 
-      by_state : (b : Bool) (row : Row) → Has (live_rows table) row → is_running row.state ≡ b → is_left (asked_kids table kids) row ≡ is_left kids row
+      by_state : (b : Bool) (row : Row) → Has (live_rows table) row → is_running row.state ≡ b → is_without_kid (asked_kids table kids) row ≡ is_without_kid kids row
       by_state true row has is =
           ap (λ found. is_running row.state && not found) (any_kept (λ (kid : Kid). kid.number == row.number) (runs_in table) kids (running_kid row has is))
       by_state false row has is =

@@ -1,4 +1,4 @@
--- Jobs that are started one behind another.
+-- Jobs that are started one after another.
 use Rattle.std.proofs.Common.{◌≡◌, ◌≤◌, ◌<◌, ◌+◌, ◌++◌, ℕ, ℤ, Bool, true, false, List, [], ◌∷◌, append_assoc, append-nil, add-one, drop, get_or, length, length-append, map, take, sym, ap, subst, ◌∙◌, refl, arith, inl, inr}
 use Rattle.std.specs.Prelude.{IsErrAnd, Some, None, Result, Ok, Err}
 use Rattle.std.proofs.Math.Seq.{take-length, take-suc}
@@ -10,7 +10,7 @@ use Rattle.host_calls.specs.World.{World}
 use Rattle.spool_model.specs.declared.step.Step.TheVariants.{End, Start}
 use Rattle.spool_model.specs.JobTable.{IsPending, IsRunning, JobTable}
 use Rattle.spool_model.specs.Steps.{IsLegal, after_step, after_steps}
-use Rattle.job_runs.specs.Current.{IsCurrent, Kept}
+use Rattle.step_runs.specs.Current.{IsCurrent, Kept}
 use Rattle.spool_store.specs.declared.fault.StoreFault.{StoreFault}
 use Rattle.spool_store.specs.Stepping.{MayStep}
 use Rattle.spool_shows.proofs.Membership.{Has}
@@ -23,10 +23,10 @@ use Rattle.daemon_turn.specs.inside.Going.{Gives, Goes, Part, joined}
 use Rattle.daemon_turn.specs.inside.Handing.{HandsJobOver}
 use Rattle.daemon_turn.specs.inside.Launching.{AreStarted, EndsUnstarted, Launches, written_by}
 use Rattle.daemon_turn.specs.inside.Waiting.{AreWaiting, started_of}
-use Rattle.job_runs.proofs.ApartLemmas.{Apart, all_each, apart_differ, differ_apart, each_all}
+use Rattle.step_runs.proofs.ApartLemmas.{Apart, all_each, apart_differ, differ_apart, each_all}
 use Rattle.daemon_turn.proofs.GoLemmas.{goes_none, goes_then, handed_part, hands_go, no_part, step_goes, step_part}
 use Rattle.daemon_turn.proofs.HandLemmas.{started_entry}
-use Rattle.daemon_turn.proofs.WaitLemmas.{waiting_behind}
+use Rattle.daemon_turn.proofs.WaitLemmas.{waiting_after}
 
 -- One start.
 
@@ -41,8 +41,8 @@ pub may_end : (tells : Bool) (before between : Session) (old middle : World) (ke
 may_end tells before between old middle kept store number second legal current hands = record {
   inside = hands.inside;
   legal = started_runs kept.table store.table number second legal hands.table_is;
-  current = λ told. (let first : (table : JobTable) × IsCurrent kept old.now.folder table = current told in
-      (after_step first.0 (Start number second), (hands.files told first.0 first.1).made.current));
+  current = λ known. (let first : (table : JobTable) × IsCurrent kept old.now.folder table = current known in
+      (after_step first.0 (Start number second), (hands.files known first.0 first.1).made.current));
 }
 
 module _ (tells : Bool) (before between after : Session) (old middle new : World) (kept : Kept) (number : ℕ) (second : ℤ) (kids : List Kid) (was : List TurnStep) where
@@ -52,7 +52,7 @@ module _ (tells : Bool) (before between after : Session) (old middle new : World
   launched_not fault (Err other) is hands = subst (λ (of : StoreFault). Launches tells before between old middle kept (number ∷ []) second kids kids was was (Err of)) (sym is) (record {
     part = handed_part number second (Err fault);
     goes = hands_go tells before between old middle kept number second (Err fault) hands;
-    started = record { few = omega arith; front = ([], refl); all = tt; numbered = refl; asked = refl };
+    started = record { few = omega arith; prefix = ([], refl); all = tt; numbered = refl; asked = refl };
     written = sym (append-nil was);
     kids_are = sym (append-nil kids);
   })
@@ -63,7 +63,7 @@ module _ (tells : Bool) (before between after : Session) (old middle new : World
   launched store child more is hands written kids_are = record {
     part = handed_part number second (Ok (store, Some child));
     goes = hands_go tells before between old middle kept number second (Ok (store, Some child)) hands;
-    started = record { few = omega arith; front = ([], refl); all = (refl, refl); numbered = refl; asked = refl };
+    started = record { few = omega arith; prefix = ([], refl); all = (refl, refl); numbered = refl; asked = refl };
     written = written;
     kids_are = kids_are;
   }
@@ -73,8 +73,8 @@ module _ (tells : Bool) (before between after : Session) (old middle new : World
   unstarted_part store result = joined (handed_part number second (Ok (store, None))) (step_part (Ended number NotStarted) result)
 
   unstarted : (store : Kept) (result : Result Kept StoreFault) → AreStarted (number ∷ []) second (joined (handed_part number second (Ok (store, None))) (step_part (Ended number NotStarted) result)) result
-  unstarted store (Ok last) = record { few = omega arith; front = ([], refl); all = (refl, refl); numbered = refl; asked = refl }
-  unstarted store (Err fault) = record { few = omega arith; front = ([], refl); all = tt; numbered = refl; asked = refl }
+  unstarted store (Ok last) = record { few = omega arith; prefix = ([], refl); all = (refl, refl); numbered = refl; asked = refl }
+  unstarted store (Err fault) = record { few = omega arith; prefix = ([], refl); all = tt; numbered = refl; asked = refl }
 
   unstarted_steps : (result : Result Kept StoreFault) → (step_part (Ended number NotStarted) result).steps ≡ written_by (Ended number NotStarted) result
   unstarted_steps (Ok last) = refl
@@ -102,7 +102,7 @@ module _ (tells : Bool) (before between after : Session) (old middle new : World
 
 -- The loop.
 
--- the steps of starts that have all answered, and of others behind them
+-- the steps of starts that have all answered, and of others after them
 starts_join : (first later : List ℕ) (second : ℤ) (flags more : List Bool) → length flags ≡ length first →
     starts (first ++ later) second (flags ++ more) ≡ starts first second flags ++ starts later second more
 starts_join [] later second [] more same = refl
@@ -178,20 +178,20 @@ module _ (tells : Bool) (before between after : Session) (old middle new : World
   may_start current = record {
     inside = has.goes.inside;
     legal = pending_now;
-    current = λ told. (let first : (table : JobTable) × IsCurrent kept old.now.folder table = current told in
-        let gives : Gives first.0 has.part old middle (Ok now) = has.goes.files told first.0 first.1 in
+    current = λ known. (let first : (table : JobTable) × IsCurrent kept old.now.folder table = current known in
+        let gives : Gives first.0 has.part old middle (Ok now) = has.goes.files known first.0 first.1 in
         (after_steps first.0 (steps_of has.part.steps), gives.ends.current));
   }
 
   rest_apart : Apart (number ∷ drop (count + 1) numbers)
   rest_apart = differ_apart (number ∷ drop (count + 1) numbers) waiting_now.apart
 
-  -- those behind it still wait
+  -- those after it still wait
   rest_waits : (store : Kept) (part : Part) → store.table ≡ after_steps now.table (steps_of part.steps) → part.steps ≡ starts (number ∷ []) second part.flags →
       AreWaiting store.table (drop (count + 1) numbers)
   rest_waits store part table_is steps =
       subst (λ (table : JobTable). AreWaiting table (drop (count + 1) numbers)) (sym table_is)
-      (waiting_behind now.table part.steps (drop (count + 1) numbers) (record {
+      (waiting_after now.table part.steps (drop (count + 1) numbers) (record {
         each = each_all (IsPending now.table) (drop (count + 1) numbers) (λ one here. all_each (IsPending now.table) (number ∷ drop (count + 1) numbers) waiting_now.each one (inr here));
         apart = apart_differ (drop (count + 1) numbers) rest_apart.1;
       }) (λ one here there. by_one one here (start_numbers (number ∷ []) second part.flags one (subst (λ (l : List TurnStep). Has (map number_of l) one) steps there)))) where
@@ -230,12 +230,12 @@ module _ (tells : Bool) (before between after : Session) (old middle new : World
   split : numbers ≡ take count numbers ++ number ∷ drop (count + 1) numbers
   split = sym (take-append-drop count numbers) ∙ ap (λ (l : List ℕ). take count numbers ++ l) dropped
 
-  -- the steps of the next start are a front of those of it and the rest
-  one_front : (flags : List Bool) → length flags ≤ 1 → (behind : List TurnStep) × (starts (number ∷ drop (count + 1) numbers) second flags ≡ starts (number ∷ []) second flags ++ behind)
-  one_front [] few = ([], refl)
-  one_front (true ∷ []) few = (starts (drop (count + 1) numbers) second [], refl)
-  one_front (false ∷ []) few = (starts (drop (count + 1) numbers) second [], refl)
-  one_front (flag ∷ other ∷ flags) few = absurd (omega arith)
+  -- the steps of the next start are a prefix of those of it and the rest
+  one_prefix : (flags : List Bool) → length flags ≤ 1 → (beyond : List TurnStep) × (starts (number ∷ drop (count + 1) numbers) second flags ≡ starts (number ∷ []) second flags ++ beyond)
+  one_prefix [] few = ([], refl)
+  one_prefix (true ∷ []) few = (starts (drop (count + 1) numbers) second [], refl)
+  one_prefix (false ∷ []) few = (starts (drop (count + 1) numbers) second [], refl)
+  one_prefix (flag ∷ other ∷ flags) few = absurd (omega arith)
 
   started_one : (flags : List Bool) → length flags ≤ 1 → started_of (number ∷ drop (count + 1) numbers) flags ≡ started_of (number ∷ []) flags
   started_one [] few = refl
@@ -254,19 +254,19 @@ module _ (tells : Bool) (before between after : Session) (old middle new : World
       Launches tells before after old new kept numbers second kids last was later result
   stopped_launch fault (Ok store) err one = absurd err
   stopped_launch fault (Err other) err one = subst (λ (of : StoreFault). Launches tells before after old new kept numbers second kids last was later (Err of)) (sym err) (
-      let rest = one_front one.part.flags one.started.few in
+      let rest = one_prefix one.part.flags one.started.few in
       record {
         part = joined has.part one.part;
         goes = goes_then tells before between after old middle new kept now has.part one.part (Err fault) has.goes one.goes;
         started = record {
           few = omega (arith, length-append has.part.flags one.part.flags, has.counted, one.started.few, below);
-          front = (
-            one.started.front.0 ++ rest.0,
+          prefix = (
+            one.started.prefix.0 ++ rest.0,
             ap (λ (l : List ℕ). starts l second (has.part.flags ++ one.part.flags)) split
                 ∙ starts_join (take count numbers) (number ∷ drop (count + 1) numbers) second has.part.flags one.part.flags length_taken
-                ∙ ap (λ (l : List TurnStep). starts (take count numbers) second has.part.flags ++ l) (rest.1 ∙ ap (λ (l : List TurnStep). l ++ rest.0) one.started.front.1)
-                ∙ ap (λ (l : List TurnStep). l ++ (((one.part.steps ++ one.part.next) ++ one.started.front.0) ++ rest.0)) (sym has.steps)
-                ∙ regroup has.part.steps one.part.steps one.part.next one.started.front.0 rest.0,
+                ∙ ap (λ (l : List TurnStep). starts (take count numbers) second has.part.flags ++ l) (rest.1 ∙ ap (λ (l : List TurnStep). l ++ rest.0) one.started.prefix.1)
+                ∙ ap (λ (l : List TurnStep). l ++ (((one.part.steps ++ one.part.next) ++ one.started.prefix.0) ++ rest.0)) (sym has.steps)
+                ∙ regroup has.part.steps one.part.steps one.part.next one.started.prefix.0 rest.0,
           );
           all = tt;
           numbered = map-append (λ (kid : Kid). kid.number) has.part.added one.part.added
@@ -295,7 +295,7 @@ all_launched tells before after old new kept now numbers count second kids more 
       goes = has.goes;
       started = record {
         few = omega (arith, has.counted, whole);
-        front = ([], sym (ap (λ (l : List TurnStep). (has.part.steps ++ l) ++ []) none ∙ append-nil (has.part.steps ++ []) ∙ append-nil has.part.steps ∙ steps));
+        prefix = ([], sym (ap (λ (l : List TurnStep). (has.part.steps ++ l) ++ []) none ∙ append-nil (has.part.steps ++ []) ∙ append-nil has.part.steps ∙ steps));
         all = (has.counted ∙ whole, steps);
         numbered = has.numbered ∙ ap (λ (l : List ℕ). started_of l has.part.flags) all;
         asked = has.asked;

@@ -11,7 +11,7 @@ use Rattle.spool_model.specs.declared.step.Step.{Step}
 use Rattle.spool_model.specs.JobTable.{JobTable}
 use Rattle.spool_model.specs.Steps.{after_steps}
 use Rattle.spool_shows.specs.Shown.{shown_by}
-use Rattle.job_runs.specs.Attempts.{IsAsBefore, IsBegun, IsOnTheWay, IsUnbegun}
+use Rattle.step_runs.specs.Attempts.{IsAsBefore, IsBegun, IsOnTheWay, IsUnbegun}
 use Rattle.daemon_turn.specs.declared.report.TurnEnd.{TurnEnd}
 use Rattle.daemon_turn.specs.declared.report.TurnEnd.TheVariants.{Done, Busy, FileFault, Damaged, Memory}
 use Rattle.daemon_turn.specs.declared.step.TurnStep.{TurnStep}
@@ -24,12 +24,12 @@ no_damage : (table : JobTable) (damage : Damage) (shown : Result JobTable Damage
 no_damage table damage shown is bad = let impossible : ◌≡◌ {A = Result JobTable Damage} (Ok table) (Err damage) = sym is ∙ bad in cc
 
 pub turns_are_done : TurnsAreDone
-turns_are_done tells alone at old new Done steps turn told is_alone table shown no_taken no_fault = tt
-turns_are_done tells alone at old new Memory steps turn told is_alone table shown no_taken no_fault = tt
-turns_are_done tells alone at old new Busy steps turn told is_alone table shown no_taken no_fault = no_taken (turn.busy refl)
-turns_are_done tells alone at old new FileFault steps turn told is_alone table shown no_taken no_fault = no_fault (turn.fault refl)
-turns_are_done tells alone at old new (Damaged damage) steps turn told is_alone table shown no_taken no_fault =
-    no_damage table damage (shown_by (reading old.world)) shown (turn.leaves told is_alone).1
+turns_are_done tells alone at old new Done steps turn known is_alone table shown no_taken no_fault = tt
+turns_are_done tells alone at old new Memory steps turn known is_alone table shown no_taken no_fault = tt
+turns_are_done tells alone at old new Busy steps turn known is_alone table shown no_taken no_fault = no_taken (turn.busy refl)
+turns_are_done tells alone at old new FileFault steps turn known is_alone table shown no_taken no_fault = no_fault (turn.fault refl)
+turns_are_done tells alone at old new (Damaged damage) steps turn known is_alone table shown no_taken no_fault =
+    no_damage table damage (shown_by (reading old.world)) shown (turn.leaves known is_alone).1
 
 -- an image as before is good
 module _ (old new : World) (good : (image : Files) → IsImage old.now.folder image → IsGood image) where
@@ -38,7 +38,7 @@ module _ (old new : World) (good : (image : Files) → IsImage old.now.folder im
 
   good_on_the_way : (table : JobTable) (steps : List Step) (image : Files) (handed : List Handed) → IsOnTheWay table steps old.now image handed → IsGood image
   good_on_the_way table steps image handed (inl before) = good_before image handed before
-  good_on_the_way table steps image handed (inr along) = (after_steps table along.stepping.front, along.stepping.shows)
+  good_on_the_way table steps image handed (inr along) = (after_steps table along.stepping.prefix, along.stepping.shows)
 
   good_unbegun : IsUnbegun old new → LeavesOnly (λ image handed. IsGood image) old new
   good_unbegun unbegun = leaves_weaker (IsAsBefore old.now) (λ image handed. IsGood image) old new good_before unbegun.leaves
@@ -57,11 +57,11 @@ good_by turn steps old new Memory (inl idle) good = good_unbegun old.world new.w
 good_by turn steps old new Memory (inr stopped) good = good_begun old.world new.world good stopped.table _ stopped.begun
 
 pub good_folders_stay_good : GoodFoldersStayGood
-good_folders_stay_good tells alone at old new end steps turn told is_alone good =
-    let leaves : LeavesOnly (λ image handed. IsGood image) old.world new.world = good_by (turn_of old.watch at) steps old new end (turn.leaves told is_alone) good in
+good_folders_stay_good tells alone at old new end steps turn known is_alone good =
+    let leaves : LeavesOnly (λ image handed. IsGood image) old.world new.world = good_by (turn_of old.daemon at) steps old new end (turn.leaves known is_alone) good in
     record { leaves = leaves; now = at_end (λ image handed. IsGood image) old.world new.world leaves good }
 
--- The reading behind a turn.
+-- The reading after a turn.
 
 idle_reads : (steps : List TurnStep) (old new : DaemonAt) → IsIdle steps old new → IsGood (reading old.world) → IsGood (reading new.world)
 idle_reads steps old new idle good = (good.0, idle.shown ∙ good.1)
@@ -83,4 +83,4 @@ reads_by turn steps old new Memory (inl idle) good = idle_reads steps old new id
 reads_by turn steps old new Memory (inr stopped) good = stopped_reads turn steps old new stopped
 
 pub readings_stay_good : ReadingsStayGood
-readings_stay_good tells alone at old new end steps turn told is_alone good = reads_by (turn_of old.watch at) steps old new end (turn.leaves told is_alone) good
+readings_stay_good tells alone at old new end steps turn known is_alone good = reads_by (turn_of old.daemon at) steps old new end (turn.leaves known is_alone) good

@@ -12,7 +12,7 @@ use Rattle.spool_shows.proofs.Membership.{Has, has_made}
 use Rattle.daemon_turn.specs.declared.step.TurnStep.{TurnStep}
 use Rattle.daemon_turn.specs.declared.step.TurnStep.TheVariants.{HandedOver, Ended, Interrupted, Forgotten}
 use Rattle.daemon_turn.specs.StepsOf.{number_of, step_of, steps_of}
-use Rattle.job_runs.proofs.ApartLemmas.{Apart}
+use Rattle.step_runs.proofs.ApartLemmas.{Apart}
 
 -- what another step leaves
 pub entry_stays : (table : JobTable) (step : TurnStep) (number : ℕ) → (number ≡ number_of step → ⊥) →
@@ -41,7 +41,7 @@ legal_alike one other (Ended number ending) same legal = (legal.0, legal.1, same
 legal_alike one other (Interrupted number) same legal = (legal.0, legal.1, same ∙ legal.2)
 legal_alike one other (Forgotten number) same legal = (legal.0, same ∙ legal.1)
 
--- steps of different jobs are legal one behind another, where each of them is
+-- steps of different jobs are legal one after another, where each of them is
 pub legal_apart : (table : JobTable) (steps : List TurnStep) → ((step : TurnStep) → Has steps step → IsLegal table (step_of step)) →
     Apart (map number_of steps) → AreLegal table (steps_of steps)
 legal_apart table [] each apart = tt

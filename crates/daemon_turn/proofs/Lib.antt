@@ -1,5 +1,5 @@
 pub mod AskLemmas
-pub mod BareTurns
+pub mod WithoutScriptsTurns
 pub mod DaemonLemmas
 pub mod DecideLemmas
 pub mod DecisionLemmas

@@ -1,4 +1,4 @@
--- Steps that are made one behind another.
+-- Steps that are made one after another.
 use Rattle.std.proofs.Common.{◌≡◌, ◌<◌, ◌+◌, ◌++◌, ℕ, Bool, true, List, [], ◌∷◌, length, add-one, append_assoc, get_or, take, drop, sym, ap, subst, ◌∙◌, refl, arith}
 use Rattle.std.proofs.Math.Seq.{take-length, take-suc}
 use Rattle.std.proofs.lemmas.List.{drop_more, map-append}
@@ -10,14 +10,14 @@ use Rattle.spool_model.specs.declared.step.Step.{Step}
 use Rattle.spool_model.specs.declared.step.Step.TheVariants.{Draw, Accept, Remove, Start, End, Interrupt, Forget}
 use Rattle.spool_model.specs.JobTable.{JobTable}
 use Rattle.spool_model.specs.Steps.{AreLegal, IsLegal, after_step, after_steps}
-use Rattle.job_runs.specs.Bare.{bare_step}
-use Rattle.job_runs.specs.Calls.{StoreCall}
-use Rattle.job_runs.specs.Current.{IsCurrent, Kept}
-use Rattle.job_runs.specs.Hands.{StartNothing}
-use Rattle.job_runs.specs.Made.{AreMade, AreStopped}
-use Rattle.job_runs.proofs.HandsLemmas.{steps_then}
-use Rattle.job_runs.proofs.MadeLemmas.{no_steps_are_made}
-use Rattle.job_runs.proofs.TurnLemmas.{fault_behind, legal_when_kept, step_behind}
+use Rattle.step_runs.specs.WithoutScripts.{step_without_script}
+use Rattle.step_runs.specs.Calls.{StoreCall}
+use Rattle.step_runs.specs.Current.{IsCurrent, Kept}
+use Rattle.step_runs.specs.Hands.{StartNothing}
+use Rattle.step_runs.specs.Made.{AreMade, AreStopped}
+use Rattle.step_runs.proofs.HandsLemmas.{steps_then}
+use Rattle.step_runs.proofs.MadeLemmas.{no_steps_are_made}
+use Rattle.step_runs.proofs.TurnLemmas.{fault_after, legal_when_kept, step_after}
 use Rattle.spool_store.specs.declared.fault.StoreFault.{StoreFault}
 use Rattle.spool_store.specs.declared.fault.StoreFault.TheVariants.{FileFault}
 use Rattle.spool_store.specs.Faults.{IsOfStep}
@@ -35,11 +35,11 @@ pub record HasMade (tells : Bool) (was now : Kept) (steps : List TurnStep) (coun
       AreMade table (steps_of (take count steps)) [] [] now old new
 
 -- no step of a turn has a script
-pub bare_is : (step : TurnStep) → bare_step (step_of step) ≡ step_of step
-bare_is (HandedOver number second) = refl
-bare_is (Ended number ending) = refl
-bare_is (Interrupted number) = refl
-bare_is (Forgotten number) = refl
+pub without_scripts_is : (step : TurnStep) → step_without_script (step_of step) ≡ step_of step
+without_scripts_is (HandedOver number second) = refl
+without_scripts_is (Ended number ending) = refl
+without_scripts_is (Interrupted number) = refl
+without_scripts_is (Forgotten number) = refl
 
 pub none_made : (tells : Bool) (session : Session) (world : World) (kept : Kept) (steps : List TurnStep) →
     MayMake tells session world kept steps → HasMade tells kept kept steps 0 world world
@@ -50,24 +50,24 @@ none_made tells session world kept steps may = record {
   made = λ is table current. no_steps_are_made table kept world current;
 }
 
--- a list of steps that starts nothing has a front and a rest that start nothing
-quiet_front : (step : Step) (later : List Step) → StartNothing (step ∷ later) → StartNothing (step ∷ [])
-quiet_front Draw later quiet = tt
-quiet_front (Accept number job) later quiet = tt
-quiet_front (Remove number) later quiet = tt
-quiet_front (Start number second) later quiet = quiet
-quiet_front (End number ending) later quiet = tt
-quiet_front (Interrupt number) later quiet = tt
-quiet_front (Forget number) later quiet = tt
+-- a list of steps that starts nothing has a prefix and a rest that start nothing
+quiet_prefix : (step : Step) (later : List Step) → StartNothing (step ∷ later) → StartNothing (step ∷ [])
+quiet_prefix Draw later quiet = tt
+quiet_prefix (Accept number job) later quiet = tt
+quiet_prefix (Remove number) later quiet = tt
+quiet_prefix (Start number second) later quiet = quiet
+quiet_prefix (End number ending) later quiet = tt
+quiet_prefix (Interrupt number) later quiet = tt
+quiet_prefix (Forget number) later quiet = tt
 
-quiet_behind : (step : Step) (later : List Step) → StartNothing (step ∷ later) → StartNothing later
-quiet_behind Draw later quiet = quiet
-quiet_behind (Accept number job) later quiet = quiet
-quiet_behind (Remove number) later quiet = quiet
-quiet_behind (Start number second) later quiet = absurd quiet
-quiet_behind (End number ending) later quiet = quiet
-quiet_behind (Interrupt number) later quiet = quiet
-quiet_behind (Forget number) later quiet = quiet
+quiet_after : (step : Step) (later : List Step) → StartNothing (step ∷ later) → StartNothing later
+quiet_after Draw later quiet = quiet
+quiet_after (Accept number job) later quiet = quiet
+quiet_after (Remove number) later quiet = quiet
+quiet_after (Start number second) later quiet = absurd quiet
+quiet_after (End number ending) later quiet = quiet
+quiet_after (Interrupt number) later quiet = quiet
+quiet_after (Forget number) later quiet = quiet
 
 -- the next of the steps
 module _ (tells : Bool) (was now : Kept) (steps : List TurnStep) (count : ℕ) (default : TurnStep) (old middle : World) (below : count < length steps) (has : HasMade tells was now steps count old middle) where
@@ -93,10 +93,10 @@ module _ (tells : Bool) (was now : Kept) (steps : List TurnStep) (count : ℕ) (
   legal_one = legal_now.0
 
   pub quiet_one : StartNothing (step_of step ∷ [])
-  quiet_one = quiet_front (step_of step) (steps_of (drop (count + 1) steps)) (subst (λ (l : List TurnStep). StartNothing (steps_of l)) dropped has.quiet)
+  quiet_one = quiet_prefix (step_of step) (steps_of (drop (count + 1) steps)) (subst (λ (l : List TurnStep). StartNothing (steps_of l)) dropped has.quiet)
 
   legal_on : (table : JobTable) (folder : Folder) → IsCurrent now folder table → IsLegal table (step_of step)
-  legal_on table folder current = legal_when_kept now folder table (step_of step) current (subst (IsLegal now.table) (sym (bare_is step)) legal_one)
+  legal_on table folder current = legal_when_kept now folder table (step_of step) current (subst (IsLegal now.table) (sym (without_scripts_is step)) legal_one)
 
   pub one_made : (last : Kept) (new : World) → last.table ≡ after_step now.table (step_of step) →
       (tells ≡ true → (table : JobTable) → IsCurrent now middle.now.folder table → StoreCall {E = StoreFault} table (step_of step ∷ []) middle new (Ok last)) →
@@ -105,11 +105,11 @@ module _ (tells : Bool) (was now : Kept) (steps : List TurnStep) (count : ℕ) (
     table_is = table_is ∙ ap (λ (t : JobTable). after_step t (step_of step)) has.table_is
         ∙ sym (ap (after_steps was.table) steps_taken ∙ steps_then was.table (steps_of (take count steps)) (step_of step ∷ []));
     legal = subst (λ (t : JobTable). AreLegal t (steps_of (drop (count + 1) steps))) (sym table_is) legal_now.1;
-    quiet = quiet_behind (step_of step) (steps_of (drop (count + 1) steps)) (subst (λ (l : List TurnStep). StartNothing (steps_of l)) dropped has.quiet);
+    quiet = quiet_after (step_of step) (steps_of (drop (count + 1) steps)) (subst (λ (l : List TurnStep). StartNothing (steps_of l)) dropped has.quiet);
     made = λ is table current.
         let made : AreMade table (steps_of (take count steps)) [] [] now old middle = has.made is table current in
         subst (λ (l : List Step). AreMade table l [] [] last old new) (sym steps_taken)
-        (step_behind table (steps_of (take count steps)) [] [] now old middle new made (step_of step) last
+        (step_after table (steps_of (take count steps)) [] [] now old middle new made (step_of step) last
         (legal_on (after_steps table (steps_of (take count steps))) middle.now.folder made.current) quiet_one
         (call is (after_steps table (steps_of (take count steps))) made.current));
   }
@@ -120,7 +120,7 @@ module _ (tells : Bool) (was now : Kept) (steps : List TurnStep) (count : ℕ) (
   one_stopped fault new call is table current =
       let made : AreMade table (steps_of (take count steps)) [] [] now old middle = has.made is table current in
       subst (λ (l : List TurnStep). AreStopped table (steps_of (take count steps)) (steps_of l) [] [] old new) (sym next_is)
-      (fault_behind table (steps_of (take count steps)) [] [] now old middle new made (step_of step) fault
+      (fault_after table (steps_of (take count steps)) [] [] now old middle new made (step_of step) fault
       (legal_on (after_steps table (steps_of (take count steps))) middle.now.folder made.current)
       (call is (after_steps table (steps_of (take count steps))) made.current))
 

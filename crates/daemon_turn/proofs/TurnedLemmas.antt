@@ -1,4 +1,4 @@
--- The parts of a turn, one behind another, are the steps of the turn.
+-- The parts of a turn, one after another, are the steps of the turn.
 use Rattle.std.proofs.Common.{◌≡◌, ◌≤◌, ◌++◌, ℕ, ℤ, Bool, true, false, List, [], ◌∷◌, append_assoc, append-nil, filter, length, map, not, sym, ap, subst, ◌∙◌, refl, arith, inl, inr}
 use Rattle.std.specs.Prelude.{Contains, IfOk, IsErrAnd, Option, Result, Ok, Err}
 use Rattle.std.specs.List.{list_any}
@@ -10,7 +10,7 @@ use Rattle.host_calls.specs.Session.{Session}
 use Rattle.host_calls.specs.World.{World}
 use Rattle.spool_model.specs.JobTable.{IsPending, JobTable}
 use Rattle.spool_model.specs.Steps.{after_steps}
-use Rattle.job_runs.specs.Current.{IsCurrent, Kept}
+use Rattle.step_runs.specs.Current.{IsCurrent, Kept}
 use Rattle.queue_rules.specs.Order.{Differ}
 use Rattle.spool_store.specs.declared.fault.StoreFault.{StoreFault}
 use Rattle.spool_shows.proofs.Membership.{Has, contained, filtered_has, has_contained, has_either, has_left, has_made, has_right, made_has}
@@ -29,29 +29,29 @@ use Rattle.daemon_turn.specs.inside.Going.{Gives, Goes, MayGo, Part, joined}
 use Rattle.daemon_turn.specs.inside.Launching.{Launches}
 use Rattle.daemon_turn.specs.inside.Turned.{AreStepsBy, MakesTurn}
 use Rattle.daemon_turn.specs.inside.Waiting.{AreWaiting, started_of}
-use Rattle.job_runs.proofs.ApartLemmas.{Apart, all_each, apart_append, apart_differ, apart_filter, differ_apart, rise_apart}
+use Rattle.step_runs.proofs.ApartLemmas.{Apart, all_each, apart_append, apart_differ, apart_filter, differ_apart, rise_apart}
 use Rattle.daemon_turn.proofs.DecisionLemmas.{EachRuns, decided_run, kid_runs}
 use Rattle.daemon_turn.proofs.GoLemmas.{goes_then}
 use Rattle.daemon_turn.proofs.KidLemmas.{interrupts_asked, kids_stay, no_end_of, started_apart, started_has}
 use Rattle.daemon_turn.proofs.LaunchLemmas.{start_numbers}
-use Rattle.daemon_turn.proofs.WaitLemmas.{waiting_behind, waits_or_runs}
+use Rattle.daemon_turn.proofs.WaitLemmas.{waiting_after, waits_or_runs}
 
--- what is kept is current behind a part that was made
+-- what is kept is current after a part that was made
 pub may_go_on : (tells : Bool) (before after : Session) (old new : World) (kept now : Kept) (part : Part) → (tells ≡ true → (table : JobTable) × IsCurrent kept old.now.folder table) →
     Goes tells before after old new kept part (Ok now) → MayGo tells after new now
 may_go_on tells before after old new kept now part current goes = record {
   inside = goes.inside;
-  current = λ told. (let first : (table : JobTable) × IsCurrent kept old.now.folder table = current told in
-      let gives : Gives first.0 part old new (Ok now) = goes.files told first.0 first.1 in
+  current = λ known. (let first : (table : JobTable) × IsCurrent kept old.now.folder table = current known in
+      let gives : Gives first.0 part old new (Ok now) = goes.files known first.0 first.1 in
       (after_steps first.0 (steps_of part.steps), gives.ends.current));
 }
 
 contains_left : {X : Type 0} (xs ys : List X) (x : X) → Contains xs x → Contains (xs ++ ys) x
 contains_left xs ys x has = contained (xs ++ ys) x (has_left xs ys x (has_contained xs x has))
 
--- a front of steps has numbers of the steps
-front_number : (front behind : List TurnStep) (number : ℕ) → Has (map number_of front) number → Has (map number_of (front ++ behind)) number
-front_number front behind number has = subst (λ (l : List ℕ). Has l number) (sym (map-append number_of front behind)) (has_left (map number_of front) (map number_of behind) number has)
+-- a prefix of steps has numbers of the steps
+prefix_number : (prefix later : List TurnStep) (number : ℕ) → Has (map number_of prefix) number → Has (map number_of (prefix ++ later)) number
+prefix_number prefix later number has = subst (λ (l : List ℕ). Has l number) (sym (map-append number_of prefix later)) (has_left (map number_of prefix) (map number_of later) number has)
 
 forgets_no_end : (numbers : List ℕ) (number : ℕ) (step : TurnStep) → Has (map Forgotten numbers) step → tells_end_of number step ≡ false
 forgets_no_end numbers number step has =
@@ -71,7 +71,7 @@ module _ (tells : Bool) (before : Session) (old : World) (kept : Kept) (kids : L
   kids_apart : Apart (map (λ (kid : Kid). kid.number) kids)
   kids_apart = rise_apart (λ (kid : Kid). kid.number) kids may.ordered
 
-  -- Behind what was decided:
+  -- After what was decided:
   module _ (first : Session) (decided_at : World) (left : List Kid) (was is : List TurnStep) (none : was ≡ []) where
     -- the jobs that start still wait
     pub order_waiting : (now : Kept) → Decides tells before first old decided_at kept kids left was is (Ok now) → AreWaiting now.table order
@@ -79,7 +79,7 @@ module _ (tells : Bool) (before : Session) (old : World) (kept : Kept) (kids : L
         let part : Part = decides.made.part in
         let steps : part.steps ≡ interrupts kept.table kids ++ ends kids decides.made.decided.answers = decides.made.decided.all.1 in
         subst (λ (table : JobTable). AreWaiting table order) (sym decides.made.goes.table_is)
-        (waiting_behind kept.table part.steps order waiting (λ number has also.
+        (waiting_after kept.table part.steps order waiting (λ number has also.
         waits_or_runs kept.table number (all_each (IsPending kept.table) order waiting.each number has)
         (decided_run kept.table kids kids_apart each_runs decides.made.decided.answers number (subst (λ (l : List TurnStep). Has (map number_of l) number) steps also))))
 
@@ -134,7 +134,7 @@ module _ (tells : Bool) (before : Session) (old : World) (kept : Kept) (kids : L
         are = inl (record {
           few = subst (λ (l : List Kid). length answers ≤ length l) kids_are decides.made.decided.few;
           none = decides.made.decided.flags;
-          front = (decides.made.decided.front.0, sym (decisions_are answers) ∙ decides.made.decided.front.1);
+          prefix = (decides.made.decided.prefix.0, sym (decisions_are answers) ∙ decides.made.decided.prefix.1);
         });
         asked = asked_are answers part.questions decides.made.decided.asked;
         written = decides.made.written ∙ ap (λ (l : List TurnStep). l ++ part.steps) none;
@@ -160,19 +160,19 @@ module _ (tells : Bool) (before : Session) (old : World) (kept : Kept) (kids : L
         none_started [] = refl
         none_started (number ∷ numbers) = refl
 
-      -- Behind all decisions:
+      -- After all decisions:
       module _ (now : Kept) (decides : Decides tells before first old decided_at kept kids left was is (Ok now)) where
         abbrev deciding : Part
         deciding = decides.made.part
 
-        abbrev told : List (Option Ending)
-        told = decides.made.decided.answers
+        abbrev known : List (Option Ending)
+        known = decides.made.decided.answers
 
-        all_told : length told ≡ length (asked_kids kept.table turn.kids)
-        all_told = decides.made.decided.all.0 ∙ ap length kids_are
+        all_known : length known ≡ length (asked_kids kept.table turn.kids)
+        all_known = decides.made.decided.all.0 ∙ ap length kids_are
 
-        deciding_are : deciding.steps ≡ decisions kept.table turn.kids told
-        deciding_are = decides.made.decided.all.1 ∙ decisions_are told
+        deciding_are : deciding.steps ≡ decisions kept.table turn.kids known
+        deciding_are = decides.made.decided.all.1 ∙ decisions_are known
 
         written_first : is ≡ deciding.steps
         written_first = decides.made.written ∙ ap (λ (l : List TurnStep). l ++ deciding.steps) none
@@ -191,7 +191,7 @@ module _ (tells : Bool) (before : Session) (old : World) (kept : Kept) (kids : L
           both_go : Goes tells before second old started_at kept (joined deciding starting) outcome
           both_go = goes_then tells before first second old decided_at started_at kept now deciding starting outcome decides.made.goes launches.goes
 
-          both_asked : deciding.questions ++ starting.questions ≡ questions kids told
+          both_asked : deciding.questions ++ starting.questions ≡ questions kids known
           both_asked = ap (λ (l : List Asked). deciding.questions ++ l) launches.started.asked ∙ append-nil deciding.questions ∙ decides.made.decided.asked
 
           both_children : second.children ≡ before.children ++ map (λ (kid : Kid). kid.child) starting.added
@@ -206,10 +206,10 @@ module _ (tells : Bool) (before : Session) (old : World) (kept : Kept) (kids : L
           -- starts, and what is forgotten, tell of no end of a kid
           starts_no_end : (kid : Kid) → runs_in kept.table kid ≡ true → list_any (tells_end_of kid.number) starting.steps ≡ false
           starts_no_end kid runs = no_end_of kid.number starting.steps (λ has.
-              (let front : List TurnStep = starting.steps ++ starting.next in
+              (let prefix : List TurnStep = starting.steps ++ starting.next in
               let there : Has (map number_of (starts order turn.now starting.flags)) kid.number =
-              subst (λ (l : List TurnStep). Has (map number_of l) kid.number) (sym launches.started.front.1)
-              (front_number front launches.started.front.0 kid.number (front_number starting.steps starting.next kid.number has)) in
+              subst (λ (l : List TurnStep). Has (map number_of l) kid.number) (sym launches.started.prefix.1)
+              (prefix_number prefix launches.started.prefix.0 kid.number (prefix_number starting.steps starting.next kid.number has)) in
               waits_or_runs kept.table kid.number (all_each (IsPending kept.table) order waiting.each kid.number (start_numbers order turn.now starting.flags kid.number there)) (kid_runs kept.table kid runs)))
 
           -- stopped at a start
@@ -219,21 +219,21 @@ module _ (tells : Bool) (before : Session) (old : World) (kept : Kept) (kids : L
           stopped_starting fault (Err other) is_fault err = subst (λ (of : StoreFault). MakesTurn tells before second old started_at kept turn more reported (Err of)) (sym err) (record {
             part = joined deciding starting;
             goes = subst (λ (of : Result Kept StoreFault). Goes tells before second old started_at kept (joined deciding starting) of) is_fault both_go;
-            answers = told;
+            answers = known;
             are = inr (inl (record {
               order = order;
               ordered = ordered;
-              asked = all_told;
+              asked = all_known;
               few = subst (λ (l : List Bool). length l ≤ length order) (sym flags_are) launches.started.few;
-              front = (
-                launches.started.front.0,
+              prefix = (
+                launches.started.prefix.0,
                 ap (λ (l : List TurnStep). l ++ starts order turn.now (deciding.flags ++ starting.flags)) (sym deciding_are)
                     ∙ ap (λ (l : List Bool). deciding.steps ++ starts order turn.now l) flags_are
-                    ∙ ap (λ (l : List TurnStep). deciding.steps ++ l) launches.started.front.1
-                    ∙ regroup deciding.steps starting.steps starting.next launches.started.front.0,
+                    ∙ ap (λ (l : List TurnStep). deciding.steps ++ l) launches.started.prefix.1
+                    ∙ regroup deciding.steps starting.steps starting.next launches.started.prefix.0,
               );
             }));
-            asked = asked_are told (deciding.questions ++ starting.questions) both_asked;
+            asked = asked_are known (deciding.questions ++ starting.questions) both_asked;
             written = both_written;
             kids = more_is ∙ ap (λ (l : List Kid). without_ended deciding.steps l ++ starting.added) kids_are
                 ∙ ap (λ (l : List Kid). l ++ starting.added) (kids_stay kept.table deciding.steps starting.steps turn.kids starts_no_end)
@@ -244,7 +244,7 @@ module _ (tells : Bool) (before : Session) (old : World) (kept : Kept) (kids : L
             regroup : (a b c d : List TurnStep) → a ++ ((b ++ c) ++ d) ≡ ((a ++ b) ++ c) ++ d
             regroup a b c d = simp append_assoc
 
-          -- behind all starts
+          -- after all starts
           module _ (last : Kept) (whole : outcome ≡ Ok last) (after : Session) (new : World) (report : List TurnStep) (result : Result Kept StoreFault)
               (forgotten : Forgets tells second after started_at new last reported report result) where
             abbrev forgetting : Part
@@ -269,23 +269,23 @@ module _ (tells : Bool) (before : Session) (old : World) (kept : Kept) (kids : L
             all_go = goes_then tells before second after old started_at new kept last (joined deciding starting) forgetting result both_made forgotten.goes
 
             -- the steps before, by the answers and the starts
-            before_are : (flags : List Bool) → flags ≡ starting.flags → deciding.steps ++ starting.steps ≡ decisions kept.table turn.kids told ++ starts order turn.now flags
+            before_are : (flags : List Bool) → flags ≡ starting.flags → deciding.steps ++ starting.steps ≡ decisions kept.table turn.kids known ++ starts order turn.now flags
             before_are flags same =
                 ap (λ (l : List TurnStep). l ++ starting.steps) deciding_are
-                ∙ ap (λ (l : List TurnStep). decisions kept.table turn.kids told ++ l) (started_all.1 ∙ ap (starts order turn.now) (sym same))
+                ∙ ap (λ (l : List TurnStep). decisions kept.table turn.kids known ++ l) (started_all.1 ∙ ap (starts order turn.now) (sym same))
 
-            -- what is forgotten is what is too much behind them
+            -- what is forgotten is what is too much after them
             forgets_are : (flags : List Bool) → flags ≡ starting.flags →
-                (deciding.steps ++ starting.steps) ++ forgets last.table ≡ with_forgets kept.table (decisions kept.table turn.kids told ++ starts order turn.now flags)
+                (deciding.steps ++ starting.steps) ++ forgets last.table ≡ with_forgets kept.table (decisions kept.table turn.kids known ++ starts order turn.now flags)
             forgets_are flags same =
                 ap (λ (table : JobTable). (deciding.steps ++ starting.steps) ++ forgets table) both_made.table_is
                 ∙ ap (with_forgets kept.table) (before_are flags same)
 
-            whole_steps : (flags : List Bool) → flags ≡ starting.flags → AreTurnSteps turn kept.table told flags (with_forgets kept.table (decisions kept.table turn.kids told ++ starts order turn.now flags))
+            whole_steps : (flags : List Bool) → flags ≡ starting.flags → AreTurnSteps turn kept.table known flags (with_forgets kept.table (decisions kept.table turn.kids known ++ starts order turn.now flags))
             whole_steps flags same = record {
               order = order;
               ordered = ordered;
-              asked = all_told;
+              asked = all_known;
               started = ap length same ∙ started_all.0;
               all = refl;
             }
@@ -294,8 +294,8 @@ module _ (tells : Bool) (before : Session) (old : World) (kept : Kept) (kids : L
             all_no_end kid runs = none_any (tells_end_of kid.number) (starting.steps ++ forgetting.steps) (λ step has. elim (has_either starting.steps forgetting.steps step has) [
               | inl one ↦ of_none (tells_end_of kid.number) starting.steps (starts_no_end kid runs) step one
               | inr other ↦ forgets_no_end (Rattle.std.proofs.Common.take (Rattle.std.proofs.Common.◌-◌ (length (Rattle.spool_model.specs.Lists.done_numbers last.table)) Rattle.spool_model.specs.declared.decided.TheConstants.MAX_DONE) (Rattle.spool_model.specs.Lists.done_numbers last.table)) kid.number step
-                  (subst (λ (l : List TurnStep). Has l step) (sym forgotten.forgotten.front.1)
-                  (has_left (forgetting.steps ++ forgetting.next) forgotten.forgotten.front.0 step (has_left forgetting.steps forgetting.next step other)))
+                  (subst (λ (l : List TurnStep). Has l step) (sym forgotten.forgotten.prefix.1)
+                  (has_left (forgetting.steps ++ forgetting.next) forgotten.forgotten.prefix.0 step (has_left forgetting.steps forgetting.next step other)))
             ]) where
               of_none : (test : TurnStep → Bool) (steps : List TurnStep) → list_any test steps ≡ false → (step : TurnStep) → Has steps step → test step ≡ false
               of_none test steps none step has = by_test (test step) refl where
@@ -304,25 +304,25 @@ module _ (tells : Bool) (before : Session) (old : World) (kept : Kept) (kids : L
                 by_test true is = let impossible : true ≡ false = sym (Rattle.spool_shows.proofs.Membership.any_passes test steps step has is) ∙ none in cc
 
             -- all of the steps, or the first of them
-            are_whole : (store : Kept) → result ≡ Ok store → AreTurnSteps turn kept.table told all.flags all.steps
+            are_whole : (store : Kept) → result ≡ Ok store → AreTurnSteps turn kept.table known all.flags all.steps
             are_whole store is =
                 let forgot : forgetting.steps ≡ forgets last.table = subst (λ (of : Result Kept StoreFault). IfOk of (λ kept. forgetting.steps ≡ forgets last.table)) is forgotten.forgotten.all in
-                subst (AreTurnSteps turn kept.table told all.flags) (sym (ap (λ (l : List TurnStep). (deciding.steps ++ starting.steps) ++ l) forgot ∙ forgets_are all.flags flags_all)) (whole_steps all.flags flags_all)
+                subst (AreTurnSteps turn kept.table known all.flags) (sym (ap (λ (l : List TurnStep). (deciding.steps ++ starting.steps) ++ l) forgot ∙ forgets_are all.flags flags_all)) (whole_steps all.flags flags_all)
 
-            are_first : AreFirstSteps turn kept.table told all.flags (all.steps ++ all.next)
+            are_first : AreFirstSteps turn kept.table known all.flags (all.steps ++ all.next)
             are_first = inr (inr (
-              with_forgets kept.table (decisions kept.table turn.kids told ++ starts order turn.now all.flags),
+              with_forgets kept.table (decisions kept.table turn.kids known ++ starts order turn.now all.flags),
               whole_steps all.flags flags_all,
               (
-                forgotten.forgotten.front.0,
-                sym (forgets_are all.flags flags_all) ∙ ap (λ (l : List TurnStep). (deciding.steps ++ starting.steps) ++ l) forgotten.forgotten.front.1
-                    ∙ regroup (deciding.steps ++ starting.steps) forgetting.steps forgetting.next forgotten.forgotten.front.0,
+                forgotten.forgotten.prefix.0,
+                sym (forgets_are all.flags flags_all) ∙ ap (λ (l : List TurnStep). (deciding.steps ++ starting.steps) ++ l) forgotten.forgotten.prefix.1
+                    ∙ regroup (deciding.steps ++ starting.steps) forgetting.steps forgetting.next forgotten.forgotten.prefix.0,
               ),
             )) where
               regroup : (a b c d : List TurnStep) → a ++ ((b ++ c) ++ d) ≡ ((a ++ b) ++ c) ++ d
               regroup a b c d = simp append_assoc
 
-            are_by : (of : Result Kept StoreFault) → result ≡ of → AreStepsBy turn kept.table told all of
+            are_by : (of : Result Kept StoreFault) → result ≡ of → AreStepsBy turn kept.table known all of
             are_by (Ok store) is = are_whole store is
             are_by (Err fault) is = are_first
 
@@ -330,9 +330,9 @@ module _ (tells : Bool) (before : Session) (old : World) (kept : Kept) (kids : L
             turned = record {
               part = all;
               goes = all_go;
-              answers = told;
+              answers = known;
               are = are_by result refl;
-              asked = asked_are told ((deciding.questions ++ starting.questions) ++ forgetting.questions)
+              asked = asked_are known ((deciding.questions ++ starting.questions) ++ forgetting.questions)
                   (ap (λ (l : List Asked). (deciding.questions ++ starting.questions) ++ l) forgotten.forgotten.asked ∙ append-nil (deciding.questions ++ starting.questions) ∙ both_asked);
               written = forgotten.written ∙ ap (λ (l : List TurnStep). l ++ forgetting.steps) both_written;
               kids = more_is ∙ ap (λ (l : List Kid). without_ended deciding.steps l ++ starting.added) kids_are

@@ -20,9 +20,9 @@ use Rattle.daemon_turn.specs.declared.step.TurnStep.{TurnStep}
 use Rattle.daemon_turn.specs.Starting.{IsBatchOrderWhere, IsFullOrder, IsOrder, IsOrderIn, Turn, has_batch_turn}
 use Rattle.daemon_turn.specs.StepsOf.{number_of, steps_of}
 use Rattle.daemon_turn.specs.inside.Waiting.{AreWaiting}
-use Rattle.job_runs.proofs.ApartLemmas.{Apart, all_each, apart_append, apart_differ, differ_apart, each_all}
+use Rattle.step_runs.proofs.ApartLemmas.{Apart, all_each, apart_append, apart_differ, differ_apart, each_all}
 use Rattle.daemon_turn.proofs.LegalLemmas.{entries_stay}
-use Rattle.job_runs.proofs.RowLemmas.{row_held, rows_apart}
+use Rattle.step_runs.proofs.RowLemmas.{row_held, rows_apart}
 
 -- a job that waits by its state
 waits : (state : State) → is_pending state ≡ true → state ≡ Pending
@@ -94,10 +94,10 @@ module _ (turn : Turn) (table : JobTable) where
     by_mode Full is = full_waits order is
     by_mode EndsOnly is = none_waits order is
 
--- they still wait behind steps of other jobs
-pub waiting_behind : (table : JobTable) (steps : List TurnStep) (numbers : List ℕ) → AreWaiting table numbers →
+-- they still wait after steps of other jobs
+pub waiting_after : (table : JobTable) (steps : List TurnStep) (numbers : List ℕ) → AreWaiting table numbers →
     ((number : ℕ) → Has numbers number → Has (map number_of steps) number → ⊥) → AreWaiting (after_steps table (steps_of steps)) numbers
-waiting_behind table steps numbers waiting others = record {
+waiting_after table steps numbers waiting others = record {
   each = each_all (IsPending (after_steps table (steps_of steps))) numbers (λ number has.
       (let was : IsPending table number = all_each (IsPending table) numbers waiting.each number has in
       (was.0, entries_stay table steps number (others number has) ∙ was.1)));

@@ -17,13 +17,13 @@ use Rattle.spool_model.specs.Steps.{after_steps}
 use Rattle.spool_shows.specs.Shown.{Shows, shown_by}
 use Rattle.spool_shows.proofs.Membership.{Has, contained, filtered_has, has_contained}
 use Rattle.whole_file.specs.Others.{ChangesFiles}
-use Rattle.job_runs.specs.Attempts.{IsBegun}
-use Rattle.job_runs.specs.Bare.{bare}
-use Rattle.job_runs.specs.Calls.{ShowsAsBefore}
-use Rattle.job_runs.specs.Current.{Kept}
-use Rattle.job_runs.specs.Made.{AreMade, AreStopped, HandsFronts, flags_of}
-use Rattle.job_runs.proofs.AttemptLemmas.{recoveries_begin_nothing}
-use Rattle.job_runs.proofs.MadeLemmas.{fronts_changed, fronts_then, made_steps_are_achieved, no_steps_are_made, stopped_steps_are_begun}
+use Rattle.step_runs.specs.Attempts.{IsBegun}
+use Rattle.step_runs.specs.WithoutScripts.{without_scripts}
+use Rattle.step_runs.specs.Calls.{ShowsAsBefore}
+use Rattle.step_runs.specs.Current.{Kept}
+use Rattle.step_runs.specs.Made.{AreMade, AreStopped, HandsPrefixes, flags_of}
+use Rattle.step_runs.proofs.AttemptLemmas.{recoveries_begin_nothing}
+use Rattle.step_runs.proofs.MadeLemmas.{prefixes_changed, prefixes_then, made_steps_are_achieved, no_steps_are_made, stopped_steps_are_begun}
 use Rattle.spool_store.specs.declared.fault.StoreFault.{StoreFault}
 use Rattle.spool_store.specs.declared.fault.StoreFault.TheVariants as fault
 use Rattle.spool_store.specs.Faults.{IsOfReading, IsOfStep}
@@ -41,9 +41,9 @@ use Rattle.daemon_turn.specs.inside.Ended.{without_ended}
 use Rattle.daemon_turn.specs.inside.Going.{Gives, Goes, Part}
 use Rattle.daemon_turn.specs.inside.Turned.{MakesTurn}
 use Rattle.daemon_turn.specs.inside.Working.{TurnsOn, Works, end_after, unit_of}
-use Rattle.job_runs.proofs.ApartLemmas.{all_each, each_all, rise_filter}
+use Rattle.step_runs.proofs.ApartLemmas.{all_each, each_all, rise_filter}
 use Rattle.daemon_turn.proofs.AskLemmas.{questions_of_none}
-use Rattle.daemon_turn.proofs.BareTurns.{asked_alike, first_alike, kids_after_alike, turn_alike}
+use Rattle.daemon_turn.proofs.WithoutScriptsTurns.{asked_alike, first_alike, kids_after_alike, turn_alike}
 use Rattle.daemon_turn.proofs.DecisionLemmas.{asked_run}
 use Rattle.daemon_turn.proofs.GoLemmas.{asked_part, memory_goes, stays_inside, steps_join}
 use Rattle.daemon_turn.proofs.HandLemmas.{counts_on}
@@ -60,12 +60,12 @@ all_kept test (kid ∷ kids) each =
 pub asked_itself : (table : JobTable) (kids : List Kid) → All (λ kid. runs_in table kid ≡ true) kids → kids ≡ asked_kids table kids
 asked_itself table kids run = sym (all_kept (runs_in table) kids (all_each (λ kid. runs_in table kid ≡ true) kids run))
 
--- The kids behind a recovery may be asked.
+-- The kids after a recovery may be asked.
 pub may_decide : (tells : Bool) (before after : Session) (old new : World) (kept : Kept) (kids left : List Kid) → left ≡ asked_kids kept.table kids → AreByNumber kids → AreChildren before.children kids →
     StaysInside before after → (tells ≡ true → IsRecovered old.now.folder new.now.folder kept) → MayDecide tells after new kept left
 may_decide tells before after old new kept kids left is ordered children stays recovered =
     subst (MayDecide tells after new kept) (sym is) (record {
-      go = record { inside = stays.inside; current = λ told. ((recovered told).table, (recovered told).current) };
+      go = record { inside = stays.inside; current = λ known. ((recovered known).table, (recovered known).current) };
       run = each_all (λ kid. runs_in kept.table kid ≡ true) (asked_kids kept.table kids) (asked_run kept.table kids);
       ordered = rise_filter (λ (kid : Kid). kid.number) (runs_in kept.table) kids ordered;
       children = record {
@@ -86,9 +86,9 @@ unplanned tells session world kept turn kids left was is (Err other) err may sam
   outcome = Err fault.Memory;
   same = ap (λ (of : StoreFault). Err of) err;
   part = asked_part [];
-  goes = memory_goes tells session session world world kept [] (stays_inside session may.go.inside) (λ told now table current. no_steps_are_made table now world current);
+  goes = memory_goes tells session session world world kept [] (stays_inside session may.go.inside) (λ known now table current. no_steps_are_made table now world current);
   answers = [];
-  are = inl (record { few = omega arith; none = refl; front = (Rattle.daemon_turn.specs.Decisions.decisions kept.table turn.kids [], refl) });
+  are = inl (record { few = omega arith; none = refl; prefix = (Rattle.daemon_turn.specs.Decisions.decisions kept.table turn.kids [], refl) });
   asked = sym (questions_of_none (asked_kids kept.table turn.kids));
   written = none_is ∙ none;
   kids = record {
@@ -125,29 +125,29 @@ ordered_kids tells before after old new kept turn left sorted report outcome res
 -- A recovery that failed.
 
 abbrev standing : Session → World → List Kid → ℕ → ℕ → DaemonAt
-standing session world kids limit interval = record { session = session; world = world; watch = record { kids = kids; limit = limit; interval = interval } }
+standing session world kids limit interval = record { session = session; world = world; daemon = record { kids = kids; limit = limit; interval = interval } }
 
 no_children : (session : Session) → KeepsChildren session.children session.children
 no_children session = ([], sym (append-nil session.children))
 
 module _ (tells : Bool) (turn : Turn) (before after : Session) (old new : World) (kids : List Kid) (limit interval : ℕ) (was : List TurnStep) (none : was ≡ []) (changes : tells ≡ true → ChangesFiles (ShowsAsBefore old.now.folder) old new) where
   idle : tells ≡ true → ShowsTheSame old.now.folder new.now.folder → IsIdle was (standing before old kids limit interval) (standing after new kids limit interval)
-  idle told shown = record {
+  idle known shown = record {
     none = record { none = none; kids = refl };
-    unbegun = recoveries_begin_nothing old new (changes told);
+    unbegun = recoveries_begin_nothing old new (changes known);
     shown = shown;
-    asked = (changes told).asked;
+    asked = (changes known).asked;
   }
 
   leaves_by : (of : StoreFault) → IsOfReading of → (tells ≡ true → Recovered old.now.folder new.now.folder (Err of)) →
       (tells ≡ true → IfDamaged {T = Kept} fault.Damaged (λ damage. reading new ≡ reading old) (Err of)) → tells ≡ true →
       TurnLeaves turn was (standing before old kids limit interval) (standing after new kids limit interval) (end_after (Err of))
-  leaves_by fault.FileFault reads recovered untouched told = inl (idle told (recovered told))
-  leaves_by fault.Memory reads recovered untouched told = inl (idle told (recovered told))
-  leaves_by (fault.Damaged damage) reads recovered untouched told =
-      (idle told (ap shown_by (untouched told damage refl)), recovered told, untouched told damage refl)
-  leaves_by fault.QueueFull reads recovered untouched told = absurd reads
-  leaves_by fault.NumbersUsedUp reads recovered untouched told = absurd reads
+  leaves_by fault.FileFault reads recovered untouched known = inl (idle known (recovered known))
+  leaves_by fault.Memory reads recovered untouched known = inl (idle known (recovered known))
+  leaves_by (fault.Damaged damage) reads recovered untouched known =
+      (idle known (ap shown_by (untouched known damage refl)), recovered known, untouched known damage refl)
+  leaves_by fault.QueueFull reads recovered untouched known = absurd reads
+  leaves_by fault.NumbersUsedUp reads recovered untouched known = absurd reads
 
   pub unrecovered : (of : StoreFault) (result : Result (Unit {0}) StoreFault) → IsErrAnd result (λ other. other ≡ of) → CallsInside {T = Kept} fault.FileFault before after (Err of) → IsOfReading of →
       (tells ≡ true → Recovered old.now.folder new.now.folder (Err of)) → (tells ≡ true → IfDamaged {T = Kept} fault.Damaged (λ damage. reading new ≡ reading old) (Err of)) →
@@ -169,7 +169,7 @@ module _ (tells : Bool) (turn : Turn) (before after : Session) (old new : World)
         same_fault : ◌≡◌ {A = Result (Unit {0}) StoreFault} (Err of) (Err fault.FileFault) → of ≡ fault.FileFault
         same_fault bad = cc
 
--- The steps behind a recovery.
+-- The steps after a recovery.
 
 step_reads : (of : StoreFault) → IsOfStep of → IsOfReading of
 step_reads fault.FileFault is = tt
@@ -186,29 +186,29 @@ module _ (tells : Bool) (turn : Turn) (before between after : Session) (old midd
   abbrev at_last : DaemonAt
   at_last = standing after new left limit interval
 
-  module _ (told : tells ≡ true) (part : Part) (answers : List (Option Ending)) (asked : part.questions ≡ questions (asked_kids kept.table turn.kids) answers) (written : report ≡ part.steps)
+  module _ (known : tells ≡ true) (part : Part) (answers : List (Option Ending)) (asked : part.questions ≡ questions (asked_kids kept.table turn.kids) answers) (written : report ≡ part.steps)
       (kids : AreKidsAfter kept.table part.steps turn.kids part.added left) (children : after.children ≡ between.children ++ map (λ (kid : Kid). kid.child) part.added) where
     abbrev shown : JobTable
-    shown = (recovered told).table
+    shown = (recovered known).table
 
-    bare_table : kept.table ≡ bare shown
-    bare_table = (recovered told).current.bare_is
+    without_scripts_table : kept.table ≡ without_scripts shown
+    without_scripts_table = (recovered known).current.without_scripts_is
 
     abbrev changed : ChangesFiles (ShowsAsBefore old.now.folder) old middle
-    changed = changes told
+    changed = changes known
 
-    gave_by : (given : List Handed) → new.now.handed ≡ middle.now.handed ++ given → Rattle.job_runs.specs.Hands.Hands shown (steps_of part.steps) given → HandsFronts middle new →
+    gave_by : (given : List Handed) → new.now.handed ≡ middle.now.handed ++ given → Rattle.step_runs.specs.Hands.Hands shown (steps_of part.steps) given → HandsPrefixes middle new →
         new.asked ≡ middle.asked ++ part.questions → Rattle.daemon_turn.specs.Kids.started_numbers given ≡ map (λ (kid : Kid). kid.number) part.added → Gave shown part.steps given answers at_first at_last
-    gave_by given handed hands fronts questions_are numbered = record {
+    gave_by given handed hands prefixes questions_are numbered = record {
       handed = handed ∙ ap (λ (l : List Handed). l ++ given) changed.handed;
       hands = hands;
-      fronts = fronts_then old middle new given (fronts_changed (ShowsAsBefore old.now.folder) old middle changed) fronts handed;
+      prefixes = prefixes_then old middle new given (prefixes_changed (ShowsAsBefore old.now.folder) old middle changed) prefixes handed;
       asked = questions_are ∙ ap (λ l. l ++ part.questions) changed.asked
-          ∙ ap (λ l. old.asked ++ l) (asked ∙ ap (λ (table : JobTable). questions (asked_kids table turn.kids) answers) bare_table ∙ ap (λ (l : List Kid). questions l answers) (asked_alike shown turn.kids));
+          ∙ ap (λ l. old.asked ++ l) (asked ∙ ap (λ (table : JobTable). questions (asked_kids table turn.kids) answers) without_scripts_table ∙ ap (λ (l : List Kid). questions l answers) (asked_alike shown turn.kids));
       added = part.added;
       numbered = sym numbered;
       children = children ∙ ap (λ (l : List Child). l ++ map (λ (kid : Kid). kid.child) part.added) stays.stays.children;
-      kids = kids_after_alike shown part.steps turn.kids part.added left (subst (λ (table : JobTable). AreKidsAfter table part.steps turn.kids part.added left) bare_table kids);
+      kids = kids_after_alike shown part.steps turn.kids part.added left (subst (λ (table : JobTable). AreKidsAfter table part.steps turn.kids part.added left) without_scripts_table kids);
     }
 
     whole_by : (last : Kept) → Gives shown part middle new (Ok last) → Rattle.daemon_turn.specs.Turning.AreTurnSteps turn kept.table answers part.flags part.steps → IsWhole turn part.steps at_first at_last
@@ -219,14 +219,14 @@ module _ (tells : Bool) (turn : Turn) (before between after : Session) (old midd
           given = gives.given;
           answers = answers;
           are = turn_alike turn shown answers (flags_of gives.given) part.steps
-              (subst (λ (table : JobTable). Rattle.daemon_turn.specs.Turning.AreTurnSteps turn table answers (flags_of gives.given) part.steps) bare_table
+              (subst (λ (table : JobTable). Rattle.daemon_turn.specs.Turning.AreTurnSteps turn table answers (flags_of gives.given) part.steps) without_scripts_table
               (subst (λ (flags : List Bool). Rattle.daemon_turn.specs.Turning.AreTurnSteps turn kept.table answers flags part.steps) (sym gives.flagged) are));
-          achieved = made_steps_are_achieved shown (steps_of part.steps) gives.given part.questions last old middle new (recovered told).shown changed (recovered told).others made;
-          gave = gave_by gives.given made.through.handed made.through.hands made.fronts made.asked gives.numbered;
+          achieved = made_steps_are_achieved shown (steps_of part.steps) gives.given part.questions last old middle new (recovered known).shown changed (recovered known).others made;
+          gave = gave_by gives.given made.through.handed made.through.hands made.prefixes made.asked gives.numbered;
         }
 
-    stopped_by : (of : StoreFault) → Gives shown part middle new (Err of) → Rattle.daemon_turn.specs.Turning.AreFirstSteps turn kept.table answers part.flags (part.steps ++ part.next) → IsStopped turn part.steps at_first at_last
-    stopped_by of gives are =
+    error_of : (of : StoreFault) → Gives shown part middle new (Err of) → Rattle.daemon_turn.specs.Turning.AreFirstSteps turn kept.table answers part.flags (part.steps ++ part.next) → IsStopped turn part.steps at_first at_last
+    error_of of gives are =
         let stopped : AreStopped shown (steps_of part.steps) (steps_of part.next) gives.given part.questions middle new = gives.ends in
         record {
           table = shown;
@@ -235,26 +235,26 @@ module _ (tells : Bool) (turn : Turn) (before between after : Session) (old midd
           next = part.next;
           few = omega (arith, stopped.few, length-map part.next Rattle.daemon_turn.specs.StepsOf.step_of);
           first = first_alike turn shown answers (flags_of gives.given) (part.steps ++ part.next)
-              (subst (λ (table : JobTable). Rattle.daemon_turn.specs.Turning.AreFirstSteps turn table answers (flags_of gives.given) (part.steps ++ part.next)) bare_table
+              (subst (λ (table : JobTable). Rattle.daemon_turn.specs.Turning.AreFirstSteps turn table answers (flags_of gives.given) (part.steps ++ part.next)) without_scripts_table
               (subst (λ (flags : List Bool). Rattle.daemon_turn.specs.Turning.AreFirstSteps turn kept.table answers flags (part.steps ++ part.next)) (sym gives.flagged) are));
           begun = subst (λ steps. IsBegun shown steps old new) (sym (steps_join part.steps part.next))
-              (stopped_steps_are_begun shown (steps_of part.steps) (steps_of part.next) gives.given part.questions old middle new (recovered told).shown changed stopped);
+              (stopped_steps_are_begun shown (steps_of part.steps) (steps_of part.next) gives.given part.questions old middle new (recovered known).shown changed stopped);
           ends = λ image is. elim (stopped.ends image is) [
             | inl without ↦ inl without
             | inr with_next ↦ inr (subst (λ steps. Shows image (after_steps shown steps)) (sym (steps_join part.steps part.next)) with_next)
           ];
-          gave = gave_by gives.given stopped.handed stopped.hands stopped.fronts stopped.asked gives.numbered;
+          gave = gave_by gives.given stopped.handed stopped.hands stopped.prefixes stopped.asked gives.numbered;
         }
 
   outcome_leaves : (outcome : Result Kept StoreFault) (part : Part) (answers : List (Option Ending)) → Goes tells between after middle new kept part outcome → Rattle.daemon_turn.specs.inside.Turned.AreStepsBy turn kept.table answers part outcome →
       part.questions ≡ questions (asked_kids kept.table turn.kids) answers → report ≡ part.steps → AreKidsAfter kept.table part.steps turn.kids part.added left → tells ≡ true →
       TurnLeaves turn report at_first at_last (end_after (unit_of outcome))
-  outcome_leaves (Ok last) part answers goes are asked written kids told =
+  outcome_leaves (Ok last) part answers goes are asked written kids known =
       subst (λ (steps : List TurnStep). IsWhole turn steps at_first at_last) (sym written)
-      (whole_by told part answers asked written kids goes.children last (goes.files told (recovered told).table (recovered told).current) are)
-  outcome_leaves (Err of) part answers goes are asked written kids told = by_fault of goes.faults
+      (whole_by known part answers asked written kids goes.children last (goes.files known (recovered known).table (recovered known).current) are)
+  outcome_leaves (Err of) part answers goes are asked written kids known = by_fault of goes.faults
       (subst (λ (steps : List TurnStep). IsStopped turn steps at_first at_last) (sym written)
-      (stopped_by told part answers asked written kids goes.children of (goes.files told (recovered told).table (recovered told).current) are)) where
+      (error_of known part answers asked written kids goes.children of (goes.files known (recovered known).table (recovered known).current) are)) where
         by_fault : (one : StoreFault) → IsOfStep one → IsStopped turn report at_first at_last → TurnLeaves turn report at_first at_last (end_after (Err one))
         by_fault fault.FileFault is stopped = inr stopped
         by_fault fault.Memory is stopped = inr stopped

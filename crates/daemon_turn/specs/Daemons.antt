@@ -6,19 +6,19 @@ use Rattle.daemon_turn.specs.declared.kid.Kid.{Kid}
 
 -- What a daemon keeps: its kids, by number, the limit of the load in hundredths, and how many seconds lie between two
 -- starts in batch queues.
-pub record Watch : Type 0 where
+pub record DaemonState : Type 0 where
   pub kids : List Kid
   pub limit : ℕ
   pub interval : ℕ
 
 -- the watch of a daemon that has no kids
-abbrev pub new_watch : ℕ → ℕ → Watch
-new_watch limit interval = record { kids = []; limit = limit; interval = interval }
+abbrev pub new_daemon : ℕ → ℕ → DaemonState
+new_daemon limit interval = record { kids = []; limit = limit; interval = interval }
 
 -- how a proof tells one daemon from another: by these three
-abbrev pub watch_code : Coded Watch
-watch_code =
+abbrev pub daemon_code : Coded DaemonState
+daemon_code =
     code_by (List Kid × (ℕ × ℕ)) (coded× (coded_list kid.the_row.coded) (coded× coded_ℕ coded_ℕ))
-    (λ watch. (watch.kids, (watch.limit, watch.interval)))
+    (λ daemon. (daemon.kids, (daemon.limit, daemon.interval)))
     (λ parts. record { kids = parts.0; limit = parts.1.0; interval = parts.1.1 })
     (λ _. refl)

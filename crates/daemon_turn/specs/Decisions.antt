@@ -26,12 +26,12 @@ abbrev pub has_kid : List Kid → ℕ → Bool
 has_kid kids number = list_any (λ kid. kid.number == number) kids
 
 -- the job runs, and has no kid
-abbrev pub is_left : List Kid → Row → Bool
-is_left kids row = is_running row.state && not (has_kid kids row.number)
+abbrev pub is_without_kid : List Kid → Row → Bool
+is_without_kid kids row = is_running row.state && not (has_kid kids row.number)
 
 -- the jobs that run and have no kid are given up, by number
 abbrev pub interrupts : JobTable → List Kid → List TurnStep
-interrupts table kids = map (λ row. Interrupted row.number) (filter (is_left kids) (live_rows table))
+interrupts table kids = map (λ row. Interrupted row.number) (filter (is_without_kid kids) (live_rows table))
 
 -- the kids that are asked: those whose job runs, by number
 abbrev pub asked_kids : JobTable → List Kid → List Kid

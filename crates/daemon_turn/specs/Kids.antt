@@ -1,4 +1,4 @@
--- The kids of a daemon: between two turns, and behind a turn (own).
+-- The kids of a daemon: between two turns, and after a turn (own).
 use Rattle.std.specs.Prelude.{◌≡◌, ◌<◌, ◌&&◌, ◌==◌, ◌++◌, ℕ, Bool, false, not, List, AllPairs, Contains, IsPermutation, filter, map}
 use Rattle.std.specs.List.{list_any}
 use Rattle.host_calls.specs.declared.child.Child.{Child}
@@ -17,7 +17,7 @@ AreByNumber kids = AllPairs (λ one other. one.number < other.number) kids
 pub record AreChildren (children : List Child) (kids : List Kid) : Type 0 where
   pub each : (kid : Kid) → Contains kids kid → Contains children kid.child
 
--- the children that there were stand in front of those that there are
+-- the children that there were stand before those that there are
 abbrev pub KeepsChildren : List Child → List Child → Type 0
 KeepsChildren old new = (more : List Child) × (new ≡ old ++ more)
 
@@ -36,7 +36,7 @@ kept_kids table steps kids = filter (λ kid. runs_in table kid && not (list_any 
 abbrev pub started_numbers : List Handed → List ℕ
 started_numbers given = map (λ handed. handed.number) (filter (λ handed. handed.started) given)
 
--- The kids behind the steps, by number: those that stay, and those that were added.
+-- The kids after the steps, by number: those that stay, and those that were added.
 pub record AreKidsAfter (table : JobTable) (steps : List TurnStep) (before added after : List Kid) : Type 0 where
   pub same : IsPermutation (kept_kids table steps before ++ added) after
   pub ordered : AreByNumber after

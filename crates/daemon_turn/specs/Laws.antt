@@ -5,7 +5,7 @@ use Rattle.host_calls.specs.Folder.{Files, IsImage}
 use Rattle.host_calls.specs.World.{HasEachImage, LeavesOnly, reading}
 use Rattle.spool_model.specs.JobTable.{JobTable}
 use Rattle.spool_shows.specs.Shown.{Shows, shown_by}
-use Rattle.daemon_turn.specs.declared.occasion.Occasion.{Occasion}
+use Rattle.daemon_turn.specs.declared.turn_input.TurnInput.{TurnInput}
 use Rattle.daemon_turn.specs.declared.report.TurnEnd.{TurnEnd}
 use Rattle.daemon_turn.specs.declared.report.TurnEnd.TheVariants.{Done, Busy, FileFault, Damaged, Memory}
 use Rattle.daemon_turn.specs.declared.step.TurnStep.{TurnStep}
@@ -21,7 +21,7 @@ IsDoneOrMemory (Damaged damage) = ⊥
 
 -- where the reading shows a table, and no count of files or of taken locks rose, the turn is done or wants memory
 abbrev pub TurnsAreDone : Type 0
-TurnsAreDone = (tells alone : Bool) (at : Occasion) (old new : DaemonAt) (end : TurnEnd) (steps : List TurnStep) →
+TurnsAreDone = (tells alone : Bool) (at : TurnInput) (old new : DaemonAt) (end : TurnEnd) (steps : List TurnStep) →
     TurnsTo tells alone at old new end steps → tells ≡ true → alone ≡ true →
     (table : JobTable) → shown_by (reading old.world) ≡ Ok table →
     ¬ (Rose old.session.taken new.session.taken) → ¬ (Rose old.session.file_faults new.session.file_faults) → IsDoneOrMemory end
@@ -30,9 +30,9 @@ TurnsAreDone = (tells alone : Bool) (at : Occasion) (old new : DaemonAt) (end : 
 abbrev pub IsGood : Files → Type 0
 IsGood image = (table : JobTable) × Shows image table
 
--- where the reading shows a table, it shows one behind a turn too
+-- where the reading shows a table, it shows one after a turn too
 abbrev pub ReadingsStayGood : Type 0
-ReadingsStayGood = (tells alone : Bool) (at : Occasion) (old new : DaemonAt) (end : TurnEnd) (steps : List TurnStep) →
+ReadingsStayGood = (tells alone : Bool) (at : TurnInput) (old new : DaemonAt) (end : TurnEnd) (steps : List TurnStep) →
     TurnsTo tells alone at old new end steps → tells ≡ true → alone ≡ true → IsGood (reading old.world) → IsGood (reading new.world)
 
 -- each image of each moment shows a table, and so does each that the end leaves
@@ -42,6 +42,6 @@ pub record StaysGood (old new : DaemonAt) : Type 0 where
 
 -- where each image shows a table, each that a turn leaves shows one
 abbrev pub GoodFoldersStayGood : Type 0
-GoodFoldersStayGood = (tells alone : Bool) (at : Occasion) (old new : DaemonAt) (end : TurnEnd) (steps : List TurnStep) →
+GoodFoldersStayGood = (tells alone : Bool) (at : TurnInput) (old new : DaemonAt) (end : TurnEnd) (steps : List TurnStep) →
     TurnsTo tells alone at old new end steps → tells ≡ true → alone ≡ true →
     ((image : Files) → IsImage old.world.now.folder image → IsGood image) → StaysGood old new

@@ -9,16 +9,16 @@ use Rattle.host_calls.specs.World.{World, reading}
 use Rattle.spool_model.specs.JobTable.{JobTable}
 use Rattle.spool_model.specs.Steps.{after_steps}
 use Rattle.spool_shows.specs.Shown.{Shows, shown_by}
-use Rattle.job_runs.specs.Attempts.{IsAchieved, IsBegun, IsUnbegun}
-use Rattle.job_runs.specs.Hands.{Hands}
-use Rattle.job_runs.specs.Made.{HandsFronts, flags_of}
+use Rattle.step_runs.specs.Attempts.{IsAchieved, IsBegun, IsUnbegun}
+use Rattle.step_runs.specs.Hands.{Hands}
+use Rattle.step_runs.specs.Made.{HandsPrefixes, flags_of}
 use Rattle.spool_store.specs.Recovering.{ShowsTheSame}
 use Rattle.daemon_turn.specs.declared.kid.Kid.{Kid}
-use Rattle.daemon_turn.specs.declared.occasion.Occasion.{Occasion}
+use Rattle.daemon_turn.specs.declared.turn_input.TurnInput.{TurnInput}
 use Rattle.daemon_turn.specs.declared.report.TurnEnd.{TurnEnd}
 use Rattle.daemon_turn.specs.declared.report.TurnEnd.TheVariants.{Done, Busy, FileFault, Damaged, Memory}
 use Rattle.daemon_turn.specs.declared.step.TurnStep.{TurnStep}
-use Rattle.daemon_turn.specs.Daemons.{Watch}
+use Rattle.daemon_turn.specs.Daemons.{DaemonState}
 use Rattle.daemon_turn.specs.Decisions.{asked_kids, questions}
 use Rattle.daemon_turn.specs.Kids.{AreByNumber, AreChildren, AreKidsAfter, KeepsChildren, started_numbers}
 use Rattle.daemon_turn.specs.Starting.{Turn, turn_of}
@@ -29,7 +29,7 @@ use Rattle.daemon_turn.specs.Turning.{AreFirstSteps, AreTurnSteps}
 pub record DaemonAt : Type 0 where
   pub session : Session
   pub world : World
-  pub watch : Watch
+  pub daemon : DaemonState
 
 -- What the turn handed over and asked, whose steps on the table were these. The kids are those that stay, and the
 -- children of the starts, each under its number.
@@ -37,12 +37,12 @@ pub record Gave (table : JobTable) (steps : List TurnStep) (given : List Handed)
     (old new : DaemonAt) : Type 0 where
   pub handed : new.world.now.handed ≡ old.world.now.handed ++ given
   pub hands : Hands table (steps_of steps) given
-  pub fronts : HandsFronts old.world new.world
-  pub asked : new.world.asked ≡ old.world.asked ++ questions (asked_kids table old.watch.kids) answers
+  pub prefixes : HandsPrefixes old.world new.world
+  pub asked : new.world.asked ≡ old.world.asked ++ questions (asked_kids table old.daemon.kids) answers
   pub added : List Kid
   pub numbered : map (λ kid. kid.number) added ≡ started_numbers given
   pub children : new.session.children ≡ old.session.children ++ map (λ kid. kid.child) added
-  pub kids : AreKidsAfter table steps old.watch.kids added new.watch.kids
+  pub kids : AreKidsAfter table steps old.daemon.kids added new.daemon.kids
 
 -- The turn was made to its end: its steps are all those of a turn on the table that the reading showed, and they stand.
 pub record IsWhole (turn : Turn) (steps : List TurnStep) (old new : DaemonAt) : Type 0 where
@@ -53,7 +53,7 @@ pub record IsWhole (turn : Turn) (steps : List TurnStep) (old new : DaemonAt) : 
   pub achieved : IsAchieved table (steps_of steps) old.world new.world
   pub gave : Gave table steps given answers old new
 
--- The turn was stopped behind a recovery: these are the first of its steps, and the next one may stand too.
+-- The turn was stopped after a recovery: these are the first of its steps, and the next one may stand too.
 pub record IsStopped (turn : Turn) (steps : List TurnStep) (old new : DaemonAt) : Type 0 where
   pub table : JobTable
   pub given : List Handed
@@ -67,14 +67,14 @@ pub record IsStopped (turn : Turn) (steps : List TurnStep) (old new : DaemonAt) 
   pub gave : Gave table steps given answers old new
 
 -- no step was made, and the kids are as before
-pub record IsNone (steps : List TurnStep) (old new : Watch) : Type 0 where
+pub record IsNone (steps : List TurnStep) (old new : DaemonState) : Type 0 where
   pub none : steps ≡ []
   pub kids : new.kids ≡ old.kids
 
 -- The turn was stopped before a recovery succeeded: no step was begun, the reading shows what it showed, and the kids are
 -- as before.
 pub record IsIdle (steps : List TurnStep) (old new : DaemonAt) : Type 0 where
-  pub none : IsNone steps old.watch new.watch
+  pub none : IsNone steps old.daemon new.daemon
   pub unbegun : IsUnbegun old.world new.world
   pub shown : ShowsTheSame old.world.now.folder new.world.now.folder
   pub asked : new.world.asked ≡ old.world.asked
@@ -98,15 +98,15 @@ IfUnread Memory none = Unit {0}
 
 -- A turn. Of every host: its session is over, its children stay and the kids are some of them, by number; the limit and
 -- the interval stay; why it ended so. Of a host that tells its files and is alone: what it leaves.
-pub record TurnsTo (tells alone : Bool) (at : Occasion) (old new : DaemonAt) (end : TurnEnd) (steps : List TurnStep) : Type 0 where
+pub record TurnsTo (tells alone : Bool) (at : TurnInput) (old new : DaemonAt) (end : TurnEnd) (steps : List TurnStep) : Type 0 where
   pub outside : IsOutside new.session
   pub counts : KeepsCounts old.session new.session
   pub kept : KeepsChildren old.session.children new.session.children
-  pub children : AreChildren new.session.children new.watch.kids
-  pub ordered : AreByNumber new.watch.kids
-  pub limit : new.watch.limit ≡ old.watch.limit
-  pub interval : new.watch.interval ≡ old.watch.interval
+  pub children : AreChildren new.session.children new.daemon.kids
+  pub ordered : AreByNumber new.daemon.kids
+  pub limit : new.daemon.limit ≡ old.daemon.limit
+  pub interval : new.daemon.interval ≡ old.daemon.interval
   pub busy : end ≡ Busy → Rose old.session.taken new.session.taken
   pub fault : end ≡ FileFault → Rose old.session.file_faults new.session.file_faults
-  pub unread : IfUnread end (IsNone steps old.watch new.watch)
-  pub leaves : tells ≡ true → alone ≡ true → TurnLeaves (turn_of old.watch at) steps old new end
+  pub unread : IfUnread end (IsNone steps old.daemon new.daemon)
+  pub leaves : tells ≡ true → alone ≡ true → TurnLeaves (turn_of old.daemon at) steps old new end

@@ -8,10 +8,10 @@ use Rattle.spool_model.specs.Lists.{live_rows, surplus}
 use Rattle.daemon_turn.specs.declared.kid.Kid.{Kid}
 use Rattle.daemon_turn.specs.declared.mode.Mode.{Mode}
 use Rattle.daemon_turn.specs.declared.mode.Mode.TheVariants.{Full, EndsOnly}
-use Rattle.daemon_turn.specs.declared.occasion.Occasion.{Occasion}
+use Rattle.daemon_turn.specs.declared.turn_input.TurnInput.{TurnInput}
 use Rattle.daemon_turn.specs.declared.step.TurnStep.{TurnStep}
 use Rattle.daemon_turn.specs.declared.step.TurnStep.TheVariants.{HandedOver, Ended, Forgotten}
-use Rattle.daemon_turn.specs.Daemons.{Watch}
+use Rattle.daemon_turn.specs.Daemons.{DaemonState}
 
 -- What a turn is made with: the kids, the limit of the load in hundredths, the interval of batch starts in seconds, the
 -- second now, the load, if one was read, and the mode.
@@ -23,12 +23,12 @@ pub record Turn : Type 0 where
   pub load : Option ℕ
   pub mode : Mode
 
--- the turn of a daemon at an occasion
-abbrev pub turn_of : Watch → Occasion → Turn
-turn_of watch at = record {
-  kids = watch.kids;
-  limit = watch.limit;
-  interval = watch.interval;
+-- the turn of a daemon on what it is handed
+abbrev pub turn_of : DaemonState → TurnInput → Turn
+turn_of daemon at = record {
+  kids = daemon.kids;
+  limit = daemon.limit;
+  interval = daemon.interval;
   now = at.now;
   load = at.load;
   mode = at.mode;
@@ -72,7 +72,7 @@ abbrev pub start_steps : ℕ → ℤ → Bool → List TurnStep
 start_steps number second true = HandedOver number second ∷ []
 start_steps number second false = HandedOver number second ∷ Ended number NotStarted ∷ []
 
--- The steps of starts, by whether a child came of each: behind the last answer the next start stands, and no more.
+-- The steps of starts, by whether a child came of each: after the last answer the next start stands, and no more.
 abbrev pub starts : List ℕ → ℤ → List Bool → List TurnStep
 starts [] second flags = []
 starts (number ∷ numbers) second [] = HandedOver number second ∷ []

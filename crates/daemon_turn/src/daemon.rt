@@ -3,13 +3,13 @@ ghost use Rattle.clock_range.specs.ClockRange.{IsClockSecond};
 ghost use Rattle.std.specs.Prelude.{◌≡◌, IfErr, IfOk};
 ghost use Rattle.host_calls.specs.Session.{IsOutside};
 ghost use Rattle.spool_store.specs.Faults.{IsOfReading};
-ghost use Rattle.daemon_turn.specs.Daemons.{new_watch};
+ghost use Rattle.daemon_turn.specs.Daemons.{new_daemon};
 ghost use Rattle.daemon_turn.specs.Kids.{AreByNumber, AreChildren};
 ghost use Rattle.daemon_turn.specs.Leaving.{TurnsTo};
 ghost use Rattle.daemon_turn.specs.inside.Working.{end_after, end_of_session};
 
-use crate::working::work;
-use crate::{Kid, Mode, Occasion, TurnEnd, TurnReport, TurnStep, TurnSteps};
+use crate::work::work;
+use crate::{Kid, Mode, TurnEnd, TurnInput, TurnReport, TurnStep, TurnSteps};
 use host_calls::{EnterFault, Host};
 use host_session::in_session;
 use spool_store::StoreFault;
@@ -26,12 +26,12 @@ pub struct Daemon {
 }
 
 impl Model for Daemon {
-    ghost use Rattle.daemon_turn.specs.Daemons.{Watch, watch_code};
+    ghost use Rattle.daemon_turn.specs.Daemons.{DaemonState, daemon_code};
     ghost use Rattle.daemon_turn.specs.Kids.{AreByNumber};
 
-    ghost Value = { Watch };
+    ghost Value = { DaemonState };
 
-    ghost coded = { watch_code };
+    ghost coded = { daemon_code };
 
     ghost view = { λ daemon. record { kids = daemon.kids.items; limit = daemon.limit; interval = daemon.interval } };
 
@@ -41,7 +41,7 @@ impl Model for Daemon {
 impl Daemon {
     /// A daemon without kids. It takes no memory.
     pub fn new(alloc: Global, limit: u32, interval: u32) -> Daemon
-        ensures { result ≡ new_watch limit interval }
+        ensures { result ≡ new_daemon limit interval }
     {
         Daemon {
             kids: Vec::new(alloc),
@@ -86,13 +86,13 @@ impl Daemon {
         requires now { IsClockSecond now }
         requires children { AreChildren (H.session host.old).children self.old.kids }
         ensures { TurnsTo H.tells H.alone (record { now = now; load = load; mode = mode })
-            (record { session = H.session host.old; world = H.world host.old; watch = self.old })
-            (record { session = H.session host.new; world = H.world host.new; watch = self.new })
+            (record { session = H.session host.old; world = H.world host.old; daemon = self.old })
+            (record { session = H.session host.new; world = H.world host.new; daemon = self.new })
             result.end result.steps }
     {
         let limit = self.limit;
         let interval = self.interval;
-        let at = Occasion { now, load, mode };
+        let at = TurnInput { now, load, mode };
         let kids = &mut self.kids;
         let mut steps = Vec::new(alloc);
         let worked = in_session(

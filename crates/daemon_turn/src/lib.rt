@@ -2,30 +2,30 @@
 //! jobs that are due are started.
 #![tactic(auto)]
 
-mod asking;
+mod ask_all;
 mod daemon;
-mod deciding;
-mod forgetting;
-mod handing;
+mod decide;
+mod forget;
+mod hand_over;
 mod kid;
 mod kids;
 mod laws;
-mod making;
+mod make_all;
+mod make_turn;
 mod mode;
-mod occasion;
-mod planning;
+mod plan;
 mod report;
-mod starting;
+mod start;
 mod step;
-mod turning;
+mod turn_input;
 mod twice;
-mod working;
+mod work;
 
 pub use daemon::Daemon;
 pub use kid::Kid;
 pub use laws::turns_end_well;
 pub use mode::Mode;
-pub use occasion::Occasion;
 pub use report::{TurnEnd, TurnReport};
 pub use step::{TurnStep, TurnSteps};
+pub use turn_input::TurnInput;
 pub use twice::turn_twice;

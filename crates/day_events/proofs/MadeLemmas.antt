@@ -14,15 +14,15 @@ pub made_children-more : (number : ℕ) → made_children (number + 1) ≡ made_
 unfolding made_children
 made_children-more number = rw add-one refl
 
-pub events_more : (events behind : List Event) (event : Event) (number : ℕ) → events ≡ made_events number →
-    behind ≡ events ++ event ∷ [] → event ≡ made_event number → behind ≡ made_events (number + 1)
-events_more events behind event number so is made =
+pub events_more : (events after : List Event) (event : Event) (number : ℕ) → events ≡ made_events number →
+    after ≡ events ++ event ∷ [] → event ≡ made_event number → after ≡ made_events (number + 1)
+events_more events after event number so is made =
     is ∙ (ap (λ (list : List Event). list ++ event ∷ []) so
     ∙ (ap (λ (one : Event). made_events number ++ one ∷ []) made ∙ sym (made_events-more number)))
 
-pub children_more : (plans behind : List ChildPlan) (plan : ChildPlan) (number : ℕ) → plans ≡ made_children number →
-    behind ≡ plans ++ plan ∷ [] → plan ≡ made_child number → behind ≡ made_children (number + 1)
-children_more plans behind plan number so is made =
+pub children_more : (plans after : List ChildPlan) (plan : ChildPlan) (number : ℕ) → plans ≡ made_children number →
+    after ≡ plans ++ plan ∷ [] → plan ≡ made_child number → after ≡ made_children (number + 1)
+children_more plans after plan number so is made =
     is ∙ (ap (λ (list : List ChildPlan). list ++ plan ∷ []) so
     ∙ (ap (λ (one : ChildPlan). made_children number ++ one ∷ []) made ∙ sym (made_children-more number)))
 

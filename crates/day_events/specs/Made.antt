@@ -1,8 +1,8 @@
--- The events of a made day (own): eight kinds, one behind another, a minute apart.
+-- The events of a made day (own): eight kinds, one after another, a minute apart.
 use Rattle.std.specs.Prelude.{◌+◌, ◌*◌, ◌/◌, ◌%◌, ◌==◌, ◌++◌, [], ◌∷◌, ℕ, ℤ, pos, zero, suc, List, Some, None, codes, if◌then◌else◌}
 use Rattle.std.specs.Fmt.{decimal}
 use Rattle.civil_minute.specs.declared.zone.Zone.TheVariants.{Utc}
-use Rattle.command_answers.specs.declared.caller.Caller.{Caller}
+use Rattle.command_rules.specs.declared.caller.Caller.{Caller}
 use Rattle.day_events.specs.declared.event.Event.{Event}
 use Rattle.day_events.specs.declared.event.Event.TheVariants.{Command, Turn, Reboot}
 use Rattle.day_events.specs.declared.made.Made.{Made}

@@ -7,7 +7,7 @@ ghost use Rattle.day_events.specs.Days.{is_day_event, is_day_tool};
 use crate::Words;
 use at_words::{Tool, tool_of};
 use clock_range::is_clock_second;
-use command_answers::Caller;
+use command_rules::Caller;
 use host_calls::Bytes;
 
 /// What happens on a machine.

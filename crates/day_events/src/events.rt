@@ -30,7 +30,7 @@ impl Events {
         }
     }
 
-    /// Adds an event behind the others.
+    /// Adds an event after the others.
     pub fn push(&mut self, _alloc: Global, event: Event) -> Result<(), AllocError>
         ensures ok { OnOk result (self.new ≡ self.old ++ event ∷ []) }
         ensures err { OnErr result (self.new ≡ self.old) }

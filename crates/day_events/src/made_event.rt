@@ -5,7 +5,7 @@ ghost use Rattle.day_events.specs.Made.{echo_of, last_of_eight, made_caller, mad
 use crate::{Event, Words};
 use at_words::MAX_EVENTS;
 use civil_minute::Zone;
-use command_answers::Caller;
+use command_rules::Caller;
 use host_calls::{Bytes, Text};
 use job_script::{Context, Variables};
 use std::alloc::{AllocError, Global};
@@ -31,13 +31,13 @@ pub fn made_event(alloc: Global, number: u32) -> Result<Event, AllocError>
         return Ok(turn(number, 100));
     }
     if number % 8 == 4 {
-        return command(alloc, number, one_word(alloc, "atq")?, no_input(alloc));
+        return command(alloc, number, one_word(alloc, "atq")?, empty_input(alloc));
     }
     if number % 8 == 5 {
         return Ok(turn(number, 37 * number % 300));
     }
     if number % 8 == 6 {
-        return command(alloc, number, removal(alloc, number)?, no_input(alloc));
+        return command(alloc, number, removal(alloc, number)?, empty_input(alloc));
     }
     Ok(last_of_eight(number))
 }
@@ -115,7 +115,7 @@ fn ann(alloc: Global) -> Result<Caller, AllocError>
     })
 }
 
-fn no_input(alloc: Global) -> Bytes
+fn empty_input(alloc: Global) -> Bytes
     ensures { result ≡ [] }
 {
     Bytes::from(Vec::new(alloc))

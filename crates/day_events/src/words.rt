@@ -28,7 +28,7 @@ impl Words {
         }
     }
 
-    /// Adds a word behind the others.
+    /// Adds a word after the others.
     pub fn push(&mut self, alloc: Global, word: &str) -> Result<(), AllocError>
         ensures ok { OnOk result (self.new ≡ self.old ++ word.now ∷ []) }
         ensures err { OnErr result (self.new ≡ self.old) }

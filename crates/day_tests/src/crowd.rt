@@ -4,7 +4,7 @@ ghost use Rattle.host_calls.specs.Session.{IsOutside};
 ghost use Rattle.memory_host.specs.Host.{memory_session};
 
 use crate::ann::ann;
-use crate::counting::CountingInputs;
+use crate::counting_inputs::CountingInputs;
 use crate::memory::NOW;
 use crate::texts::texts;
 use at_day::program;

@@ -10,7 +10,7 @@ use std::test::Fail;
 
 #[test]
 fn day_without_events(rt: HostRuntime) -> Result<(), Fail> {
-    let seen = day_behind_seven_numbers(&rt, rt.alloc())?;
+    let seen = day_after_seven_numbers(&rt, rt.alloc())?;
     assert_eq!(rt; seen.reported, 0);
     let counts = seen.counts.ok_or("no counts")?;
     let expected = Counts {
@@ -27,7 +27,7 @@ fn day_without_events(rt: HostRuntime) -> Result<(), Fail> {
 }
 
 // A day without events on a spool where seven numbers were drawn, as it was before numbers of eight digits.
-fn day_behind_seven_numbers(rt: &impl Abort, alloc: Global) -> Result<Seen, AllocError> {
+fn day_after_seven_numbers(rt: &impl Abort, alloc: Global) -> Result<Seen, AllocError> {
     let mut files = Files::new(alloc);
     files.put(alloc, Name::of(b".SEQ").expect(rt, "a name"), b"00007\n")?;
     let mut host = MemoryHost::make(alloc, files, plan_up_to(alloc, 0)?)?;

@@ -7,7 +7,7 @@ mod ann;
 #[cfg(test)]
 mod commands;
 #[cfg(test)]
-mod counting;
+mod counting_inputs;
 #[cfg(test)]
 mod crowd;
 #[cfg(test)]

@@ -100,7 +100,7 @@ fn fuses(rt: &impl Abort, alloc: Global) -> Result<(u64, Vec<u64>), AllocError> 
     Ok((u64::MAX, broken))
 }
 
-// The picks of a reboot behind event 15 with which a rule is broken.
+// The picks of a reboot after event 15 with which a rule is broken.
 fn picks(rt: &impl Abort, alloc: Global) -> Result<Vec<u64>, AllocError> {
     let events = events(alloc)?;
     let mut broken = Vec::new(alloc);

@@ -70,7 +70,7 @@ fn taking(alloc: Global, call: u64) -> Result<Plan, AllocError> {
     Ok(plan)
 }
 
-// Makes the events from this number on happen on both days, one behind another. The spools are the same before and behind
+// Makes the events from this number on happen on both days, one after another. The spools are the same before and after
 // each of them.
 fn each_on_both(
     rt: &impl Abort,

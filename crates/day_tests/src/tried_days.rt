@@ -98,7 +98,7 @@ pub fn open_day(alloc: Global, plan: Plan) -> Result<Stepped, AllocError>
     })
 }
 
-/// Makes the events of these numbers happen, one behind another.
+/// Makes the events of these numbers happen, one after another.
 pub fn each_event(
     rt: &impl Abort,
     alloc: Global,
@@ -133,7 +133,7 @@ pub fn next_event(
     Ok(())
 }
 
-/// The day behind its last event.
+/// The day after its last event.
 pub fn end_of_day(alloc: Global, stepped: &mut Stepped) -> Result<Seen, AllocError>
     requires { IsReady (machine stepped.old.host stepped.old.daemon) }
 {

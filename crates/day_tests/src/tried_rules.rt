@@ -8,12 +8,12 @@ use memory_host::MemoryHost;
 use spool_store::StoreFault;
 use std::alloc::{AllocError, Global};
 
-/// What is seen of a day behind its last event.
+/// What is seen of a day after its last event.
 #[derive(Clone, Copy)]
 pub struct Seen {
     /// How many events reported.
     pub reported: usize,
-    /// What the recovery behind them counts, where it does.
+    /// What the recovery after them counts, where it does.
     pub counts: Option<Counts>,
     /// How many calls were made, with those of the recovery.
     pub calls: u64,

@@ -34,9 +34,9 @@ are_same one other is =
 count_here : (place : ℕ × ℕ) (places : List (ℕ × ℕ)) → count place (place ∷ places) ≡ 1 + count place places
 count_here place places = sum_by-cons (one_if place) place places ∙ ap (λ (b : Bool). cond b 1 0 + count place places) (itself place)
 
--- a place that is there stands between a front and a back
+-- a place that is there stands between a prefix and a suffix
 abbrev Splits : ℕ × ℕ → List (ℕ × ℕ) → Type 0
-Splits place places = (front : List (ℕ × ℕ)) × (back : List (ℕ × ℕ)) × (places ≡ front ++ place ∷ back)
+Splits place places = (prefix : List (ℕ × ℕ)) × (suffix : List (ℕ × ℕ)) × (places ≡ prefix ++ place ∷ suffix)
 
 split : (place : ℕ × ℕ) (places : List (ℕ × ℕ)) → 0 < count place places → Splits place places
 split place [] some = absurd (omega (arith, some))
@@ -45,14 +45,14 @@ split place (first ∷ later) some = by_test (split place later) (is_same place 
   by_test again true is = ([], later, ap (λ (one : ℕ × ℕ). one ∷ later) (sym (are_same place first is)))
   by_test again false is =
       let fewer : count place (first ∷ later) ≡ count place later = sum_by-cons (one_if place) first later ∙ ap (λ (b : Bool). cond b 1 0 + count place later) is ∙ omega arith in
-      let behind : Splits place later = again (subst (λ (n : ℕ). 0 < n) fewer some) in
-      (first ∷ behind.0, behind.1, ap (λ (rest : List (ℕ × ℕ)). first ∷ rest) behind.2)
+      let after : Splits place later = again (subst (λ (n : ℕ). 0 < n) fewer some) in
+      (first ∷ after.0, after.1, ap (λ (rest : List (ℕ × ℕ)). first ∷ rest) after.2)
 
-count_middle : (place other : ℕ × ℕ) (front back : List (ℕ × ℕ)) → count other (front ++ place ∷ back) ≡ one_if other place + count other (front ++ back)
-count_middle place other front back =
-    let whole = sum_by-append (one_if other) front (place ∷ back) in
-    let later = sum_by-cons (one_if other) place back in
-    let rest = sum_by-append (one_if other) front back in
+count_middle : (place other : ℕ × ℕ) (prefix suffix : List (ℕ × ℕ)) → count other (prefix ++ place ∷ suffix) ≡ one_if other place + count other (prefix ++ suffix)
+count_middle place other prefix suffix =
+    let whole = sum_by-append (one_if other) prefix (place ∷ suffix) in
+    let later = sum_by-cons (one_if other) place suffix in
+    let rest = sum_by-append (one_if other) prefix suffix in
     omega (arith, whole, later, rest)
 
 pub counted : (one other : List (ℕ × ℕ)) → ((place : ℕ × ℕ) → count place one ≡ count place other) → IsPermutation one other
@@ -75,7 +75,7 @@ counted (first ∷ later) other same =
     (IsPermutation-cons first later (at.0 ++ at.1) (counted later (at.0 ++ at.1) fewer))
     (IsPermutation-sym (at.0 ++ first ∷ at.1) (first ∷ (at.0 ++ at.1)) (IsPermutation-middle at.0 first at.1)))
 
--- what stands in front of both goes from both
+-- what stands before both goes from both
 pub cancel : (place : ℕ × ℕ) (one other : List (ℕ × ℕ)) → IsPermutation (place ∷ one) (place ∷ other) → IsPermutation one other
 cancel place one other same =
     counted one other (λ each.

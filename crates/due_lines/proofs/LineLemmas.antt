@@ -15,10 +15,10 @@ use Rattle.due_lines.proofs.OrderLemmas.{in_line-refl}
 use Rattle.due_lines.proofs.RowLemmas.{none_batch, none_job, not_batch, not_job, row_in_line, row_less, row_more, row_pushed, row_put, row_unlisted}
 
 -- a row that does not wait changes neither line
-pub lines_put : (front back : List Row) (row : Row) (lines : Lines) → is_pending row.state ≡ false → AreLinesOf (front ++ back) lines → AreLinesOf (front ++ row ∷ back) lines
-lines_put front back row lines waits are = record {
-  jobs = row_put is_waiting_job front back row lines.jobs (none_job row waits) are.jobs;
-  batch = row_put is_waiting_batch front back row lines.batch (none_batch row waits) are.batch;
+pub lines_put : (prefix suffix : List Row) (row : Row) (lines : Lines) → is_pending row.state ≡ false → AreLinesOf (prefix ++ suffix) lines → AreLinesOf (prefix ++ row ∷ suffix) lines
+lines_put prefix suffix row lines waits are = record {
+  jobs = row_put is_waiting_job prefix suffix row lines.jobs (none_job row waits) are.jobs;
+  batch = row_put is_waiting_batch prefix suffix row lines.batch (none_batch row waits) are.batch;
 }
 
 -- what follows from an answer of success
@@ -48,31 +48,31 @@ none_more rows row lines job batch are = record {
 
 -- the job of a row that waits is in its line
 pub in_batch : (row : Row) (lines : Lines) (due : Due) → is_waiting_batch row ≡ true → due ≡ due_of row
-    → (front : List Row) × (back : List Row) × AreLinesOf (front ++ row ∷ back) lines → Contains lines.batch due
-in_batch row lines due waits of (front, back, are) = subst (Contains lines.batch) (sym of) (row_in_line is_waiting_batch front back row lines.batch waits are.batch)
+    → (prefix : List Row) × (suffix : List Row) × AreLinesOf (prefix ++ row ∷ suffix) lines → Contains lines.batch due
+in_batch row lines due waits of (prefix, suffix, are) = subst (Contains lines.batch) (sym of) (row_in_line is_waiting_batch prefix suffix row lines.batch waits are.batch)
 
 pub in_jobs : (row : Row) (lines : Lines) (due : Due) → is_waiting_job row ≡ true → due ≡ due_of row
-    → (front : List Row) × (back : List Row) × AreLinesOf (front ++ row ∷ back) lines → Contains lines.jobs due
-in_jobs row lines due waits of (front, back, are) = subst (Contains lines.jobs) (sym of) (row_in_line is_waiting_job front back row lines.jobs waits are.jobs)
+    → (prefix : List Row) × (suffix : List Row) × AreLinesOf (prefix ++ row ∷ suffix) lines → Contains lines.jobs due
+in_jobs row lines due waits of (prefix, suffix, are) = subst (Contains lines.jobs) (sym of) (row_in_line is_waiting_job prefix suffix row lines.jobs waits are.jobs)
 
-pub batch_less : (front back : List Row) (row : Row) (lines : Lines) (due : Due) (new : List Due) → is_waiting_batch row ≡ true → due ≡ due_of row
-    → IsPermutation lines.batch (due ∷ new) → AreInLine new → AreLinesOf (front ++ row ∷ back) lines → AreLinesOf (front ++ back) (record { jobs = lines.jobs; batch = new })
-batch_less front back row lines due new waits of taken line are = record {
-  jobs = row_unlisted is_waiting_job front back row lines.jobs (not_job row waits) are.jobs;
-  batch = row_less is_waiting_batch front back row lines.batch new waits (subst (λ (one : Due). IsPermutation lines.batch (one ∷ new)) of taken) line are.batch;
+pub batch_less : (prefix suffix : List Row) (row : Row) (lines : Lines) (due : Due) (new : List Due) → is_waiting_batch row ≡ true → due ≡ due_of row
+    → IsPermutation lines.batch (due ∷ new) → AreInLine new → AreLinesOf (prefix ++ row ∷ suffix) lines → AreLinesOf (prefix ++ suffix) (record { jobs = lines.jobs; batch = new })
+batch_less prefix suffix row lines due new waits of taken line are = record {
+  jobs = row_unlisted is_waiting_job prefix suffix row lines.jobs (not_job row waits) are.jobs;
+  batch = row_less is_waiting_batch prefix suffix row lines.batch new waits (subst (λ (one : Due). IsPermutation lines.batch (one ∷ new)) of taken) line are.batch;
 }
 
-pub job_less : (front back : List Row) (row : Row) (lines : Lines) (due : Due) (new : List Due) → is_waiting_job row ≡ true → due ≡ due_of row
-    → IsPermutation lines.jobs (due ∷ new) → AreInLine new → AreLinesOf (front ++ row ∷ back) lines → AreLinesOf (front ++ back) (record { jobs = new; batch = lines.batch })
-job_less front back row lines due new waits of taken line are = record {
-  jobs = row_less is_waiting_job front back row lines.jobs new waits (subst (λ (one : Due). IsPermutation lines.jobs (one ∷ new)) of taken) line are.jobs;
-  batch = row_unlisted is_waiting_batch front back row lines.batch (not_batch row waits) are.batch;
+pub job_less : (prefix suffix : List Row) (row : Row) (lines : Lines) (due : Due) (new : List Due) → is_waiting_job row ≡ true → due ≡ due_of row
+    → IsPermutation lines.jobs (due ∷ new) → AreInLine new → AreLinesOf (prefix ++ row ∷ suffix) lines → AreLinesOf (prefix ++ suffix) (record { jobs = new; batch = lines.batch })
+job_less prefix suffix row lines due new waits of taken line are = record {
+  jobs = row_less is_waiting_job prefix suffix row lines.jobs new waits (subst (λ (one : Due). IsPermutation lines.jobs (one ∷ new)) of taken) line are.jobs;
+  batch = row_unlisted is_waiting_batch prefix suffix row lines.batch (not_batch row waits) are.batch;
 }
 
-pub none_less : (front back : List Row) (row : Row) (lines : Lines) → is_waiting_job row ≡ false → is_waiting_batch row ≡ false → AreLinesOf (front ++ row ∷ back) lines → AreLinesOf (front ++ back) lines
-none_less front back row lines job batch are = record {
-  jobs = row_unlisted is_waiting_job front back row lines.jobs job are.jobs;
-  batch = row_unlisted is_waiting_batch front back row lines.batch batch are.batch;
+pub none_less : (prefix suffix : List Row) (row : Row) (lines : Lines) → is_waiting_job row ≡ false → is_waiting_batch row ≡ false → AreLinesOf (prefix ++ row ∷ suffix) lines → AreLinesOf (prefix ++ suffix) lines
+none_less prefix suffix row lines job batch are = record {
+  jobs = row_unlisted is_waiting_job prefix suffix row lines.jobs job are.jobs;
+  batch = row_unlisted is_waiting_batch prefix suffix row lines.batch batch are.batch;
 }
 
 map_pairs : (dues : List Due) → AreInLine dues → AllPairs IsNotAfter (map due_place dues)
@@ -104,11 +104,11 @@ head_is_first rows now due later is = record {
         (IsPermutation-sym (places_of (is_ready_batch now) rows) (map due_place (due ∷ later)) is.same) (0, omega arith, refl);
     first = All-permutation (IsNotAfter (due_place due)) (map due_place (due ∷ later)) (places_of (is_ready_batch now) rows)
         (IsPermutation-sym (places_of (is_ready_batch now) rows) (map due_place (due ∷ later)) is.same)
-        (All-cons (IsNotAfter (due_place due)) (due_place due) (map due_place later) (in_line-refl due) (behind is.in_line));
+        (All-cons (IsNotAfter (due_place due)) (due_place due) (map due_place later) (in_line-refl due) (after is.in_line));
   };
 } where
-  behind : AreInLine (due ∷ later) → All (IsNotAfter (due_place due)) (map due_place later)
-  behind line k d inside = map_pairs (due ∷ later) line 0 (suc k) d (omega arith) (omega (arith, inside))
+  after : AreInLine (due ∷ later) → All (IsNotAfter (due_place due)) (map due_place later)
+  after line k d inside = map_pairs (due ∷ later) line 0 (suc k) d (omega arith) (omega (arith, inside))
 
 abbrev one : ℕ × ℕ → ℕ
 one place = 1

@@ -1,4 +1,4 @@
--- Jobs in line: the place of one more, one less, and the front of those that are due.
+-- Jobs in line: the place of one more, one less, and the first of them, those that are due.
 use Rattle.std.proofs.Common.{cond, ◌≡◌, ◌⊎◌, ◌<◌, ◌≤◌, ◌*◌, ℕ, ℤ, pos, zero, suc, Bool, true, false, List, [], ◌∷◌, AllPairs, Contains, IsPermutation, length, filter, take, get_or, inl, inr, refl, sym, ap, subst, ◌∙◌, arith}
 use Rattle.std.specs.Int.RustNames.{int_le}
 use Rattle.std.specs.List.{AllWithin, insert, remove}
@@ -81,15 +81,15 @@ parted_due dues now line i j d low inside is = elim (cases_lt i j) [
 
 -- one more between those that stand before it and the others
 insert_pairs : {X : Type 0} (R : X → X → Type 0) (xs : List X) (i : ℕ) (x : X) → i ≤ length xs → AllPairs R xs → AllWithin (λ y. R y x) xs 0 i → AllWithin (λ y. R x y) xs i (length xs) → AllPairs R (insert xs i x)
-insert_pairs R xs zero x within pairs before behind = AllPairs-cons R x xs (λ k d inside. behind k d (omega arith) inside) pairs
-insert_pairs R [] (suc i) x within pairs before behind = absurd (omega (arith, within))
-insert_pairs R (y ∷ ys) (suc i) x within pairs before behind =
+insert_pairs R xs zero x within pairs before after = AllPairs-cons R x xs (λ k d inside. after k d (omega arith) inside) pairs
+insert_pairs R [] (suc i) x within pairs before after = absurd (omega (arith, within))
+insert_pairs R (y ∷ ys) (suc i) x within pairs before after =
     AllPairs-cons R y (insert ys i x)
     (All-permutation (R y) (x ∷ ys) (insert ys i x) (IsPermutation-insert ys i x)
     (All-cons (R y) x ys (before zero x (omega arith) (omega arith)) (λ k d inside. pairs zero (suc k) d (omega arith) (omega (arith, inside)))))
     (insert_pairs R ys i x (omega (arith, within)) (λ j k d low inside. pairs (suc j) (suc k) d (omega (arith, low)) (omega (arith, inside)))
     (λ k d low inside. before (suc k) d (omega arith) (omega (arith, inside)))
-    (λ k d low inside. behind (suc k) d (omega (arith, low)) (omega (arith, inside))))
+    (λ k d low inside. after (suc k) d (omega (arith, low)) (omega (arith, inside))))
 
 pub still_in_line : (dues : List Due) (due : Due) (place : ℕ) → AreInLine dues → place ≤ length dues
     → IsPartitionPoint (λ other. is_before other due ≡ true) (λ other. is_before other due ≡ false) dues place → AreInLine (insert dues place due)
@@ -121,9 +121,9 @@ found_in_line dues due place line point (k, inside, here) = by_place (cases_lt k
   by_place (inl less) = absurd (not_itself due (subst (λ (one : Due). is_before one due ≡ true) here (point.0 k due (omega arith) less)))
   by_place (inr least) =
       let within : place < length dues = omega (arith, least, inside) in
-      let behind : InLine due (get_or dues place due) = not_before (get_or dues place due) due (point.1 place due (omega arith) within) in
+      let after : InLine due (get_or dues place due) = not_before (get_or dues place due) due (point.1 place due (omega arith) within) in
       let before : InLine (get_or dues place due) due = subst (InLine (get_or dues place due)) here (up_to (cases_lt place k)) in
-      (within, one_place due (get_or dues place due) behind before) where
+      (within, one_place due (get_or dues place due) after before) where
         up_to : (place < k) ⊎ (k ≤ place) → InLine (get_or dues place due) (get_or dues k due)
         up_to (inl less) = line.ordered place k due less inside
         up_to (inr most) = let at : place ≡ k = omega (arith, least, most) in subst (λ (n : ℕ). InLine (get_or dues place due) (get_or dues n due)) at (in_line-refl (get_or dues place due))
@@ -154,21 +154,21 @@ pub taken_in_line : (dues new : List Due) (place : ℕ) → place < length dues 
 taken_in_line dues new place within line taken = subst AreInLine (sym taken) (in_line_without dues place within line)
 
 -- those up to the place where a test begins to fail are those that pass it
-pub front_passes : {X : Type 0} (test : X → Bool) (xs : List X) (i : ℕ) → i ≤ length xs → IsPartitionPoint (λ x. test x ≡ true) (λ x. test x ≡ false) xs i → take i xs ≡ filter test xs
-front_passes test [] zero within point = refl
-front_passes test [] (suc i) within point = absurd (omega (arith, within))
-front_passes {X} test (x ∷ xs) zero within point =
-    front_passes test xs zero (omega arith) ((λ k d low inside. absurd (omega (arith, inside))), (λ k d low inside. point.1 (suc k) d (omega arith) (omega (arith, inside))))
+pub prefix_passes : {X : Type 0} (test : X → Bool) (xs : List X) (i : ℕ) → i ≤ length xs → IsPartitionPoint (λ x. test x ≡ true) (λ x. test x ≡ false) xs i → take i xs ≡ filter test xs
+prefix_passes test [] zero within point = refl
+prefix_passes test [] (suc i) within point = absurd (omega (arith, within))
+prefix_passes {X} test (x ∷ xs) zero within point =
+    prefix_passes test xs zero (omega arith) ((λ k d low inside. absurd (omega (arith, inside))), (λ k d low inside. point.1 (suc k) d (omega arith) (omega (arith, inside))))
     ∙ ap (λ (b : Bool). cond b (x ∷ filter test xs) (filter test xs)) (sym (point.1 zero x (omega arith) (omega arith)))
-front_passes {X} test (x ∷ xs) (suc i) within point =
-    ap (λ (rest : List X). x ∷ rest) (front_passes test xs i (omega (arith, within))
+prefix_passes {X} test (x ∷ xs) (suc i) within point =
+    ap (λ (rest : List X). x ∷ rest) (prefix_passes test xs i (omega (arith, within))
     ((λ k d low inside. point.0 (suc k) d (omega arith) (omega (arith, inside))), (λ k d low inside. point.1 (suc k) d (omega (arith, low)) (omega (arith, inside)))))
     ∙ ap (λ (b : Bool). cond b (x ∷ filter test xs) (filter test xs)) (sym (point.0 zero x (omega arith) (omega arith)))
 
-pub front_is_due : (dues slice again old : List Due) (now : ℤ) (count : ℕ) → slice ≡ dues → again ≡ dues → dues ≡ old → count ≤ length slice
+pub prefix_is_due : (dues slice again old : List Due) (now : ℤ) (count : ℕ) → slice ≡ dues → again ≡ dues → dues ≡ old → count ≤ length slice
     → IsPartitionPoint (λ due. is_due_at now due ≡ true) (λ due. is_due_at now due ≡ false) slice count → take count again ≡ filter (is_due_at now) old
-front_is_due dues slice again old now count same still view within point =
-    ap (take count) (still ∙ sym same) ∙ front_passes (is_due_at now) slice count within point ∙ ap (filter (is_due_at now)) (same ∙ view)
+prefix_is_due dues slice again old now count same still view within point =
+    ap (take count) (still ∙ sym same) ∙ prefix_passes (is_due_at now) slice count within point ∙ ap (filter (is_due_at now)) (same ∙ view)
 
 -- how two jobs stand to one another: by minute, then number
 abbrev pub due_cmp : Due → Due → Ordering

@@ -1,4 +1,4 @@
--- The line of rows: with one row more, with one less, and its front.
+-- The line of rows: with one row more, with one less, and its first ones.
 use Rattle.std.proofs.Common.{◌≡◌, ◌*◌, ◌&&◌, ◌++◌, ◌<◌, ℕ, ℤ, pos, Bool, true, false, cond, not, List, [], ◌∷◌, Contains, IsPermutation, length, map, filter, get_or, refl, sym, ap, subst, ◌∙◌, arith}
 use Rattle.std.specs.Int.RustNames.{int_le}
 use Rattle.std.proofs.lemmas.List.{append-nil, get_or-map, length-map, map-append}
@@ -12,29 +12,29 @@ use Rattle.due_lines.specs.Dues.{AreInLine, IsLineOf, due_of, due_place, is_due_
 use Rattle.due_lines.proofs.CountedLemmas.{cancel, kept_permutation}
 use Rattle.due_lines.proofs.OrderLemmas.{kept_in_line}
 
--- the places of a front, a row and a back
-middle_places : (test : Row → Bool) (front back : List Row) (row : Row) →
-    places_of test (front ++ row ∷ back) ≡ places_of test front ++ map place_of (cond (test row) (row ∷ filter test back) (filter test back))
-middle_places test front back row = ap (map place_of) (filter-append test front (row ∷ back)) ∙ map-append place_of (filter test front) (filter test (row ∷ back))
+-- the places of a prefix, a row and a suffix
+middle_places : (test : Row → Bool) (prefix suffix : List Row) (row : Row) →
+    places_of test (prefix ++ row ∷ suffix) ≡ places_of test prefix ++ map place_of (cond (test row) (row ∷ filter test suffix) (filter test suffix))
+middle_places test prefix suffix row = ap (map place_of) (filter-append test prefix (row ∷ suffix)) ∙ map-append place_of (filter test prefix) (filter test (row ∷ suffix))
 
-both_places : (test : Row → Bool) (front back : List Row) → places_of test (front ++ back) ≡ places_of test front ++ places_of test back
-both_places test front back = ap (map place_of) (filter-append test front back) ∙ map-append place_of (filter test front) (filter test back)
+both_places : (test : Row → Bool) (prefix suffix : List Row) → places_of test (prefix ++ suffix) ≡ places_of test prefix ++ places_of test suffix
+both_places test prefix suffix = ap (map place_of) (filter-append test prefix suffix) ∙ map-append place_of (filter test prefix) (filter test suffix)
 
 -- a row that fails the test has no place
-pub unlisted : (test : Row → Bool) (front back : List Row) (row : Row) → test row ≡ false → places_of test (front ++ row ∷ back) ≡ places_of test (front ++ back)
-unlisted test front back row fails =
-    middle_places test front back row
-    ∙ ap (λ (b : Bool). places_of test front ++ map place_of (cond b (row ∷ filter test back) (filter test back))) fails
-    ∙ sym (both_places test front back)
+pub unlisted : (test : Row → Bool) (prefix suffix : List Row) (row : Row) → test row ≡ false → places_of test (prefix ++ row ∷ suffix) ≡ places_of test (prefix ++ suffix)
+unlisted test prefix suffix row fails =
+    middle_places test prefix suffix row
+    ∙ ap (λ (b : Bool). places_of test prefix ++ map place_of (cond b (row ∷ filter test suffix) (filter test suffix))) fails
+    ∙ sym (both_places test prefix suffix)
 
 -- one that passes it has one
-listed : (test : Row → Bool) (front back : List Row) (row : Row) → test row ≡ true → IsPermutation (places_of test (front ++ row ∷ back)) (place_of row ∷ places_of test (front ++ back))
-listed test front back row passes =
-    let whole : places_of test (front ++ row ∷ back) ≡ places_of test front ++ place_of row ∷ places_of test back =
-    middle_places test front back row ∙ ap (λ (b : Bool). places_of test front ++ map place_of (cond b (row ∷ filter test back) (filter test back))) passes in
-    subst (λ (places : List (ℕ × ℕ)). IsPermutation places (place_of row ∷ places_of test (front ++ back))) (sym whole)
-    (subst (λ (places : List (ℕ × ℕ)). IsPermutation (places_of test front ++ place_of row ∷ places_of test back) (place_of row ∷ places)) (sym (both_places test front back))
-    (IsPermutation-middle (places_of test front) (place_of row) (places_of test back)))
+listed : (test : Row → Bool) (prefix suffix : List Row) (row : Row) → test row ≡ true → IsPermutation (places_of test (prefix ++ row ∷ suffix)) (place_of row ∷ places_of test (prefix ++ suffix))
+listed test prefix suffix row passes =
+    let whole : places_of test (prefix ++ row ∷ suffix) ≡ places_of test prefix ++ place_of row ∷ places_of test suffix =
+    middle_places test prefix suffix row ∙ ap (λ (b : Bool). places_of test prefix ++ map place_of (cond b (row ∷ filter test suffix) (filter test suffix))) passes in
+    subst (λ (places : List (ℕ × ℕ)). IsPermutation places (place_of row ∷ places_of test (prefix ++ suffix))) (sym whole)
+    (subst (λ (places : List (ℕ × ℕ)). IsPermutation (places_of test prefix ++ place_of row ∷ places_of test suffix) (place_of row ∷ places)) (sym (both_places test prefix suffix))
+    (IsPermutation-middle (places_of test prefix) (place_of row) (places_of test suffix)))
 
 -- a row that passes more, and one less
 pub row_more : (test : Row → Bool) (rows : List Row) (row : Row) (old new : List Due) → test row ≡ true → IsPermutation (due_of row ∷ old) new → AreInLine new
@@ -47,25 +47,25 @@ row_more test rows row old new passes added line is = record {
   in_line = line;
 }
 
-pub row_less : (test : Row → Bool) (front back : List Row) (row : Row) (old new : List Due) → test row ≡ true → IsPermutation old (due_of row ∷ new) → AreInLine new
-    → IsLineOf test (front ++ row ∷ back) old → IsLineOf test (front ++ back) new
-row_less test front back row old new passes taken line is = record {
-  same = cancel (place_of row) (places_of test (front ++ back)) (map due_place new)
-      (IsPermutation-trans _ _ _ (IsPermutation-sym _ _ (listed test front back row passes))
+pub row_less : (test : Row → Bool) (prefix suffix : List Row) (row : Row) (old new : List Due) → test row ≡ true → IsPermutation old (due_of row ∷ new) → AreInLine new
+    → IsLineOf test (prefix ++ row ∷ suffix) old → IsLineOf test (prefix ++ suffix) new
+row_less test prefix suffix row old new passes taken line is = record {
+  same = cancel (place_of row) (places_of test (prefix ++ suffix)) (map due_place new)
+      (IsPermutation-trans _ _ _ (IsPermutation-sym _ _ (listed test prefix suffix row passes))
       (IsPermutation-trans _ _ _ is.same (IsPermutation-map due_place old (due_of row ∷ new) taken)));
   in_line = line;
 }
 
 -- a row that fails changes nothing
-pub row_unlisted : (test : Row → Bool) (front back : List Row) (row : Row) (dues : List Due) → test row ≡ false → IsLineOf test (front ++ row ∷ back) dues → IsLineOf test (front ++ back) dues
-row_unlisted test front back row dues fails is = record {
-  same = subst (λ (places : List (ℕ × ℕ)). IsPermutation places (map due_place dues)) (unlisted test front back row fails) is.same;
+pub row_unlisted : (test : Row → Bool) (prefix suffix : List Row) (row : Row) (dues : List Due) → test row ≡ false → IsLineOf test (prefix ++ row ∷ suffix) dues → IsLineOf test (prefix ++ suffix) dues
+row_unlisted test prefix suffix row dues fails is = record {
+  same = subst (λ (places : List (ℕ × ℕ)). IsPermutation places (map due_place dues)) (unlisted test prefix suffix row fails) is.same;
   in_line = is.in_line;
 }
 
-pub row_put : (test : Row → Bool) (front back : List Row) (row : Row) (dues : List Due) → test row ≡ false → IsLineOf test (front ++ back) dues → IsLineOf test (front ++ row ∷ back) dues
-row_put test front back row dues fails is = record {
-  same = subst (λ (places : List (ℕ × ℕ)). IsPermutation places (map due_place dues)) (sym (unlisted test front back row fails)) is.same;
+pub row_put : (test : Row → Bool) (prefix suffix : List Row) (row : Row) (dues : List Due) → test row ≡ false → IsLineOf test (prefix ++ suffix) dues → IsLineOf test (prefix ++ row ∷ suffix) dues
+row_put test prefix suffix row dues fails is = record {
+  same = subst (λ (places : List (ℕ × ℕ)). IsPermutation places (map due_place dues)) (sym (unlisted test prefix suffix row fails)) is.same;
   in_line = is.in_line;
 }
 
@@ -82,11 +82,11 @@ of_place dues row (k, inside, here) =
     (k, within, ap (λ (p : ℕ × ℕ). record { minute = p.0; number = p.1 }) place)
 
 -- a row that passes is in the line
-pub row_in_line : (test : Row → Bool) (front back : List Row) (row : Row) (dues : List Due) → test row ≡ true → IsLineOf test (front ++ row ∷ back) dues → Contains dues (due_of row)
-row_in_line test front back row dues passes is =
-    of_place dues row (Contains-permutation (places_of test (front ++ row ∷ back)) (map due_place dues) (place_of row) is.same
-    (Contains-permutation (place_of row ∷ places_of test (front ++ back)) (places_of test (front ++ row ∷ back)) (place_of row)
-    (IsPermutation-sym _ _ (listed test front back row passes)) (0, omega arith, refl)))
+pub row_in_line : (test : Row → Bool) (prefix suffix : List Row) (row : Row) (dues : List Due) → test row ≡ true → IsLineOf test (prefix ++ row ∷ suffix) dues → Contains dues (due_of row)
+row_in_line test prefix suffix row dues passes is =
+    of_place dues row (Contains-permutation (places_of test (prefix ++ row ∷ suffix)) (map due_place dues) (place_of row) is.same
+    (Contains-permutation (place_of row ∷ places_of test (prefix ++ suffix)) (places_of test (prefix ++ row ∷ suffix)) (place_of row)
+    (IsPermutation-sym _ _ (listed test prefix suffix row passes)) (0, omega arith, refl)))
 
 -- a row of one kind is not of the other
 pub not_job : (row : Row) → is_waiting_batch row ≡ true → is_waiting_job row ≡ false
@@ -143,17 +143,17 @@ begun_dues now (due ∷ dues) = by_test (begun_dues now dues) (is_due_at now due
   by_test again true = ap (λ (rest : List (ℕ × ℕ)). due_place due ∷ rest) again
   by_test again false = again
 
--- the front of a line is the line of the rows whose minute has begun
-front_of_line : (now : ℤ) (wide narrow : Row → Bool) → Narrows now wide narrow → (rows : List Row) (dues : List Due) → IsLineOf wide rows dues → IsLineOf narrow rows (filter (is_due_at now) dues)
-front_of_line now wide narrow narrows rows dues is = record {
+-- the head of a line is the line of the rows whose minute has begun
+prefix_of_line : (now : ℤ) (wide narrow : Row → Bool) → Narrows now wide narrow → (rows : List Row) (dues : List Due) → IsLineOf wide rows dues → IsLineOf narrow rows (filter (is_due_at now) dues)
+prefix_of_line now wide narrow narrows rows dues is = record {
   same = subst (λ (places : List (ℕ × ℕ)). IsPermutation places (map due_place (filter (is_due_at now) dues))) (begun_places now wide narrow narrows rows)
       (subst (IsPermutation (filter (has_begun now) (places_of wide rows))) (begun_dues now dues)
       (kept_permutation (has_begun now) (places_of wide rows) (map due_place dues) is.same));
   in_line = kept_in_line (is_due_at now) dues is.in_line;
 }
 
-pub front_of_jobs : (now : ℤ) (rows : List Row) (dues : List Due) → IsLineOf is_waiting_job rows dues → IsLineOf (is_ready_job now) rows (filter (is_due_at now) dues)
-front_of_jobs now = front_of_line now is_waiting_job (is_ready_job now) (λ row. by (is_pending row.state) (has_begun now (place_of row)) (not (is_batch_queue row.queue))) where
+pub prefix_of_jobs : (now : ℤ) (rows : List Row) (dues : List Due) → IsLineOf is_waiting_job rows dues → IsLineOf (is_ready_job now) rows (filter (is_due_at now) dues)
+prefix_of_jobs now = prefix_of_line now is_waiting_job (is_ready_job now) (λ row. by (is_pending row.state) (has_begun now (place_of row)) (not (is_batch_queue row.queue))) where
   by : (p q r : Bool) → ((p && q) && r) ≡ ((p && r) && q)
   by true true true = refl
   by true true false = refl
@@ -161,8 +161,8 @@ front_of_jobs now = front_of_line now is_waiting_job (is_ready_job now) (λ row.
   by true false false = refl
   by false q r = refl
 
-pub front_of_batch : (now : ℤ) (rows : List Row) (dues : List Due) → IsLineOf is_waiting_batch rows dues → IsLineOf (is_ready_batch now) rows (filter (is_due_at now) dues)
-front_of_batch now = front_of_line now is_waiting_batch (is_ready_batch now) (λ row. by (is_pending row.state) (has_begun now (place_of row)) (is_batch_queue row.queue)) where
+pub prefix_of_batch : (now : ℤ) (rows : List Row) (dues : List Due) → IsLineOf is_waiting_batch rows dues → IsLineOf (is_ready_batch now) rows (filter (is_due_at now) dues)
+prefix_of_batch now = prefix_of_line now is_waiting_batch (is_ready_batch now) (λ row. by (is_pending row.state) (has_begun now (place_of row)) (is_batch_queue row.queue)) where
   by : (p q r : Bool) → ((p && q) && r) ≡ ((p && r) && q)
   by true true true = refl
   by true true false = refl

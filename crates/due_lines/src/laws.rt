@@ -1,4 +1,4 @@
-//! What the front of a line says of the rows.
+//! What the start of a line says of the rows.
 ghost use Rattle.std.specs.Prelude.{◌≡◌, ◌↔◌, ◌∷◌, ℤ, List, [], map};
 ghost use Rattle.spool_model.specs.declared.row.Row.{Row};
 ghost use Rattle.queue_rules.specs.Order.{AreInDueOrder, IsFirstBatch, is_ready_batch, is_ready_job, places_of};
@@ -7,7 +7,7 @@ ghost use Rattle.due_lines.specs.Dues.{IsLineOf};
 
 /// The jobs that are ready, in line, are those in due order; and the first of the batch queues is the first
 /// batch job, where there is one.
-pub fn fronts_are_the_due_order()
+pub fn prefixes_are_the_due_order()
     ensures jobs { (rows : List Row) (now : ℤ) (dues : List Due) → IsLineOf (is_ready_job now) rows dues
         → AreInDueOrder rows now (map (λ due. due.number) dues) }
     ensures batch { (rows : List Row) (now : ℤ) (due : Due) (later : List Due)

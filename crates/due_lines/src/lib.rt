@@ -7,6 +7,6 @@ mod line;
 mod lines;
 
 pub use due::Due;
-pub use laws::fronts_are_the_due_order;
+pub use laws::prefixes_are_the_due_order;
 pub use line::Line;
 pub use lines::Lines;

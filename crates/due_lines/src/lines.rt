@@ -43,9 +43,9 @@ impl Lines {
 
     /// A row less.
     pub fn take(&mut self, row: &Row)
-        requires { (front : List Row) × (back : List Row) × AreLinesOf (front ++ row.now ∷ back) self.old }
-        ensures { (front back : List Row) → AreLinesOf (front ++ row.now ∷ back) self.old
-            → AreLinesOf (front ++ back) self.new }
+        requires { (prefix : List Row) × (suffix : List Row) × AreLinesOf (prefix ++ row.now ∷ suffix) self.old }
+        ensures { (prefix suffix : List Row) → AreLinesOf (prefix ++ row.now ∷ suffix) self.old
+            → AreLinesOf (prefix ++ suffix) self.new }
     {
         if is_waiting_batch(row) {
             self.batch.take(Due::of(row));

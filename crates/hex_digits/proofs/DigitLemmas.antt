@@ -61,8 +61,8 @@ spells_more bytes number digit spelled small =
 -- the digits up to a place and the next one
 pub read_more : (bytes : List ℕ) (count number digit : ℕ) → SpellsNumber (take count bytes) number → count < length bytes → digit < 16 → slice_index bytes count ≡ digit_byte digit → SpellsNumber (take (count + 1) bytes) (number * 16 + digit)
 read_more bytes count number digit spelled inside small here =
-    let front : take (count + 1) bytes ≡ take count bytes ++ digit_byte digit ∷ [] = take_more bytes count 0 inside ∙ ap (λ byte. take count bytes ++ byte ∷ []) here in
-    rw front (spells_more (take count bytes) number digit spelled small)
+    let prefix : take (count + 1) bytes ≡ take count bytes ++ digit_byte digit ∷ [] = take_more bytes count 0 inside ∙ ap (λ byte. take count bytes ++ byte ∷ []) here in
+    rw prefix (spells_more (take count bytes) number digit spelled small)
 
 -- one digit more still fits 64 bits, where there are fewer than 16
 pub more_fits : (bytes : List ℕ) (count number digit : ℕ) → SpellsNumber (take count bytes) number → length bytes ≤ 16 → count < length bytes → digit < 16 → number * 16 + digit < 2 ^ 64
@@ -86,7 +86,7 @@ same_digits : (count first second : ℕ) → first < 16 ^ count → second < 16 
 same_digits zero first second first_fits second_fits same = omega arith
 same_digits (suc count) first second first_fits second_fits same =
     let power : 16 ^ suc count ≡ 16 ^ count * 16 = pow-suc 16 count in
-    let fronts : first / 16 ≡ second / 16 = same_digits count (first / 16) (second / 16)
+    let prefixes : first / 16 ≡ second / 16 = same_digits count (first / 16) (second / 16)
     (div_below first 16 (16 ^ count) (omega arith) (omega arith))
     (div_below second 16 (16 ^ count) (omega arith) (omega arith))
     (λ place inside. sym (digit_at-suc first place) ∙ same (suc place) (omega arith) ∙ digit_at-suc second place) in

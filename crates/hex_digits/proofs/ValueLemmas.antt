@@ -24,19 +24,19 @@ pub spelled_digits : (bytes : List ℕ) (number : ℕ) → SpellsNumber bytes nu
 spelled_digits bytes number spelled = all_by_place is_digit bytes (λ place inside.
     ap is_digit (spelled.each place inside) ∙ digit_fits _ (mod_below (number / 16 ^ (length bytes - 1 - place)) 16 (omega arith)))
 
--- digits behind others spell what both come to
-digits_behind : (front bytes : List ℕ) (number : ℕ) → SpellsNumber front number → are_digits bytes ≡ true → SpellsNumber (front ++ bytes) (fold (λ value byte. value * 16 + digit_value byte) number bytes)
-digits_behind front [] number spelled digits = subst (λ list. SpellsNumber list number) (sym (append-nil front)) spelled
-digits_behind front (byte ∷ bytes) number spelled digits =
+-- digits after others spell what both come to
+digits_after : (prefix bytes : List ℕ) (number : ℕ) → SpellsNumber prefix number → are_digits bytes ≡ true → SpellsNumber (prefix ++ bytes) (fold (λ value byte. value * 16 + digit_value byte) number bytes)
+digits_after prefix [] number spelled digits = subst (λ list. SpellsNumber list number) (sym (append-nil prefix)) spelled
+digits_after prefix (byte ∷ bytes) number spelled digits =
     let tests : (is_digit byte ≡ true) × (are_digits bytes ≡ true) = and_parts (is_digit byte) (are_digits bytes) digits in
     let digit : (digit_value byte < 16) × (byte ≡ digit_byte (digit_value byte)) = digit_found byte tests.0 in
-    let more : SpellsNumber (front ++ byte ∷ []) (number * 16 + digit_value byte) =
-    subst (λ last. SpellsNumber (front ++ last ∷ []) (number * 16 + digit_value byte)) (sym digit.1) (spells_more front number (digit_value byte) spelled digit.0) in
-    subst (λ list. SpellsNumber list (fold (λ value b. value * 16 + digit_value b) (number * 16 + digit_value byte) bytes)) (append_assoc front (byte ∷ []) bytes) (digits_behind (front ++ byte ∷ []) bytes (number * 16 + digit_value byte) more tests.1)
+    let more : SpellsNumber (prefix ++ byte ∷ []) (number * 16 + digit_value byte) =
+    subst (λ last. SpellsNumber (prefix ++ last ∷ []) (number * 16 + digit_value byte)) (sym digit.1) (spells_more prefix number (digit_value byte) spelled digit.0) in
+    subst (λ list. SpellsNumber list (fold (λ value b. value * 16 + digit_value b) (number * 16 + digit_value byte) bytes)) (append_assoc prefix (byte ∷ []) bytes) (digits_after (prefix ++ byte ∷ []) bytes (number * 16 + digit_value byte) more tests.1)
 
 -- digits spell their value
 pub digits_spell : (bytes : List ℕ) → are_digits bytes ≡ true → SpellsNumber bytes (value_of bytes)
-digits_spell bytes digits = digits_behind [] bytes 0 (record { fits = omega arith; each = λ place none. absurd (omega arith) }) digits
+digits_spell bytes digits = digits_after [] bytes 0 (record { fits = omega arith; each = λ place none. absurd (omega arith) }) digits
 
 -- and no other number
 pub value_spelled : (bytes : List ℕ) (number : ℕ) → SpellsNumber bytes number → value_of bytes ≡ number
@@ -86,12 +86,12 @@ some_power count =
     let least : 16 ^ 0 ≤ 16 ^ count = pow-le-pow_right (omega arith) from in
     omega arith
 
-pub value_front : (digits : List ℕ) (count more : ℕ) → count + more ≤ length digits → value_of (take count digits) * 16 ^ more ≤ value_of (take (count + more) digits)
-value_front digits count zero inside =
+pub value_prefix : (digits : List ℕ) (count more : ℕ) → count + more ≤ length digits → value_of (take count digits) * 16 ^ more ≤ value_of (take (count + more) digits)
+value_prefix digits count zero inside =
     let same : count + 0 ≡ count = omega arith in
     subst (λ n. value_of (take count digits) * 16 ^ 0 ≤ value_of (take n digits)) (sym same) (omega arith)
-value_front digits count (suc more) inside =
-    let before : value_of (take count digits) * 16 ^ more ≤ value_of (take (count + more) digits) = value_front digits count more (omega arith) in
+value_prefix digits count (suc more) inside =
+    let before : value_of (take count digits) * 16 ^ more ≤ value_of (take (count + more) digits) = value_prefix digits count more (omega arith) in
     let step : value_of (take (count + more + 1) digits) ≡ value_of (take (count + more) digits) * 16 + digit_value (slice_index digits (count + more)) =
     ap value_of (take_more digits (count + more) 0 (omega arith)) ∙ value_last (take (count + more) digits) (slice_index digits (count + more)) in
     let next : count + more + 1 ≡ count + suc more = omega arith in

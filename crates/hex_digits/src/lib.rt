@@ -1,5 +1,5 @@
 //! Numbers in hexadecimal digits of a fixed count, as the formats of the spool have them: `0` to `9`
-//! and `a` to `f`, the greatest place first, with zeros in front.
+//! and `a` to `f`, the greatest place first, with leading zeros.
 #![tactic(auto)]
 
 mod digit;

@@ -5,11 +5,11 @@ use Rattle.std.proofs.lemmas.List.{drop-replicate}
 use Rattle.host_calls.specs.Names.{IsName, IsPadded, padded}
 
 -- the bytes of a name before the zeros of an array that had 64
-pub padded_front : (bytes : List ℕ) → IsName bytes → IsPadded (bytes ++ drop (length bytes) (replicate 64 0)) (length bytes)
-padded_front bytes name =
-    let front : take (length bytes) (bytes ++ drop (length bytes) (replicate 64 0)) ≡ bytes = take-append_seam bytes _ in
+pub padded_prefix : (bytes : List ℕ) → IsName bytes → IsPadded (bytes ++ drop (length bytes) (replicate 64 0)) (length bytes)
+padded_prefix bytes name =
+    let prefix : take (length bytes) (bytes ++ drop (length bytes) (replicate 64 0)) ≡ bytes = take-append_seam bytes _ in
     record {
-      name = subst IsName (sym front) name;
-      counted = ap length front;
-      zeros = ap (λ rest. bytes ++ rest) (drop-replicate (length bytes) 64 0) ∙ ap padded (sym front);
+      name = subst IsName (sym prefix) name;
+      counted = ap length prefix;
+      zeros = ap (λ rest. bytes ++ rest) (drop-replicate (length bytes) 64 0) ∙ ap padded (sym prefix);
     }

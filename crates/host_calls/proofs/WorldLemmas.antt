@@ -42,10 +42,10 @@ call_then P done part first second third result before call within =
     leaves_then P first second third before (leaves_weaker (WithinCall done second.now) P second third weaker call.leaves)
 
 -- the first moments of a list, where what follows is cut off
-take_front : (m n : ℕ) (more rest : List Moment) → length more + n ≡ m → take m (more ++ rest) ≡ more ++ take n rest
-take_front m n [] rest counted = let same : m ≡ n = omega arith in ap (λ k. take k rest) same
-take_front zero n (here ∷ others) rest counted = absurd (omega arith)
-take_front (suc m) n (here ∷ others) rest counted = ap (λ l. here ∷ l) (take_front m n others rest (omega arith))
+take_prefix : (m n : ℕ) (more rest : List Moment) → length more + n ≡ m → take m (more ++ rest) ≡ more ++ take n rest
+take_prefix m n [] rest counted = let same : m ≡ n = omega arith in ap (λ k. take k rest) same
+take_prefix zero n (here ∷ others) rest counted = absurd (omega arith)
+take_prefix (suc m) n (here ∷ others) rest counted = ap (λ l. here ∷ l) (take_prefix m n others rest (omega arith))
 
 -- one of the moments of two lists is in one of them
 AtSome-append : (P : Moment → Type 0) (first second : List Moment) → AtSome P (first ++ second) → AtSome P first ⊎ AtSome P second
@@ -71,7 +71,7 @@ run_counted old new more run = let counted : length (moments new) ≡ length (mo
 could_run : (old new : World) (more : List Moment) → moments new ≡ more ++ moments old → (since : ℕ) → since ≤ moment old → take (moment new + 1 - since) (moments new) ≡ more ++ take (moment old + 1 - since) (moments old)
 could_run old new more run since early =
     let counted : moment new ≡ length more + moment old = run_counted old new more run in
-    ap (take (moment new + 1 - since)) run ∙ take_front (moment new + 1 - since) (moment old + 1 - since) more (moments old) (omega arith)
+    ap (take (moment new + 1 - since)) run ∙ take_prefix (moment new + 1 - since) (moment old + 1 - since) more (moments old) (omega arith)
 
 -- What could be since a moment, after a run, is what could be since it before the run, or since the run's start after it.
 pub could_law : (old new : World) (more : List Moment) → moments new ≡ more ++ moments old → (since : ℕ) → since ≤ moment old → (image : Files) (handed : List Handed) → (Could new since image handed → Could old since image handed ⊎ Could new (moment old) image handed) × (Could old since image handed ⊎ Could new (moment old) image handed → Could new since image handed)

@@ -12,5 +12,5 @@ pub record Sources : Type 0 where
   pub input_faults : ℕ
 
 -- the bytes are the first of the content: all of it, or that many
-abbrev pub IsFrontOf : Option (List ℕ) → ℕ → List ℕ → Type 0
-IsFrontOf content most bytes = option_map (take most) content ≡ Some bytes
+abbrev pub IsPrefixOf : Option (List ℕ) → ℕ → List ℕ → Type 0
+IsPrefixOf content most bytes = option_map (take most) content ≡ Some bytes

@@ -8,7 +8,7 @@ pub record Outlet : Type 0 where
   pub made_as : List ℕ
   pub sink_faults : ℕ
 
--- The content after a put, by its answer: a put that failed has put a front of the bytes.
+-- The content after a put, by its answer: a put that failed has put a prefix of the bytes.
 abbrev pub Puts : List ℕ → List ℕ → List ℕ → Result Unit SinkFault → Type 0
 Puts bytes old new (Ok value) = new ≡ old ++ bytes
 Puts bytes old new (Err Failed) = (count : ℕ) × (new ≡ old ++ take count bytes)

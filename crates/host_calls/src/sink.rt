@@ -17,7 +17,7 @@ pub trait Sink {
     /// What every sink tells.
     ghost outlet: { Self → Outlet };
 
-    /// Puts the bytes behind what is there.
+    /// Puts the bytes after what is there.
     fn put(&mut self, alloc: Global, bytes: &[u8]) -> Result<(), SinkFault>
         ensures put { IsTrue tells → Puts bytes.now (content self.old) (content self.new) result }
         ensures made_as { (outlet self.new).made_as ≡ (outlet self.old).made_as }

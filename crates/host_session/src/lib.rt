@@ -1,4 +1,4 @@
-//! Work within a session of a host: the session is begun before it, and ended behind it.
+//! Work within a session of a host: the session is begun before it, and ended after it.
 #![tactic(auto)]
 
 mod session;

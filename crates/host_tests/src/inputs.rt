@@ -23,8 +23,8 @@ fn the_last_answer_of_a_list_repeats(rt: HostRuntime) -> Result<(), Fail> {
 fn inputs_give_their_first_bytes(rt: HostRuntime) -> Result<(), Fail> {
     let alloc = rt.alloc();
     let mut inputs = MemoryInputs::make(alloc, b"echo hi\n", Some(b"ls\n"), false)?;
-    let front = inputs.standard(alloc, 4).expect(&rt, "four bytes");
-    assert_eq!(rt; front.as_slice(), b"echo".as_slice());
+    let prefix = inputs.standard(alloc, 4).expect(&rt, "four bytes");
+    assert_eq!(rt; prefix.as_slice(), b"echo".as_slice());
     let file = inputs.file(alloc, "any", 100).expect(&rt, "a file");
     assert_eq!(rt; file.as_slice(), b"ls\n".as_slice());
     Ok(())
@@ -37,7 +37,7 @@ fn faults<I: Inputs>(alloc: Global, inputs: &mut I) -> (Option<InputFault>, Opti
 }
 
 #[test]
-fn inputs_fail_where_told_or_where_there_is_no_file(rt: HostRuntime) -> Result<(), Fail> {
+fn inputs_fail_where_planned_or_where_there_is_no_file(rt: HostRuntime) -> Result<(), Fail> {
     let alloc = rt.alloc();
     let failed = Some(InputFault::Failed);
     let mut without = MemoryInputs::make(alloc, b"", None, false)?;

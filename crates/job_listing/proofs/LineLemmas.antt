@@ -27,7 +27,7 @@ pub one_more : (zone : Zone) (rows : List Row) (index : ℕ) (or : Row) (text li
     → ShowsRows zone (take (index + 1) rows) more
 one_more zone rows index or text line more inside shows is put = record {
   lines = shows.lines ++ line ∷ [];
-  shown = subst (λ (front : List Row). AllZip (ShowsRow zone) front (shows.lines ++ line ∷ [])) (sym (take_more rows index or inside))
+  shown = subst (λ (prefix : List Row). AllZip (ShowsRow zone) prefix (shows.lines ++ line ∷ [])) (sym (take_more rows index or inside))
       (zip_push (ShowsRow zone) (take index rows) shows.lines (get_or rows index or) line shows.shown is);
-  joined = put ∙ ap (λ (front : List ℕ). front ++ line) shows.joined ∙ sym (concat_push shows.lines line);
+  joined = put ∙ ap (λ (prefix : List ℕ). prefix ++ line) shows.joined ∙ sym (concat_push shows.lines line);
 }

@@ -1,7 +1,7 @@
 //! The listing of the live jobs that a user may see.
 ghost use Rattle.std.specs.Prelude.{IfOk};
 ghost use Rattle.civil_minute.specs.Zone.{IsReadable};
-ghost use Rattle.command_answers.specs.Requested.{passes_of};
+ghost use Rattle.command_rules.specs.Requested.{passes_of};
 ghost use Rattle.listing_text.specs.Listing.{IsListing};
 
 use crate::lines::lines;

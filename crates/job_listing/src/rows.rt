@@ -1,6 +1,6 @@
 //! The rows of a listing: which, and in which order.
 ghost use Rattle.std.specs.Prelude.{◌≡◌, ◌&&◌, AllPairs, IfOk, IsPermutation, filter};
-ghost use Rattle.command_answers.specs.Requested.{passes_of};
+ghost use Rattle.command_rules.specs.Requested.{passes_of};
 ghost use Rattle.listing_text.specs.Listing.{IsListedBefore, may_see, passes_letter, passes_numbers};
 ghost use Rattle.queue_rules.specs.Order.{Differ, place_of, row_numbers};
 

@@ -1,17 +1,16 @@
-//! The scripts of live jobs, put one behind another.
+//! The scripts of live jobs, put one after another.
 ghost use Rattle.std.specs.Prelude.{◌≡◌, [], ◌∷◌, All, IsTrue};
 ghost use Rattle.host_calls.specs.Session.{CallsInside, IsInside};
-ghost use Rattle.job_runs.specs.Current.{IsCurrent};
+ghost use Rattle.step_runs.specs.Current.{IsCurrent};
 ghost use Rattle.listing_text.specs.declared.cause.Cause.TheVariants as cause;
 ghost use Rattle.spool_model.specs.JobTable.{JobTable};
 ghost use Rattle.spool_store.specs.Listed.{IsLive};
-ghost use Rattle.command_answers.specs.Causes.{stopped_by};
-ghost use Rattle.command_answers.specs.Sinks.{sink_at};
+ghost use Rattle.command_rules.specs.Causes.{error_of};
+ghost use Rattle.command_rules.specs.Sinks.{sink_at};
 ghost use Rattle.job_listing.specs.Scripts.{PutsScripts};
 
-use command_answers::Stopped;
-use host_calls::{Host, Sink, SinkFault};
-use listing_text::Cause;
+use command_rules::CommandError;
+use host_calls::{Host, Sink};
 use spool_store::Store;
 use std::alloc::Global;
 
@@ -23,11 +22,11 @@ pub fn put_scripts<H: Host, O: Sink>(
     store: &Store,
     numbers: &[u32],
     out: &mut O,
-) -> Result<(), Stopped>
+) -> Result<(), CommandError>
     requires inside { IsInside (H.session host.old) }
     requires live { All (IsLive store.now.table) numbers.now }
     requires current { IsTrue H.tells → (table : JobTable) × IsCurrent store.now (H.world host.old).now.folder table }
-    ensures inside { CallsInside (stopped_by cause.FileFault) (H.session host.old) (H.session host.new) result }
+    ensures inside { CallsInside (error_of cause.FileFault) (H.session host.old) (H.session host.new) result }
     ensures made_as { (O.outlet out.new).made_as ≡ (O.outlet out.old).made_as }
     ensures puts { PutsScripts H.tells O.tells store.now numbers.now (H.world host.old) (H.world host.new)
         (sink_at (O.content out.old) (O.outlet out.old)) (sink_at (O.content out.new) (O.outlet out.new)) result }
@@ -45,23 +44,16 @@ fn put_script<H: Host, O: Sink>(
     store: &Store,
     number: u32,
     out: &mut O,
-) -> Result<(), Stopped>
+) -> Result<(), CommandError>
     requires inside { IsInside (H.session host.old) }
     requires live { IsLive store.now.table number }
     requires current { IsTrue H.tells → (table : JobTable) × IsCurrent store.now (H.world host.old).now.folder table }
-    ensures inside { CallsInside (stopped_by cause.FileFault) (H.session host.old) (H.session host.new) result }
+    ensures inside { CallsInside (error_of cause.FileFault) (H.session host.old) (H.session host.new) result }
     ensures made_as { (O.outlet out.new).made_as ≡ (O.outlet out.old).made_as }
     ensures puts { PutsScripts H.tells O.tells store.now (number ∷ []) (H.world host.old) (H.world host.new)
         (sink_at (O.content out.old) (O.outlet out.old)) (sink_at (O.content out.new) (O.outlet out.new)) result }
 {
     let script = store.script(alloc, host, number)?;
-    match out.put(alloc, script.as_slice()) {
-        Ok(()) => Ok(()),
-        Err(SinkFault::Failed) => Err(Stopped {
-            cause: Cause::OutputFault,
-        }),
-        Err(SinkFault::Memory) => Err(Stopped {
-            cause: Cause::Memory,
-        }),
-    }
+    out.put(alloc, script.as_slice())?;
+    Ok(())
 }

@@ -15,36 +15,36 @@ pub record IsInRange (queue number minute : ℕ) : Type 0 where
   pub in_calendar : IsClockMinute minute
 
 -- the bytes are the name of the job in this form: its queue, then the digits of its number, then eight of its minute
-pub record SpellsJobName (bytes : List ℕ) (queue number minute : ℕ) (wide : Bool) : Type 0 where
-  pub counted : length bytes ≡ 9 + number_digits wide
+pub record SpellsJobName (bytes : List ℕ) (queue number minute : ℕ) (new_form : Bool) : Type 0 where
+  pub counted : length bytes ≡ 9 + number_digits new_form
   pub in_range : IsInRange queue number minute
   pub first : slice_index bytes 0 ≡ queue
-  pub next_digits : SpellsNumber (slice_range bytes 1 (1 + number_digits wide)) number
-  pub last_eight : SpellsNumber (slice_range bytes (1 + number_digits wide) (9 + number_digits wide)) minute
+  pub next_digits : SpellsNumber (slice_range bytes 1 (1 + number_digits new_form)) number
+  pub last_eight : SpellsNumber (slice_range bytes (1 + number_digits new_form) (9 + number_digits new_form)) minute
 
--- what the name of a job's file says, and whether its form is the wide one
+-- what the name of a job's file says, and whether its form is the new one
 pub record NamedJob : Type 0 where
   pub queue : ℕ
   pub number : ℕ
   pub minute : ℕ
-  pub wide : Bool
+  pub new_form : Bool
 
 -- the job of this queue, number and minute, if they are in range
 abbrev pub job_in_range : Bool → ℕ → Option ℕ → Option ℕ → Option NamedJob
-job_in_range wide queue (Some number) (Some minute) =
+job_in_range new_form queue (Some number) (Some minute) =
     if is_ascii_alphabetic queue && nat_le 1 number && nat_le minute LAST_MINUTE
-    then Some (record { queue = queue; number = number; minute = minute; wide = wide })
+    then Some (record { queue = queue; number = number; minute = minute; new_form = new_form })
     else None
-job_in_range wide queue (Some number) None = None
-job_in_range wide queue None minute = None
+job_in_range new_form queue (Some number) None = None
+job_in_range new_form queue None minute = None
 
 -- the job that a name of this form is that of: a letter, the digits of its number and eight of its minute
 abbrev pub job_spelled : Bool → List ℕ → Option NamedJob
-job_spelled wide name =
-    if length name == 9 + number_digits wide
-    then job_in_range wide (slice_index name 0)
-    (number_in (slice_range name 1 (1 + number_digits wide)))
-    (number_in (slice_range name (1 + number_digits wide) (9 + number_digits wide)))
+job_spelled new_form name =
+    if length name == 9 + number_digits new_form
+    then job_in_range new_form (slice_index name 0)
+    (number_in (slice_range name 1 (1 + number_digits new_form)))
+    (number_in (slice_range name (1 + number_digits new_form) (9 + number_digits new_form)))
     else None
 
 -- the job that a name is that of, in either form

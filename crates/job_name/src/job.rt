@@ -10,20 +10,20 @@ use clock_range::LAST_MINUTE;
 use host_calls::Name;
 use spool_model::number_digits;
 
-/// How many bytes a job's name has in the wide form.
+/// How many bytes a job's name has in the new form.
 pub const LENGTH: usize = 17;
 
-/// The queue, number and minute of a job, as its file's name has them. The wide form has eight digits of the number,
-/// the narrow one of older spools has five.
+/// The queue, number and minute of a job, as its file's name has them. The new form has eight digits of the number,
+/// the old one has five.
 #[derive(Clone, Copy, Debug, PartialEq, Eq)]
 pub struct JobName {
     pub queue: u8,
     pub number: u32,
     pub minute: u32,
-    pub wide: bool,
+    pub new_form: bool,
     pub ghost letter: { IsTrue (is_ascii_alphabetic queue) },
     pub ghost drawn: { 1 ≤ number },
-    pub ghost fits: { number < 16 ^ number_digits wide },
+    pub ghost fits: { number < 16 ^ number_digits new_form },
     pub ghost in_calendar: { IsClockMinute minute },
 }
 
@@ -34,22 +34,23 @@ impl JobName {
     /// The job that these bytes name, if they are the name of one.
     pub fn read(bytes: &[u8]) -> Option<JobName>
         ensures spelled { IfSome result
-            (λ job. SpellsJobName bytes.now job.queue job.number job.minute job.wide) }
-        ensures found { (queue number minute : ℕ) (wide : Bool) → SpellsJobName bytes.now queue number minute wide
+            (λ job. SpellsJobName bytes.now job.queue job.number job.minute job.new_form) }
+        ensures found { (queue number minute : ℕ) (new_form : Bool)
+            → SpellsJobName bytes.now queue number minute new_form
             → IsSomeAnd result (λ job. (job.queue ≡ queue) × (job.number ≡ number) × (job.minute ≡ minute)
-            × (job.wide ≡ wide)) }
+            × (job.new_form ≡ new_form)) }
     {
         JobName::read_as(bytes, bytes.len() == LENGTH)
     }
 
     // The job that these bytes name in this form, if they do.
-    fn read_as(bytes: &[u8], wide: bool) -> Option<JobName>
-        ensures form { IfSome result (λ job. job.wide ≡ wide) }
-        ensures spelled { IfSome result (λ job. SpellsJobName bytes.now job.queue job.number job.minute wide) }
-        ensures found { (queue number minute : ℕ) → SpellsJobName bytes.now queue number minute wide
+    fn read_as(bytes: &[u8], new_form: bool) -> Option<JobName>
+        ensures form { IfSome result (λ job. job.new_form ≡ new_form) }
+        ensures spelled { IfSome result (λ job. SpellsJobName bytes.now job.queue job.number job.minute new_form) }
+        ensures found { (queue number minute : ℕ) → SpellsJobName bytes.now queue number minute new_form
             → IsSomeAnd result (λ job. (job.queue ≡ queue) × (job.number ≡ number) × (job.minute ≡ minute)) }
     {
-        let digits = number_digits(wide);
+        let digits = number_digits(new_form);
         if bytes.len() != 9 + digits {
             return None;
         }
@@ -63,15 +64,15 @@ impl JobName {
             queue,
             number,
             minute,
-            wide,
+            new_form,
         })
     }
 
-    /// The bytes of the name: 17 in the wide form, 14 in the narrow one.
+    /// The bytes of the name: 17 in the new form, 14 in the old one.
     pub fn text(&self) -> ArrayVec<u8, LENGTH>
-        ensures { SpellsJobName result.items self.now.queue self.now.number self.now.minute self.now.wide }
+        ensures { SpellsJobName result.items self.now.queue self.now.number self.now.minute self.now.new_form }
     {
-        let digits = number_digits(self.wide);
+        let digits = number_digits(self.new_form);
         let mut bytes = [self.queue; LENGTH];
         hex_digits::write(&mut bytes[1..1 + digits], self.number as u64);
         hex_digits::write(&mut bytes[1 + digits..9 + digits], self.minute as u64);
@@ -82,7 +83,7 @@ impl JobName {
 
     /// The name of the job's file.
     pub fn name(&self) -> Name
-        ensures { SpellsJobName result self.now.queue self.now.number self.now.minute self.now.wide }
+        ensures { SpellsJobName result self.now.queue self.now.number self.now.minute self.now.new_form }
     {
         Name::of(self.text().as_slice()).unwrap()
     }

@@ -1,4 +1,4 @@
--- Removals and forgettings of different numbers are legal one behind another.
+-- Removals and forgettings of different numbers are legal one after another.
 use Rattle.std.proofs.Common.{◌≡◌, ◌<◌, ◌-◌, ℕ, List, [], ◌∷◌, length, map, take, zero, suc, inl, inr, sym, ap, subst, ◌∙◌, refl, arith}
 use Rattle.std.specs.Prelude.{Option, Some, None, T}
 use Rattle.spool_model.specs.declared.entry.Entry.TheVariants.{Live, Done}
@@ -9,13 +9,13 @@ use Rattle.spool_model.specs.Lists.{done_numbers, done_under}
 use Rattle.spool_model.specs.Steps.{AreLegal, after_step}
 use Rattle.spool_model.proofs.TableLemmas.{get-put_other, get-taken_other}
 use Rattle.spool_shows.proofs.Membership.{Has}
-use Rattle.job_runs.proofs.ApartLemmas.{Apart}
-use Rattle.job_runs.proofs.RowLemmas.{done_apart, done_held, take_apart, take_has}
-use Rattle.command_answers.specs.Requested.{forgets, removes}
+use Rattle.step_runs.proofs.ApartLemmas.{Apart}
+use Rattle.step_runs.proofs.RowLemmas.{done_apart, done_held, take_apart, take_has}
+use Rattle.command_rules.specs.Requested.{forgets, removes}
 use Rattle.spool_model.specs.Lists.{surplus}
 use Rattle.spool_model.specs.declared.decided.TheConstants.{MAX_DONE}
 
--- jobs of different numbers that are pending are removed one behind another
+-- jobs of different numbers that are pending are removed one after another
 pub removes_legal : (table : JobTable) (numbers : List ℕ) → Apart numbers → ((number : ℕ) → Has numbers number → IsPending table number) →
     AreLegal table (removes numbers)
 removes_legal table [] apart each = tt

@@ -10,19 +10,19 @@ use Rattle.spool_store.specs.declared.fault.StoreFault.TheVariants as store
 use Rattle.spool_store.specs.Faults.{IsOfStep}
 use Rattle.spool_store.specs.Listed.{ListsDecided}
 use Rattle.spool_store.proofs.CountLemmas.{decided_listed}
-use Rattle.job_runs.specs.Bare.{bare}
-use Rattle.job_runs.specs.Current.{Kept}
-use Rattle.job_runs.specs.Made.{AreMade}
-use Rattle.job_runs.specs.Runs.{Runs}
-use Rattle.job_runs.proofs.ListLemmas.{lists_as_on_the_table}
-use Rattle.job_runs.proofs.MadeLemmas.{legal_then, steps_are_made_behind}
-use Rattle.job_runs.proofs.RunLemmas.{fronts_run_as_the_steps, runs_go_on}
+use Rattle.step_runs.specs.WithoutScripts.{without_scripts}
+use Rattle.step_runs.specs.Current.{Kept}
+use Rattle.step_runs.specs.Made.{AreMade}
+use Rattle.step_runs.specs.Runs.{Runs}
+use Rattle.step_runs.proofs.ListLemmas.{lists_as_on_the_table}
+use Rattle.step_runs.proofs.MadeLemmas.{legal_then, steps_are_made_after}
+use Rattle.step_runs.proofs.RunLemmas.{prefixes_run_as_the_steps, runs_go_on}
 use Rattle.listing_text.specs.declared.cause.Cause.TheVariants.{Done, Memory}
 use Rattle.spool_model.specs.declared.decided.TheConstants.{MAX_DONE}
-use Rattle.command_answers.specs.Causes.{cause_of}
-use Rattle.command_answers.specs.Requested.{forgets, removal, removes}
+use Rattle.command_rules.specs.Causes.{cause_of}
+use Rattle.command_rules.specs.Requested.{forgets, removal, removes}
 use Rattle.spool_model.specs.Lists.{surplus}
-use Rattle.command_answers.specs.Sessions.{IsWorkedOn, Works}
+use Rattle.command_rules.specs.Sessions.{IsWorkedOn, Works}
 use Rattle.job_removal.specs.Removing.{AreRemoval}
 use Rattle.job_removal.proofs.LegalLemmas.{forgets_legal}
 
@@ -46,20 +46,20 @@ surplus_listed table decided count lists is =
     ∙ ap (λ (numbers : List ℕ). take (length numbers - MAX_DONE) numbers) (sym done)
 
 -- what is kept without scripts has the surplus of the table
-surplus_bare : (table : JobTable) → surplus (bare table) ≡ surplus table
-surplus_bare table = ap (λ (numbers : List ℕ). take (length numbers - MAX_DONE) numbers) (lists_as_on_the_table table).done
+surplus_without_scripts : (table : JobTable) → surplus (without_scripts table) ≡ surplus table
+surplus_without_scripts table = ap (λ (numbers : List ℕ). take (length numbers - MAX_DONE) numbers) (lists_as_on_the_table table).done
 
 module _ (table : JobTable) (numbers : List ℕ) (first : Kept) (old middle : World) where
-  -- the table behind the removals
-  abbrev behind : JobTable
-  behind = after_steps table (removes numbers)
+  -- the table after the removals
+  abbrev after : JobTable
+  after = after_steps table (removes numbers)
 
-  same_surplus : AreMade table (removes numbers) [] [] first old middle → surplus first.table ≡ surplus behind
-  same_surplus made = ap surplus made.current.bare_is ∙ surplus_bare behind
+  same_surplus : AreMade table (removes numbers) [] [] first old middle → surplus first.table ≡ surplus after
+  same_surplus made = ap surplus made.current.without_scripts_is ∙ surplus_without_scripts after
 
   -- a removal is legal
   legal_removal : AreLegal table (removes numbers) → AreLegal table (removal table numbers)
-  legal_removal legal = legal_then table (removes numbers) (forgets (surplus behind)) legal (forgets_legal behind)
+  legal_removal legal = legal_then table (removes numbers) (forgets (surplus after)) legal (forgets_legal after)
 
   -- the removals stopped on the way
   pub removes_stopped : (fault : StoreFault) → IsOfStep fault → AreLegal table (removes numbers) × Runs table (removes numbers) old middle →
@@ -68,13 +68,13 @@ module _ (table : JobTable) (numbers : List ℕ) (first : Kept) (old middle : Wo
     steps = removal table numbers;
     are = refl;
     legal = legal_removal ends.0;
-    run = fronts_run_as_the_steps table (removes numbers) (removal table numbers) old middle (forgets (surplus behind), refl) ends.1;
+    run = prefixes_run_as_the_steps table (removes numbers) (removal table numbers) old middle (forgets (surplus after), refl) ends.1;
   })
   removes_stopped store.Memory of_step ends = inr (record {
     steps = removal table numbers;
     are = refl;
     legal = legal_removal ends.0;
-    run = fronts_run_as_the_steps table (removes numbers) (removal table numbers) old middle (forgets (surplus behind), refl) ends.1;
+    run = prefixes_run_as_the_steps table (removes numbers) (removal table numbers) old middle (forgets (surplus after), refl) ends.1;
   })
   removes_stopped (store.Damaged damage) of_step ends = absurd of_step
   removes_stopped store.QueueFull of_step ends = absurd of_step
@@ -87,51 +87,51 @@ module _ (table : JobTable) (numbers : List ℕ) (first : Kept) (old middle : Wo
       steps = removal table numbers;
       are = refl;
       legal = legal_removal made.legal;
-      run = fronts_run_as_the_steps table (removes numbers) (removal table numbers) old middle (forgets (surplus behind), refl) made.through.run;
+      run = prefixes_run_as_the_steps table (removes numbers) (removal table numbers) old middle (forgets (surplus after), refl) made.through.run;
     })
 
     -- the forgettings stopped on the way
-    forgets_ran : (new : World) → Runs behind (forgets (surplus behind)) middle new → IsWorkedOn (AreRemoval numbers) table old new
+    forgets_ran : (new : World) → Runs after (forgets (surplus after)) middle new → IsWorkedOn (AreRemoval numbers) table old new
     forgets_ran new run = record {
       steps = removal table numbers;
       are = refl;
       legal = legal_removal made.legal;
-      run = runs_go_on table (removes numbers) (forgets (surplus behind)) [] old middle new made.through run;
+      run = runs_go_on table (removes numbers) (forgets (surplus after)) [] old middle new made.through run;
     }
 
     pub forgets_stopped : (fault : StoreFault) (new : World) → IsOfStep fault →
-        AreLegal behind (forgets (surplus first.table)) × Runs behind (forgets (surplus first.table)) middle new →
+        AreLegal after (forgets (surplus first.table)) × Runs after (forgets (surplus first.table)) middle new →
         Works (AreRemoval numbers) table old new (cause_of fault)
     forgets_stopped store.FileFault new of_step ends =
-        inr (forgets_ran new (subst (λ (l : List ℕ). Runs behind (forgets l) middle new) (same_surplus made) ends.1))
+        inr (forgets_ran new (subst (λ (l : List ℕ). Runs after (forgets l) middle new) (same_surplus made) ends.1))
     forgets_stopped store.Memory new of_step ends =
-        inr (forgets_ran new (subst (λ (l : List ℕ). Runs behind (forgets l) middle new) (same_surplus made) ends.1))
+        inr (forgets_ran new (subst (λ (l : List ℕ). Runs after (forgets l) middle new) (same_surplus made) ends.1))
     forgets_stopped (store.Damaged damage) new of_step ends = absurd of_step
     forgets_stopped store.QueueFull new of_step ends = absurd of_step
     forgets_stopped store.NumbersUsedUp new of_step ends = absurd of_step
 
     -- all was done
-    pub removed : (last : Kept) (new : World) → AreMade behind (forgets (surplus first.table)) [] [] last middle new →
+    pub removed : (last : Kept) (new : World) → AreMade after (forgets (surplus first.table)) [] [] last middle new →
         Works (AreRemoval numbers) table old new Done
     removed last new forgotten = record {
       steps = removal table numbers;
       kept = last;
       are = refl;
-      made = steps_are_made_behind table (removes numbers) (forgets (surplus behind)) [] [] [] [] first last old middle new made
-          (subst (λ (l : List ℕ). AreMade behind (forgets l) [] [] last middle new) (same_surplus made) forgotten);
+      made = steps_are_made_after table (removes numbers) (forgets (surplus after)) [] [] [] [] first last old middle new made
+          (subst (λ (l : List ℕ). AreMade after (forgets l) [] [] last middle new) (same_surplus made) forgotten);
     }
 
     -- the same over the surplus as it was read
     pub forgets_stopped_at : (shown items : List ℕ) (fault : StoreFault) (new : World) → shown ≡ items → items ≡ surplus first.table → IsOfStep fault →
-        AreLegal behind (forgets shown) × Runs behind (forgets shown) middle new → Works (AreRemoval numbers) table old new (cause_of fault)
+        AreLegal after (forgets shown) × Runs after (forgets shown) middle new → Works (AreRemoval numbers) table old new (cause_of fault)
     forgets_stopped_at shown items fault new same is of_step ends =
         forgets_stopped fault new of_step
-        (subst (λ (l : List ℕ). AreLegal behind (forgets l) × Runs behind (forgets l) middle new) (same ∙ is) ends)
+        (subst (λ (l : List ℕ). AreLegal after (forgets l) × Runs after (forgets l) middle new) (same ∙ is) ends)
 
     pub removed_at : (shown items : List ℕ) (last : Kept) (new : World) → shown ≡ items → items ≡ surplus first.table →
-        AreMade behind (forgets shown) [] [] last middle new → Works (AreRemoval numbers) table old new Done
+        AreMade after (forgets shown) [] [] last middle new → Works (AreRemoval numbers) table old new Done
     removed_at shown items last new same is forgotten =
-        removed last new (subst (λ (l : List ℕ). AreMade behind (forgets l) [] [] last middle new) (same ∙ is) forgotten)
+        removed last new (subst (λ (l : List ℕ). AreMade after (forgets l) [] [] last middle new) (same ∙ is) forgotten)
 
 -- the surplus of what is kept is legal to forget, as it was read
 pub forgets_legal_at : (table : JobTable) (shown items : List ℕ) → shown ≡ items → items ≡ surplus table → AreLegal table (forgets shown)

@@ -4,8 +4,8 @@ use Rattle.listing_text.specs.declared.cause.Cause.{Cause}
 use Rattle.listing_text.specs.declared.cause.Cause.TheVariants.{Done, Refused, FileFault, InputFault, OutputFault, Busy, Memory, Damaged, StillRunning}
 use Rattle.spool_model.specs.declared.step.Step.{Step}
 use Rattle.spool_model.specs.JobTable.{JobTable}
-use Rattle.command_answers.specs.declared.stopped.Stopped.{Stopped}
-use Rattle.command_answers.specs.Requested.{removal}
+use Rattle.command_rules.specs.declared.command_error.CommandError.{CommandError}
+use Rattle.command_rules.specs.Requested.{removal}
 
 -- the steps are those of a removal of these numbers
 abbrev pub AreRemoval : List ℕ → JobTable → List Step → Type 0
@@ -24,5 +24,5 @@ IsOfWork (Damaged damage) = ⊥
 IsOfWork StillRunning = ⊥
 
 -- the command was stopped by one of these
-abbrev pub ComesOfRemoving : Stopped → Type 0
+abbrev pub ComesOfRemoving : CommandError → Type 0
 ComesOfRemoving stopped = IsOfWork stopped.cause

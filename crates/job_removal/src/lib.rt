@@ -1,9 +1,9 @@
 //! Removals: the jobs of some numbers are taken back, and then what is too much of done jobs is forgotten.
 #![tactic(auto)]
 
-mod changing;
-mod deed;
-mod removing;
+mod change;
+mod kind;
+mod removal;
 
-pub(crate) use deed::Deed;
-pub use removing::remove_jobs;
+pub(crate) use kind::StepKind;
+pub use removal::remove_jobs;

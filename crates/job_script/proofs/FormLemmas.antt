@@ -1,33 +1,33 @@
--- The lines of a job text, read from its front.
+-- The lines of a job text, read from its start.
 use Rattle.std.proofs.Common.{◌≡◌, ◌≢◌, ◌<◌, ℕ, true, false, inl, inr, List, [], ◌∷◌, ◌++◌, IsTrue, Option, Some, None, Bor, length, take, drop, codes, refl, sym, ap, subst, ◌∙◌, arith, drop-cons}
 use Rattle.std.specs.Option.{MatchOption}
 use Rattle.std.specs.List.{list_all}
 use Rattle.std.proofs.lemmas.Bool.{cases_lt}
 use Rattle.std.proofs.lemmas.List.{append_assoc, append_cancel_left, drop_all, get_or-take, length-take-le, take-append-drop}
-use Rattle.job_script.specs.inside.Fronts.{HasLines, HasDirectory, IsLineFront, IsQuotedFront, IsNameRun}
+use Rattle.job_script.specs.inside.Prefixes.{HasLines, HasDirectory, IsLinePrefix, IsQuotedPrefix, IsNameRun}
 use Rattle.job_script.specs.JobText.{quoted, variable_line, variable_lines}
 use Rattle.job_script.specs.Variables.{has_no_zero, is_kept_variable, is_variable_byte, may_be_set}
-use Rattle.job_script.proofs.FrontLemmas.{no_backslash, same_quoted}
-use Rattle.job_script.proofs.MeaningLemmas.{SameLine, behind_name, line_parts, name_bytes, no_line, same_line}
+use Rattle.job_script.proofs.PrefixLemmas.{no_backslash, same_quoted}
+use Rattle.job_script.proofs.MeaningLemmas.{SameLine, after_name, line_parts, name_bytes, no_line, same_line}
 use Rattle.job_script.proofs.RunLemmas.{Ends, both_hold, hold_both, pass_by_place, same_run}
 use Rattle.job_script.proofs.WordLemmas.{quoted_word}
 
--- the name that was read, and what stands behind it
+-- the name that was read, and what stands after it
 pub record ReadsName (bytes name rest : List ℕ) (count : ℕ) : Type 0 where
   pub runs : IsNameRun bytes count
-  pub front : name ≡ take count bytes
+  pub prefix : name ≡ take count bytes
   pub back : rest ≡ drop count bytes
 
--- the name and what stands behind it are all
+-- the name and what stands after it are all
 name_and_rest : (bytes name rest : List ℕ) (count : ℕ) → ReadsName bytes name rest count → bytes ≡ name ++ rest
 name_and_rest bytes name rest count r =
-    sym (take-append-drop count bytes) ∙ (λ i. sym r.front i ++ sym r.back i)
+    sym (take-append-drop count bytes) ∙ (λ i. sym r.prefix i ++ sym r.back i)
 
 -- the bytes of the name may stand in one
 read_passes : (bytes name rest : List ℕ) (count : ℕ) → ReadsName bytes name rest count → IsTrue (list_all is_variable_byte name)
 read_passes bytes name rest count r =
     let long : length (take count bytes) ≡ count = length-take-le count bytes r.runs.within in
-    subst (λ (it : List ℕ). IsTrue (list_all is_variable_byte it)) (sym r.front)
+    subst (λ (it : List ℕ). IsTrue (list_all is_variable_byte it)) (sym r.prefix)
     (pass_by_place is_variable_byte (take count bytes) (λ k below.
     let inside : k < count = omega arith in
     subst (λ (byte : ℕ). IsTrue (is_variable_byte byte)) (sym (get_or-take count bytes k 0 inside)) (r.runs.each k inside)))
@@ -51,13 +51,13 @@ kept_has_no_zero variable keeps = (both_hold (may_be_set variable.0) (has_no_zer
 -- the name of a line that stands there is the one that was read
 record SameName (name rest other value more : List ℕ) : Type 0 where
   names : name ≡ other
-  goes_on : rest ≡ behind_name other (quoted value) more
+  goes_on : rest ≡ after_name other (quoted value) more
 
-same_name : (bytes name rest more : List ℕ) (count : ℕ) → ReadsName bytes name rest count → (f : IsLineFront bytes more)
+same_name : (bytes name rest more : List ℕ) (count : ℕ) → ReadsName bytes name rest count → (f : IsLinePrefix bytes more)
     → SameName name rest f.variable.0 f.variable.1 more
 same_name bytes name rest more count r f =
-    let both : (name ≡ f.variable.0) × (rest ≡ behind_name f.variable.0 (quoted f.variable.1) more) =
-    same_run is_variable_byte name f.variable.0 rest (behind_name f.variable.0 (quoted f.variable.1) more)
+    let both : (name ≡ f.variable.0) × (rest ≡ after_name f.variable.0 (quoted f.variable.1) more) =
+    same_run is_variable_byte name f.variable.0 rest (after_name f.variable.0 (quoted f.variable.1) more)
     (read_passes bytes name rest count r) (name_bytes f.variable.0 (kept_stands f.variable f.keeps))
     (read_ends bytes name rest count r) refl
     (sym (name_and_rest bytes name rest count r) ∙ f.text ∙ line_parts f.variable.0 (quoted f.variable.1) more) in
@@ -65,7 +65,7 @@ same_name bytes name rest more count r f =
 
 -- no line stands there where the name may not stand
 pub no_name : (bytes name rest : List ℕ) (count : ℕ) → ReadsName bytes name rest count → false ≡ may_be_set name
-    → (more : List ℕ) → ¬ IsLineFront bytes more
+    → (more : List ℕ) → ¬ IsLinePrefix bytes more
 no_name bytes name rest count r bad more f =
     let s : SameName name rest f.variable.0 f.variable.1 more = same_name bytes name rest more count r f in
     let good : IsTrue (may_be_set f.variable.0) = kept_stands f.variable f.keeps in
@@ -73,14 +73,14 @@ no_name bytes name rest count r bad more f =
 
 -- no line stands there where no sign does
 pub no_sign : (bytes name rest : List ℕ) (count : ℕ) → ReadsName bytes name rest count
-    → ((word : List ℕ) → rest ≢ (61 ∷ []) ++ word) → (more : List ℕ) → ¬ IsLineFront bytes more
+    → ((word : List ℕ) → rest ≢ (61 ∷ []) ++ word) → (more : List ℕ) → ¬ IsLinePrefix bytes more
 no_sign bytes name rest count r none more f =
     none (quoted f.variable.1 ++ (codes "; export " ++ (f.variable.0 ++ (10 ∷ more))))
     (same_name bytes name rest more count r f).goes_on
 
 -- the word of a line that stands there
 line_word : (bytes name rest word more : List ℕ) (count : ℕ) → ReadsName bytes name rest count → rest ≡ (61 ∷ []) ++ word
-    → (f : IsLineFront bytes more) → IsQuotedFront word (codes "; export " ++ (f.variable.0 ++ (10 ∷ more)))
+    → (f : IsLinePrefix bytes more) → IsQuotedPrefix word (codes "; export " ++ (f.variable.0 ++ (10 ∷ more)))
 line_word bytes name rest word more count r sign f = record {
   value = f.variable.1;
   no_zero = kept_has_no_zero f.variable f.keeps;
@@ -90,47 +90,47 @@ line_word bytes name rest word more count r sign f = record {
 
 -- no line stands there where no word does
 pub no_word : (bytes name rest word : List ℕ) (count : ℕ) → ReadsName bytes name rest count → rest ≡ (61 ∷ []) ++ word
-    → ((export : List ℕ) → ¬ IsQuotedFront word export) → (more : List ℕ) → ¬ IsLineFront bytes more
+    → ((export : List ℕ) → ¬ IsQuotedPrefix word export) → (more : List ℕ) → ¬ IsLinePrefix bytes more
 no_word bytes name rest word count r sign none more f =
     none (codes "; export " ++ (f.variable.0 ++ (10 ∷ more))) (line_word bytes name rest word more count r sign f)
 
--- what stands behind the word of a line that stands there
-behind_line_word : (bytes name rest word export more : List ℕ) (count : ℕ) → ReadsName bytes name rest count
-    → rest ≡ (61 ∷ []) ++ word → IsQuotedFront word export → IsLineFront bytes more
+-- what stands after the word of a line that stands there
+after_line_word : (bytes name rest word export more : List ℕ) (count : ℕ) → ReadsName bytes name rest count
+    → rest ≡ (61 ∷ []) ++ word → IsQuotedPrefix word export → IsLinePrefix bytes more
     → export ≡ codes "; export " ++ (name ++ (10 ∷ more))
-behind_line_word bytes name rest word export more count r sign q f =
+after_line_word bytes name rest word export more count r sign q f =
     (same_quoted word export (codes "; export " ++ (f.variable.0 ++ (10 ∷ more))) q
     (line_word bytes name rest word more count r sign f)).rest
     ∙ ap (λ (it : List ℕ). codes "; export " ++ (it ++ (10 ∷ more))) (sym (same_name bytes name rest more count r f).names)
 
 -- no line stands there where nothing is exported
 pub no_export : (bytes name rest word export : List ℕ) (count : ℕ) → ReadsName bytes name rest count
-    → rest ≡ (61 ∷ []) ++ word → IsQuotedFront word export → ((again : List ℕ) → export ≢ codes "; export " ++ again)
-    → (more : List ℕ) → ¬ IsLineFront bytes more
+    → rest ≡ (61 ∷ []) ++ word → IsQuotedPrefix word export → ((again : List ℕ) → export ≢ codes "; export " ++ again)
+    → (more : List ℕ) → ¬ IsLinePrefix bytes more
 no_export bytes name rest word export count r sign q none more f =
-    none (name ++ (10 ∷ more)) (behind_line_word bytes name rest word export more count r sign q f)
+    none (name ++ (10 ∷ more)) (after_line_word bytes name rest word export more count r sign q f)
 
 -- the name again, in a line that stands there
 again_is : (bytes name rest word export again more : List ℕ) (count : ℕ) → ReadsName bytes name rest count
-    → rest ≡ (61 ∷ []) ++ word → IsQuotedFront word export → export ≡ codes "; export " ++ again → IsLineFront bytes more
+    → rest ≡ (61 ∷ []) ++ word → IsQuotedPrefix word export → export ≡ codes "; export " ++ again → IsLinePrefix bytes more
     → again ≡ name ++ (10 ∷ more)
 again_is bytes name rest word export again more count r sign q exports f =
     append_cancel_left (codes "; export ") again (name ++ (10 ∷ more))
-    (sym exports ∙ behind_line_word bytes name rest word export more count r sign q f)
+    (sym exports ∙ after_line_word bytes name rest word export more count r sign q f)
 
 -- no line stands there where the name isn't exported
 pub no_again : (bytes name rest word export again : List ℕ) (count : ℕ) → ReadsName bytes name rest count
-    → rest ≡ (61 ∷ []) ++ word → IsQuotedFront word export → export ≡ codes "; export " ++ again
-    → ((end : List ℕ) → again ≢ name ++ end) → (more : List ℕ) → ¬ IsLineFront bytes more
+    → rest ≡ (61 ∷ []) ++ word → IsQuotedPrefix word export → export ≡ codes "; export " ++ again
+    → ((end : List ℕ) → again ≢ name ++ end) → (more : List ℕ) → ¬ IsLinePrefix bytes more
 no_again bytes name rest word export again count r sign q exports none more f =
     none (10 ∷ more) (again_is bytes name rest word export again more count r sign q exports f)
 
 -- the newline ends the line of a variable, or none stands there
 pub line_read : (bytes name rest word export again end : List ℕ) (count : ℕ) (after : Option (Bor (List ℕ)))
-    → ReadsName bytes name rest count → may_be_set name ≡ true → rest ≡ (61 ∷ []) ++ word → IsQuotedFront word export
+    → ReadsName bytes name rest count → may_be_set name ≡ true → rest ≡ (61 ∷ []) ++ word → IsQuotedPrefix word export
     → export ≡ codes "; export " ++ again → again ≡ name ++ end
     → MatchOption after ((more : List ℕ) → end ≢ (10 ∷ []) ++ more) (λ more. end ≡ (10 ∷ []) ++ more.now)
-    → MatchOption after ((more : List ℕ) → ¬ IsLineFront bytes more) (λ more. IsLineFront bytes more.now)
+    → MatchOption after ((more : List ℕ) → ¬ IsLinePrefix bytes more) (λ more. IsLinePrefix bytes more.now)
 line_read bytes name rest word export again end count (Some more) r may sign q exports named ends = record {
   variable = (name, q.value);
   keeps = hold_both (may_be_set name) (has_no_zero q.value) may q.no_zero;
@@ -144,7 +144,7 @@ line_read bytes name rest word export again end count None r may sign q exports 
     (sym named ∙ again_is bytes name rest word export again more count r sign q exports f))
 
 -- one line more before lines
-pub lines_before : (bytes more : List ℕ) → IsLineFront bytes more → HasLines more → HasLines bytes
+pub lines_before : (bytes more : List ℕ) → IsLinePrefix bytes more → HasLines more → HasLines bytes
 lines_before bytes more f h = record {
   variables = f.variable ∷ h.variables;
   keeps = hold_both (is_kept_variable f.variable) (list_all is_kept_variable h.variables) f.keeps h.keeps;
@@ -154,13 +154,13 @@ lines_before bytes more f h = record {
       ∙ sym (append_assoc (variable_line f.variable.0 (quoted f.variable.1)) (variable_lines h.variables) h.rest);
 }
 
--- the lines behind the first
-lines_behind_by : (bytes more rest : List ℕ) (variables : List (List ℕ × List ℕ)) → IsLineFront bytes more
+-- the lines after the first
+lines_after_by : (bytes more rest : List ℕ) (variables : List (List ℕ × List ℕ)) → IsLinePrefix bytes more
     → IsTrue (list_all is_kept_variable variables) → HasDirectory rest → bytes ≡ variable_lines variables ++ rest → HasLines more
-lines_behind_by bytes more rest [] f keeps p same =
+lines_after_by bytes more rest [] f keeps p same =
     absurd (no_line f.variable.0 (quoted f.variable.1) (quoted p.directory) more p.commands
     (kept_stands f.variable f.keeps) (sym f.text ∙ same ∙ p.text))
-lines_behind_by bytes more rest (v ∷ variables) f keeps p same =
+lines_after_by bytes more rest (v ∷ variables) f keeps p same =
     let each = both_hold (is_kept_variable v) (list_all is_kept_variable variables) keeps in
     let line : SameLine f.variable.0 v.0 f.variable.1 v.1 more (variable_lines variables ++ rest) =
     same_line f.variable.0 v.0 (quoted f.variable.1) (quoted v.1) f.variable.1 v.1 more (variable_lines variables ++ rest)
@@ -168,15 +168,15 @@ lines_behind_by bytes more rest (v ∷ variables) f keeps p same =
     (sym f.text ∙ same ∙ append_assoc (variable_line v.0 (quoted v.1)) (variable_lines variables) rest) in
     record { variables = variables; keeps = each.1; rest = rest; change = p; text = line.rest }
 
-pub lines_behind : (bytes more : List ℕ) → IsLineFront bytes more → HasLines bytes → HasLines more
-lines_behind bytes more f h = lines_behind_by bytes more h.rest h.variables f h.keeps h.change h.text
+pub lines_after : (bytes more : List ℕ) → IsLinePrefix bytes more → HasLines bytes → HasLines more
+lines_after bytes more f h = lines_after_by bytes more h.rest h.variables f h.keeps h.change h.text
 
 -- where the directory is changed at once, no lines stand before
 pub no_lines : (bytes : List ℕ) → HasDirectory bytes → HasLines bytes
 no_lines bytes p = record { variables = []; keeps = refl; rest = bytes; change = p; text = refl }
 
 -- where no line of a variable stands, the directory is changed at once
-only_directory_by : (bytes rest : List ℕ) (variables : List (List ℕ × List ℕ)) → ((more : List ℕ) → ¬ IsLineFront bytes more)
+only_directory_by : (bytes rest : List ℕ) (variables : List (List ℕ × List ℕ)) → ((more : List ℕ) → ¬ IsLinePrefix bytes more)
     → IsTrue (list_all is_kept_variable variables) → HasDirectory rest → bytes ≡ variable_lines variables ++ rest → HasDirectory bytes
 only_directory_by bytes rest [] none keeps p same = subst HasDirectory (sym same) p
 only_directory_by bytes rest (v ∷ variables) none keeps p same =
@@ -186,5 +186,5 @@ only_directory_by bytes rest (v ∷ variables) none keeps p same =
       text = same ∙ append_assoc (variable_line v.0 (quoted v.1)) (variable_lines variables) rest;
     }))
 
-pub only_directory : (bytes : List ℕ) → ((more : List ℕ) → ¬ IsLineFront bytes more) → HasLines bytes → HasDirectory bytes
+pub only_directory : (bytes : List ℕ) → ((more : List ℕ) → ¬ IsLinePrefix bytes more) → HasLines bytes → HasDirectory bytes
 only_directory bytes none h = only_directory_by bytes h.rest h.variables none h.keeps h.change h.text

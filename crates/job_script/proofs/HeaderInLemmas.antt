@@ -1,29 +1,29 @@
--- What is read from the front of the bytes is their header, or the place of their fault.
+-- What is read from the start of the bytes is their header, or the place of their fault.
 use Rattle.std.proofs.Common.{◌≡◌, ℕ, ◌+◌, ◌-◌, ◌<◌, ◌≤◌, ◌↔◌, Bool, true, false, cond, not, ◌&&◌, eqb, List, [], ◌∷◌, ◌++◌, length, take, drop, max, refl, sym, ap, subst, arith, ◌∙◌, inl, inr, Option, Some, None}
 use Rattle.std.specs.Option.{MatchOption}
 use Rattle.std.proofs.lemmas.Bool.{and_cases, and_parts, cases_lt, eqb-true, eqb-false, not-true, not-false}
 use Rattle.std.proofs.lemmas.List.{drop-take}
 use Rattle.spool_model.specs.Users.{IsUserName}
-use Rattle.job_script.specs.Header.{before_user, behind_user, header_text, BeginsWithHeader, HasHeader, IsHeaderFault}
-use Rattle.job_script.specs.HeaderIn.{alike, name_front, user_in, flag_alike, has_user, header_in, header_place}
+use Rattle.job_script.specs.Header.{before_user, after_user, header_text, BeginsWithHeader, HasHeader, IsHeaderFault}
+use Rattle.job_script.specs.HeaderIn.{alike, name_prefix, user_in, flag_alike, has_user, header_in, header_place}
 use Rattle.job_script.specs.inside.Scan.{Matches}
-use Rattle.job_script.proofs.HeaderLemmas.{eight_behind, fault_before, one_header}
+use Rattle.job_script.proofs.HeaderLemmas.{eight_after, fault_before, one_header}
 use Rattle.job_script.proofs.HeaderScans.{header_read, flag_missing, run_is_name, user_missing}
-use Rattle.job_script.proofs.HeaderInScans.{IsNameFront, alike-matches, alike-take, name_front-runs, name_front-take}
+use Rattle.job_script.proofs.HeaderInScans.{IsNamePrefix, alike-matches, alike-take, name_prefix-runs, name_prefix-take}
 
--- what is read from the front of the bytes
+-- what is read from the start of the bytes
 record IsRead (bytes user : List ℕ) (before : ℕ) (flag : Bool → ℕ) : Type 0 where
-  front : Matches bytes before_user before
-  name : IsNameFront (drop 20 bytes) user
-  flags : (mail : Bool) → Matches (drop (length user) (drop 20 bytes)) (behind_user mail) (flag mail)
+  prefix : Matches bytes before_user before
+  name : IsNamePrefix (drop 20 bytes) user
+  flags : (mail : Bool) → Matches (drop (length user) (drop 20 bytes)) (after_user mail) (flag mail)
 
 -- it is read so
 is_read : (bytes : List ℕ) → IsRead bytes (user_in bytes) (alike before_user bytes) (flag_alike bytes)
 unfolding user_in flag_alike
 is_read bytes = record {
-  front = alike-matches before_user bytes;
-  name = name_front-runs (drop 20 bytes);
-  flags = λ mail. alike-matches (behind_user mail) (drop (length (name_front (drop 20 bytes))) (drop 20 bytes));
+  prefix = alike-matches before_user bytes;
+  name = name_prefix-runs (drop 20 bytes);
+  flags = λ mail. alike-matches (after_user mail) (drop (length (name_prefix (drop 20 bytes))) (drop 20 bytes));
 }
 
 -- a header with this flag was read
@@ -31,8 +31,8 @@ read_header : (bytes user : List ℕ) (before : ℕ) (flag : Bool → ℕ) (mail
     → before ≡ 20 → 0 < length user → flag mail ≡ 8 → BeginsWithHeader bytes user mail
 read_header bytes user before flag mail r whole some all =
     header_read bytes (drop 20 bytes) user (drop (length user) (drop 20 bytes)) before (length user) (flag mail) mail
-    r.front (omega arith) (ap (λ (n : ℕ). drop n bytes) (sym whole)) r.name.front refl
-    (subst IsUserName (sym r.name.front) (run_is_name (drop 20 bytes) (length user) r.name.runs some))
+    r.prefix (omega arith) (ap (λ (n : ℕ). drop n bytes) (sym whole)) r.name.prefix refl
+    (subst IsUserName (sym r.name.prefix) (run_is_name (drop 20 bytes) (length user) r.name.runs some))
     (r.flags mail) all
 
 -- a user was read, and no flag
@@ -42,8 +42,8 @@ read_no_flag : (bytes user : List ℕ) (before : ℕ) (flag : Bool → ℕ) → 
 read_no_flag bytes user before flag r whole some plain mailed =
     subst (λ (n : ℕ). IsHeaderFault bytes (n + length user + max (flag false) (flag true))) whole
     (flag_missing bytes (drop 20 bytes) user (drop (length user) (drop 20 bytes)) before (length user)
-    (flag false) (flag true) r.front (omega arith) (ap (λ (n : ℕ). drop n bytes) (sym whole)) r.name.runs r.name.front refl
-    (subst IsUserName (sym r.name.front) (run_is_name (drop 20 bytes) (length user) r.name.runs some))
+    (flag false) (flag true) r.prefix (omega arith) (ap (λ (n : ℕ). drop n bytes) (sym whole)) r.name.runs r.name.prefix refl
+    (subst IsUserName (sym r.name.prefix) (run_is_name (drop 20 bytes) (length user) r.name.runs some))
     (r.flags false) (r.flags true) plain mailed)
 
 -- no user was read
@@ -51,12 +51,12 @@ read_no_user : (bytes user : List ℕ) (before : ℕ) (flag : Bool → ℕ) → 
     → (before ≡ 20 → 0 < length user → ⊥) → IsHeaderFault bytes before
 read_no_user bytes user before flag r none =
     elim (cases_lt before 20) [
-      | inl short ↦ fault_before bytes before r.front short
+      | inl short ↦ fault_before bytes before r.prefix short
       | inr far ↦
-          let few : before ≤ 20 = r.front.in_text in
+          let few : before ≤ 20 = r.prefix.in_text in
           let whole : before ≡ 20 = omega arith in
-          user_missing bytes (drop 20 bytes) user before (length user) r.front far
-          (ap (λ (n : ℕ). drop n bytes) (sym whole)) r.name.runs r.name.front
+          user_missing bytes (drop 20 bytes) user before (length user) r.prefix far
+          (ap (λ (n : ℕ). drop n bytes) (sym whole)) r.name.runs r.name.prefix
           (λ name. none whole name.some)
     ]
 
@@ -150,17 +150,17 @@ header_place-fault bytes none = (none_read bytes (header_place bytes) (header_in
 user_in-take : (bytes : List ℕ) → user_in (take 60 bytes) ≡ user_in bytes
 unfolding user_in
 user_in-take bytes =
-    ap name_front (drop-take 20 40 bytes) ∙ name_front-take (drop 20 bytes) 40 (omega arith)
+    ap name_prefix (drop-take 20 40 bytes) ∙ name_prefix-take (drop 20 bytes) 40 (omega arith)
 
 -- the user has at most 32 bytes
 length-user_in : (bytes : List ℕ) → length (user_in bytes) ≤ 32
 unfolding user_in
-length-user_in bytes = (name_front-runs (drop 20 bytes)).runs.few
+length-user_in bytes = (name_prefix-runs (drop 20 bytes)).runs.few
 
--- a text behind a few bytes, where enough of them are taken
-behind-take : (rest text : List ℕ) (count : ℕ) → count ≤ 32 → length text ≡ 8
+-- a text after a few bytes, where enough of them are taken
+after-take : (rest text : List ℕ) (count : ℕ) → count ≤ 32 → length text ≡ 8
     → alike text (drop count (take 40 rest)) ≡ alike text (drop count rest)
-behind-take rest text count few long =
+after-take rest text count few long =
     let whole : 40 ≡ count + (40 - count) = omega arith in
     ap (λ (n : ℕ). alike text (drop count (take n rest))) whole
     ∙ ap (alike text) (drop-take count (40 - count) rest)
@@ -172,8 +172,8 @@ unfolding flag_alike
 flag_alike-take bytes mail =
     let user : user_in (take 60 bytes) ≡ user_in bytes = user_in-take bytes in
     let rest : drop 20 (take 60 bytes) ≡ take 40 (drop 20 bytes) = drop-take 20 40 bytes in
-    (λ i. alike (behind_user mail) (drop (length (user i)) (rest i)))
-    ∙ behind-take (drop 20 bytes) (behind_user mail) (length (user_in bytes)) (length-user_in bytes) (eight_behind mail)
+    (λ i. alike (after_user mail) (drop (length (user i)) (rest i)))
+    ∙ after-take (drop 20 bytes) (after_user mail) (length (user_in bytes)) (length-user_in bytes) (eight_after mail)
 
 -- what stands before a user among the first 60 bytes
 before_user-take : (bytes : List ℕ) → alike before_user (take 60 bytes) ≡ alike before_user bytes
@@ -183,9 +183,9 @@ before_user-take bytes = alike-take before_user bytes 60 (omega arith)
 has_user-take : (bytes : List ℕ) → has_user (take 60 bytes) ≡ has_user bytes
 unfolding has_user
 has_user-take bytes =
-    let front = before_user-take bytes in
+    let prefix = before_user-take bytes in
     let user = user_in-take bytes in
-    λ i. eqb (front i) 20 && not (eqb (length (user i)) 0)
+    λ i. eqb (prefix i) 20 && not (eqb (length (user i)) 0)
 
 -- only the first 60 bytes matter to the header
 pub header_in-take : (bytes : List ℕ) → header_in (take 60 bytes) ≡ header_in bytes
@@ -205,15 +205,15 @@ header_place-take bytes =
     let user = user_in-take bytes in
     let plain = flag_alike-take bytes false in
     let mailed = flag_alike-take bytes true in
-    let front = before_user-take bytes in
-    λ i. cond (has i) (20 + length (user i) + max (plain i) (mailed i)) (front i)
+    let prefix = before_user-take bytes in
+    λ i. cond (has i) (20 + length (user i) + max (plain i) (mailed i)) (prefix i)
 
 -- a text is read so
 header_in-small : header_in (header_text (97 ∷ 110 ∷ 110 ∷ []) true ++ (111 ∷ [])) ≡ Some (97 ∷ 110 ∷ 110 ∷ [], true)
-unfolding header_in has_user user_in flag_alike name_front alike
+unfolding header_in has_user user_in flag_alike name_prefix alike
 header_in-small = refl
 
 -- a place is found so
 header_place-small : header_place (before_user ++ (97 ∷ 32 ∷ 109 ∷ [])) ≡ 23
-unfolding header_place has_user user_in flag_alike name_front alike
+unfolding header_place has_user user_in flag_alike name_prefix alike
 header_place-small = refl

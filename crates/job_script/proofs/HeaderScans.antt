@@ -3,10 +3,10 @@ use Rattle.std.proofs.Common.{◌≡◌, ◌≢◌, ℕ, suc, ◌+◌, ◌<◌, 
 use Rattle.std.proofs.lemmas.Bool.{cases_lt}
 use Rattle.std.proofs.lemmas.List.{drop_all, get_or-take, take-append-drop, length-take-le}
 use Rattle.spool_model.specs.Users.{IsUserName, is_user_byte}
-use Rattle.job_script.specs.Header.{BeginsWithHeader, IsHeaderFault, before_user, behind_user}
+use Rattle.job_script.specs.Header.{BeginsWithHeader, IsHeaderFault, before_user, after_user}
 use Rattle.job_script.specs.inside.Scan.{Matches, IsUserRun}
 use Rattle.job_script.proofs.UserRuns.{EndsUser, IsMost, users_by_place}
-use Rattle.job_script.proofs.HeaderLemmas.{MatchesFlags, NoName, eight_behind, fault_at_user, fault_behind, header_found, matched_whole}
+use Rattle.job_script.proofs.HeaderLemmas.{MatchesFlags, NoName, eight_after, fault_at_user, fault_after, header_found, matched_whole}
 
 -- the count of each spelling
 abbrev pub pick : ℕ → ℕ → Bool → ℕ
@@ -14,8 +14,8 @@ pick without with true = with
 pick without with false = without
 
 -- what holds of both counts holds of each that is picked
-pub pick_each : (tail : List ℕ) (without with : ℕ) → Matches tail (behind_user false) without
-    → Matches tail (behind_user true) with → (mail : Bool) → Matches tail (behind_user mail) (pick without with mail)
+pub pick_each : (tail : List ℕ) (without with : ℕ) → Matches tail (after_user false) without
+    → Matches tail (after_user true) with → (mail : Bool) → Matches tail (after_user mail) (pick without with mail)
 pick_each tail without with plain mailed true = mailed
 pick_each tail without with plain mailed false = plain
 
@@ -38,8 +38,8 @@ pick_best without with =
     ]
 
 -- both spellings of the flag, and the longer of the two
-pub both_flags : (tail : List ℕ) (without with : ℕ) → Matches tail (behind_user false) without
-    → Matches tail (behind_user true) with → without < 8 → with < 8
+pub both_flags : (tail : List ℕ) (without with : ℕ) → Matches tail (after_user false) without
+    → Matches tail (after_user true) with → without < 8 → with < 8
     → MatchesFlags tail (pick without with) (max without with)
 both_flags tail without with plain mailed short brief = record {
   each = pick_each tail without with plain mailed;
@@ -98,57 +98,57 @@ some_run rest count run name =
     omega (arith, name.some)
 
 -- what stands before the user stands there whole
-pub whole_front : (bytes rest : List ℕ) (before : ℕ) → Matches bytes before_user before → 20 ≤ before
+pub whole_prefix : (bytes rest : List ℕ) (before : ℕ) → Matches bytes before_user before → 20 ≤ before
     → rest ≡ drop before bytes → bytes ≡ before_user ++ rest
-whole_front bytes rest before m far behind =
+whole_prefix bytes rest before m far later =
     let few : before ≤ 20 = m.in_text in
     let whole : before ≡ length before_user = omega arith in
-    matched_whole bytes before_user before m whole ∙ ap (λ (it : List ℕ). before_user ++ it) (sym behind)
+    matched_whole bytes before_user before m whole ∙ ap (λ (it : List ℕ). before_user ++ it) (sym later)
 
 -- the run and what follows it are all that stands there
 pub run_and_rest : (rest user tail : List ℕ) (count : ℕ) → user ≡ take count rest → tail ≡ drop count rest → rest ≡ user ++ tail
-run_and_rest rest user tail count front behind =
+run_and_rest rest user tail count prefix later =
     sym (take-append-drop count rest)
-    ∙ ap (λ (it : List ℕ). it ++ drop count rest) (sym front) ∙ ap (λ (it : List ℕ). user ++ it) (sym behind)
+    ∙ ap (λ (it : List ℕ). it ++ drop count rest) (sym prefix) ∙ ap (λ (it : List ℕ). user ++ it) (sym later)
 
 -- the code has found a header
 pub header_read : (bytes rest user tail : List ℕ) (before count flag : ℕ) (mail : Bool) → Matches bytes before_user before
     → 20 ≤ before → rest ≡ drop before bytes → user ≡ take count rest → tail ≡ drop count rest → IsUserName user
-    → Matches tail (behind_user mail) flag → flag ≡ 8 → BeginsWithHeader bytes user mail
-header_read bytes rest user tail before count flag mail m far behind front after name found all =
+    → Matches tail (after_user mail) flag → flag ≡ 8 → BeginsWithHeader bytes user mail
+header_read bytes rest user tail before count flag mail m far later prefix after name found all =
     header_found bytes rest user tail mail (drop flag tail) name
-    (whole_front bytes rest before m far behind) (run_and_rest rest user tail count front after)
-    (matched_whole tail (behind_user mail) flag found (all ∙ sym (eight_behind mail)))
+    (whole_prefix bytes rest before m far later) (run_and_rest rest user tail count prefix after)
+    (matched_whole tail (after_user mail) flag found (all ∙ sym (eight_after mail)))
 
 -- the code has found no user
 pub user_missing : (bytes rest user : List ℕ) (before count : ℕ) → Matches bytes before_user before → 20 ≤ before
     → rest ≡ drop before bytes → IsUserRun rest count → user ≡ take count rest → ¬ IsUserName user → IsHeaderFault bytes before
-user_missing bytes rest user before count m far behind run front none =
+user_missing bytes rest user before count m far later run prefix none =
     let few : before ≤ 20 = m.in_text in
     let place : 20 ≡ before = omega arith in
     subst (λ (n : ℕ). IsHeaderFault bytes n) place
-    (fault_at_user bytes rest (whole_front bytes rest before m far behind)
-    (no_name_here rest count run (λ name. none (subst IsUserName (sym front) name))))
+    (fault_at_user bytes rest (whole_prefix bytes rest before m far later)
+    (no_name_here rest count run (λ name. none (subst IsUserName (sym prefix) name))))
 
 -- the code has found a user, and no flag
 pub flag_missing : (bytes rest user tail : List ℕ) (before count without with : ℕ) → Matches bytes before_user before
     → 20 ≤ before → rest ≡ drop before bytes → IsUserRun rest count → user ≡ take count rest → tail ≡ drop count rest
-    → IsUserName user → Matches tail (behind_user false) without → Matches tail (behind_user true) with
+    → IsUserName user → Matches tail (after_user false) without → Matches tail (after_user true) with
     → without ≢ 8 → with ≢ 8 → IsHeaderFault bytes (before + count + max without with)
-flag_missing bytes rest user tail before count without with m far behind run front after name plain mailed short brief =
+flag_missing bytes rest user tail before count without with m far later run prefix after name plain mailed short brief =
     let few : before ≤ 20 = m.in_text in
     let no_more : without ≤ 8 = plain.in_text in
     let as_few : with ≤ 8 = mailed.in_text in
-    let named : IsUserName (take count rest) = subst IsUserName front name in
+    let named : IsUserName (take count rest) = subst IsUserName prefix name in
     let some : 0 < count = some_run rest count run named in
-    let long : length user ≡ count = ap length front ∙ length-take-le count rest run.within in
-    let ends : IsMost user tail = subst (λ (it : List ℕ). IsMost it tail) (sym front)
+    let long : length user ≡ count = ap length prefix ∙ length-take-le count rest run.within in
+    let ends : IsMost user tail = subst (λ (it : List ℕ). IsMost it tail) (sym prefix)
     (subst (λ (it : List ℕ). IsMost (take count rest) it) (sym after) (run_is_most rest count run some)) in
     let flags : MatchesFlags tail (pick without with) (max without with) =
     both_flags tail without with plain mailed (omega arith) (omega arith) in
     let whole : bytes ≡ before_user ++ (user ++ tail) =
-    whole_front bytes rest before m far behind
-    ∙ ap (λ (it : List ℕ). before_user ++ it) (run_and_rest rest user tail count front after) in
+    whole_prefix bytes rest before m far later
+    ∙ ap (λ (it : List ℕ). before_user ++ it) (run_and_rest rest user tail count prefix after) in
     let place : 20 + length user + max without with ≡ before + count + max without with = omega arith in
     subst (λ (n : ℕ). IsHeaderFault bytes n) place
-    (fault_behind bytes user tail (pick without with) (max without with) whole name ends flags)
+    (fault_after bytes user tail (pick without with) (max without with) whole name ends flags)

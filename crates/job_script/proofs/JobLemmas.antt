@@ -1,17 +1,17 @@
--- A job text, read from its front: its header, its umask, and its directory.
+-- A job text, read from its start: its header, its umask, and its directory.
 use Rattle.std.proofs.Common.{◌≡◌, ◌≢◌, ◌+◌, ◌↔◌, ℕ, Bool, true, false, eqb, cond, List, [], ◌∷◌, ◌++◌, IsTrue, Option, Some, None, Bor, length, get_or, drop, codes, refl, sym, ap, ◌∙◌, arith}
 use Rattle.std.specs.Option.{MatchOption, is_some}
 use Rattle.std.specs.List.{flat_map}
 use Rattle.std.proofs.lemmas.List.{append_assoc, append_cancel_left, drop_at, length-append}
 use Rattle.job_script.specs.Form.{IsJobText, JobMeaning}
-use Rattle.job_script.specs.inside.Fronts.{HasLines, HasDirectory, IsQuotedFront, IsUmaskFront}
-use Rattle.job_script.specs.Header.{BeginsWithHeader, HasHeader, before_user, behind_user, header_text}
-use Rattle.job_script.specs.JobText.{behind_directory, directory_lines, quoted, quoted_part, umask_line, variable_lines}
-use Rattle.job_script.proofs.FrontLemmas.{no_backslash, same_quoted}
-use Rattle.job_script.proofs.HeaderLemmas.{eight_behind, one_header}
+use Rattle.job_script.specs.inside.Prefixes.{HasLines, HasDirectory, IsQuotedPrefix, IsUmaskPrefix}
+use Rattle.job_script.specs.Header.{BeginsWithHeader, HasHeader, before_user, after_user, header_text}
+use Rattle.job_script.specs.JobText.{after_directory, directory_lines, quoted, quoted_part, umask_line, variable_lines}
+use Rattle.job_script.proofs.PrefixLemmas.{no_backslash, same_quoted}
+use Rattle.job_script.proofs.HeaderLemmas.{eight_after, one_header}
 use Rattle.job_script.proofs.MeaningLemmas.{directory_parts, same_umask}
 
--- a text behind a test that it is there
+-- a text after a test that it is there
 pub slash_there : (word : List ℕ) (answer : Option (Bor (List ℕ)))
     → MatchOption answer ((more : List ℕ) → word ≢ (39 ∷ 47 ∷ []) ++ more) (λ more. word ≡ (39 ∷ 47 ∷ []) ++ more.now)
     → is_some answer ≡ true → (more : List ℕ) × (word ≡ 39 ∷ 47 ∷ more)
@@ -38,57 +38,57 @@ first_is_slash (b ∷ value) rest more same =
     ∙ append_assoc (quoted_part b) (flat_map quoted_part value ++ 39 ∷ []) rest) ∙ tails)
 
 -- the directory of such a text is a value that stands there
-pub directory_front : (bytes word : List ℕ) → bytes ≡ (99 ∷ 100 ∷ 32 ∷ []) ++ word → (p : HasDirectory bytes)
-    → IsQuotedFront word (behind_directory ++ p.commands)
-directory_front bytes word front p = record {
+pub directory_prefix : (bytes word : List ℕ) → bytes ≡ (99 ∷ 100 ∷ 32 ∷ []) ++ word → (p : HasDirectory bytes)
+    → IsQuotedPrefix word (after_directory ++ p.commands)
+directory_prefix bytes word prefix p = record {
   value = p.directory;
   no_zero = p.path.no_zero;
-  text = append_cancel_left (codes "cd ") word (quoted p.directory ++ (behind_directory ++ p.commands))
-      (sym front ∙ p.text ∙ directory_parts (quoted p.directory) p.commands);
-  ends = no_backslash 32 (drop 1 behind_directory ++ p.commands) (λ same. omega arith);
+  text = append_cancel_left (codes "cd ") word (quoted p.directory ++ (after_directory ++ p.commands))
+      (sym prefix ∙ p.text ∙ directory_parts (quoted p.directory) p.commands);
+  ends = no_backslash 32 (drop 1 after_directory ++ p.commands) (λ same. omega arith);
 }
 
--- what stands behind the directory tells whether it is such a text
+-- what stands after the directory tells whether it is such a text
 pub directory_read : (bytes word more rest : List ℕ) (answer : Option (Bor (List ℕ))) (result : Bool)
-    → bytes ≡ (99 ∷ 100 ∷ 32 ∷ []) ++ word → word ≡ 39 ∷ 47 ∷ more → IsQuotedFront word rest
-    → MatchOption answer ((end : List ℕ) → rest ≢ behind_directory ++ end) (λ end. rest ≡ behind_directory ++ end.now)
+    → bytes ≡ (99 ∷ 100 ∷ 32 ∷ []) ++ word → word ≡ 39 ∷ 47 ∷ more → IsQuotedPrefix word rest
+    → MatchOption answer ((end : List ℕ) → rest ≢ after_directory ++ end) (λ end. rest ≡ after_directory ++ end.now)
     → result ≡ is_some answer → IsTrue result ↔ HasDirectory bytes
-directory_read bytes word more rest (Some end) result front slash q ends there = (
+directory_read bytes word more rest (Some end) result prefix slash q ends there = (
   (λ holds. record {
     directory = q.value;
     path = record { slash = first_is_slash q.value rest more (sym q.text ∙ slash); no_zero = q.no_zero };
     commands = end.now;
-    text = front ∙ ap (λ (it : List ℕ). codes "cd " ++ it) (q.text ∙ ap (λ (it : List ℕ). quoted q.value ++ it) ends)
+    text = prefix ∙ ap (λ (it : List ℕ). codes "cd " ++ it) (q.text ∙ ap (λ (it : List ℕ). quoted q.value ++ it) ends)
         ∙ sym (directory_parts (quoted q.value) end.now);
   }),
   λ place. there,
 )
-directory_read bytes word more rest None result front slash q ends there = (
+directory_read bytes word more rest None result prefix slash q ends there = (
   (λ holds. absurd (cc (holds, there))),
   λ place. absurd (ends place.commands
-      (same_quoted word rest (behind_directory ++ place.commands) q (directory_front bytes word front place)).rest),
+      (same_quoted word rest (after_directory ++ place.commands) q (directory_prefix bytes word prefix place)).rest),
 )
 
 -- the length of a header
 length-header : (user : List ℕ) (mail : Bool) → length (header_text user mail) ≡ 28 + length user
 length-header user mail =
-    omega (arith, length-append before_user (user ++ behind_user mail), length-append user (behind_user mail), eight_behind mail)
+    omega (arith, length-append before_user (user ++ after_user mail), length-append user (after_user mail), eight_after mail)
 
--- what stands behind the header that was read
-pub behind_header : (bytes rest user : List ℕ) (mail : Bool) (h : BeginsWithHeader bytes user mail)
+-- what stands after the header that was read
+pub after_header : (bytes rest user : List ℕ) (mail : Bool) (h : BeginsWithHeader bytes user mail)
     → rest ≡ drop (28 + length user) bytes → rest ≡ h.rest
-behind_header bytes rest user mail h back =
+after_header bytes rest user mail h back =
     back ∙ ap (λ (it : List ℕ). drop (28 + length user) it) h.text
     ∙ drop_at (header_text user mail) h.rest (28 + length user) (length-header user mail)
 
--- the lines of a job behind its umask
+-- the lines of a job after its umask
 abbrev pub lines_of : JobMeaning → List ℕ
 lines_of job = variable_lines job.variables ++ (directory_lines (quoted job.directory) ++ job.commands)
 
--- what stands behind the header of a job text
-job_behind : (bytes user : List ℕ) (mail : Bool) (h : BeginsWithHeader bytes user mail) (j : IsJobText bytes)
+-- what stands after the header of a job text
+job_after : (bytes user : List ℕ) (mail : Bool) (h : BeginsWithHeader bytes user mail) (j : IsJobText bytes)
     → h.rest ≡ umask_line j.job.umask ++ lines_of j.job
-job_behind bytes user mail h j =
+job_after bytes user mail h j =
     let rest : List ℕ = umask_line j.job.umask ++ lines_of j.job in
     let same : (user ≡ j.job.user) × (mail ≡ j.job.mail) =
     one_header bytes user j.job.user mail j.job.mail h (record { name = j.meant.name; rest = rest; text = j.text }) in
@@ -103,23 +103,23 @@ job_has_header bytes j = record {
   header = record { name = j.meant.name; rest = umask_line j.job.umask ++ lines_of j.job; text = j.text };
 }
 
--- a job text sets a umask behind its header
+-- a job text sets a umask after its header
 pub job_has_umask : (bytes rest user : List ℕ) (mail : Bool) (h : BeginsWithHeader bytes user mail)
-    → rest ≡ drop (28 + length user) bytes → (j : IsJobText bytes) → IsUmaskFront rest (lines_of j.job)
+    → rest ≡ drop (28 + length user) bytes → (j : IsJobText bytes) → IsUmaskPrefix rest (lines_of j.job)
 job_has_umask bytes rest user mail h back j = record {
   umask = j.job.umask;
   octal = j.meant.octal;
-  text = behind_header bytes rest user mail h back ∙ job_behind bytes user mail h j;
+  text = after_header bytes rest user mail h back ∙ job_after bytes user mail h j;
 }
 
--- a job text has its lines behind its umask
+-- a job text has its lines after its umask
 pub job_has_lines : (bytes rest lines user : List ℕ) (mail : Bool) (h : BeginsWithHeader bytes user mail)
-    → rest ≡ drop (28 + length user) bytes → IsUmaskFront rest lines → IsJobText bytes → HasLines lines
+    → rest ≡ drop (28 + length user) bytes → IsUmaskPrefix rest lines → IsJobText bytes → HasLines lines
 unfolding job_has_umask
 job_has_lines bytes rest lines user mail h back u j =
-    let front : IsUmaskFront rest (lines_of j.job) = job_has_umask bytes rest user mail h back j in
+    let prefix : IsUmaskPrefix rest (lines_of j.job) = job_has_umask bytes rest user mail h back j in
     let masks : (u.umask ≡ j.job.umask) × (lines ≡ lines_of j.job) =
-    same_umask u.umask j.job.umask lines (lines_of j.job) u.octal j.meant.octal (sym u.text ∙ front.text) in
+    same_umask u.umask j.job.umask lines (lines_of j.job) u.octal j.meant.octal (sym u.text ∙ prefix.text) in
     record {
       variables = j.job.variables;
       keeps = j.meant.keeps;
@@ -130,7 +130,7 @@ job_has_lines bytes rest lines user mail h back u j =
 
 -- a header, a umask and lines are a job text
 pub lines_make_job : (bytes rest lines user : List ℕ) (mail : Bool) (h : BeginsWithHeader bytes user mail)
-    → rest ≡ drop (28 + length user) bytes → IsUmaskFront rest lines → HasLines lines → IsJobText bytes
+    → rest ≡ drop (28 + length user) bytes → IsUmaskPrefix rest lines → HasLines lines → IsJobText bytes
 lines_make_job bytes rest lines user mail h back u l = record {
   job = record {
     user = user;
@@ -141,7 +141,7 @@ lines_make_job bytes rest lines user mail h back u l = record {
     commands = l.change.commands;
   };
   meant = record { name = h.name; octal = u.octal; keeps = l.keeps; path = l.change.path };
-  text = h.text ∙ ap (λ (it : List ℕ). header_text user mail ++ it) (sym (behind_header bytes rest user mail h back)
+  text = h.text ∙ ap (λ (it : List ℕ). header_text user mail ++ it) (sym (after_header bytes rest user mail h back)
       ∙ u.text ∙ ap (λ (it : List ℕ). umask_line u.umask ++ it) (l.text
       ∙ ap (λ (it : List ℕ). variable_lines l.variables ++ it) l.change.text));
 }

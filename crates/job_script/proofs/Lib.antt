@@ -1,5 +1,5 @@
 pub mod FormLemmas
-pub mod FrontLemmas
+pub mod PrefixLemmas
 pub mod HeaderInLemmas
 pub mod HeaderInScans
 pub mod HeaderLemmas

@@ -3,8 +3,8 @@ use Rattle.std.proofs.Common.{◌≡◌, ◌≢◌, ◌<◌, ◌+◌, ◌/◌, �
 use Rattle.std.specs.List.{flat_map, list_all}
 use Rattle.std.proofs.lemmas.List.{append_assoc, append_cancel_left}
 use Rattle.job_script.specs.Header.{header_text}
-use Rattle.job_script.specs.JobText.{behind_directory, directory_lines, umask_line, variable_line}
-use Rattle.job_script.specs.Meaning.{Piece, between_quotes, behind_backslash, ArePieces, IsPiece, IsShellWord, Means, SetsVariables, spelling, stands_for}
+use Rattle.job_script.specs.JobText.{after_directory, directory_lines, umask_line, variable_line}
+use Rattle.job_script.specs.Meaning.{Piece, between_quotes, after_backslash, ArePieces, IsPiece, IsShellWord, Means, SetsVariables, spelling, stands_for}
 use Rattle.job_script.specs.Variables.{are_variable_bytes, begins_variable, is_reserved, is_variable_byte, is_variable_name, may_be_set}
 use Rattle.std.specs.Prelude.{slice_index}
 use Rattle.job_script.proofs.HeaderLemmas.{one_header}
@@ -19,8 +19,8 @@ EndsWord (x ∷ xs) = (x ≢ 39) × (x ≢ 92)
 no_piece : (piece : Piece) (x more : List ℕ) → EndsWord x → x ≡ spelling piece ++ more → ⊥
 no_piece (between_quotes bytes) [] more ends same = cc same
 no_piece (between_quotes bytes) (c ∷ x) more ends same = ends.0 (cc same)
-no_piece (behind_backslash byte) [] more ends same = cc same
-no_piece (behind_backslash byte) (c ∷ x) more ends same = ends.1 (cc same)
+no_piece (after_backslash byte) [] more ends same = cc same
+no_piece (after_backslash byte) (c ∷ x) more ends same = ends.1 (cc same)
 
 -- two numbers that differ are not one
 apart : (a b : ℕ) → a ≡ 39 → b ≡ 92 → a ≡ b → ⊥
@@ -31,7 +31,7 @@ pub record SameThen (v w x y : List ℕ) : Type 0 where
   pub value : v ≡ w
   pub rest : x ≡ y
 
--- two pieces at the front of one text are one
+-- two pieces at the start of one text are one
 same_piece : (first second : Piece) (x y : List ℕ) → IsPiece first → IsPiece second → spelling first ++ x ≡ spelling second ++ y
     → SameThen (stands_for first) (stands_for second) x y
 same_piece (between_quotes a) (between_quotes b) x y clean plain same =
@@ -40,11 +40,11 @@ same_piece (between_quotes a) (between_quotes b) x y clean plain same =
     same_run (λ byte. not (eqb byte 39)) a b (39 ∷ x) (39 ∷ y) clean plain refl refl
     (sym (append_assoc a (39 ∷ []) x) ∙ tails ∙ append_assoc b (39 ∷ []) y) in
     record { value = both.0; rest = cc both.1 }
-same_piece (between_quotes a) (behind_backslash b) x y clean plain same = absurd (apart 39 92 refl refl (cc same))
-same_piece (behind_backslash a) (between_quotes b) x y clean plain same = absurd (apart 39 92 refl refl (sym (cc same)))
-same_piece (behind_backslash a) (behind_backslash b) x y clean plain same = record { value = cc same; rest = cc same }
+same_piece (between_quotes a) (after_backslash b) x y clean plain same = absurd (apart 39 92 refl refl (cc same))
+same_piece (after_backslash a) (between_quotes b) x y clean plain same = absurd (apart 39 92 refl refl (sym (cc same)))
+same_piece (after_backslash a) (after_backslash b) x y clean plain same = record { value = cc same; rest = cc same }
 
--- two runs of pieces at the front of one text that end there stand for one value
+-- two runs of pieces at the start of one text that end there stand for one value
 same_pieces : (ps qs : List Piece) (x y : List ℕ) → ArePieces ps → ArePieces qs → EndsWord x → EndsWord y
     → flat_map spelling ps ++ x ≡ flat_map spelling qs ++ y
     → SameThen (flat_map stands_for ps) (flat_map stands_for qs) x y
@@ -70,12 +70,12 @@ same_word t u v w x y one two xs ys same =
     (ap (λ (it : List ℕ). it ++ x) (sym one.spelled) ∙ same ∙ ap (λ (it : List ℕ). it ++ y) two.spelled) in
     record { value = one.meant ∙ both.value ∙ sym two.meant; rest = both.rest }
 
--- what stands behind the name in a variable's line
-abbrev pub behind_name : List ℕ → List ℕ → List ℕ → List ℕ
-behind_name name word rest = 61 ∷ (word ++ (codes "; export " ++ (name ++ (10 ∷ rest))))
+-- what stands after the name in a variable's line
+abbrev pub after_name : List ℕ → List ℕ → List ℕ → List ℕ
+after_name name word rest = 61 ∷ (word ++ (codes "; export " ++ (name ++ (10 ∷ rest))))
 
 -- the line of a variable and what follows it, part by part
-pub line_parts : (name word rest : List ℕ) → variable_line name word ++ rest ≡ name ++ behind_name name word rest
+pub line_parts : (name word rest : List ℕ) → variable_line name word ++ rest ≡ name ++ after_name name word rest
 line_parts name word rest = simp append_assoc
 
 -- the bytes of a name that may stand are such bytes
@@ -84,19 +84,19 @@ name_bytes name may =
     (both_hold (begins_variable (slice_index name 0)) (are_variable_bytes name)
     (both_hold (is_variable_name name) (not (is_reserved name)) may).0).1
 
--- two lines of variables at the front of one text are one
+-- two lines of variables at the start of one text are one
 pub record SameLine (name other value worth x y : List ℕ) : Type 0 where
   pub names : name ≡ other
   pub values : value ≡ worth
   pub rest : x ≡ y
 
--- a line at the front of a text is one line
+-- a line at the start of a text is one line
 pub same_line : (name other word another value worth x y : List ℕ) → IsTrue (may_be_set name) → IsTrue (may_be_set other)
     → IsShellWord word value → IsShellWord another worth
     → variable_line name word ++ x ≡ variable_line other another ++ y → SameLine name other value worth x y
 same_line name other word another value worth x y may can one two same =
-    let names : (name ≡ other) × (behind_name name word x ≡ behind_name other another y) =
-    same_run is_variable_byte name other (behind_name name word x) (behind_name other another y)
+    let names : (name ≡ other) × (after_name name word x ≡ after_name other another y) =
+    same_run is_variable_byte name other (after_name name word x) (after_name other another y)
     (name_bytes name may) (name_bytes other can) refl refl
     (sym (line_parts name word x) ∙ same ∙ line_parts other another y) in
     let words : SameThen value worth (codes "; export " ++ (name ++ (10 ∷ x))) (codes "; export " ++ (other ++ (10 ∷ y))) =
@@ -115,29 +115,29 @@ space_is_no_sign a b one two same = omega arith
 pub no_line : (name word place x y : List ℕ) → IsTrue (may_be_set name)
     → variable_line name word ++ x ≡ directory_lines place ++ y → ⊥
 no_line name word place x y may same =
-    let both : (name ≡ 99 ∷ 100 ∷ []) × (behind_name name word x ≡ 32 ∷ ((place ++ behind_directory) ++ y)) =
-    same_run is_variable_byte name (99 ∷ 100 ∷ []) (behind_name name word x) (32 ∷ ((place ++ behind_directory) ++ y))
+    let both : (name ≡ 99 ∷ 100 ∷ []) × (after_name name word x ≡ 32 ∷ ((place ++ after_directory) ++ y)) =
+    same_run is_variable_byte name (99 ∷ 100 ∷ []) (after_name name word x) (32 ∷ ((place ++ after_directory) ++ y))
     (name_bytes name may) refl refl refl (sym (line_parts name word x) ∙ same) in
     space_is_no_sign 32 61 refl refl (sym (cc both.1))
 
--- what stands behind the word of the directory
-abbrev pub behind_word : List ℕ → List ℕ
-behind_word commands = behind_directory ++ commands
+-- what stands after the word of the directory
+abbrev pub after_word : List ℕ → List ℕ
+after_word commands = after_directory ++ commands
 
 -- the lines that change the directory and the commands, part by part
-pub directory_parts : (word commands : List ℕ) → directory_lines word ++ commands ≡ codes "cd " ++ (word ++ behind_word commands)
+pub directory_parts : (word commands : List ℕ) → directory_lines word ++ commands ≡ codes "cd " ++ (word ++ after_word commands)
 directory_parts word commands = simp append_assoc
 
 -- two texts that change the directory and then have commands are one
 pub same_directory : (w u d e c f : List ℕ) → IsShellWord w d → IsShellWord u e
     → directory_lines w ++ c ≡ directory_lines u ++ f → SameThen d e c f
 same_directory w u d e c f one two same =
-    let words : SameThen d e (behind_word c) (behind_word f) =
-    same_word w u d e (behind_word c) (behind_word f) one two ((λ e. omega arith), (λ e. omega arith))
+    let words : SameThen d e (after_word c) (after_word f) =
+    same_word w u d e (after_word c) (after_word f) one two ((λ e. omega arith), (λ e. omega arith))
     ((λ e. omega arith), (λ e. omega arith))
-    (append_cancel_left (codes "cd ") (w ++ behind_word c) (u ++ behind_word f)
+    (append_cancel_left (codes "cd ") (w ++ after_word c) (u ++ after_word f)
     (sym (directory_parts w c) ∙ same ∙ directory_parts u f)) in
-    record { value = words.value; rest = append_cancel_left behind_directory c f words.rest }
+    record { value = words.value; rest = append_cancel_left after_directory c f words.rest }
 
 -- what two texts set, where they go to and what they run
 pub record SameLines (variables others : List (List ℕ × List ℕ)) (d e c f : List ℕ) : Type 0 where
@@ -145,7 +145,7 @@ pub record SameLines (variables others : List (List ℕ × List ℕ)) (d e c f :
   pub directory : d ≡ e
   pub commands : c ≡ f
 
--- a text behind the umask sets, goes to and runs one thing
+-- a text after the umask sets, goes to and runs one thing
 pub same_lines : (variables others : List (List ℕ × List ℕ)) (l m w u d e c f : List ℕ)
     → SetsVariables l variables → SetsVariables m others → IsShellWord w d → IsShellWord u e
     → l ++ (directory_lines w ++ c) ≡ m ++ (directory_lines u ++ f) → SameLines variables others d e c f
@@ -182,7 +182,7 @@ same_digits : (a b : ℕ) → a < 512 → b < 512 → 48 + a / 64 % 8 ≡ 48 + b
     → 48 + a % 8 ≡ 48 + b % 8 → a ≡ b
 same_digits a b few less first second third = omega arith
 
--- two lines at the front of one text set one umask
+-- two lines at the start of one text set one umask
 pub same_umask : (a b : ℕ) (x y : List ℕ) → a < 512 → b < 512 → umask_line a ++ x ≡ umask_line b ++ y → (a ≡ b) × (x ≡ y)
 same_umask a b x y few less same =
     (same_digits a b few less (cc same) (cc same) (cc same), cc same)
@@ -205,12 +205,12 @@ same_meaning text user name mail flag umask mask variables others d e c f one tw
     let header : (user ≡ name) × (mail ≡ flag) =
     one_header text user name mail flag (record { name = one.name; rest = first; text = one.all })
     (record { name = two.name; rest = second; text = two.all }) in
-    let behind : first ≡ second =
+    let after : first ≡ second =
     append_cancel_left (header_text user mail) first second
     (sym one.all ∙ two.all ∙ sym (λ i. header_text (header.0 i) (header.1 i) ++ second)) in
     let masks : (umask ≡ mask) × (one.lines ++ (directory_lines one.word ++ c) ≡ two.lines ++ (directory_lines two.word ++ f)) =
     same_umask umask mask (one.lines ++ (directory_lines one.word ++ c)) (two.lines ++ (directory_lines two.word ++ f))
-    one.octal two.octal behind in
+    one.octal two.octal after in
     record {
       users = header.0;
       mails = header.1;

@@ -29,15 +29,15 @@ no_longer (a ∷ u) (b ∷ v) x y us ys same =
     let below : length u ≤ length v = no_longer u v x y (both_hold (is_user_byte a) (are_user_bytes u) us).1 ys rest in
     omega arith
 
--- fronts of one length of one text are one
-pub same_front : (u v x y : List ℕ) → length u ≡ length v → u ++ x ≡ v ++ y → (u ≡ v) × (x ≡ y)
-same_front [] [] x y long same = (refl, same)
-same_front [] (b ∷ v) x y long same = absurd (omega arith)
-same_front (a ∷ u) [] x y long same = absurd (omega arith)
-same_front (a ∷ u) (b ∷ v) x y long same =
+-- prefixes of one length of one text are one
+pub same_prefix : (u v x y : List ℕ) → length u ≡ length v → u ++ x ≡ v ++ y → (u ≡ v) × (x ≡ y)
+same_prefix [] [] x y long same = (refl, same)
+same_prefix [] (b ∷ v) x y long same = absurd (omega arith)
+same_prefix (a ∷ u) [] x y long same = absurd (omega arith)
+same_prefix (a ∷ u) (b ∷ v) x y long same =
     let head : a ≡ b = cc same in
     let rest : u ++ x ≡ v ++ y = cc same in
-    let tails : (u ≡ v) × (x ≡ y) = same_front u v x y (omega arith) rest in
+    let tails : (u ≡ v) × (x ≡ y) = same_prefix u v x y (omega arith) rest in
     (cc (head, tails.0), tails.1)
 
 -- the run ends before a byte that can't go on, or has as many bytes as a name may have
@@ -50,5 +50,5 @@ pub is_the_name : (u v x y : List ℕ) → IsUserName u → IsUserName v → IsM
 is_the_name u v x y name other (inl full) ys same =
     let below : length u ≤ length v = no_longer u v x y name.each ys same in
     let few : length v ≤ 32 = other.few in
-    same_front u v x y (omega arith) same
+    same_prefix u v x y (omega arith) same
 is_the_name u v x y name other (inr xs) ys same = same_user u v x y name.each other.each xs ys same

@@ -4,11 +4,11 @@ use Rattle.std.specs.List.{flat_map}
 use Rattle.std.proofs.lemmas.List.{append_assoc}
 use Rattle.std.proofs.lemmas.Bool.Decides.{nat_tests}
 use Rattle.job_script.specs.Header.{before_user}
-use Rattle.job_script.specs.JobText.{quoted, quoted_part, behind_directory, variable_lines}
-use Rattle.job_script.specs.Meaning.{Piece, between_quotes, behind_backslash, ArePieces, IsShellWord, SetsVariables, has_no_quote, spelling, stands_for}
+use Rattle.job_script.specs.JobText.{quoted, quoted_part, after_directory, variable_lines}
+use Rattle.job_script.specs.Meaning.{Piece, between_quotes, after_backslash, ArePieces, IsShellWord, SetsVariables, has_no_quote, spelling, stands_for}
 use Rattle.job_script.specs.Variables.{may_be_set}
 
--- a word whose first quote is open: the bytes up to the next quote, and the pieces behind it
+-- a word whose first quote is open: the bytes up to the next quote, and the pieces after it
 record IsOpened (value : List ℕ) : Type 0 where
   run : List ℕ
   pieces : List Piece
@@ -17,13 +17,13 @@ record IsOpened (value : List ℕ) : Type 0 where
   spelled : flat_map quoted_part value ++ 39 ∷ [] ≡ run ++ (39 ∷ flat_map spelling pieces)
   meant : value ≡ run ++ flat_map stands_for pieces
 
--- one byte more in front of such a word
+-- one byte more before such a word
 opens : (byte : ℕ) (value : List ℕ) (is_quote : Bool) → nat_eq byte 39 ≡ is_quote → IsOpened value → IsOpened (byte ∷ value)
 opens byte value true here o =
     let quote : byte ≡ 39 = grind (arith, nat_tests, here) in
     record {
       run = [];
-      pieces = behind_backslash 39 ∷ between_quotes o.run ∷ o.pieces;
+      pieces = after_backslash 39 ∷ between_quotes o.run ∷ o.pieces;
       clean = refl;
       each = ((λ same. omega arith), (o.clean, o.each));
       spelled = rw here (ap (λ (it : List ℕ). 39 ∷ 92 ∷ 39 ∷ 39 ∷ it)
@@ -68,9 +68,9 @@ lines_set [] stand = refl
 lines_set (variable ∷ others) stand =
     (stand.0, quoted variable.1, quoted_word variable.1, variable_lines others, refl, lines_set others stand.1)
 
--- the parts of a job text, put one behind the other
+-- the parts of a job text, put one after the other
 pub put_together : (u b m v q c t2 t3 t4 t5 t6 t7 t8 t9 : List ℕ) → t2 ≡ before_user ++ u → t3 ≡ t2 ++ b → t4 ≡ t3 ++ m → t5 ≡ t4 ++ v
-    → t6 ≡ t5 ++ (99 ∷ 100 ∷ 32 ∷ []) → t7 ≡ t6 ++ q → t8 ≡ t7 ++ behind_directory → t9 ≡ t8 ++ c
-    → t9 ≡ (before_user ++ (u ++ b)) ++ (m ++ (v ++ (((99 ∷ 100 ∷ 32 ∷ []) ++ (q ++ behind_directory)) ++ c)))
+    → t6 ≡ t5 ++ (99 ∷ 100 ∷ 32 ∷ []) → t7 ≡ t6 ++ q → t8 ≡ t7 ++ after_directory → t9 ≡ t8 ++ c
+    → t9 ≡ (before_user ++ (u ++ b)) ++ (m ++ (v ++ (((99 ∷ 100 ∷ 32 ∷ []) ++ (q ++ after_directory)) ++ c)))
 put_together u b m v q c t2 t3 t4 t5 t6 t7 t8 t9 e2 e3 e4 e5 e6 e7 e8 e9 =
     rw (e9, e8, e7, e6, e5, e4, e3, e2) (simp append_assoc)

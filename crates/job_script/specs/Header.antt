@@ -8,13 +8,13 @@ use Rattle.job_script.specs.declared.headers.JobHeader.{JobHeader}
 abbrev pub before_user : List ℕ
 before_user = codes "#!/bin/sh\n# at user="
 
--- what stands behind the user: the flag of mail, and the end of the line
-abbrev pub behind_user : Bool → List ℕ
-behind_user mail = if mail then codes " mail=1\n" else codes " mail=0\n"
+-- what stands after the user: the flag of mail, and the end of the line
+abbrev pub after_user : Bool → List ℕ
+after_user mail = if mail then codes " mail=1\n" else codes " mail=0\n"
 
 -- the header of a job
 abbrev pub header_text : List ℕ → Bool → List ℕ
-header_text user mail = before_user ++ (user ++ behind_user mail)
+header_text user mail = before_user ++ (user ++ after_user mail)
 
 -- the bytes begin with the header of this user and flag
 pub record BeginsWithHeader (bytes user : List ℕ) (mail : Bool) : Type 0 where
@@ -37,16 +37,16 @@ pub record HasHeader (bytes : List ℕ) : Type 0 where
   pub header : BeginsWithHeader bytes user mail
 
 -- some header begins with the bytes
-pub record IsHeaderFront (front : List ℕ) : Type 0 where
+pub record IsHeaderPrefix (prefix : List ℕ) : Type 0 where
   pub user : List ℕ
   pub mail : Bool
   pub name : IsUserName user
   pub rest : List ℕ
-  pub text : header_text user mail ≡ front ++ rest
+  pub text : header_text user mail ≡ prefix ++ rest
 
 -- the bytes begin with no header, and at this place they leave the last header that they began like
 pub record IsHeaderFault (bytes : List ℕ) (place : ℕ) : Type 0 where
   pub none : ¬ HasHeader bytes
   pub within : place ≤ length bytes
-  pub front : IsHeaderFront (take place bytes)
-  pub longest : (more : ℕ) → place < more → more ≤ length bytes → ¬ IsHeaderFront (take more bytes)
+  pub prefix : IsHeaderPrefix (take place bytes)
+  pub longest : (more : ℕ) → place < more → more ≤ length bytes → ¬ IsHeaderPrefix (take more bytes)

@@ -6,7 +6,7 @@ use Rattle.job_script.specs.Header.{header_text}
 use Rattle.job_script.specs.Variables.{kept}
 use Rattle.job_script.specs.declared.context.Context.{Context}
 
--- a byte between single quotes: a single quote ends them, stands behind a backslash, and opens them again
+-- a byte between single quotes: a single quote ends them, stands after a backslash, and opens them again
 abbrev pub quoted_part : ℕ → List ℕ
 quoted_part byte = if byte == 39 then codes "'\\''" else byte ∷ []
 
@@ -27,13 +27,13 @@ variable_line name word = name ++ (61 ∷ (word ++ (codes "; export " ++ (name +
 abbrev pub variable_lines : List (List ℕ × List ℕ) → List ℕ
 variable_lines variables = flat_map (λ variable. variable_line variable.0 (quoted variable.1)) variables
 
--- what stands behind the directory: the job ends where it can't change to it
-abbrev pub behind_directory : List ℕ
-behind_directory = codes " || {\n\techo 'Execution directory inaccessible' >&2\n\texit 1\n}\n"
+-- what stands after the directory: the job ends where it can't change to it
+abbrev pub after_directory : List ℕ
+after_directory = codes " || {\n\techo 'Execution directory inaccessible' >&2\n\texit 1\n}\n"
 
 -- the lines that change to the directory, with this word for it
 abbrev pub directory_lines : List ℕ → List ℕ
-directory_lines word = codes "cd " ++ (word ++ behind_directory)
+directory_lines word = codes "cd " ++ (word ++ after_directory)
 
 -- the text of a job
 abbrev pub job_text : List ℕ → Bool → ℕ → List (List ℕ × List ℕ) → List ℕ → List ℕ → List ℕ

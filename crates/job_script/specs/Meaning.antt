@@ -6,20 +6,20 @@ use Rattle.job_script.specs.Header.{header_text}
 use Rattle.job_script.specs.JobText.{directory_lines, umask_line, variable_line}
 use Rattle.job_script.specs.Variables.{may_be_set}
 
--- a piece of a word: bytes between single quotes, or one byte behind a backslash
+-- a piece of a word: bytes between single quotes, or one byte after a backslash
 pub data Piece : Type 0 where
   between_quotes : List ℕ → Piece
-  behind_backslash : ℕ → Piece
+  after_backslash : ℕ → Piece
 
 -- the bytes have no single quote
 abbrev pub has_no_quote : List ℕ → Bool
 has_no_quote bytes = list_all (λ byte. not (byte == 39)) bytes
 
--- the shell reads the piece so: no single quote stands between quotes, and a newline behind a
+-- the shell reads the piece so: no single quote stands between quotes, and a newline after a
 -- backslash would join two lines
 abbrev pub IsPiece : Piece → Type 0
 IsPiece (between_quotes bytes) = IsTrue (has_no_quote bytes)
-IsPiece (behind_backslash byte) = byte ≢ 10
+IsPiece (after_backslash byte) = byte ≢ 10
 
 -- the shell reads each of the pieces so
 abbrev pub ArePieces : List Piece → Type 0
@@ -29,12 +29,12 @@ ArePieces (first ∷ others) = IsPiece first × ArePieces others
 -- how a piece is spelled
 abbrev pub spelling : Piece → List ℕ
 spelling (between_quotes bytes) = 39 ∷ (bytes ++ 39 ∷ [])
-spelling (behind_backslash byte) = 92 ∷ byte ∷ []
+spelling (after_backslash byte) = 92 ∷ byte ∷ []
 
 -- what a piece stands for
 abbrev pub stands_for : Piece → List ℕ
 stands_for (between_quotes bytes) = bytes
-stands_for (behind_backslash byte) = byte ∷ []
+stands_for (after_backslash byte) = byte ∷ []
 
 -- the shell reads the text as one word with this value: a word has at least one piece
 pub record IsShellWord (text value : List ℕ) : Type 0 where

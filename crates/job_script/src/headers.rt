@@ -77,7 +77,7 @@ fn matched(bytes: &[u8], text: &[u8]) -> usize
     text.len()
 }
 
-// How many bytes at the front are a user's name, at most.
+// How many bytes at the start are a user's name, at most.
 fn user_length(bytes: &[u8]) -> usize
     ensures { IsUserRun bytes.now result }
 {

@@ -16,8 +16,8 @@ pub fn headers_are_read_exactly(bytes: &[u8])
         → (header_in bytes.now ≡ Some (user, mail)) ↔ BeginsWithHeader bytes.now user mail }
     ensures none { (header_in bytes.now ≡ None) ↔ (¬ HasHeader bytes.now) }
     ensures place { ¬ HasHeader bytes.now → IsHeaderFault bytes.now (header_place bytes.now) }
-    ensures header_in_front { header_in (take MAX_HEADER bytes.now) ≡ header_in bytes.now }
-    ensures place_in_front { header_place (take MAX_HEADER bytes.now) ≡ header_place bytes.now }
+    ensures header_in_prefix { header_in (take MAX_HEADER bytes.now) ≡ header_in bytes.now }
+    ensures place_in_prefix { header_place (take MAX_HEADER bytes.now) ≡ header_place bytes.now }
 {
     let _ = bytes;
 }

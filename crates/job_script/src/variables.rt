@@ -29,7 +29,7 @@ impl Variables {
         }
     }
 
-    /// Adds a variable behind the others.
+    /// Adds a variable after the others.
     pub fn push(&mut self, alloc: Global, name: &str, value: &str) -> Result<(), AllocError>
         ensures ok { OnOk result (self.new ≡ self.old ++ (name.now, value.now) ∷ []) }
         ensures err { OnErr result (self.new ≡ self.old) }

@@ -2,7 +2,7 @@
 ghost use Rattle.std.specs.Prelude.{◌≡◌, ◌++◌, ◌<◌, IfOk, OnOk};
 ghost use Rattle.job_script.specs.Check.{Written};
 ghost use Rattle.job_script.specs.Variables.{kept};
-ghost use Rattle.job_script.specs.Header.{behind_user};
+ghost use Rattle.job_script.specs.Header.{after_user};
 ghost use Rattle.job_script.specs.JobText.{quoted, text_for, quoted_part, umask_line, variable_line, variable_lines};
 ghost use Rattle.job_script.specs.Form.{IsJobText, JobMeaning, MeansJob, meaning_for};
 
@@ -63,7 +63,7 @@ fn text_of(
 }
 
 fn text_of_flag(mail: bool) -> &'static [u8]
-    ensures { result.now ≡ behind_user mail }
+    ensures { result.now ≡ after_user mail }
 {
     if mail { b" mail=1\n" } else { b" mail=0\n" }
 }
@@ -103,19 +103,19 @@ fn put_variable(text: &mut Vec<u8>, name: &str, value: &str) -> Result<(), Alloc
     Ok(())
 }
 
-/// Puts the value behind the text, as one word of the shell: between single quotes.
+/// Puts the value after the text, as one word of the shell: between single quotes.
 pub fn put_quoted(text: &mut Vec<u8>, value: &[u8]) -> Result<(), AllocError>
     ensures { OnOk result (text.new.items ≡ text.old.items ++ quoted value.now) }
 {
     text.push(b'\'')?;
     for byte in value {
-        put_part(text, *byte)?;
+        put_quoted_byte(text, *byte)?;
     }
     text.push(b'\'')?;
     Ok(())
 }
 
-fn put_part(text: &mut Vec<u8>, byte: u8) -> Result<(), AllocError>
+fn put_quoted_byte(text: &mut Vec<u8>, byte: u8) -> Result<(), AllocError>
     ensures { OnOk result (text.new.items ≡ text.old.items ++ quoted_part byte) }
 {
     if byte == b'\'' {

@@ -7,17 +7,17 @@ use Rattle.std.specs.List.{list_all, prefix_len, take_while}
 use Rattle.std.specs.Char.{is_ascii_digit}
 use Rattle.load_reading.specs.Load.{SpellsFraction, SpellsLoad}
 
--- one byte more at the front
-front-cons : (test : ℕ → Bool) (byte : ℕ) (front : List ℕ) (passes : Bool) → test byte ≡ passes → IsTrue (list_all test front) → IsTrue (list_all test (cond passes (byte ∷ front) []))
-front-cons test byte front true passed each = rw passed each
-front-cons test byte front false failed each = refl
+-- one byte more at the start
+prefix-cons : (test : ℕ → Bool) (byte : ℕ) (prefix : List ℕ) (passes : Bool) → test byte ≡ passes → IsTrue (list_all test prefix) → IsTrue (list_all test (cond passes (byte ∷ prefix) []))
+prefix-cons test byte prefix true passed each = rw passed each
+prefix-cons test byte prefix false failed each = refl
 
--- the bytes that pass at the front pass
-pub list_all-front : (test : ℕ → Bool) (bytes : List ℕ) → IsTrue (list_all test (take_while test bytes))
-list_all-front test [] = refl
-list_all-front test (byte ∷ bytes) =
+-- the bytes that pass at the start pass
+pub list_all-prefix : (test : ℕ → Bool) (bytes : List ℕ) → IsTrue (list_all test (take_while test bytes))
+list_all-prefix test [] = refl
+list_all-prefix test (byte ∷ bytes) =
     rw (take_while-cons test byte bytes)
-    (front-cons test byte (take_while test bytes) (test byte) refl (list_all-front test bytes))
+    (prefix-cons test byte (take_while test bytes) (test byte) refl (list_all-prefix test bytes))
 
 -- a run of digits ends where the point stands
 pub count-before_point : (whole rest : List ℕ) → IsTrue (list_all is_ascii_digit whole) → prefix_len is_ascii_digit (whole ++ 46 ∷ rest) ≡ length whole
@@ -28,17 +28,17 @@ count-before_point (byte ∷ whole) rest digits =
     let more = count-before_point whole rest others in
     rw (first, more) (omega arith)
 
--- as many digits stand at the front as the load has before its point
+-- as many digits stand at the start as the load has before its point
 pub count-load : (text : List ℕ) (load : ℕ) → (spelled : SpellsLoad text load) → prefix_len is_ascii_digit text ≡ length spelled.whole
 count-load text load spelled =
     rw (spelled.spelled, spelled.fraction.spelled) (count-before_point spelled.whole _ spelled.digits)
 
--- behind those digits stands the fraction
+-- after those digits stands the fraction
 pub fraction-load : (text : List ℕ) (load : ℕ) → (spelled : SpellsLoad text load) → SpellsFraction (drop (prefix_len is_ascii_digit text) text) spelled.hundredths
 fraction-load text load spelled =
-    let behind : drop (prefix_len is_ascii_digit text) text ≡ spelled.rest =
+    let after : drop (prefix_len is_ascii_digit text) text ≡ spelled.rest =
     rw (count-load text load spelled, spelled.spelled) (drop-append_seam spelled.whole spelled.rest) in
-    subst (λ (bytes : List ℕ). SpellsFraction bytes spelled.hundredths) (sym behind) spelled.fraction
+    subst (λ (bytes : List ℕ). SpellsFraction bytes spelled.hundredths) (sym after) spelled.fraction
 
 -- a number below that many tens is below ten million
 pub below-most : (number count : ℕ) → number < 10 ^ count → count ≤ 7 → number < 10 ^ 7

@@ -27,7 +27,7 @@ fn digit_count(text: &[u8]) -> usize
     text.iter().take_while(|byte| byte.is_ascii_digit()).count()
 }
 
-// The two digits behind the point at the front.
+// The two digits after the point at the start.
 fn fraction(text: &[u8]) -> Option<u32>
     ensures some { IfSome result (SpellsFraction text.now) }
     ensures none { IfNone result ((number : ℕ) → ¬ SpellsFraction text.now number) }

@@ -27,7 +27,7 @@ module _ {X : Type 0} where
   answers_to-zero given = refl
 
   one_more : (given : List X) (count : ℕ) (answer : X) → answer_at given count ≡ Some answer → answers_to given (suc count) ≡ answers_to given count ++ answer ∷ []
-  one_more given count answer is = answers_to-suc given count ∙ ap (λ told. answers_to given count ++ option_to_list told) is
+  one_more given count answer is = answers_to-suc given count ∙ ap (λ known. answers_to given count ++ option_to_list known) is
 
   -- there are as many answers as were asked for
   pub length-answers_to : (given : List X) → 0 < length given → (count : ℕ) → length (answers_to given count) ≡ count
@@ -38,27 +38,27 @@ module _ {X : Type 0} where
 
   -- One answer more is told, while there are fewer than can be counted.
   pub answer_more : (given : List X) (count next : ℕ) (answer : X) → 0 < length given → next ≡ min (count + 1) last_count → count ≤ last_count → answer_at given count ≡ Some answer → answers_to given next ≡ with_answer (answers_to given count) answer
-  answer_more given count next answer some is counted told =
+  answer_more given count next answer some is counted known =
       let as_many : length (answers_to given count) ≡ count = length-answers_to given some count in
-      let more : answers_to given (suc count) ≡ answers_to given count ++ answer ∷ [] = one_more given count answer told in
+      let more : answers_to given (suc count) ≡ answers_to given count ++ answer ∷ [] = one_more given count answer known in
       grind (arith, nat_tests)
 
-  -- what the answers are at each number, also behind more of them
-  slice_get-append_front : (front rest : List X) (number : ℕ) → number < length front → slice_get (front ++ rest) number ≡ slice_get front number
-  slice_get-append_front [] rest number inside = absurd (omega arith)
-  slice_get-append_front (first ∷ others) rest zero inside = refl
-  slice_get-append_front (first ∷ others) rest (suc number) inside = slice_get-append_front others rest number (omega arith)
+  -- what the answers are at each number, also after more of them
+  slice_get-append_prefix : (prefix rest : List X) (number : ℕ) → number < length prefix → slice_get (prefix ++ rest) number ≡ slice_get prefix number
+  slice_get-append_prefix [] rest number inside = absurd (omega arith)
+  slice_get-append_prefix (first ∷ others) rest zero inside = refl
+  slice_get-append_prefix (first ∷ others) rest (suc number) inside = slice_get-append_prefix others rest number (omega arith)
 
-  slice_get-append_seam : (front : List X) (next : X) → slice_get (front ++ next ∷ []) (length front) ≡ Some next
+  slice_get-append_seam : (prefix : List X) (next : X) → slice_get (prefix ++ next ∷ []) (length prefix) ≡ Some next
   slice_get-append_seam [] next = refl
   slice_get-append_seam (first ∷ others) next = slice_get-append_seam others next
 
   -- what stands at a number of the answers and one more, where it holds of the answers
-  seam_holds : (given told : List X) (answer : X) (number : ℕ) → answer_at given (length told) ≡ Some answer → AreAnswersOf given told → number < length (told ++ answer ∷ []) → slice_get (told ++ answer ∷ []) number ≡ answer_at given number
-  seam_holds given told answer number is holds inside =
-      elim (split number (length told) (omega (arith, length-append told (answer ∷ [])))) [
-        | inl front ↦ slice_get-append_front told (answer ∷ []) number front ∙ holds number front
-        | inr seam ↦ rw seam (slice_get-append_seam told answer ∙ sym is)
+  seam_holds : (given known : List X) (answer : X) (number : ℕ) → answer_at given (length known) ≡ Some answer → AreAnswersOf given known → number < length (known ++ answer ∷ []) → slice_get (known ++ answer ∷ []) number ≡ answer_at given number
+  seam_holds given known answer number is holds inside =
+      elim (split number (length known) (omega (arith, length-append known (answer ∷ [])))) [
+        | inl prefix ↦ slice_get-append_prefix known (answer ∷ []) number prefix ∙ holds number prefix
+        | inr seam ↦ rw seam (slice_get-append_seam known answer ∙ sym is)
       ]
 
   -- each answer is the one of its number
@@ -68,6 +68,6 @@ module _ {X : Type 0} where
       let answer = answer_is given count some in
       let more : answers_to given (suc count) ≡ answers_to given count ++ answer.0 ∷ [] = one_more given count answer.0 answer.1 in
       let as_many : length (answers_to given count) ≡ count = length-answers_to given some count in
-      let told : answer_at given (length (answers_to given count)) ≡ Some answer.0 = rw as_many answer.1 in
-      let before = seam_holds given (answers_to given count) answer.0 number told (answers_to-AreAnswersOf given some count) in
+      let known : answer_at given (length (answers_to given count)) ≡ Some answer.0 = rw as_many answer.1 in
+      let before = seam_holds given (answers_to given count) answer.0 number known (answers_to-AreAnswersOf given some count) in
       rw more (before (rw more at inside))

@@ -7,7 +7,7 @@ use Rattle.std.proofs.lemmas.List.Folds.{list_any-append}
 use Rattle.host_calls.specs.Folder.{Body, with_body, made_body, written_body, certain_body, is_within}
 use Rattle.memory_host.specs.inside.Bodies.{KeptBody, body_of, kept_at, kept_made, kept_written, kept_synced, kept_crashed, none_kept, lies_in, with_kept, with_each}
 use Rattle.memory_host.specs.Crash.{crashed_body}
-use Rattle.memory_host.specs.inside.Told.{AreBodied, IsCertain, Lists}
+use Rattle.memory_host.specs.inside.Known.{AreBodied, IsCertain, Lists}
 use Rattle.memory_host.specs.declared.bodies.Bodies.{Bodies}
 use Rattle.memory_host.specs.declared.body.Range.{Range}
 use Rattle.memory_host.proofs.BodyLemmas.{picked_bytes-certain}

@@ -22,9 +22,9 @@ picked_bytes-certain pick is_uncertain certain place (byte ∷ others) = rw (cer
 -- all bytes are done
 pub picked_end : (pick : ℕ) (is_uncertain : ℕ → Bool) (bytes : List ℕ) (place : ℕ) (whole : List ℕ) → length bytes ≤ place → take place bytes ++ picked_bytes pick is_uncertain place (drop place bytes) ≡ whole → bytes ≡ whole
 picked_end pick is_uncertain bytes place whole over is =
-    let front : take place bytes ≡ bytes = take_all place bytes over in
+    let prefix : take place bytes ≡ bytes = take_all place bytes over in
     let none : drop place bytes ≡ [] = drop_all place bytes over in
-    sym (append-nil bytes) ∙ (rw (front, none) at is)
+    sym (append-nil bytes) ∙ (rw (prefix, none) at is)
 
 module _ (change : KeptBody → KeptBody) where
   -- one number more is done

@@ -37,7 +37,7 @@ unasked child (first ∷ others) all =
       | inr other ↦ ap (λ b. cond b 1 0 + questions_to child others) other.0 ∙ zero-add (questions_to child others) ∙ rest
     ]
 
--- fewer questions at the front
+-- fewer questions at the start
 questions-take : (child place : ℕ) (asked : List Asked) → questions_to child (take place asked) ≤ questions_to child asked
 questions-take child zero asked = omega arith
 questions-take child (suc place) [] = omega arith
@@ -90,7 +90,7 @@ again plans asked child ending all among =
     by_case false true less later given =
         let enough = ltb-false (questions_to child.id (take among.0 asked)) (plan_of plans child.id).asks less in
         let few = ltb-true (questions_to child.id asked) (plan_of plans child.id).asks later in
-        let front = questions-take child.id among.0 asked in
+        let prefix = questions-take child.id among.0 asked in
         absurd (omega arith)
     by_case false false less later given = given
 

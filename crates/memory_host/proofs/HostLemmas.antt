@@ -59,7 +59,7 @@ no_memory false is = cc
 
 -- a call that changes the folder goes as planned: it did its work, and failed then or not
 pub change_done : (call : PastCall) (done part : Folder → Folder → Type 0) (old new : MemoryHost) (past : Story) (planned : Option Part) (result : Result (Unit {0}) HostFault) → past ≡ with_next call old.past → memory_world new ≡ world_of past old.asked.items → (after_call call (state_of old.past)).handed ≡ (state_of old.past).handed → done (state_of old.past).folder (after_call call (state_of old.past)).folder → part (state_of old.past).folder (after_call call (state_of old.past)).folder → CallsInside Failed (memory_session old) (memory_session new) result → progress_of new ≡ progress_after_call (progress_of old) → result ≡ cond (is_some planned) (Err Failed) fine → planned ≡ next_part (progress_of old) → ¬ (planned ≡ Some Nothing) → ChangesAsPlanned done part old new result
-change_done call done part old new past planned result goes_on told handed is_done is_part inside counted answer next works = record {
+change_done call done part old new past planned result goes_on known handed is_done is_part inside counted answer next works = record {
   inside = inside;
   files = call_done call old.past old.asked.items (memory_world new) done part (is_some planned) result world handed is_done is_part answer;
   nothing = λ is. absurd (works (next ∙ is));
@@ -68,7 +68,7 @@ change_done call done part old new past planned result goes_on told handed is_do
   count = record { counted = λ some. counted; uncounted = λ memory. absurd (no_memory (is_some planned) (sym answer ∙ memory)) };
 } where
   world : memory_world new ≡ world_of (with_next call old.past) old.asked.items
-  world = told ∙ ap (λ story. world_of story old.asked.items) goes_on
+  world = known ∙ ap (λ story. world_of story old.asked.items) goes_on
 
 -- What syncs leave.
 

@@ -11,7 +11,7 @@ use Rattle.std.specs.FinMap.{get-insert, get-remove}
 use Rattle.host_calls.specs.Folder.{Change, Made, Renamed, Removed, Names, name_cmp, changed, moved, names_after}
 use Rattle.memory_host.specs.Crash.{is_picked, picked_names}
 use Rattle.memory_host.specs.inside.Table.{Holders, HoldsSameCertain, HoldsSameNow, KeepsPlaces, are_touching, certain_in, changed_at, has_place, meant, moved_at, now_in, pending_of, picked_holders, put_at, touches, where_touched}
-use Rattle.memory_host.specs.inside.Told.{AreNamed}
+use Rattle.memory_host.specs.inside.Known.{AreNamed}
 use Rattle.memory_host.specs.declared.name_table.NameTable.{NameTable}
 use Rattle.memory_host.specs.declared.pending.Change.{Change as KeptChange}
 use Rattle.memory_host.specs.declared.pending.Change.TheVariants as kept

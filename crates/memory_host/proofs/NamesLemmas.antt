@@ -118,8 +118,8 @@ module _ (held : HeldNames) (found : All (λ entry. get name_cmp held entry.0 �
       ∙ now_found (get name_cmp held name)
 
   -- the names that the table holds now are those of the folder
-  pub names_told : (folder : Folder) → IsOrdered name_cmp held → ((name : List ℕ) → finite.get (names_of folder) name ≡ now_in held name) → now_names held.entries ≡ finite.keys (reading_of folder)
-  names_told folder ordered same =
+  pub names_known : (folder : Folder) → IsOrdered name_cmp held → ((name : List ℕ) → finite.get (names_of folder) name ≡ now_in held name) → now_names held.entries ≡ finite.keys (reading_of folder)
+  names_known folder ordered same =
       ap (map (λ entry. entry.0)) (filter-by_name held.entries found)
       ∙ same_keys (where_key name_cmp by_name held.entries) (entries (reading_of folder)) (is_sorted-where_key name_cmp by_name held.entries (sorted_from held.entries ordered)) (entries_sorted (reading_of folder)) (λ name.
       find-now name

@@ -11,7 +11,7 @@ use Rattle.memory_host.specs.Crash.{picked_names, rebooted}
 use Rattle.memory_host.specs.Past.{History, State, Story, after_call, history_of, with_call, with_calls, with_folder, with_handed, with_new_file}
 use Rattle.memory_host.specs.inside.Story.{state_of, with_next}
 use Rattle.memory_host.specs.inside.Table.{HoldsSameCertain, HoldsSameNow, KeepsPlaces, certain_in, changed_at, has_place, meant, now_in, pending_of, picked_holders, touches, where_touched}
-use Rattle.memory_host.specs.inside.Told.{AreBodied, ListsUnsettled, AreNamed, IsTold}
+use Rattle.memory_host.specs.inside.Known.{AreBodied, ListsUnsettled, AreNamed, IsKnown}
 use Rattle.memory_host.specs.declared.bodies.Bodies.{Bodies}
 use Rattle.memory_host.specs.declared.name_table.NameTable.{NameTable}
 use Rattle.memory_host.specs.declared.past_call.PastCall.{PastCall}
@@ -30,19 +30,19 @@ unfolding history_of
 history_next call story = with_calls-push story.calls call _
 
 -- what is kept after one call more
-pub told_next : (call : PastCall) (story : Story) (before calls : List PastCall) (names : NameTable) (bodies : Bodies) (handed : List Handed) → calls ≡ before ++ call ∷ [] → before ≡ story.calls → IsTold (after_call call (state_of story)) names bodies handed → IsTold (state_of (record { opening = story.opening; calls = calls })) names bodies handed
-told_next call story before calls names bodies handed more same_before is =
+pub known_next : (call : PastCall) (story : Story) (before calls : List PastCall) (names : NameTable) (bodies : Bodies) (handed : List Handed) → calls ≡ before ++ call ∷ [] → before ≡ story.calls → IsKnown (after_call call (state_of story)) names bodies handed → IsKnown (state_of (record { opening = story.opening; calls = calls })) names bodies handed
+known_next call story before calls names bodies handed more same_before is =
     let same : state_of (record { opening = story.opening; calls = calls }) ≡ after_call call (state_of story) =
     ap (λ all. state_of (record { opening = story.opening; calls = all })) (more ∙ ap (λ all. all ++ call ∷ []) same_before) ∙ ap (λ past. past.now) (history_next call story) in
-    subst (λ at. IsTold at names bodies handed) (sym same) is
+    subst (λ at. IsKnown at names bodies handed) (sym same) is
 
 -- the same calls
-pub told_kept : (story : Story) (calls : List PastCall) (names : NameTable) (bodies : Bodies) (handed : List Handed) → calls ≡ story.calls → IsTold (state_of story) names bodies handed → IsTold (state_of (record { opening = story.opening; calls = calls })) names bodies handed
-told_kept story calls names bodies handed same is = subst (λ all. IsTold (state_of (record { opening = story.opening; calls = all })) names bodies handed) (sym same) is
+pub known_kept : (story : Story) (calls : List PastCall) (names : NameTable) (bodies : Bodies) (handed : List Handed) → calls ≡ story.calls → IsKnown (state_of story) names bodies handed → IsKnown (state_of (record { opening = story.opening; calls = calls })) names bodies handed
+known_kept story calls names bodies handed same is = subst (λ all. IsKnown (state_of (record { opening = story.opening; calls = all })) names bodies handed) (sym same) is
 
 -- What is read.
 
-module _ (at : State) (names : NameTable) (bodies : Bodies) (handed : List Handed) (is : IsTold at names bodies handed) where
+module _ (at : State) (names : NameTable) (bodies : Bodies) (handed : List Handed) (is : IsKnown at names bodies handed) where
   -- the number that the table holds is held by the name alone
   pub held_at : (name : List ℕ) (number : ℕ) → now_in names.held name ≡ Some number → IsHeldAt (names_of at.folder) name number
   held_at name number found =
@@ -54,28 +54,28 @@ module _ (at : State) (names : NameTable) (bodies : Bodies) (handed : List Hande
   number_known name number held = subst (λ n. number < n) is.counted (is.sound.below (names_of at.folder) (all_are_some at.folder.pending at.folder.certain) name number held.held)
 
   -- the bytes of the body are what the file reads as
-  pub reading_told : (name : List ℕ) (number : ℕ) → IsHeldAt (names_of at.folder) name number → finite.get (reading_of at.folder) name ≡ Some (kept_at bodies.list.items number).bytes
-  reading_told name number held = get-files_of at.folder.body (names_of at.folder) name ∙ ap (option_map (λ n. (at.folder.body n).bytes)) held.held ∙ ap (λ body. Some body.bytes) (is.bodied.each number)
+  pub reading_known : (name : List ℕ) (number : ℕ) → IsHeldAt (names_of at.folder) name number → finite.get (reading_of at.folder) name ≡ Some (kept_at bodies.list.items number).bytes
+  reading_known name number held = get-files_of at.folder.body (names_of at.folder) name ∙ ap (option_map (λ n. (at.folder.body n).bytes)) held.held ∙ ap (λ body. Some body.bytes) (is.bodied.each number)
 
   -- a name that holds nothing has no file
-  pub none_told : (name : List ℕ) → now_in names.held name ≡ None → finite.get (reading_of at.folder) name ≡ None
-  none_told name none = get-files_of at.folder.body (names_of at.folder) name ∙ ap (option_map (λ n. (at.folder.body n).bytes)) (is.named.now_names name ∙ none)
+  pub none_known : (name : List ℕ) → now_in names.held name ≡ None → finite.get (reading_of at.folder) name ≡ None
+  none_known name none = get-files_of at.folder.body (names_of at.folder) name ∙ ap (option_map (λ n. (at.folder.body n).bytes)) (is.named.now_names name ∙ none)
 
   -- so a file that is there is held
-  pub held_told : (name : List ℕ) → IsSome (finite.get (reading_of at.folder) name) → ¬ (now_in names.held name ≡ None)
-  held_told name there none = let same : finite.get (reading_of at.folder) name ≡ None = none_told name none in let found : is_some (finite.get (reading_of at.folder) name) ≡ true = there in cc
+  pub held_known : (name : List ℕ) → IsSome (finite.get (reading_of at.folder) name) → ¬ (now_in names.held name ≡ None)
+  held_known name there none = let same : finite.get (reading_of at.folder) name ≡ None = none_known name none in let found : is_some (finite.get (reading_of at.folder) name) ≡ true = there in cc
 
   -- the range lies within the body
-  pub within_told : (name : List ℕ) (number offset count : ℕ) → IsHeldAt (names_of at.folder) name number → IsWithinFile (reading_of at.folder) name offset count → offset + count ≤ length (kept_at bodies.list.items number).bytes
-  within_told name number offset count held within = subst (λ file. IsSomeAnd file (λ bytes. offset + count ≤ length bytes)) (reading_told name number held) within
+  pub within_known : (name : List ℕ) (number offset count : ℕ) → IsHeldAt (names_of at.folder) name number → IsWithinFile (reading_of at.folder) name offset count → offset + count ≤ length (kept_at bodies.list.items number).bytes
+  within_known name number offset count held within = subst (λ file. IsSomeAnd file (λ bytes. offset + count ≤ length bytes)) (reading_known name number held) within
 
   -- the next number is fresh
-  pub fresh_told : IsFresh at.folder at.next
-  fresh_told chosen is_chosen name found = let small : at.next < at.next = is.sound.below chosen is_chosen name at.next found in absurd (omega arith)
+  pub fresh_known : IsFresh at.folder at.next
+  fresh_known chosen is_chosen name found = let small : at.next < at.next = is.sound.below chosen is_chosen name at.next found in absurd (omega arith)
 
 -- bodies that hold the same
-pub told_alike : (at : State) (names : NameTable) (bodies more : Bodies) (handed : List Handed) → IsTold at names bodies handed → more.list.items ≡ bodies.list.items → more.unsettled.items ≡ bodies.unsettled.items → IsTold at names more handed
-told_alike at names bodies more handed is list unsettled = record {
+pub known_alike : (at : State) (names : NameTable) (bodies more : Bodies) (handed : List Handed) → IsKnown at names bodies handed → more.list.items ≡ bodies.list.items → more.unsettled.items ≡ bodies.unsettled.items → IsKnown at names more handed
+known_alike at names bodies more handed is list unsettled = record {
   named = is.named;
   bodied = record {
     each = λ number. is.bodied.each number ∙ ap (λ l. body_of (kept_at l number)) (sym list);
@@ -88,10 +88,10 @@ told_alike at names bodies more handed is list unsettled = record {
 
 -- What is kept after each call.
 
-module _ (at : State) (names after : NameTable) (bodies more : Bodies) (handed : List Handed) (is : IsTold at names bodies handed) where
+module _ (at : State) (names after : NameTable) (bodies more : Bodies) (handed : List Handed) (is : IsKnown at names bodies handed) where
   -- a table that holds the same
-  pub told_same : HoldsSameNow names.held after.held → HoldsSameCertain names.held after.held → after.pending.items ≡ names.pending.items → ((name : List ℕ) → has_place names.held name ≡ true → has_place after.held name ≡ true) → IsTold at after bodies handed
-  told_same now certain pending places = record {
+  pub known_same : HoldsSameNow names.held after.held → HoldsSameCertain names.held after.held → after.pending.items ≡ names.pending.items → ((name : List ℕ) → has_place names.held name ≡ true → has_place after.held name ≡ true) → IsKnown at after bodies handed
+  known_same now certain pending places = record {
     named = named_same at.folder.certain at.folder.pending names after is.named now certain pending places;
     bodied = is.bodied;
     counted = is.counted;
@@ -100,8 +100,8 @@ module _ (at : State) (names after : NameTable) (bodies more : Bodies) (handed :
   }
 
   -- a file was made
-  pub told_made : (name bytes : List ℕ) (number : ℕ) → number ≡ length bodies.list.items → ((other : List ℕ) → now_in after.held other ≡ changed_at (meant (kept.Made name number)) (now_in names.held) other) → HoldsSameCertain names.held after.held → KeepsPlaces names.held after.held → ((other : List ℕ) → touches (kept.Made name number) other ≡ true → has_place names.held other ≡ true) → after.pending.items ≡ names.pending.items ++ kept.Made name number ∷ [] → more.list.items ≡ bodies.list.items ++ kept_made bytes ∷ [] → more.unsettled.items ≡ bodies.unsettled.items ++ length bodies.list.items ∷ [] → IsTold (with_new_file name bytes at) after more handed
-  told_made name bytes number is_next now certain places has pending list unsettled =
+  pub known_made : (name bytes : List ℕ) (number : ℕ) → number ≡ length bodies.list.items → ((other : List ℕ) → now_in after.held other ≡ changed_at (meant (kept.Made name number)) (now_in names.held) other) → HoldsSameCertain names.held after.held → KeepsPlaces names.held after.held → ((other : List ℕ) → touches (kept.Made name number) other ≡ true → has_place names.held other ≡ true) → after.pending.items ≡ names.pending.items ++ kept.Made name number ∷ [] → more.list.items ≡ bodies.list.items ++ kept_made bytes ∷ [] → more.unsettled.items ≡ bodies.unsettled.items ++ length bodies.list.items ∷ [] → IsKnown (with_new_file name bytes at) after more handed
+  known_made name bytes number is_next now certain places has pending list unsettled =
       let same : number ≡ at.next = is_next ∙ sym is.counted in
       record {
         named = subst (λ n. AreNamed at.folder.certain (Made name n ∷ at.folder.pending) after) same (named_change at.folder.certain at.folder.pending names after is.named (kept.Made name number) now certain places has pending);
@@ -112,8 +112,8 @@ module _ (at : State) (names after : NameTable) (bodies more : Bodies) (handed :
       }
 
   -- a name was moved or removed
-  pub told_renamed : (from to : List ℕ) → ((other : List ℕ) → now_in after.held other ≡ changed_at (meant (kept.Renamed from to)) (now_in names.held) other) → HoldsSameCertain names.held after.held → KeepsPlaces names.held after.held → ((other : List ℕ) → touches (kept.Renamed from to) other ≡ true → has_place names.held other ≡ true) → after.pending.items ≡ names.pending.items ++ kept.Renamed from to ∷ [] → IsTold (with_folder (with_change (Renamed from to) at.folder) at) after bodies handed
-  told_renamed from to now certain places has pending = record {
+  pub known_renamed : (from to : List ℕ) → ((other : List ℕ) → now_in after.held other ≡ changed_at (meant (kept.Renamed from to)) (now_in names.held) other) → HoldsSameCertain names.held after.held → KeepsPlaces names.held after.held → ((other : List ℕ) → touches (kept.Renamed from to) other ≡ true → has_place names.held other ≡ true) → after.pending.items ≡ names.pending.items ++ kept.Renamed from to ∷ [] → IsKnown (with_folder (with_change (Renamed from to) at.folder) at) after bodies handed
+  known_renamed from to now certain places has pending = record {
     named = named_change at.folder.certain at.folder.pending names after is.named (kept.Renamed from to) now certain places has pending;
     bodied = is.bodied;
     counted = is.counted;
@@ -121,8 +121,8 @@ module _ (at : State) (names after : NameTable) (bodies more : Bodies) (handed :
     sound = sound_change at.folder.certain at.folder.pending at.next (Renamed from to) tt is.sound;
   }
 
-  pub told_removed : (name : List ℕ) → ((other : List ℕ) → now_in after.held other ≡ changed_at (meant (kept.Removed name)) (now_in names.held) other) → HoldsSameCertain names.held after.held → KeepsPlaces names.held after.held → ((other : List ℕ) → touches (kept.Removed name) other ≡ true → has_place names.held other ≡ true) → after.pending.items ≡ names.pending.items ++ kept.Removed name ∷ [] → IsTold (with_folder (with_change (Removed name) at.folder) at) after bodies handed
-  told_removed name now certain places has pending = record {
+  pub known_removed : (name : List ℕ) → ((other : List ℕ) → now_in after.held other ≡ changed_at (meant (kept.Removed name)) (now_in names.held) other) → HoldsSameCertain names.held after.held → KeepsPlaces names.held after.held → ((other : List ℕ) → touches (kept.Removed name) other ≡ true → has_place names.held other ≡ true) → after.pending.items ≡ names.pending.items ++ kept.Removed name ∷ [] → IsKnown (with_folder (with_change (Removed name) at.folder) at) after bodies handed
+  known_removed name now certain places has pending = record {
     named = named_change at.folder.certain at.folder.pending names after is.named (kept.Removed name) now certain places has pending;
     bodied = is.bodied;
     counted = is.counted;
@@ -131,8 +131,8 @@ module _ (at : State) (names after : NameTable) (bodies more : Bodies) (handed :
   }
 
   -- the names were synced
-  pub told_names : HoldsSameNow names.held after.held → ((name : List ℕ) → certain_in after.held name ≡ where_touched names.pending.items (now_in names.held) (certain_in names.held) name) → after.pending.items ≡ [] → IsTold (with_folder (with_names_certain at.folder) at) after bodies handed
-  told_names now certain none = record {
+  pub known_names : HoldsSameNow names.held after.held → ((name : List ℕ) → certain_in after.held name ≡ where_touched names.pending.items (now_in names.held) (certain_in names.held) name) → after.pending.items ≡ [] → IsKnown (with_folder (with_names_certain at.folder) at) after bodies handed
+  known_names now certain none = record {
     named = named_sync at.folder.certain at.folder.pending names after is.named now certain none;
     bodied = is.bodied;
     counted = is.counted;
@@ -141,8 +141,8 @@ module _ (at : State) (names after : NameTable) (bodies more : Bodies) (handed :
   }
 
   -- all was synced
-  pub told_settled : HoldsSameNow names.held after.held → ((name : List ℕ) → certain_in after.held name ≡ where_touched names.pending.items (now_in names.held) (certain_in names.held) name) → after.pending.items ≡ [] → more.list.items ≡ with_each kept_synced bodies.unsettled.items bodies.list.items → IsTold (with_folder (settled at.folder) at) after more handed
-  told_settled now certain none done = record {
+  pub known_settled : HoldsSameNow names.held after.held → ((name : List ℕ) → certain_in after.held name ≡ where_touched names.pending.items (now_in names.held) (certain_in names.held) name) → after.pending.items ≡ [] → more.list.items ≡ with_each kept_synced bodies.unsettled.items bodies.list.items → IsKnown (with_folder (settled at.folder) at) after more handed
+  known_settled now certain none done = record {
     named = named_sync at.folder.certain at.folder.pending names after is.named now certain none;
     bodied = bodied_settled at.folder.body bodies more is.bodied done;
     counted = is.counted ∙ sym (ap length done ∙ length-with_each kept_synced refl bodies.unsettled.items bodies.list.items);
@@ -151,8 +151,8 @@ module _ (at : State) (names after : NameTable) (bodies more : Bodies) (handed :
   }
 
   -- the folder crashed
-  pub told_crashed : (pick : ℕ) → ((name : List ℕ) → now_in after.held name ≡ picked_holders pick (pending_of names.pending.items) (where_touched names.pending.items (certain_in names.held) (now_in names.held)) name) → ((name : List ℕ) → certain_in after.held name ≡ where_touched names.pending.items (now_in after.held) (certain_in names.held) name) → after.pending.items ≡ [] → more.list.items ≡ with_each (kept_crashed pick) bodies.unsettled.items bodies.list.items → IsTold (with_folder (rebooted pick at.folder) at) after more handed
-  told_crashed pick now certain none done = record {
+  pub known_crashed : (pick : ℕ) → ((name : List ℕ) → now_in after.held name ≡ picked_holders pick (pending_of names.pending.items) (where_touched names.pending.items (certain_in names.held) (now_in names.held)) name) → ((name : List ℕ) → certain_in after.held name ≡ where_touched names.pending.items (now_in after.held) (certain_in names.held) name) → after.pending.items ≡ [] → more.list.items ≡ with_each (kept_crashed pick) bodies.unsettled.items bodies.list.items → IsKnown (with_folder (rebooted pick at.folder) at) after more handed
+  known_crashed pick now certain none done = record {
     named = named_crash at.folder.certain at.folder.pending names after is.named pick now certain none;
     bodied = bodied_crashed at.folder.body bodies more is.bodied pick done;
     counted = is.counted ∙ sym (ap length done ∙ length-with_each (kept_crashed pick) (crashed-certain pick none_kept) bodies.unsettled.items bodies.list.items);
@@ -161,8 +161,8 @@ module _ (at : State) (names after : NameTable) (bodies more : Bodies) (handed :
   }
 
   -- a range was written
-  pub told_written : (number offset : ℕ) (bytes : List ℕ) → number < length bodies.list.items → more.list.items ≡ with_kept (kept_written offset bytes) number bodies.list.items → more.unsettled.items ≡ bodies.unsettled.items ++ number ∷ [] → IsTold (with_folder (with_changed number (written_body offset bytes) at.folder) at) names more handed
-  told_written number offset bytes inside done unsettled = record {
+  pub known_written : (number offset : ℕ) (bytes : List ℕ) → number < length bodies.list.items → more.list.items ≡ with_kept (kept_written offset bytes) number bodies.list.items → more.unsettled.items ≡ bodies.unsettled.items ++ number ∷ [] → IsKnown (with_folder (with_changed number (written_body offset bytes) at.folder) at) names more handed
+  known_written number offset bytes inside done unsettled = record {
     named = is.named;
     bodied = bodied_written at.folder.body bodies more is.bodied offset bytes number inside done unsettled;
     counted = is.counted ∙ sym (ap length done ∙ length-with_kept (kept_written offset bytes) number bodies.list.items);
@@ -171,8 +171,8 @@ module _ (at : State) (names after : NameTable) (bodies more : Bodies) (handed :
   }
 
   -- a file was synced
-  pub told_synced : (number : ℕ) → more.list.items ≡ with_kept kept_synced number bodies.list.items → more.unsettled.items ≡ bodies.unsettled.items → IsTold (with_folder (with_changed number certain_body at.folder) at) names more handed
-  told_synced number done same = record {
+  pub known_synced : (number : ℕ) → more.list.items ≡ with_kept kept_synced number bodies.list.items → more.unsettled.items ≡ bodies.unsettled.items → IsKnown (with_folder (with_changed number certain_body at.folder) at) names more handed
+  known_synced number done same = record {
     named = is.named;
     bodied = bodied_synced at.folder.body bodies more is.bodied number done same;
     counted = is.counted ∙ sym (ap length done ∙ length-with_kept kept_synced number bodies.list.items);
@@ -181,8 +181,8 @@ module _ (at : State) (names after : NameTable) (bodies more : Bodies) (handed :
   }
 
   -- a script was handed over
-  pub told_handed : (number body nice : ℕ) (started : Bool) (scripts : List Handed) → scripts ≡ handed ++ record { number = number; script = (at.folder.body body).bytes; nice = nice; started = started } ∷ [] → IsTold (with_handed number body nice started at) names bodies scripts
-  told_handed number body nice started scripts more = record {
+  pub known_handed : (number body nice : ℕ) (started : Bool) (scripts : List Handed) → scripts ≡ handed ++ record { number = number; script = (at.folder.body body).bytes; nice = nice; started = started } ∷ [] → IsKnown (with_handed number body nice started at) names bodies scripts
+  known_handed number body nice started scripts more = record {
     named = is.named;
     bodied = is.bodied;
     counted = is.counted;

@@ -6,7 +6,7 @@ use Rattle.std.specs.FinMap as finite
 use Rattle.host_calls.specs.Folder.{Change, Made, Renamed, Removed, Names, AreAfterSome, name_cmp, changed}
 use Rattle.memory_host.specs.Crash.{is_picked, picked_names}
 use Rattle.memory_host.specs.inside.Table.{Holders, changed_at, moved_at, put_at}
-use Rattle.memory_host.specs.inside.Told.{KeepsNumbersApart}
+use Rattle.memory_host.specs.inside.Known.{KeepsNumbersApart}
 use Rattle.memory_host.proofs.NamedLemmas.{get-changed}
 use Rattle.memory_host.proofs.TableLemmas.{same_name, same_name-refl}
 

@@ -11,14 +11,14 @@ use Rattle.memory_host.specs.declared.failing_list.Part.TheVariants.{Nothing, Al
 use Rattle.memory_host.specs.declared.plan.Plan.{Plan}
 
 -- two lists of one length with what follows each
-pub front_one : (first second rest other : List ℕ) → length first ≡ length second → first ++ rest ≡ second ++ other → (first ≡ second) × (rest ≡ other)
-front_one [] [] rest other as_long same = (refl, same)
-front_one [] (y ∷ ys) rest other as_long same = absurd (omega arith)
-front_one (x ∷ xs) [] rest other as_long same = absurd (omega arith)
-front_one (x ∷ xs) (y ∷ ys) rest other as_long same =
+pub prefix_one : (first second rest other : List ℕ) → length first ≡ length second → first ++ rest ≡ second ++ other → (first ≡ second) × (rest ≡ other)
+prefix_one [] [] rest other as_long same = (refl, same)
+prefix_one [] (y ∷ ys) rest other as_long same = absurd (omega arith)
+prefix_one (x ∷ xs) [] rest other as_long same = absurd (omega arith)
+prefix_one (x ∷ xs) (y ∷ ys) rest other as_long same =
     let heads : x ≡ y = cc in
     let tails : xs ++ rest ≡ ys ++ other = cc in
-    let others = front_one xs ys rest other (omega arith) tails in
+    let others = prefix_one xs ys rest other (omega arith) tails in
     let others_same : xs ≡ ys = others.0 in
     (cc, others.1)
 
@@ -27,7 +27,7 @@ counted_one : (first second rest other : List ℕ) → counted first ++ rest ≡
 counted_one first second rest other same =
     let as_long : length first ≡ length second = cc in
     let tails : first ++ rest ≡ second ++ other = cc in
-    front_one first second rest other as_long tails
+    prefix_one first second rest other as_long tails
 
 spelled_part-one : (first second : Part) → spelled_part first ≡ spelled_part second → first ≡ second
 spelled_part-one Nothing Nothing same = refl

@@ -3,4 +3,4 @@ pub mod Faults
 pub mod Kin
 pub mod Story
 pub mod Table
-pub mod Told
+pub mod Known

@@ -1,7 +1,7 @@
 //! Inputs whose content is given.
 ghost use Rattle.std.specs.Prelude.{◌≡◌, ◌≤◌, true, false, IfOk, Some, Err, is_some, take, length, option_map};
 ghost use Rattle.host_calls.specs.Causes.{HasCause};
-ghost use Rattle.host_calls.specs.Inputs.{IsFrontOf};
+ghost use Rattle.host_calls.specs.Inputs.{IsPrefixOf};
 ghost use Rattle.memory_host.specs.Inputs.{inputs_spelling, given_contents};
 
 use host_calls::{Bytes, InputFault, Inputs};
@@ -59,7 +59,7 @@ impl Inputs for MemoryInputs {
     ghost sources = { sources_so_far };
 
     fn standard(&mut self, alloc: Global, most: usize) -> Result<Bytes, InputFault>
-        ensures front { IfOk result (IsFrontOf (Some (contents_given self.old).standard) most) }
+        ensures prefix { IfOk result (IsPrefixOf (Some (contents_given self.old).standard) most) }
         ensures few { IfOk result (λ bytes. length bytes ≤ most) }
         ensures contents { contents_given self.new ≡ contents_given self.old }
         ensures made_as { (sources_so_far self.new).made_as ≡ (sources_so_far self.old).made_as }
@@ -72,11 +72,11 @@ impl Inputs for MemoryInputs {
             self.input_faults = self.input_faults.saturating_add(1);
             return Err(InputFault::Failed);
         }
-        Ok(front(alloc, self.standard.as_slice(), most)?)
+        Ok(prefix(alloc, self.standard.as_slice(), most)?)
     }
 
     fn file(&mut self, alloc: Global, _path: &str, most: usize) -> Result<Bytes, InputFault>
-        ensures front { IfOk result (IsFrontOf ((contents_given self.old).file _path.now) most) }
+        ensures prefix { IfOk result (IsPrefixOf ((contents_given self.old).file _path.now) most) }
         ensures few { IfOk result (λ bytes. length bytes ≤ most) }
         ensures contents { contents_given self.new ≡ contents_given self.old }
         ensures made_as { (sources_so_far self.new).made_as ≡ (sources_so_far self.old).made_as }
@@ -86,7 +86,7 @@ impl Inputs for MemoryInputs {
         ensures unplanned { result ≡ Err InputFault.Failed → file_fails self.old ≡ true }
     {
         match &self.file {
-            Some(bytes) if !self.fails => Ok(front(alloc, bytes.as_slice(), most)?),
+            Some(bytes) if !self.fails => Ok(prefix(alloc, bytes.as_slice(), most)?),
             _ => {
                 self.input_faults = self.input_faults.saturating_add(1);
                 Err(InputFault::Failed)
@@ -96,8 +96,8 @@ impl Inputs for MemoryInputs {
 }
 
 // The first bytes, all of them or `most`.
-fn front(alloc: Global, bytes: &[u8], most: usize) -> Result<Bytes, AllocError>
-    ensures { IfOk result (λ front. front ≡ take most bytes.now) }
+fn prefix(alloc: Global, bytes: &[u8], most: usize) -> Result<Bytes, AllocError>
+    ensures { IfOk result (λ prefix. prefix ≡ take most bytes.now) }
 {
     Bytes::of(alloc, &bytes[..most.min(bytes.len())])
 }

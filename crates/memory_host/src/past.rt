@@ -5,7 +5,7 @@ ghost use Rattle.std.specs.FinMap as map;
 ghost use Rattle.host_calls.specs.Folder.{IsFresh, IsHeldAt, names_of, reading_of};
 ghost use Rattle.host_calls.specs.World.{IsWithinFile};
 ghost use Rattle.memory_host.specs.inside.Story.{Follows, Opens, state_of, with_next};
-ghost use Rattle.memory_host.specs.inside.Told.{MakesFile};
+ghost use Rattle.memory_host.specs.inside.Known.{MakesFile};
 
 use crate::Files;
 use crate::bodies::Bodies;
@@ -30,13 +30,13 @@ pub struct Past {
 impl Model for Past {
     ghost use Rattle.memory_host.specs.Past.{Story};
     ghost use Rattle.memory_host.specs.inside.Story.{state_of};
-    ghost use Rattle.memory_host.specs.inside.Told.{IsTold};
+    ghost use Rattle.memory_host.specs.inside.Known.{IsKnown};
 
     ghost Value = { Story };
 
     ghost view = { λ past. record { opening = past.opening.entries; calls = past.calls.items } };
 
-    ghost invariant = { λ past. IsTold (state_of (record { opening = past.opening.entries; calls = past.calls.items }))
+    ghost invariant = { λ past. IsKnown (state_of (record { opening = past.opening.entries; calls = past.calls.items }))
         past.names past.bodies past.handed.items };
 }
 

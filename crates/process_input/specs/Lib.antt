@@ -1,2 +1,2 @@
 pub mod Umask
-pub mod Unstarted
+pub mod StartupError

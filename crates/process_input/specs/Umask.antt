@@ -7,20 +7,20 @@ use Rattle.std.specs.Str.Pattern.{FindsChar, FindsText}
 abbrev pub umask_head : List ℕ
 umask_head = codes "\nUmask:\t"
 
--- behind the first such head these bytes stand, up to the end of the line
+-- after the first such head these bytes stand, up to the end of the line
 pub record IsUmaskLine (status line : List ℕ) : Type 0 where
   pub start : ℕ
-  pub behind : ℕ
-  pub head : FindsText umask_head status (Some (start, behind))
+  pub after : ℕ
+  pub head : FindsText umask_head status (Some (start, after))
   pub end : ℕ
   pub next : ℕ
-  pub ends : FindsChar 10 (drop behind status) (Some (end, next))
-  pub is : line ≡ take end (drop behind status)
+  pub ends : FindsChar 10 (drop after status) (Some (end, next))
+  pub is : line ≡ take end (drop after status)
 
--- there is no such head, or no end of the line behind the first one
+-- there is no such head, or no end of the line after the first one
 abbrev pub HasNoUmaskLine : List ℕ → Type 0
 HasNoUmaskLine status = FindsText umask_head status None
-    ⊎ ((start : ℕ) × (behind : ℕ) × FindsText umask_head status (Some (start, behind)) × FindsChar 10 (drop behind status) None)
+    ⊎ ((start : ℕ) × (after : ℕ) × FindsText umask_head status (Some (start, after)) × FindsChar 10 (drop after status) None)
 
 -- octal digits, and no more than those of a umask: 777
 abbrev pub IsUmaskText : List ℕ → Type 0

@@ -4,7 +4,7 @@ ghost use Rattle.std.specs.Prelude.{◌<◌, IfOk};
 use crate::environment::{text_of, variable, variables_of};
 use crate::umask::umask_of;
 use civil_minute::zone_of;
-use command_answers::Caller;
+use command_rules::Caller;
 use job_script::Context;
 use std::alloc::AllocError;
 

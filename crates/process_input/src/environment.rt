@@ -1,5 +1,5 @@
 //! The words and the variables of this process.
-use crate::unstarted::Unstarted;
+use crate::startup_error::StartupError;
 use host_calls::Text;
 use job_script::Variables;
 use std::alloc::{AllocError, Global};
@@ -13,11 +13,11 @@ const ROOM: usize = 512;
 const DOUBLINGS: u32 = 40;
 
 /// The words by which this process was called.
-pub fn words_of(rt: &HostRuntime) -> Result<Vec<String>, Unstarted> {
+pub fn words_of(rt: &HostRuntime) -> Result<Vec<String>, StartupError> {
     match env::args(rt) {
         Ok(words) => Ok(words.collect::<Vec<String>>(rt.alloc())?),
-        Err(error) if error.kind() == ErrorKind::OutOfMemory => Err(Unstarted::Memory),
-        Err(_) => Err(Unstarted::Words),
+        Err(error) if error.kind() == ErrorKind::OutOfMemory => Err(StartupError::Memory),
+        Err(_) => Err(StartupError::Words),
     }
 }
 
@@ -53,7 +53,7 @@ pub fn variables_of(rt: &HostRuntime) -> Result<Variables, AllocError> {
     Ok(variables)
 }
 
-// The entry of the environment at this place; none behind the last.
+// The entry of the environment at this place; none after the last.
 fn entry_at<R: Env>(rt: &R, alloc: Global, place: usize) -> Result<Option<Vec<u8>>, AllocError> {
     let mut room = ROOM;
     for _ in 0..DOUBLINGS {

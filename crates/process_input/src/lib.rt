@@ -4,12 +4,12 @@
 
 mod caller;
 mod environment;
+mod startup_error;
 mod streams;
 mod umask;
-mod unstarted;
 
 pub use caller::caller_of;
 pub use environment::{text_of, variable, variables_of, words_of};
+pub use startup_error::{StartupError, say_startup_error};
 pub use streams::held_streams;
 pub use umask::{umask_in, umask_of};
-pub use unstarted::{Unstarted, say_unstarted};

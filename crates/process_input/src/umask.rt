@@ -22,7 +22,7 @@ pub fn umask_of(rt: &HostRuntime) -> u16
 /// The umask that the status of a process tells.
 pub fn umask_in(status: &str) -> Option<u16>
     ensures range { IfSome result (λ umask. umask < 512) }
-    ensures told { MatchOption result (TellsNoUmask status.now) (TellsUmask status.now) }
+    ensures known { MatchOption result (TellsNoUmask status.now) (TellsUmask status.now) }
 {
     let Some(digits) = umask_line(status) else {
         return None;
@@ -36,14 +36,14 @@ pub fn umask_in(status: &str) -> Option<u16>
     Some(umask)
 }
 
-// What stands behind the first head of such a line, up to its end.
+// What stands after the first head of such a line, up to its end.
 fn umask_line(status: &str) -> Option<&str>
     ensures { MatchOption result (HasNoUmaskLine status.now) (λ line. IsUmaskLine status.now line.now) }
 {
-    let Some((_, behind)) = status.split_once("\nUmask:\t") else {
+    let Some((_, after)) = status.split_once("\nUmask:\t") else {
         return None;
     };
-    let Some((line, _)) = behind.split_once('\n') else {
+    let Some((line, _)) = after.split_once('\n') else {
         return None;
     };
     Some(line)

@@ -69,22 +69,22 @@ first-more : (first second kept least : ℕ × ℕ) (others : List (ℕ × ℕ))
 first-more first second kept least others (inl earlier) found =
     let all = first ∷ second ∷ others in
     let itself = All-contains_itself all in
-    let behind = All-tail (Contains all) first (second ∷ others) itself in
+    let after = All-tail (Contains all) first (second ∷ others) itself in
     let held = subst (λ (place : ℕ × ℕ). Contains all place) (sym earlier.0) (All-head (Contains all) first (second ∷ others) itself) in
     let here = subst (λ (place : ℕ × ℕ). IsNotAfter least place) earlier.0 (All-head (IsNotAfter least) kept others found.first) in
     record {
-      held = All-contains (Contains all) (kept ∷ others) least (All-cons (Contains all) kept others held (All-tail (Contains all) second others behind)) found.held;
+      held = All-contains (Contains all) (kept ∷ others) least (All-cons (Contains all) kept others held (All-tail (Contains all) second others after)) found.held;
       first = All-cons (IsNotAfter least) first (second ∷ others) here
           (All-cons (IsNotAfter least) second others (not_after-trans least first second here earlier.1) (All-tail (IsNotAfter least) kept others found.first));
     }
 first-more first second kept least others (inr earlier) found =
     let all = first ∷ second ∷ others in
     let itself = All-contains_itself all in
-    let behind = All-tail (Contains all) first (second ∷ others) itself in
-    let held = subst (λ (place : ℕ × ℕ). Contains all place) (sym earlier.0) (All-head (Contains all) second others behind) in
+    let after = All-tail (Contains all) first (second ∷ others) itself in
+    let held = subst (λ (place : ℕ × ℕ). Contains all place) (sym earlier.0) (All-head (Contains all) second others after) in
     let here = subst (λ (place : ℕ × ℕ). IsNotAfter least place) earlier.0 (All-head (IsNotAfter least) kept others found.first) in
     record {
-      held = All-contains (Contains all) (kept ∷ others) least (All-cons (Contains all) kept others held (All-tail (Contains all) second others behind)) found.held;
+      held = All-contains (Contains all) (kept ∷ others) least (All-cons (Contains all) kept others held (All-tail (Contains all) second others after)) found.held;
       first = All-cons (IsNotAfter least) first (second ∷ others) (not_after-trans least second first here earlier.1)
           (All-cons (IsNotAfter least) second others here (All-tail (IsNotAfter least) kept others found.first));
     }

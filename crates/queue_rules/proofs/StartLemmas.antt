@@ -98,7 +98,7 @@ one_row rows first second apart (i, inside, here) (j, within, there) same =
       | inl before ↦ absurd (apart i j first before within (ap (λ (row : Row). row.number) here ∙ same ∙ sym (ap (λ (row : Row). row.number) (get_or_default rows j first second within ∙ there))))
       | inr after ↦ elim (cases_lt j i) [
         | inl before ↦ absurd (apart j i second before inside (ap (λ (row : Row). row.number) there ∙ sym same ∙ sym (ap (λ (row : Row). row.number) (get_or_default rows i second first inside ∙ here))))
-        | inr behind ↦
+        | inr later ↦
             let place : i ≡ j = omega arith in
             sym here ∙ ap (λ (k : ℕ). slice_index_or rows k first) place ∙ get_or_default rows j first second within ∙ there
       ]

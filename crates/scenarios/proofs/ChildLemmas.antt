@@ -30,7 +30,7 @@ are_children children kids have = record { each = λ kid has. Contains-from_any 
 pub have_children : (children : List Child) (kids : List Kid) → AreChildren children kids → HaveChildren children kids
 have_children children kids are = record { each = λ kid has. list_any-from_Contains tells kid.child children (are.each kid has) }
 
--- they stay so where the children stay in front
+-- they stay so where the children stay first
 pub children_kept : (children more : List Child) (kids : List Kid) → KeepsChildren children more → HaveChildren children kids → HaveChildren more kids
 children_kept children more kids kept have =
     let are : AreChildren children kids = are_children children kids have in

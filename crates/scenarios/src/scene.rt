@@ -107,7 +107,7 @@ impl Scene {
             return self.make(alloc, event, transcript);
         }
         if self.machine.is_some() {
-            return Err(Why::Begun);
+            return Err(Why::Partial);
         }
         self.opening.take(alloc, word, rest)
     }

@@ -40,7 +40,7 @@ pub fn name(word: &[u8]) -> Result<Name, Why> {
     Name::of(word).ok_or(Why::Name)
 }
 
-/// A word as a number in decimal digits, without a zero in front.
+/// A word as a number in decimal digits, without a leading zero.
 pub fn number<T: FromStr>(word: &[u8]) -> Result<T, Why>
 where
     T::Err: Drop,

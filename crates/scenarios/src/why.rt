@@ -20,7 +20,7 @@ pub enum Why {
     #[error("no scenario has begun")]
     NoScenario,
     #[error("an event stands before it")]
-    Begun,
+    Partial,
     #[error("out of memory")]
     Memory,
 }

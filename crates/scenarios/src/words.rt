@@ -10,13 +10,13 @@ enum Place {
     Between,
     Bare,
     Quoted,
-    /// Behind a backslash.
+    /// After a backslash.
     Escaped,
-    /// Behind the `x` of an escape.
+    /// After the `x` of an escape.
     High,
-    /// Behind the first digit of an escape, which says the upper half of a byte.
+    /// After the first digit of an escape, which says the upper half of a byte.
     Low(u8),
-    /// Behind the quote that ends a word.
+    /// After the quote that ends a word.
     Closed,
 }
 
@@ -77,7 +77,7 @@ impl Reader {
         }
     }
 
-    // A byte of a word without quotes, or the space behind it.
+    // A byte of a word without quotes, or the space after it.
     fn go_on(&mut self, alloc: Global, byte: u8) -> Result<(), Why> {
         match byte {
             b' ' => self.close(alloc),
@@ -96,7 +96,7 @@ impl Reader {
         Ok(())
     }
 
-    // The byte behind a backslash.
+    // The byte after a backslash.
     fn escape(&mut self, byte: u8) -> Result<(), Why> {
         match byte {
             b'n' => self.put(b'\n'),

@@ -16,7 +16,7 @@ pub record IsDrawing (last : ℕ) (start : Folder) (image : Files) : Type 0 wher
   pub alone : LeavesOthers (IsEither temporary_file sequence_file) start image
   pub gives : Gives (map.get image sequence_file) last ⊎ Gives (map.get image sequence_file) (last + 1)
 
--- the sequence file gives the number in every image, with the same bytes in the wide form, and all else reads as before
+-- the sequence file gives the number in every image, with the same bytes in the new form, and all else reads as before
 pub record IsDrawn (number : ℕ) (old new : Folder) : Type 0 where
   pub text : List ℕ
   pub spelled : SpellsIn true text number

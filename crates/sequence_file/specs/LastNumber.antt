@@ -11,9 +11,9 @@ use Rattle.sequence_file.specs.Sequence.{sequence_file}
 
 -- the number of the bytes, if they are the digits of this form and a newline
 abbrev pub sequence_as : Bool → List ℕ → Option ℕ
-sequence_as wide bytes =
-    if length bytes == 1 + number_digits wide && slice_index bytes (number_digits wide) == 10
-    then number_in (take (number_digits wide) bytes)
+sequence_as new_form bytes =
+    if length bytes == 1 + number_digits new_form && slice_index bytes (number_digits new_form) == 10
+    then number_in (take (number_digits new_form) bytes)
     else None
 
 -- the number of the bytes, if they are of one of the two forms
@@ -22,8 +22,8 @@ sequence_in bytes = option_or (sequence_as true bytes) (sequence_as false bytes)
 
 -- how many of the bytes may stand in their places of the form, from this place on
 abbrev pub fitting : Bool → ℕ → List ℕ → ℕ
-fitting wide place [] = 0
-fitting wide place (byte ∷ rest) = if fits_at wide place byte then 1 + fitting wide (place + 1) rest else 0
+fitting new_form place [] = 0
+fitting new_form place (byte ∷ rest) = if fits_at new_form place byte then 1 + fitting new_form (place + 1) rest else 0
 
 -- how many of the bytes may stand in their places of one form
 abbrev pub longest_fitting : List ℕ → ℕ

@@ -3,13 +3,13 @@ use Rattle.std.specs.Prelude.{◌≡◌, ◌≤◌, ◌<◌, ◌==◌, ◌&&◌,
 use Rattle.hex_digits.specs.Values.{is_digit}
 use Rattle.spool_model.specs.Numbers.{number_digits}
 
--- the digits of the form, then a newline, and nothing behind it
+-- the digits of the form, then a newline, and nothing after it
 abbrev pub fits_at : Bool → ℕ → ℕ → Bool
-fits_at wide place byte =
-    if nat_lt place (number_digits wide) then is_digit byte else (place == number_digits wide && byte == 10)
+fits_at new_form place byte =
+    if nat_lt place (number_digits new_form) then is_digit byte else (place == number_digits new_form && byte == 10)
 
 -- each of the first bytes may stand in its place, and the next one may not
-pub record IsFittingFront (wide : Bool) (bytes : List ℕ) (count : ℕ) : Type 0 where
+pub record IsFittingPrefix (new_form : Bool) (bytes : List ℕ) (count : ℕ) : Type 0 where
   pub inside : count ≤ length bytes
-  pub each : (place : ℕ) → place < count → fits_at wide place (slice_index bytes place) ≡ true
-  pub next : count < length bytes → fits_at wide count (slice_index bytes count) ≡ false
+  pub each : (place : ℕ) → place < count → fits_at new_form place (slice_index bytes place) ≡ true
+  pub next : count < length bytes → fits_at new_form count (slice_index bytes count) ≡ false

@@ -8,14 +8,14 @@ abbrev pub sequence_file : List ℕ
 sequence_file = codes ".SEQ"
 
 -- the bytes are the digits of the number in this form and a newline
-pub record SpellsIn (wide : Bool) (bytes : List ℕ) (number : ℕ) : Type 0 where
-  pub counted : length bytes ≡ 1 + number_digits wide
-  pub digits : SpellsNumber (take (number_digits wide) bytes) number
-  pub newline : slice_index bytes (number_digits wide) ≡ 10
+pub record SpellsIn (new_form : Bool) (bytes : List ℕ) (number : ℕ) : Type 0 where
+  pub counted : length bytes ≡ 1 + number_digits new_form
+  pub digits : SpellsNumber (take (number_digits new_form) bytes) number
+  pub newline : slice_index bytes (number_digits new_form) ≡ 10
 
 -- the bytes are those of the number in one of the two forms
 abbrev pub SpellsSequence : List ℕ → ℕ → Type 0
-SpellsSequence bytes number = (wide : Bool) × SpellsIn wide bytes number
+SpellsSequence bytes number = (new_form : Bool) × SpellsIn new_form bytes number
 
 -- the file gives the number; without a file it is 0
 abbrev pub Gives : Option (List ℕ) → ℕ → Type 0
@@ -23,16 +23,16 @@ Gives None number = number ≡ 0
 Gives (Some bytes) number = SpellsSequence bytes number
 
 -- the first bytes are those of some right file
-pub record HasRightFront (bytes : List ℕ) (count : ℕ) : Type 0 where
+pub record HasRightPrefix (bytes : List ℕ) (count : ℕ) : Type 0 where
   pub number : ℕ
   pub right : List ℕ
   pub spelled : SpellsSequence right number
   pub inside : count ≤ length bytes
-  pub front : take count right ≡ take count bytes
+  pub prefix : take count right ≡ take count bytes
 
 -- The bytes are no right file. Up to the offset they are those of some right file, and no further.
 pub record IsFaultAt (bytes : List ℕ) (offset : ℕ) (byte : Option ℕ) : Type 0 where
   pub wrong : (number : ℕ) → ¬ (SpellsSequence bytes number)
-  pub front : HasRightFront bytes offset
-  pub longest : (count : ℕ) → HasRightFront bytes count → count ≤ offset
+  pub prefix : HasRightPrefix bytes offset
+  pub longest : (count : ℕ) → HasRightPrefix bytes count → count ≤ offset
   pub there : slice_get bytes offset ≡ byte

@@ -1,14 +1,14 @@
 //! The sequence file of the spool: the last job number that was drawn.
 #![tactic(auto)]
 
-mod drawing;
+mod draw_number;
 mod fault;
 mod last_number;
 mod laws;
 mod names;
 mod text;
 
-pub use drawing::draw;
+pub use draw_number::draw;
 pub use fault::SequenceFault;
 pub use last_number::last;
 pub use laws::last_numbers_are_read;

@@ -1,14 +1,14 @@
 //! The bytes of the sequence file.
 ghost use Rattle.std.specs.Prelude.{◌≡◌, ℕ, true, IfOk, IfErr, IfSome, IfNone};
 ghost use Rattle.sequence_file.specs.Sequence.{SpellsIn, SpellsSequence, IsFaultAt, sequence_file};
-ghost use Rattle.sequence_file.specs.Places.{IsFittingFront, fits_at};
+ghost use Rattle.sequence_file.specs.Places.{IsFittingPrefix, fits_at};
 
 use crate::names::sequence_name;
 use hex_digits::is_digit;
 use host_calls::Damage;
 use spool_model::number_digits;
 
-/// The file of a number, in the wide form.
+/// The file of a number, in the new form.
 pub fn text_of(number: u32) -> [u8; 9]
     ensures { SpellsIn true result number }
 {
@@ -30,11 +30,11 @@ pub fn read(bytes: &[u8]) -> Result<u32, Damage>
 }
 
 // The number of the file, if it is of this form.
-fn number_of(bytes: &[u8], wide: bool) -> Option<u32>
-    ensures number { IfSome result (SpellsIn wide bytes.now) }
-    ensures none { IfNone result ((number : ℕ) → ¬ (SpellsIn wide bytes.now number)) }
+fn number_of(bytes: &[u8], new_form: bool) -> Option<u32>
+    ensures number { IfSome result (SpellsIn new_form bytes.now) }
+    ensures none { IfNone result ((number : ℕ) → ¬ (SpellsIn new_form bytes.now number)) }
 {
-    let digits = number_digits(wide);
+    let digits = number_digits(new_form);
     if bytes.len() != 1 + digits || bytes[digits] != b'\n' {
         return None;
     }
@@ -52,21 +52,21 @@ fn damage_of(bytes: &[u8]) -> Damage
 }
 
 // How many of the first bytes may stand in their places of this form.
-fn fitting(bytes: &[u8], wide: bool) -> usize
-    ensures { IsFittingFront wide bytes.now result }
+fn fitting(bytes: &[u8], new_form: bool) -> usize
+    ensures { IsFittingPrefix new_form bytes.now result }
 {
     for (place, byte) in bytes.iter().enumerate() {
-        if !fits(wide, place, *byte) {
+        if !fits(new_form, place, *byte) {
             return place;
         }
     }
     bytes.len()
 }
 
-fn fits(wide: bool, place: usize, byte: u8) -> bool
-    ensures { result ≡ fits_at wide place byte }
+fn fits(new_form: bool, place: usize, byte: u8) -> bool
+    ensures { result ≡ fits_at new_form place byte }
 {
-    let digits = number_digits(wide);
+    let digits = number_digits(new_form);
     if place < digits {
         is_digit(byte)
     } else {

@@ -8,28 +8,28 @@ use Rattle.host_calls.specs.declared.child.Child.{Child}
 use Rattle.host_calls.specs.declared.child.Ending.TheVariants.{Exit}
 use Rattle.host_calls.specs.Clock.{Readers, with_load, with_now, with_rest}
 use Rattle.host_calls.specs.World.{World}
-use Rattle.command_answers.specs.Sinks.{IsSilent}
+use Rattle.command_rules.specs.Sinks.{IsSilent}
 use Rattle.listing_text.specs.declared.cause.Cause.{Cause}
 use Rattle.listing_text.specs.declared.cause.Cause.TheVariants as cause
 use Rattle.daemon_turn.specs.declared.kid.Kid.{Kid}
 use Rattle.daemon_turn.specs.declared.report.TurnEnd.{TurnEnd}
 use Rattle.daemon_turn.specs.declared.report.TurnEnd.TheVariants.{Done, Busy, FileFault}
-use Rattle.daemon_turn.specs.declared.occasion.Occasion.{Occasion}
+use Rattle.daemon_turn.specs.declared.turn_input.TurnInput.{TurnInput}
 use Rattle.daemon_turn.specs.declared.step.TurnStep.{TurnStep}
 use Rattle.daemon_turn.specs.declared.step.TurnStep.TheVariants.{Ended, HandedOver}
 use Rattle.daemon_turn.specs.Kids.{AreByNumber, AreChildren}
 use Rattle.daemon_turn.specs.Leaving.{DaemonAt, TurnsTo}
-use Rattle.serving.specs.Examples.{ServesTwice, SmallServings, daemon_with, first_child, first_kid, host_with, midnight, minute_later, second_later, served_with, sink, told}
-use Rattle.serving.specs.Items.{Item, ends_behind, rest_behind}
+use Rattle.serving.specs.Examples.{ServesTwice, SmallServings, daemon_with, first_child, first_kid, host_with, midnight, minute_later, second_later, served_with, sink, known}
+use Rattle.serving.specs.Items.{Item, ends_after, next_rest}
 use Rattle.cause_output.specs.Ends.{SaysEnd}
 use Rattle.serving.specs.Lines.{SaysEnds, daemon_name, turn_lines}
 use Rattle.serving.specs.Outcomes.{at_the_end, outcome_by}
-use Rattle.serving.specs.Serves.{AnswersTurn, RestsBehind, ServeAt, Served, Serves, next_turn, no_turn}
+use Rattle.serving.specs.Serves.{AnswersTurn, RestsAfter, ServeAt, Served, Serves, next_turn, no_turn}
 use Rattle.serving.specs.Serving.{SaysOutcome}
 
 -- a moment of a host that doesn't tell its files, with its daemon
 abbrev standing : World → List Child → ℕ → List Kid → DaemonAt
-standing world children taken kids = record { session = host_with children taken; world = world; watch = daemon_with kids }
+standing world children taken kids = record { session = host_with children taken; world = world; daemon = daemon_with kids }
 
 -- The kids.
 
@@ -51,7 +51,7 @@ one_order = λ i j kid earlier within. absurd (let low : j < 1 = within in omega
 -- The turns.
 
 -- one that was made to its end
-turned : (world : World) (at : Occasion) (taken : ℕ) (children more : List Child) (kids left : List Kid) (steps : List TurnStep) → AreChildren (children ++ more) left → AreByNumber left
+turned : (world : World) (at : TurnInput) (taken : ℕ) (children more : List Child) (kids left : List Kid) (steps : List TurnStep) → AreChildren (children ++ more) left → AreByNumber left
     → TurnsTo false false at (standing world children taken kids) (standing world (children ++ more) taken left) Done steps
 turned world at taken children more kids left steps are ordered = record {
   outside = refl;
@@ -68,7 +68,7 @@ turned world at taken children more kids left steps are ordered = record {
 }
 
 -- and one that found the spool taken
-held : (world : World) (at : Occasion) → TurnsTo false false at (standing world [] 0 []) (standing world [] 1 []) Busy []
+held : (world : World) (at : TurnInput) → TurnsTo false false at (standing world [] 0 []) (standing world [] 1 []) Busy []
 held world at = record {
   outside = refl;
   counts = record { made_as = refl; file_faults = lit≤ tt; start_faults = lit≤ tt; taken = lit≤ tt };
@@ -83,9 +83,9 @@ held world at = record {
   leaves = λ files. absurd (let impossible : false ≡ true = files in cc);
 }
 
--- one behind the other
-two_turns : (once : Bool) (one other : Item) (start between rested end : ServeAt) → Served told once [] one start between → ends_behind once (Some one) between.spool.watch.kids ≡ false
-    → RestsBehind true once (Some one) between rested → Served told once (one ∷ []) other rested end → Serves told once start (one ∷ other ∷ []) end
+-- one after the other
+two_turns : (once : Bool) (one other : Item) (start between rested end : ServeAt) → Served known once [] one start between → ends_after once (Some one) between.spool.daemon.kids ≡ false
+    → RestsAfter true once (Some one) between rested → Served known once (one ∷ []) other rested end → Serves known once start (one ∷ other ∷ []) end
 two_turns once one other start between rested end first goes_on rests second =
     next_turn (one ∷ []) other between rested end (next_turn [] one start start between no_turn refl refl first) goes_on rests second
 
@@ -104,7 +104,7 @@ a_minute_later = second_is minute_later refl
 answered : (now : ℤ) (load : ℕ) (end : TurnEnd) (steps : List TurnStep) (old new : ServeAt) → new.answers ≡ with_load (Some load) (with_now now old.answers) → new.readers ≡ old.readers
     → AnswersTurn true (record { now = now; load = Some load; end = end; steps = steps }) old new
 answered now load end steps old new answers readers = record {
-  told = λ tells. answers;
+  known = λ tells. answers;
   made_as = ap (λ (of : Readers). of.made_as) readers;
   later = let same : new.readers.load_faults ≡ old.readers.load_faults = ap (λ (of : Readers). of.load_faults) readers in omega (arith, same);
   unread = λ none. absurd (let impossible : ◌≡◌ {A = Option ℕ} (Some load) None = none in cc);
@@ -124,18 +124,18 @@ done_silent one other first second = (
 
 -- What two turns come to.
 
-module _ (world : World) (once : Bool) (one other : Item) (end : ServeAt) (serves : Serves told once (served_with world [] 0 [] [] [] 0 0) (one ∷ other ∷ []) end) where
+module _ (world : World) (once : Bool) (one other : Item) (end : ServeAt) (serves : Serves known once (served_with world [] 0 [] [] [] 0 0) (one ∷ other ∷ []) end) where
   serves_twice : (printed between said : List ℕ) (of : Cause) → printed ≡ turn_lines (one ∷ other ∷ []) → SaysEnds (one ∷ other ∷ []) (sink []) (sink between)
-      → SaysOutcome true (outcome_by at_the_end once (one ∷ other ∷ []) end.spool.watch.kids false) (sink between) (sink said) of → ServesTwice world once end printed said of
+      → SaysOutcome true (outcome_by at_the_end once (one ∷ other ∷ []) end.spool.daemon.kids false) (sink between) (sink said) of → ServesTwice world once end printed said of
   serves_twice printed between said of lines says outcome = record {
     items = one ∷ other ∷ [];
     last = end;
     stop = at_the_end;
-    cut = false;
+    output_failed = false;
     few = lit≤ tt;
     serves = serves;
     stops = (inl refl, refl);
-    prints = record { later = lit≤ tt; rose = λ cut. absurd (let impossible : false ≡ true = cut in cc); puts = λ tells. record { content = lines; later = lit≤ tt } };
+    prints = record { later = lit≤ tt; rose = λ output_failed. absurd (let impossible : false ≡ true = output_failed in cc); puts = λ tells. record { content = lines; later = lit≤ tt } };
     between = sink between;
     says = λ tells. says;
     outcome = outcome;
@@ -146,14 +146,14 @@ module _ (world : World) (once : Bool) (one other : Item) (end : ServeAt) (serve
 abbrev opening : World → ServeAt
 opening world = served_with world [] 0 [] [] [] 0 0
 
--- a job handed over, and behind that turn
+-- a job handed over, and after that turn
 abbrev handed_at : ℤ → Item
 handed_at now = record { now = now; load = Some 42; end = Done; steps = HandedOver 1 now ∷ [] }
 
 abbrev handed : World → ℕ → ServeAt
 handed world rested = served_with world (first_child ∷ []) 0 (first_kid ∷ []) (midnight ∷ []) (Some 42 ∷ []) rested 0
 
-hands_over : (world : World) (once : Bool) → Served told once [] (handed_at midnight) (opening world) (handed world 0)
+hands_over : (world : World) (once : Bool) → Served known once [] (handed_at midnight) (opening world) (handed world 0)
 hands_over world once = record {
   now = at_midnight;
   read = answered midnight 42 Done _ (opening world) (handed world 0) refl refl;
@@ -164,10 +164,10 @@ hands_over world once = record {
 abbrev ended_with : ℤ → Option ℕ → ℕ → Item
 ended_with now load code = record { now = now; load = load; end = Done; steps = Ended 1 (Exit code) ∷ [] }
 
-rests : (once : Bool) (item : Item) (seconds : ℕ) (old new : ServeAt) → rest_behind once item.end item.now ≡ seconds → new.answers ≡ with_rest seconds old.answers → new.readers ≡ old.readers
-    → new.spool ≡ old.spool → RestsBehind true once (Some item) old new
+rests : (once : Bool) (item : Item) (seconds : ℕ) (old new : ServeAt) → next_rest once item.end item.now ≡ seconds → new.answers ≡ with_rest seconds old.answers → new.readers ≡ old.readers
+    → new.spool ≡ old.spool → RestsAfter true once (Some item) old new
 rests once item seconds old new is answers readers spool = record {
-  told = λ tells. subst (λ (count : ℕ). new.answers ≡ with_rest count old.answers) (sym is) answers;
+  known = λ tells. subst (λ (count : ℕ). new.answers ≡ with_rest count old.answers) (sym is) answers;
   readers = readers;
   spool = spool;
 }
@@ -177,9 +177,9 @@ minutes : (world : World) → ServesTwice world false
 unfolding digits
 minutes world =
     let end : ServeAt = served_with world (first_child ∷ []) 0 [] (midnight ∷ minute_later ∷ []) (Some 42 ∷ None ∷ []) 60 1 in
-    let second : Served told false (handed_at midnight ∷ []) (ended_with minute_later None 3) (handed world 60) end = record {
+    let second : Served known false (handed_at midnight ∷ []) (ended_with minute_later None 3) (handed world 60) end = record {
       now = a_minute_later;
-      read = record { told = λ tells. refl; made_as = refl; later = lit≤ tt; unread = λ none. lit≤ tt };
+      read = record { known = λ tells. refl; made_as = refl; later = lit≤ tt; unread = λ none. lit≤ tt };
       turn = turned world _ 0 (first_child ∷ []) [] (first_kid ∷ []) [] _ (no_kids (first_child ∷ [])) no_order;
     } in
     serves_twice world false (handed_at midnight) (ended_with minute_later None 3) end
@@ -192,7 +192,7 @@ until_alone : (world : World) → ServesTwice world true
 unfolding digits
 until_alone world =
     let end : ServeAt = served_with world (first_child ∷ []) 0 [] (midnight ∷ second_later ∷ []) (Some 42 ∷ Some 42 ∷ []) 1 0 in
-    let second : Served told true (handed_at midnight ∷ []) (ended_with second_later (Some 42) 0) (handed world 1) end = record {
+    let second : Served known true (handed_at midnight ∷ []) (ended_with second_later (Some 42) 0) (handed world 1) end = record {
       now = a_second_later;
       read = answered second_later 42 Done _ (handed world 1) end refl refl;
       turn = turned world _ 0 (first_child ∷ []) [] (first_kid ∷ []) [] _ (no_kids (first_child ∷ [])) no_order;
@@ -211,7 +211,7 @@ still_running : (world : World) → ServesTwice world true
 unfolding digits
 still_running world =
     let end : ServeAt = served_with world (first_child ∷ []) 0 (first_kid ∷ []) (midnight ∷ second_later ∷ []) (Some 42 ∷ Some 42 ∷ []) 1 0 in
-    let second : Served told true (handed_at midnight ∷ []) idle (handed world 1) end = record {
+    let second : Served known true (handed_at midnight ∷ []) idle (handed world 1) end = record {
       now = a_second_later;
       read = answered second_later 42 Done _ (handed world 1) end refl refl;
       turn = turned world _ 0 (first_child ∷ []) [] (first_kid ∷ []) (first_kid ∷ []) _ one_kid one_order;
@@ -222,7 +222,7 @@ still_running world =
     (codes "job 1 handed over\n") [] (codes "atd: jobs still running\n") cause.StillRunning refl (done_silent (handed_at midnight) idle refl refl)
     (inl (refl, λ tells. inl (record { content = refl; later = lit≤ tt })))
 
--- a turn that found the spool taken, and behind it
+-- a turn that found the spool taken, and after it
 abbrev taken : Item
 taken = record { now = midnight; load = Some 42; end = Busy; steps = [] }
 
@@ -234,9 +234,9 @@ taken_first : (world : World) → ServesTwice world false
 unfolding digits
 taken_first world =
     let end : ServeAt = served_with world (first_child ∷ []) 1 (first_kid ∷ []) (midnight ∷ second_later ∷ []) (Some 42 ∷ Some 42 ∷ []) 1 0 in
-    let first : Served told false [] taken (opening world) (refused world 0) =
+    let first : Served known false [] taken (opening world) (refused world 0) =
     record { now = at_midnight; read = answered midnight 42 Busy _ (opening world) (refused world 0) refl refl; turn = held world _ } in
-    let second : Served told false (taken ∷ []) (handed_at second_later) (refused world 1) end = record {
+    let second : Served known false (taken ∷ []) (handed_at second_later) (refused world 1) end = record {
       now = a_second_later;
       read = answered second_later 42 Done _ (refused world 1) end refl refl;
       turn = turned world _ 1 [] (first_child ∷ []) [] (first_kid ∷ []) _ one_kid one_order;

@@ -4,7 +4,7 @@ use Rattle.host_calls.specs.Causes.{Rose}
 use Rattle.host_calls.specs.Session.{KeepsCounts, Session}
 use Rattle.host_calls.specs.World.{reading}
 use Rattle.listing_text.specs.declared.cause.Cause.{Cause}
-use Rattle.command_answers.specs.Sinks.{SinkAt}
+use Rattle.command_rules.specs.Sinks.{SinkAt}
 use Rattle.daemon_turn.specs.declared.kid.Kid.{Kid}
 use Rattle.daemon_turn.specs.declared.report.TurnEnd.{TurnEnd}
 use Rattle.daemon_turn.specs.declared.report.TurnEnd.TheVariants.{Done, Busy, FileFault, Damaged, Memory}
@@ -40,10 +40,10 @@ pub record IsSound (old new : Session) : Type 0 where
   pub files : ¬ (Rose old.file_faults new.file_faults)
 
 sound_within : (first old new last : Session) → KeepsCounts first old → KeepsCounts new last → IsSound first last → IsSound old new
-sound_within first old new last before behind sound = record {
-  taken = λ rose. sound.taken (let earlier : first.taken ≤ old.taken = before.taken in let later : new.taken ≤ last.taken = behind.taken in
+sound_within first old new last before beyond sound = record {
+  taken = λ rose. sound.taken (let earlier : first.taken ≤ old.taken = before.taken in let later : new.taken ≤ last.taken = beyond.taken in
       let risen : Rose old.taken new.taken = rose in omega arith);
-  files = λ rose. sound.files (let earlier : first.file_faults ≤ old.file_faults = before.file_faults in let later : new.file_faults ≤ last.file_faults = behind.file_faults in
+  files = λ rose. sound.files (let earlier : first.file_faults ≤ old.file_faults = before.file_faults in let later : new.file_faults ≤ last.file_faults = beyond.file_faults in
       let risen : Rose old.file_faults new.file_faults = rose in omega arith);
 }
 
@@ -52,12 +52,12 @@ pub record GoWell (items : List Item) (at : DaemonAt) : Type 0 where
   pub well : AreWell items
   pub good : ReadsGood at
 
-module _ (tells : ServeTelling) (once : Bool) (first : ServeAt) (told : tells.files ≡ true) (alone : tells.alone ≡ true) (opening : ReadsGood first.spool) where
+module _ (tells : ServeTelling) (once : Bool) (first : ServeAt) (known : tells.files ≡ true) (alone : tells.alone ≡ true) (opening : ReadsGood first.spool) where
   served_well : (before : List Item) (item : Item) (rested after : ServeAt) → Served tells once before item rested after → ReadsGood rested.spool
       → IsSound rested.spool.session after.spool.session → GoWell (item ∷ []) after.spool
   served_well before item rested after served good sound = record {
-    well = (turns_are_done tells.files tells.alone _ rested.spool after.spool item.end item.steps served.turn told alone good.0 good.1 sound.taken sound.files, tt);
-    good = readings_stay_good tells.files tells.alone _ rested.spool after.spool item.end item.steps served.turn told alone good;
+    well = (turns_are_done tells.files tells.alone _ rested.spool after.spool item.end item.steps served.turn known alone good.0 good.1 sound.taken sound.files, tt);
+    good = readings_stay_good tells.files tells.alone _ rested.spool after.spool item.end item.steps served.turn known alone good;
   }
 
   pub go_well : (items : List Item) (last : ServeAt) → Serves tells once first items last → IsSound first.spool.session last.spool.session → GoWell items last.spool
@@ -86,10 +86,10 @@ abbrev pub IsWellFor : Outcome → Type 0
 IsWellFor (OfTurn of) = IsServedWell of
 IsWellFor (Own of) = IsServedWell of
 
-kids_well : (kids : List Kid) (cut : Bool) → ¬ (cut ≡ true) → IsWellFor (kids_outcome kids cut)
-kids_well [] false uncut = tt
-kids_well [] true uncut = absurd (uncut refl)
-kids_well (kid ∷ kids) cut uncut = tt
+kids_well : (kids : List Kid) (output_failed : Bool) → ¬ (output_failed ≡ true) → IsWellFor (kids_outcome kids output_failed)
+kids_well [] false unfailed = tt
+kids_well [] true unfailed = absurd (unfailed refl)
+kids_well (kid ∷ kids) output_failed unfailed = tt
 
 end_well : (end : TurnEnd) (other : Outcome) → IsDoneOrMemory end → IsWellFor other → IsWellFor (end_outcome end other)
 end_well Done other well rest = rest
@@ -98,10 +98,10 @@ end_well Busy other well rest = absurd well
 end_well FileFault other well rest = absurd well
 end_well (Damaged damage) other well rest = absurd well
 
-turns_well : (once : Bool) (items : List Item) (kids : List Kid) (cut : Bool) → AreWell items → ¬ (cut ≡ true) → IsWellFor (turns_outcome once (first_end items) kids cut)
-turns_well true [] kids cut well uncut = kids_well kids cut uncut
-turns_well true (item ∷ items) kids cut well uncut = end_well item.end (kids_outcome kids cut) well.0 (kids_well kids cut uncut)
-turns_well false items kids cut well uncut = kids_well [] cut uncut
+turns_well : (once : Bool) (items : List Item) (kids : List Kid) (output_failed : Bool) → AreWell items → ¬ (output_failed ≡ true) → IsWellFor (turns_outcome once (first_end items) kids output_failed)
+turns_well true [] kids output_failed well unfailed = kids_well kids output_failed unfailed
+turns_well true (item ∷ items) kids output_failed well unfailed = end_well item.end (kids_outcome kids output_failed) well.0 (kids_well kids output_failed unfailed)
+turns_well false items kids output_failed well unfailed = kids_well [] output_failed unfailed
 
 damage_well : (end : TurnEnd) (other : Outcome) → IsDoneOrMemory end → IsWellFor other → IsWellFor (damage_outcome end other)
 damage_well Done other well rest = rest
@@ -115,25 +115,25 @@ last_well [] other well rest = rest
 last_well (item ∷ []) other well rest = damage_well item.end other well.0 rest
 last_well (item ∷ next ∷ items) other well rest = last_well (next ∷ items) other well.1 rest
 
-stop_well : (stop : Stop) (tells once : Bool) (turns : ℕ) (items : List Item) (last new : ServeAt) (kids : List Kid) (cut : Bool) → tells ≡ true
-    → StopsBy stop tells once turns items last new → AreWell items → ¬ (cut ≡ true) → IsLastInRange new.answers → IsWellFor (outcome_by stop once items kids cut)
-stop_well at_the_end tells once turns items last new kids cut told stops well uncut range =
-    last_well items (turns_outcome once (first_end items) kids cut) well (turns_well once items kids cut well uncut)
-stop_well at_the_clock tells once turns items last new kids cut told stops well uncut range =
-    absurd (stops.2.out (range stops.2.now stops.2.rested.answers (stops.2.told told)))
-stop_well at_a_line tells once turns items last new kids cut told stops well uncut range = tt
+stop_well : (stop : Stop) (tells once : Bool) (turns : ℕ) (items : List Item) (last new : ServeAt) (kids : List Kid) (output_failed : Bool) → tells ≡ true
+    → StopsBy stop tells once turns items last new → AreWell items → ¬ (output_failed ≡ true) → IsLastInRange new.answers → IsWellFor (outcome_by stop once items kids output_failed)
+stop_well at_the_end tells once turns items last new kids output_failed known stops well unfailed range =
+    last_well items (turns_outcome once (first_end items) kids output_failed) well (turns_well once items kids output_failed well unfailed)
+stop_well at_the_clock tells once turns items last new kids output_failed known stops well unfailed range =
+    absurd (stops.2.out (range stops.2.now stops.2.rested.answers (stops.2.known known)))
+stop_well at_a_line tells once turns items last new kids output_failed known stops well unfailed range = tt
 
-said_well : (tells : Bool) (outcome : Outcome) (before behind : SinkAt) (final : Cause) → SaysOutcome tells outcome before behind final → IsWellFor outcome → IsServedWell final
-said_well tells (OfTurn of) before behind final says well = subst IsServedWell (sym says.0) well
-said_well tells (Own of) before behind final (inl says) well = subst IsServedWell (sym says.0) well
-said_well tells (Own of) before behind final (inr says) well = subst IsServedWell (sym says.1) tt
+said_well : (tells : Bool) (outcome : Outcome) (before beyond : SinkAt) (final : Cause) → SaysOutcome tells outcome before beyond final → IsWellFor outcome → IsServedWell final
+said_well tells (OfTurn of) before beyond final says well = subst IsServedWell (sym says.0) well
+said_well tells (Own of) before beyond final (inl says) well = subst IsServedWell (sym says.0) well
+said_well tells (Own of) before beyond final (inr says) well = subst IsServedWell (sym says.1) tt
 
 pub serving_is_done : ServingIsDone
-serving_is_done tells once turns old new out_old out_new err_old err_new final serving told alone clock good no_taken no_fault no_output range =
+serving_is_done tells once turns old new out_old out_new err_old err_new final serving known alone clock good no_taken no_fault no_output range =
     let same : new.spool ≡ serving.last.spool = stops_spool serving.stop tells.clock once turns serving.items serving.last new serving.stops in
     let sound : IsSound old.spool.session new.spool.session = record { taken = no_taken; files = no_fault } in
-    let well : GoWell serving.items serving.last.spool = go_well tells once old told alone good serving.items serving.last serving.serves
+    let well : GoWell serving.items serving.last.spool = go_well tells once old known alone good serving.items serving.last serving.serves
     (subst (λ (spool : DaemonAt). IsSound old.spool.session spool.session) same sound) in
     said_well tells.errors _ serving.between err_new final serving.outcome
-    (stop_well serving.stop tells.clock once turns serving.items serving.last new serving.last.spool.watch.kids serving.cut clock serving.stops well.well
-    (λ cut. no_output (serving.prints.rose cut)) range)
+    (stop_well serving.stop tells.clock once turns serving.items serving.last new serving.last.spool.daemon.kids serving.output_failed clock serving.stops well.well
+    (λ output_failed. no_output (serving.prints.rose output_failed)) range)

@@ -5,12 +5,12 @@ use Rattle.host_calls.specs.Causes.{Rose}
 use Rattle.host_calls.specs.Session.{Session}
 use Rattle.listing_text.specs.declared.cause.Cause.{Cause}
 use Rattle.listing_text.specs.declared.cause.Cause.TheVariants as cause
-use Rattle.command_answers.specs.Sinks.{SinkAt}
+use Rattle.command_rules.specs.Sinks.{SinkAt}
 use Rattle.daemon_turn.specs.Leaving.{DaemonAt}
 use Rattle.daemon_turn.specs.declared.kid.Kid.{Kid}
 use Rattle.daemon_turn.specs.declared.report.TurnEnd.{TurnEnd}
 use Rattle.daemon_turn.specs.declared.report.TurnEnd.TheVariants.{Done, Busy, FileFault, Damaged, Memory}
-use Rattle.serving.specs.Items.{Item, ends_behind, first_end, is_last, last_item}
+use Rattle.serving.specs.Items.{Item, ends_after, first_end, is_last, last_item}
 use Rattle.serving.specs.Outcomes.{Stop, StopsBy, at_a_line, at_the_clock, at_the_end, damage_outcome, end_outcome, kids_outcome, last_outcome, outcome_by, output_outcome, turns_outcome}
 use Rattle.serving.specs.Serves.{ServeAt, ServeTelling}
 use Rattle.serving.specs.Serving.{SaysOutcome}
@@ -35,14 +35,14 @@ abbrev pub IsCausedFor : Outcome → Session → Session → SinkAt → SinkAt �
 IsCausedFor (OfTurn of) old new was is = IsCaused of old new was is
 IsCausedFor (Own of) old new was is = IsCaused of old new was is
 
-module _ (old new : Session) (was is : SinkAt) (cut : Bool) (rose : cut ≡ true → Rose was.faults is.faults) where
-  output_caused : IsCausedFor (output_outcome cut) old new was is
-  output_caused = by_cut cut rose where
-    by_cut : (flag : Bool) → (flag ≡ true → Rose was.faults is.faults) → IsCausedFor (output_outcome flag) old new was is
-    by_cut true risen = risen refl
-    by_cut false risen = tt
+module _ (old new : Session) (was is : SinkAt) (output_failed : Bool) (rose : output_failed ≡ true → Rose was.faults is.faults) where
+  output_caused : IsCausedFor (output_outcome output_failed) old new was is
+  output_caused = by_output_failed output_failed rose where
+    by_output_failed : (flag : Bool) → (flag ≡ true → Rose was.faults is.faults) → IsCausedFor (output_outcome flag) old new was is
+    by_output_failed true risen = risen refl
+    by_output_failed false risen = tt
 
-  kids_caused : (kids : List Kid) → IsCausedFor (kids_outcome kids cut) old new was is
+  kids_caused : (kids : List Kid) → IsCausedFor (kids_outcome kids output_failed) old new was is
   kids_caused [] = output_caused
   kids_caused (kid ∷ kids) = tt
 
@@ -53,9 +53,9 @@ module _ (old new : Session) (was is : SinkAt) (cut : Bool) (rose : cut ≡ true
   end_caused (Damaged damage) other risen caused = tt
   end_caused Memory other risen caused = tt
 
-  turns_caused : (once : Bool) (first : Option TurnEnd) (kids : List Kid) → RoseFirst first old new → IsCausedFor (turns_outcome once first kids cut) old new was is
+  turns_caused : (once : Bool) (first : Option TurnEnd) (kids : List Kid) → RoseFirst first old new → IsCausedFor (turns_outcome once first kids output_failed) old new was is
   turns_caused true None kids risen = kids_caused kids
-  turns_caused true (Some end) kids risen = end_caused end (kids_outcome kids cut) risen (kids_caused kids)
+  turns_caused true (Some end) kids risen = end_caused end (kids_outcome kids output_failed) risen (kids_caused kids)
   turns_caused false first kids risen = output_caused
 
   damage_caused : (end : TurnEnd) (other : Outcome) → IsCausedFor other old new was is → IsCausedFor (damage_outcome end other) old new was is
@@ -70,20 +70,20 @@ module _ (old new : Session) (was is : SinkAt) (cut : Bool) (rose : cut ≡ true
   last_caused (Some item) other caused = damage_caused item.end other caused
 
   outcome_caused : (stop : Stop) (once : Bool) (items : List Item) (kids : List Kid) → RoseFirst (first_end items) old new
-      → IsCausedFor (outcome_by stop once items kids cut) old new was is
+      → IsCausedFor (outcome_by stop once items kids output_failed) old new was is
   outcome_caused at_the_end once items kids risen =
-      last_caused (last_item items) (turns_outcome once (first_end items) kids cut) (turns_caused once (first_end items) kids risen)
+      last_caused (last_item items) (turns_outcome once (first_end items) kids output_failed) (turns_caused once (first_end items) kids risen)
   outcome_caused at_the_clock once items kids risen = tt
   outcome_caused at_a_line once items kids risen = tt
 
 -- what is said at the end is caused as what serving comes to
-said_caused : (tells : Bool) (outcome : Outcome) (final : Cause) (before behind : SinkAt) (old new : Session) (was is : SinkAt)
-    → SaysOutcome tells outcome before behind final → IsCausedFor outcome old new was is → IsCaused final old new was is
-said_caused tells (OfTurn of) final before behind old new was is says caused = subst (λ (other : Cause). IsCaused other old new was is) (sym says.0) caused
-said_caused tells (Own of) final before behind old new was is (inl says) caused = subst (λ (other : Cause). IsCaused other old new was is) (sym says.0) caused
-said_caused tells (Own of) final before behind old new was is (inr says) caused = subst (λ (other : Cause). IsCaused other old new was is) (sym says.1) tt
+said_caused : (tells : Bool) (outcome : Outcome) (final : Cause) (before after : SinkAt) (old new : Session) (was is : SinkAt)
+    → SaysOutcome tells outcome before after final → IsCausedFor outcome old new was is → IsCaused final old new was is
+said_caused tells (OfTurn of) final before after old new was is says caused = subst (λ (other : Cause). IsCaused other old new was is) (sym says.0) caused
+said_caused tells (Own of) final before after old new was is (inl says) caused = subst (λ (other : Cause). IsCaused other old new was is) (sym says.0) caused
+said_caused tells (Own of) final before after old new was is (inr says) caused = subst (λ (other : Cause). IsCaused other old new was is) (sym says.1) tt
 
--- the spool is that behind the last turn
+-- the spool is that after the last turn
 pub stops_spool : (stop : Stop) (tells once : Bool) (turns : ℕ) (items : List Item) (last now : ServeAt) → StopsBy stop tells once turns items last now → now.spool ≡ last.spool
 stops_spool at_the_end tells once turns items last now stops = ap (λ (at : ServeAt). at.spool) stops.1
 stops_spool at_the_clock tells once turns items last now stops =
@@ -98,7 +98,7 @@ ended_caused tells once turns first now out_first out_now err_first err_now err_
     (sym (stops_spool ended.stop tells.clock once turns ended.items ended.last now ended.stops))
     (said_caused tells.errors outcome final err_now err_end first.spool.session ended.last.spool.session out_first out_now says
     (subst (λ (other : Outcome). IsCausedFor other first.spool.session ended.last.spool.session out_first out_now) (sym ended.comes)
-    (outcome_caused first.spool.session ended.last.spool.session out_first out_now ended.cut ended.prints.rose ended.stop once ended.items ended.last.spool.watch.kids
+    (outcome_caused first.spool.session ended.last.spool.session out_first out_now ended.output_failed ended.prints.rose ended.stop once ended.items ended.last.spool.daemon.kids
     (rose_first tells once first ended.items ended.last ended.serves))))
 
 caused_for : (final cause : Cause) (old new : Session) (was is : SinkAt) → IsCaused final old new was is → final ≡ cause → IsCaused cause old new was is
@@ -116,7 +116,7 @@ risen_by final old new was is caused = (
 )
 
 -- where a further turn is to come, the last one found no damage
-pub no_damage : (once : Bool) (last : Option Item) (kids : List Kid) (other : Outcome) → ends_behind once last kids ≡ false → last_outcome last other ≡ other
+pub no_damage : (once : Bool) (last : Option Item) (kids : List Kid) (other : Outcome) → ends_after once last kids ≡ false → last_outcome last other ≡ other
 no_damage once None kids other further = refl
 no_damage once (Some item) kids other further = by_end item.end further where
   by_end : (end : TurnEnd) → is_last once end kids ≡ false → damage_outcome end other ≡ other

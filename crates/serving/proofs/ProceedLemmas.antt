@@ -7,17 +7,17 @@ use Rattle.host_calls.specs.Clock.{Answers, Readers, with_load, with_now}
 use Rattle.listing_text.specs.declared.cause.Cause.{Cause}
 use Rattle.listing_text.specs.declared.cause.Cause.TheVariants as cause
 use Rattle.listing_text.specs.declared.refusal.Refusal.TheVariants.{BadClock}
-use Rattle.command_answers.specs.Sinks.{IsSilent, SinkAt}
+use Rattle.command_rules.specs.Sinks.{IsSilent, SinkAt}
 use Rattle.daemon_turn.specs.Leaving.{DaemonAt, TurnsTo}
 use Rattle.daemon_turn.specs.declared.mode.Mode.{Mode}
 use Rattle.daemon_turn.specs.declared.report.TurnEnd.{TurnEnd}
-use Rattle.serving.specs.Items.{Item, ends_behind, first_end, is_last, last_item, mode_behind, rest_behind}
+use Rattle.serving.specs.Items.{Item, ends_after, first_end, is_last, last_item, mode_after, next_rest}
 use Rattle.cause_output.specs.Ends.{SaysEnd}
 use Rattle.cause_output.proofs.EndLemmas.{silent_same}
 use Rattle.cause_output.proofs.PutLemmas.{nothing_put}
 use Rattle.serving.specs.Lines.{SaysEnds, daemon_name, step_lines, turn_lines}
 use Rattle.serving.specs.Outcomes.{at_a_line, at_the_clock, at_the_end, damage_outcome, last_outcome, turns_outcome}
-use Rattle.serving.specs.Serves.{AnswersTurn, RestsBehind, ServeAt, Served, Serves, StopsAtClock, ServeTelling, next_turn, no_turn}
+use Rattle.serving.specs.Serves.{AnswersTurn, RestsAfter, ServeAt, Served, Serves, StopsAtClock, ServeTelling, next_turn, no_turn}
 use Rattle.serving.specs.Serving.{Prints, SaysOutcome, Serving}
 use Rattle.serving.specs.declared.outcome.Outcome.{Outcome}
 use Rattle.serving.specs.declared.outcome.Outcome.TheVariants.{Own}
@@ -28,7 +28,7 @@ use Rattle.serving.proofs.ServeLemmas.{but_last_more, first_more, last_more, lin
 use Rattle.serving.proofs.SinkLemmas.{ends_more, ends_silent}
 
 -- nothing was served yet
-pub nothing_served : (tells : ServeTelling) (once : Bool) (made : Progress) (at : ServeAt) (out err : SinkAt) → made ≡ record { first = None; rest = 0; cut = false }
+pub nothing_served : (tells : ServeTelling) (once : Bool) (made : Progress) (at : ServeAt) (out err : SinkAt) → made ≡ record { first = None; rest = 0; output_failed = false }
     → HasServed tells once [] made at at out out err err
 nothing_served tells once made at out err same =
     subst (λ (of : Progress). HasServed tells once [] of at at out out err err) (sym same) (record {
@@ -36,8 +36,8 @@ nothing_served tells once made at out err same =
       goes_on = refl;
       begun = refl;
       rest = tt;
-      prints = record { later = omega arith; rose = λ one. absurd (cc); puts = λ told. nothing_put out };
-      says = λ told. silent_same err err refl;
+      prints = record { later = omega arith; rose = λ one. absurd (cc); puts = λ known. nothing_put out };
+      says = λ known. silent_same err err refl;
     })
 
 module _ (tells : ServeTelling) (once : Bool) (items : List Item) (made : Progress) (first now : ServeAt) (out_first out_now err_first err_now : SinkAt)
@@ -49,7 +49,7 @@ module _ (tells : ServeTelling) (once : Bool) (items : List Item) (made : Progre
     items = items;
     last = now;
     stop = at_the_clock;
-    cut = made.cut;
+    output_failed = made.output_failed;
     few = omega arith;
     serves = has.serves;
     stops = (few, has.goes_on, stops);
@@ -58,7 +58,7 @@ module _ (tells : ServeTelling) (once : Bool) (items : List Item) (made : Progre
     comes = refl;
   }
 
-  module _ (item : Item) (rested after : ServeAt) (rests : RestsBehind tells.clock once (last_item items) now rested)
+  module _ (item : Item) (rested after : ServeAt) (rests : RestsAfter tells.clock once (last_item items) now rested)
       (served : Served tells once items item rested after) (out_new err_new : SinkAt) where
     serves_more : Serves tells once first (items ++ item ∷ []) after
     serves_more = next_turn items item now rested after has.serves has.goes_on rests served
@@ -67,87 +67,87 @@ module _ (tells : ServeTelling) (once : Bool) (items : List Item) (made : Progre
     few_more turns few = (let longer : length (items ++ item ∷ []) ≡ length items + 1 = one_longer items item in omega arith)
 
     -- a line found no memory
-    pub ended_at_line : (cut : Bool) (turns : ℕ) → length items < turns → PrintsMore tells.output (step_lines item.steps) made.cut cut out_now out_new false
+    pub ended_at_line : (output_failed : Bool) (turns : ℕ) → length items < turns → PrintsMore tells.output (step_lines item.steps) made.output_failed output_failed out_now out_new false
         → (tells.errors ≡ true → IsSilent err_now err_new) → HasEnded tells once turns first after out_first out_new err_first err_new (Own cause.Memory)
-    ended_at_line cut turns few prints silent = record {
+    ended_at_line output_failed turns few prints silent = record {
       items = items ++ item ∷ [];
       last = after;
       stop = at_a_line;
-      cut = cut;
+      output_failed = output_failed;
       few = few_more turns few;
       serves = serves_more;
       stops = refl;
-      prints = subst (λ (text : List ℕ). Prints tells.output at_a_line cut text out_first out_new) (sym (lines_more items item)) (prints (turn_lines items) out_first has.prints);
-      says = λ told. subst (λ (of : List Item). SaysEnds of err_first err_new) (sym (but_last_more items item))
-          (ends_silent items err_first err_now err_new (has.says told) (silent told));
+      prints = subst (λ (text : List ℕ). Prints tells.output at_a_line output_failed text out_first out_new) (sym (lines_more items item)) (prints (turn_lines items) out_first has.prints);
+      says = λ known. subst (λ (of : List Item). SaysEnds of err_first err_new) (sym (but_last_more items item))
+          (ends_silent items err_first err_now err_new (has.says known) (silent known));
       comes = refl;
     }
 
-    module _ (next : Progress) (begins : next.first ≡ first_or made.first item.end) (prints : PrintsMore tells.output (step_lines item.steps) made.cut next.cut out_now out_new true)
+    module _ (next : Progress) (begins : next.first ≡ first_or made.first item.end) (prints : PrintsMore tells.output (step_lines item.steps) made.output_failed next.output_failed out_now out_new true)
         (says : tells.errors ≡ true → SaysEnd daemon_name item.end err_now err_new) where
       begun_more : next.first ≡ first_end (items ++ item ∷ [])
       begun_more = begins ∙ ap (λ (end : Option TurnEnd). first_or end item.end) has.begun ∙ sym (first_more items item)
 
-      prints_more : Prints tells.output at_the_end next.cut (turn_lines (items ++ item ∷ [])) out_first out_new
-      prints_more = subst (λ (text : List ℕ). Prints tells.output at_the_end next.cut text out_first out_new) (sym (lines_more items item)) (prints (turn_lines items) out_first has.prints)
+      prints_more : Prints tells.output at_the_end next.output_failed (turn_lines (items ++ item ∷ [])) out_first out_new
+      prints_more = subst (λ (text : List ℕ). Prints tells.output at_the_end next.output_failed text out_first out_new) (sym (lines_more items item)) (prints (turn_lines items) out_first has.prints)
 
       says_more : tells.errors ≡ true → SaysEnds (items ++ item ∷ []) err_first err_new
-      says_more told = ends_more items item err_first err_now err_new (has.says told) (says told)
+      says_more known = ends_more items item err_first err_now err_new (has.says known) (says known)
 
       -- the turn was the last
-      ended_behind : (outcome : Outcome) (turns : ℕ) → length items < turns → is_last once item.end after.spool.watch.kids ≡ true
-          → outcome ≡ damage_outcome item.end (turns_outcome once next.first after.spool.watch.kids next.cut)
+      ended_after : (outcome : Outcome) (turns : ℕ) → length items < turns → is_last once item.end after.spool.daemon.kids ≡ true
+          → outcome ≡ damage_outcome item.end (turns_outcome once next.first after.spool.daemon.kids next.output_failed)
           → HasEnded tells once turns first after out_first out_new err_first err_new outcome
-      ended_behind outcome turns few last comes = record {
+      ended_after outcome turns few last comes = record {
         items = items ++ item ∷ [];
         last = after;
         stop = at_the_end;
-        cut = next.cut;
+        output_failed = next.output_failed;
         few = few_more turns few;
         serves = serves_more;
-        stops = (inr (subst (λ (of : Option Item). ends_behind once of after.spool.watch.kids ≡ true) (sym (last_more items item)) last), refl);
+        stops = (inr (subst (λ (of : Option Item). ends_after once of after.spool.daemon.kids ≡ true) (sym (last_more items item)) last), refl);
         prints = prints_more;
         says = says_more;
         comes =
             comes
-            ∙ ap (λ (end : Option TurnEnd). damage_outcome item.end (turns_outcome once end after.spool.watch.kids next.cut)) begun_more
-            ∙ ap (λ (of : Option Item). last_outcome of (turns_outcome once (first_end (items ++ item ∷ [])) after.spool.watch.kids next.cut)) (sym (last_more items item));
+            ∙ ap (λ (end : Option TurnEnd). damage_outcome item.end (turns_outcome once end after.spool.daemon.kids next.output_failed)) begun_more
+            ∙ ap (λ (of : Option Item). last_outcome of (turns_outcome once (first_end (items ++ item ∷ [])) after.spool.daemon.kids next.output_failed)) (sym (last_more items item));
       }
 
       -- a further one is to come
-      served_more : is_last once item.end after.spool.watch.kids ≡ false → next.rest ≡ rest_behind once item.end item.now
+      served_more : is_last once item.end after.spool.daemon.kids ≡ false → next.rest ≡ next_rest once item.end item.now
           → HasServed tells once (items ++ item ∷ []) next first after out_first out_new err_first err_new
       served_more further rest = record {
         serves = serves_more;
-        goes_on = subst (λ (of : Option Item). ends_behind once of after.spool.watch.kids ≡ false) (sym (last_more items item)) further;
+        goes_on = subst (λ (of : Option Item). ends_after once of after.spool.daemon.kids ≡ false) (sym (last_more items item)) further;
         begun = begun_more;
         rest = subst (λ (of : Option Item). IsRest once of next.rest) (sym (last_more items item)) rest;
         prints = prints_more;
         says = says_more;
       }
 
-      by_last : (last : Bool) (result : Option Outcome) → is_last once item.end after.spool.watch.kids ≡ last → next.rest ≡ rest_behind once item.end item.now
-          → result ≡ (if last then Some (damage_outcome item.end (turns_outcome once next.first after.spool.watch.kids next.cut)) else None)
+      by_last : (last : Bool) (result : Option Outcome) → is_last once item.end after.spool.daemon.kids ≡ last → next.rest ≡ next_rest once item.end item.now
+          → result ≡ (if last then Some (damage_outcome item.end (turns_outcome once next.first after.spool.daemon.kids next.output_failed)) else None)
           → Proceeds tells once items next first after out_first out_new err_first err_new result
       by_last true None is rest comes = absurd (cc)
       by_last true (Some outcome) is rest comes =
-          λ turns few. (let same : outcome ≡ damage_outcome item.end (turns_outcome once next.first after.spool.watch.kids next.cut) = cc in ended_behind outcome turns few is same)
+          λ turns few. (let same : outcome ≡ damage_outcome item.end (turns_outcome once next.first after.spool.daemon.kids next.output_failed) = cc in ended_after outcome turns few is same)
       by_last false None is rest comes = (item, served_more is rest)
       by_last false (Some outcome) is rest comes = absurd (cc)
 
-      pub proceeds : (result : Option Outcome) → next.rest ≡ rest_behind once item.end item.now
-          → result ≡ outcome_if once item.end next.first after.spool.watch.kids next.cut
+      pub proceeds : (result : Option Outcome) → next.rest ≡ next_rest once item.end item.now
+          → result ≡ outcome_if once item.end next.first after.spool.daemon.kids next.output_failed
           → Proceeds tells once items next first after out_first out_new err_first err_new result
-      proceeds result rest comes = by_last (is_last once item.end after.spool.watch.kids) result refl rest comes
+      proceeds result rest comes = by_last (is_last once item.end after.spool.daemon.kids) result refl rest comes
 
   -- all turns were made
-  pub ended_made : (turns : ℕ) (outcome : Outcome) → length items ≡ turns → outcome ≡ turns_outcome once made.first now.spool.watch.kids made.cut
+  pub ended_made : (turns : ℕ) (outcome : Outcome) → length items ≡ turns → outcome ≡ turns_outcome once made.first now.spool.daemon.kids made.output_failed
       → HasEnded tells once turns first now out_first out_now err_first err_now outcome
   ended_made turns outcome all comes = record {
     items = items;
     last = now;
     stop = at_the_end;
-    cut = made.cut;
+    output_failed = made.output_failed;
     few = omega arith;
     serves = has.serves;
     stops = (inl all, refl);
@@ -155,8 +155,8 @@ module _ (tells : ServeTelling) (once : Bool) (items : List Item) (made : Progre
     says = has.says;
     comes =
         comes
-        ∙ ap (λ (end : Option TurnEnd). turns_outcome once end now.spool.watch.kids made.cut) has.begun
-        ∙ sym (no_damage once (last_item items) now.spool.watch.kids (turns_outcome once (first_end items) now.spool.watch.kids made.cut) has.goes_on);
+        ∙ ap (λ (end : Option TurnEnd). turns_outcome once end now.spool.daemon.kids made.output_failed) has.begun
+        ∙ sym (no_damage once (last_item items) now.spool.daemon.kids (turns_outcome once (first_end items) now.spool.daemon.kids made.output_failed) has.goes_on);
   }
 
 -- serving, with its last line
@@ -167,7 +167,7 @@ serving_of tells once turns first now out_first out_now err_first err_now err_en
   items = ended.items;
   last = ended.last;
   stop = ended.stop;
-  cut = ended.cut;
+  output_failed = ended.output_failed;
   few = ended.few;
   serves = ended.serves;
   stops = ended.stops;
@@ -183,7 +183,7 @@ pub answers_turn : (tells : Bool) (item : Item) (spool_old spool_new : DaemonAt)
     → (item.load ≡ None → Rose next.load_faults has.load_faults)
     → AnswersTurn tells item (record { spool = spool_old; answers = was; readers = had }) (record { spool = spool_new; answers = is; readers = has })
 answers_turn tells item spool_old spool_new was between is had next has now same load made later unread = record {
-  told = λ told. load told ∙ ap (λ (answers : Answers). with_load item.load answers) (now told);
+  known = λ known. load known ∙ ap (λ (answers : Answers). with_load item.load answers) (now known);
   made_as = made ∙ ap (λ (readers : Readers). readers.made_as) same;
   later = subst (λ (readers : Readers). readers.load_faults ≤ has.load_faults) same later;
   unread = λ none. subst (λ (readers : Readers). Rose readers.load_faults has.load_faults) same (unread none);
@@ -195,7 +195,7 @@ pub served_by : (tells : ServeTelling) (once : Bool) (items : List Item) (first 
 served_by tells once items first item old new mode second begun of_mode same range read turn = record {
   now = range;
   read = read;
-  turn = subst (λ (now : ℤ). TurnsTo tells.files tells.alone (record { now = now; load = item.load; mode = mode_behind once items }) old.spool new.spool item.end item.steps) same
+  turn = subst (λ (now : ℤ). TurnsTo tells.files tells.alone (record { now = now; load = item.load; mode = mode_after once items }) old.spool new.spool item.end item.steps) same
       (subst (λ (is : Mode). TurnsTo tells.files tells.alone (record { now = second; load = item.load; mode = is }) old.spool new.spool item.end item.steps)
       (of_mode ∙ mode_same once items first begun) turn);
 }

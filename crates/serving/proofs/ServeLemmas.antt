@@ -1,19 +1,19 @@
--- Turns one behind another.
+-- Turns one after another.
 use Rattle.std.proofs.Common.{◌≡◌, ◌+◌, ◌≤◌, ℕ, Bool, true, false, List, [], ◌∷◌, ◌++◌, length, refl, sym, ap, subst, ◌∙◌, append-nil, append_assoc, arith}
 use Rattle.std.specs.Prelude.{Option, Some, None}
 use Rattle.host_calls.specs.Causes.{Rose}
 use Rattle.host_calls.specs.Clock.{Answers, Readers, with_rest}
 use Rattle.host_calls.specs.Session.{KeepsCounts, Session}
 use Rattle.host_calls.specs.World.{World}
-use Rattle.daemon_turn.specs.Daemons.{Watch}
+use Rattle.daemon_turn.specs.Daemons.{DaemonState}
 use Rattle.daemon_turn.specs.Kids.{KeepsChildren}
 use Rattle.host_calls.specs.declared.child.Child.{Child}
 use Rattle.daemon_turn.specs.Leaving.{DaemonAt}
 use Rattle.daemon_turn.specs.declared.report.TurnEnd.{TurnEnd}
 use Rattle.daemon_turn.specs.declared.report.TurnEnd.TheVariants.{Done, Busy, FileFault, Damaged, Memory}
-use Rattle.serving.specs.Items.{Item, but_last, first_end, last_item, mode_behind}
+use Rattle.serving.specs.Items.{Item, but_last, first_end, last_item, mode_after}
 use Rattle.serving.specs.Lines.{step_lines, turn_lines}
-use Rattle.serving.specs.Serves.{RestsBehind, ServeAt, Served, Serves, ServeTelling, no_turn, next_turn, serve_at}
+use Rattle.serving.specs.Serves.{RestsAfter, ServeAt, Served, Serves, ServeTelling, no_turn, next_turn, serve_at}
 use Rattle.serving.specs.inside.Progressing.{IsRest, RestsBefore, first_or, mode_by}
 
 -- The list of turns with one more.
@@ -44,33 +44,33 @@ one_longer (one ∷ items) item = (let longer : length (items ++ item ∷ []) �
 
 -- The mode and the rest.
 
-pub mode_same : (once : Bool) (items : List Item) (first : Option TurnEnd) → first ≡ first_end items → mode_by once first ≡ mode_behind once items
+pub mode_same : (once : Bool) (items : List Item) (first : Option TurnEnd) → first ≡ first_end items → mode_by once first ≡ mode_after once items
 mode_same once items first same = ap (λ (end : Option TurnEnd). mode_by once end) same ∙ by_items once items where
-  by_items : (flag : Bool) (of : List Item) → mode_by flag (first_end of) ≡ mode_behind flag of
+  by_items : (flag : Bool) (of : List Item) → mode_by flag (first_end of) ≡ mode_after flag of
   by_items false of = refl
   by_items true [] = refl
   by_items true (item ∷ of) = refl
 
-module _ (tells once : Bool) (session : Session) (world : World) (watch : Watch) (was is : Answers) (had has : Readers) (seconds : ℕ) where
+module _ (tells once : Bool) (session : Session) (world : World) (daemon : DaemonState) (was is : Answers) (had has : Readers) (seconds : ℕ) where
   rests_last : (items : List Item) → IsRest once (last_item items) seconds → RestsBefore tells (first_end items) seconds was is had has
-      → RestsBehind tells once (last_item items) (serve_at session world watch was had) (serve_at session world watch is has)
+      → RestsAfter tells once (last_item items) (serve_at session world daemon was had) (serve_at session world daemon is has)
   rests_last [] rest rests =
-      ap (λ (answers : Answers). serve_at session world watch answers has) rests.0 ∙ ap (λ (readers : Readers). serve_at session world watch was readers) rests.1
+      ap (λ (answers : Answers). serve_at session world daemon answers has) rests.0 ∙ ap (λ (readers : Readers). serve_at session world daemon was readers) rests.1
   rests_last (item ∷ []) rest rests = record {
-    told = λ tell. subst (λ (some : ℕ). is ≡ with_rest some was) rest (rests.0 tell);
+    known = λ tell. subst (λ (some : ℕ). is ≡ with_rest some was) rest (rests.0 tell);
     readers = rests.1;
     spool = refl;
   }
   rests_last (item ∷ other ∷ items) rest rests = rests_last (other ∷ items) rest rests
 
-  pub rests_behind : (items : List Item) (first : Option TurnEnd) → first ≡ first_end items → IsRest once (last_item items) seconds
+  pub rests_after : (items : List Item) (first : Option TurnEnd) → first ≡ first_end items → IsRest once (last_item items) seconds
       → RestsBefore tells first seconds was is had has
-      → RestsBehind tells once (last_item items) (serve_at session world watch was had) (serve_at session world watch is has)
-  rests_behind items first same rest rests =
+      → RestsAfter tells once (last_item items) (serve_at session world daemon was had) (serve_at session world daemon is has)
+  rests_after items first same rest rests =
       rests_last items rest (subst (λ (end : Option TurnEnd). RestsBefore tells end seconds was is had has) same rests)
 
 -- the spool stays while it rests
-pub rested_spool : (tells once : Bool) (last : Option Item) (old new : ServeAt) → RestsBehind tells once last old new → new.spool ≡ old.spool
+pub rested_spool : (tells once : Bool) (last : Option Item) (old new : ServeAt) → RestsAfter tells once last old new → new.spool ≡ old.spool
 rested_spool tells once None old new same = ap (λ (at : ServeAt). at.spool) same
 rested_spool tells once (Some item) old new rests = rests.spool
 
@@ -113,15 +113,15 @@ RoseFirst (Some (Damaged damage)) old new = Unit {0}
 RoseFirst (Some Memory) old new = Unit {0}
 
 rose_wider : (end : Option TurnEnd) (first old middle new : Session) → KeepsCounts first old → KeepsCounts middle new → RoseFirst end old middle → RoseFirst end first new
-rose_wider None first old middle new before behind rose = tt
-rose_wider (Some Done) first old middle new before behind rose = tt
-rose_wider (Some Busy) first old middle new before behind rose =
-    (let earlier : first.taken ≤ old.taken = before.taken in let later : middle.taken ≤ new.taken = behind.taken in let risen : Rose old.taken middle.taken = rose in omega arith)
-rose_wider (Some FileFault) first old middle new before behind rose =
-    (let earlier : first.file_faults ≤ old.file_faults = before.file_faults in let later : middle.file_faults ≤ new.file_faults = behind.file_faults in
+rose_wider None first old middle new before beyond rose = tt
+rose_wider (Some Done) first old middle new before beyond rose = tt
+rose_wider (Some Busy) first old middle new before beyond rose =
+    (let earlier : first.taken ≤ old.taken = before.taken in let later : middle.taken ≤ new.taken = beyond.taken in let risen : Rose old.taken middle.taken = rose in omega arith)
+rose_wider (Some FileFault) first old middle new before beyond rose =
+    (let earlier : first.file_faults ≤ old.file_faults = before.file_faults in let later : middle.file_faults ≤ new.file_faults = beyond.file_faults in
     let risen : Rose old.file_faults middle.file_faults = rose in omega arith)
-rose_wider (Some (Damaged damage)) first old middle new before behind rose = tt
-rose_wider (Some Memory) first old middle new before behind rose = tt
+rose_wider (Some (Damaged damage)) first old middle new before beyond rose = tt
+rose_wider (Some Memory) first old middle new before beyond rose = tt
 
 module _ (tells : ServeTelling) (once : Bool) (first : ServeAt) where
   rose_served : (before : List Item) (item : Item) (old new : ServeAt) → Served tells once before item old new → RoseFirst (Some item.end) old.spool.session new.spool.session
@@ -135,7 +135,7 @@ module _ (tells : ServeTelling) (once : Bool) (first : ServeAt) where
     by_end Memory busy fault = tt
 
   rose_more : (before : List Item) (item : Item) (last rested after : ServeAt) → RoseFirst (first_end before) first.spool.session last.spool.session
-      → KeepsCounts first.spool.session last.spool.session → RestsBehind tells.clock once (last_item before) last rested → Served tells once before item rested after
+      → KeepsCounts first.spool.session last.spool.session → RestsAfter tells.clock once (last_item before) last rested → Served tells once before item rested after
       → RoseFirst (first_end (before ++ item ∷ [])) first.spool.session after.spool.session
   rose_more [] item last rested after rose counts rests served =
       rose_wider (Some item.end) first.spool.session rested.spool.session after.spool.session after.spool.session

@@ -1,13 +1,13 @@
--- What is printed and said, one turn behind the other.
+-- What is printed and said, one turn after the other.
 use Rattle.std.proofs.Common.{◌≡◌, ◌≤◌, ℕ, Bool, true, false, List, [], ◌∷◌, ◌++◌, take, refl, sym, ap, subst, ◌∙◌, inl, inr, arith}
 use Rattle.std.specs.Prelude.{Err, Ok}
 use Rattle.host_calls.specs.Causes.{Rose}
 use Rattle.host_calls.specs.declared.fault.SinkFault.TheVariants.{Failed, Memory as NoMemory}
-use Rattle.command_answers.specs.Sinks.{IsPutInPart, IsPutOrCut, IsSilent, SinkAt}
+use Rattle.command_rules.specs.Sinks.{IsPutInPart, IsPutOrCut, IsSilent, SinkAt}
 use Rattle.cause_output.specs.Ends.{SaysEnd, SaysEndOr}
 use Rattle.cause_output.specs.Putting.{PutsLines}
 use Rattle.cause_output.proofs.EndLemmas.{silent_same}
-use Rattle.cause_output.proofs.PutLemmas.{cut_behind, cut_longer, part_behind, part_of_cut, part_of_put, put_behind}
+use Rattle.cause_output.proofs.PutLemmas.{cut_after, cut_longer, part_after, part_of_cut, part_of_put, put_after}
 use Rattle.daemon_turn.specs.declared.report.TurnEnd.{TurnEnd}
 use Rattle.daemon_turn.specs.declared.report.TurnEnd.TheVariants.{Done, Busy, FileFault, Damaged, Memory}
 use Rattle.serving.specs.Items.{Item}
@@ -16,64 +16,64 @@ use Rattle.serving.specs.Outcomes.{at_a_line, at_the_end}
 use Rattle.serving.specs.Serving.{Prints, PutsUnless}
 use Rattle.serving.specs.inside.Progressing.{PrintsMore}
 
-pub part_of : (cut : Bool) (text : List ℕ) (old new : SinkAt) → PutsUnless cut text old new → IsPutInPart text old new
+pub part_of : (output_failed : Bool) (text : List ℕ) (old new : SinkAt) → PutsUnless output_failed text old new → IsPutInPart text old new
 part_of false text old new put = part_of_put text old new put
-part_of true text old new cut = part_of_cut text old new cut
+part_of true text old new output_failed = part_of_cut text old new output_failed
 
--- What is printed behind what was printed.
+-- What is printed after what was printed.
 
-pub more_uncut : (tells : Bool) (text : List ℕ) (cut now : Bool) (at : SinkAt) → cut ≡ true → now ≡ true → PrintsMore tells text cut now at at true
-more_uncut tells text cut now at is same before start prints =
+pub more_uncut : (tells : Bool) (text : List ℕ) (output_failed now : Bool) (at : SinkAt) → output_failed ≡ true → now ≡ true → PrintsMore tells text output_failed now at at true
+more_uncut tells text output_failed now at is same before start prints =
     subst (λ (flag : Bool). Prints tells at_the_end flag (before ++ text) start at) (sym same) (record {
       later = prints.later;
       rose = λ one. prints.rose is;
-      puts = λ told. cut_longer before text start at (subst (λ (flag : Bool). PutsUnless flag before start at) is (prints.puts told));
+      puts = λ known. cut_longer before text start at (subst (λ (flag : Bool). PutsUnless flag before start at) is (prints.puts known));
     })
 
-pub more_put : (tells : Bool) (text : List ℕ) (cut now : Bool) (old new : SinkAt) (done : Unit {0}) → cut ≡ false → now ≡ false → PutsLines tells text old new (Ok done)
-    → PrintsMore tells text cut now old new true
-more_put tells text cut now old new done is same puts before start prints =
+pub more_put : (tells : Bool) (text : List ℕ) (output_failed now : Bool) (old new : SinkAt) (done : Unit {0}) → output_failed ≡ false → now ≡ false → PutsLines tells text old new (Ok done)
+    → PrintsMore tells text output_failed now old new true
+more_put tells text output_failed now old new done is same puts before start prints =
     subst (λ (flag : Bool). Prints tells at_the_end flag (before ++ text) start new) (sym same) (record {
       later = omega (arith, prints.later, puts.later);
       rose = λ one. absurd (cc);
-      puts = λ told. put_behind before text start old new (subst (λ (flag : Bool). PutsUnless flag before start old) is (prints.puts told)) (puts.puts told);
+      puts = λ known. put_after before text start old new (subst (λ (flag : Bool). PutsUnless flag before start old) is (prints.puts known)) (puts.puts known);
     })
 
-pub more_cut : (tells : Bool) (text : List ℕ) (cut now : Bool) (old new : SinkAt) → cut ≡ false → now ≡ true → PutsLines tells text old new (Err Failed)
-    → PrintsMore tells text cut now old new true
-more_cut tells text cut now old new is same puts before start prints =
+pub more_cut : (tells : Bool) (text : List ℕ) (output_failed now : Bool) (old new : SinkAt) → output_failed ≡ false → now ≡ true → PutsLines tells text old new (Err Failed)
+    → PrintsMore tells text output_failed now old new true
+more_cut tells text output_failed now old new is same puts before start prints =
     subst (λ (flag : Bool). Prints tells at_the_end flag (before ++ text) start new) (sym same) (record {
       later = omega (arith, prints.later, puts.later);
       rose = λ one. (let earlier : start.faults ≤ old.faults = prints.later in let rose : Rose old.faults new.faults = puts.failed refl in omega arith);
-      puts = λ told. cut_behind before text start old new (subst (λ (flag : Bool). PutsUnless flag before start old) is (prints.puts told)) (puts.puts told);
+      puts = λ known. cut_after before text start old new (subst (λ (flag : Bool). PutsUnless flag before start old) is (prints.puts known)) (puts.puts known);
     })
 
-pub more_part : (tells : Bool) (text : List ℕ) (cut now : Bool) (old new : SinkAt) → cut ≡ false → now ≡ false → PutsLines tells text old new (Err NoMemory)
-    → PrintsMore tells text cut now old new false
-more_part tells text cut now old new is same puts before start prints =
+pub more_part : (tells : Bool) (text : List ℕ) (output_failed now : Bool) (old new : SinkAt) → output_failed ≡ false → now ≡ false → PutsLines tells text old new (Err NoMemory)
+    → PrintsMore tells text output_failed now old new false
+more_part tells text output_failed now old new is same puts before start prints =
     subst (λ (flag : Bool). Prints tells at_a_line flag (before ++ text) start new) (sym same) (record {
       later = omega (arith, prints.later, puts.later);
       rose = λ one. absurd (cc);
-      puts = λ told. part_behind before text start old new (subst (λ (flag : Bool). PutsUnless flag before start old) is (prints.puts told)) (puts.puts told);
+      puts = λ known. part_after before text start old new (subst (λ (flag : Bool). PutsUnless flag before start old) is (prints.puts known)) (puts.puts known);
     })
 
--- where a later line found no memory, a front of it was printed all the same
-pub more_for : (tells : Bool) (text : List ℕ) (cut now found : Bool) (old new : SinkAt) → PrintsMore tells text cut now old new true → PrintsMore tells text cut now old new found
-more_for tells text cut now true old new more before start prints = more before start prints
-more_for tells text cut now false old new more before start prints =
+-- where a later line found no memory, a prefix of it was printed all the same
+pub more_for : (tells : Bool) (text : List ℕ) (output_failed now found : Bool) (old new : SinkAt) → PrintsMore tells text output_failed now old new true → PrintsMore tells text output_failed now old new found
+more_for tells text output_failed now true old new more before start prints = more before start prints
+more_for tells text output_failed now false old new more before start prints =
     let whole : Prints tells at_the_end now (before ++ text) start new = more before start prints in
-    record { later = whole.later; rose = whole.rose; puts = λ told. part_of now (before ++ text) start new (whole.puts told) }
+    record { later = whole.later; rose = whole.rose; puts = λ known. part_of now (before ++ text) start new (whole.puts known) }
 
 -- What is said.
 
 -- where nothing was said
 pub unsaid : (tells : Bool) (end : TurnEnd) (at : SinkAt) → SaysEndOr daemon_name tells end at at false
-unsaid tells end at told = silent_same at at refl
+unsaid tells end at known = silent_same at at refl
 
 silent_then : (old mid new : SinkAt) → IsSilent old mid → IsSilent mid new → IsSilent old new
 silent_then old mid new first second = record { content = second.content ∙ first.content; later = omega (arith, first.later, second.later) }
 
--- nothing more was said behind the ends
+-- nothing more was said after the ends
 pub ends_silent : (items : List Item) (old mid new : SinkAt) → SaysEnds items old mid → IsSilent mid new → SaysEnds items old new
 ends_silent [] old mid new says silent = silent_then old mid new says silent
 ends_silent (item ∷ items) old mid new (between, first, others) silent = (between, first, ends_silent items between mid new others silent)
@@ -83,11 +83,11 @@ end_first : (item : Item) (old mid new : SinkAt) → IsSilent old mid → SaysEn
 end_first item old mid new silent end = (new, silent_end item.end old mid new silent end, silent_same new new refl) where
   put_later : (text : List ℕ) (was is to : SinkAt) → IsSilent was is → IsPutOrCut text is to → IsPutOrCut text was to
   put_later text was is to quiet (inl put) = inl (record { content = put.content ∙ ap (λ (before : List ℕ). before ++ text) quiet.content; later = omega (arith, quiet.later, put.later) })
-  put_later text was is to quiet (inr cut) = inr (record {
-    count = cut.count;
-    content = cut.content ∙ ap (λ (before : List ℕ). before ++ take cut.count text) quiet.content;
-    later = omega (arith, quiet.later, cut.later);
-    rose = let before : was.faults ≤ is.faults = quiet.later in let rose : Rose is.faults to.faults = cut.rose in omega arith;
+  put_later text was is to quiet (inr output_failed) = inr (record {
+    count = output_failed.count;
+    content = output_failed.content ∙ ap (λ (before : List ℕ). before ++ take output_failed.count text) quiet.content;
+    later = omega (arith, quiet.later, output_failed.later);
+    rose = let before : was.faults ≤ is.faults = quiet.later in let rose : Rose is.faults to.faults = output_failed.rose in omega arith;
   })
 
   silent_end : (of : TurnEnd) (was is to : SinkAt) → IsSilent was is → SaysEnd daemon_name of is to → SaysEnd daemon_name of was to

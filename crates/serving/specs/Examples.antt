@@ -5,15 +5,15 @@ use Rattle.host_calls.specs.Session.{Session}
 use Rattle.host_calls.specs.World.{World}
 use Rattle.listing_text.specs.declared.cause.Cause.{Cause}
 use Rattle.listing_text.specs.declared.cause.Cause.TheVariants as cause
-use Rattle.command_answers.specs.Sinks.{SinkAt}
+use Rattle.command_rules.specs.Sinks.{SinkAt}
 use Rattle.daemon_turn.specs.declared.kid.Kid.{Kid}
-use Rattle.daemon_turn.specs.Daemons.{Watch}
+use Rattle.daemon_turn.specs.Daemons.{DaemonState}
 use Rattle.serving.specs.Serves.{ServeAt, ServeTelling, serve_at, serve_telling}
 use Rattle.serving.specs.Serving.{Serving}
 
 -- all but the files is told
-abbrev pub told : ServeTelling
-told = serve_telling false false true true true
+abbrev pub known : ServeTelling
+known = serve_telling false false true true true
 
 -- the child of the first job
 abbrev pub first_child : Child
@@ -28,7 +28,7 @@ host_with children taken =
     record { inside = false; children = children; made_as = []; file_faults = 0; start_faults = 0; taken = taken }
 
 -- a daemon with these kids
-abbrev pub daemon_with : List Kid → Watch
+abbrev pub daemon_with : List Kid → DaemonState
 daemon_with kids = record { kids = kids; limit = 150; interval = 60 }
 
 -- what the readings answered, for how many seconds a rest was asked, and how often no load could be read
@@ -54,7 +54,7 @@ minute_later = pos 1735689660
 -- serving began with a daemon without kids, and ended so: what is served with then, what was printed and said, and the cause
 abbrev pub ServesTwice : World → Bool → ServeAt → List ℕ → List ℕ → Cause → Type 0
 ServesTwice world once end printed said of =
-    Serving told once 2 (served_with world [] 0 [] [] [] 0 0) end (sink []) (sink printed) (sink []) (sink said) of
+    Serving known once 2 (served_with world [] 0 [] [] [] 0 0) end (sink []) (sink printed) (sink []) (sink said) of
 
 -- Two turns each: at a full minute a job is handed over whose child exits with 3, which is told at the next full minute;
 -- only until no kid is left, its child exits with 0 within a second; its child runs on; the spool is taken at first.

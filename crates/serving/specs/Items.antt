@@ -6,7 +6,7 @@ use Rattle.daemon_turn.specs.declared.mode.Mode.TheVariants.{Full, EndsOnly}
 use Rattle.daemon_turn.specs.declared.report.TurnEnd.{TurnEnd}
 use Rattle.daemon_turn.specs.declared.report.TurnEnd.TheVariants.{Done, Busy, FileFault, Damaged, Memory}
 use Rattle.daemon_turn.specs.declared.step.TurnStep.{TurnStep}
-use Rattle.serving.specs.declared.looping.TheConstants.{LONGEST_REST, SHORT_REST}
+use Rattle.serving.specs.declared.serve_loop.TheConstants.{LONGEST_REST, SHORT_REST}
 
 -- A turn of serving: the clock's answer, the load, if one was read, and what the turn reported.
 pub record Item : Type 0 where
@@ -32,13 +32,13 @@ but_last [] = []
 but_last (item ∷ []) = []
 but_last (item ∷ other ∷ items) = item ∷ but_last (other ∷ items)
 
--- The mode of the turn behind these: where it is served only until no kid is left, the first turn alone starts jobs.
-abbrev pub mode_behind : Bool → List Item → Mode
-mode_behind false items = Full
-mode_behind true [] = Full
-mode_behind true (item ∷ items) = EndsOnly
+-- The mode of the turn after these: where it is served only until no kid is left, the first turn alone starts jobs.
+abbrev pub mode_after : Bool → List Item → Mode
+mode_after false items = Full
+mode_after true [] = Full
+mode_after true (item ∷ items) = EndsOnly
 
--- the seconds of the rest behind a turn: up to the next full minute where all was done, else a short one
+-- the seconds of the rest after a turn: up to the next full minute where all was done, else a short one
 abbrev pub rest_after : TurnEnd → ℤ → ℕ
 rest_after Done now = LONGEST_REST - unsigned_abs now % LONGEST_REST
 rest_after Busy now = SHORT_REST
@@ -47,9 +47,9 @@ rest_after (Damaged damage) now = SHORT_REST
 rest_after Memory now = SHORT_REST
 
 -- and a short one where it is served only until no kid is left
-abbrev pub rest_behind : Bool → TurnEnd → ℤ → ℕ
-rest_behind true end now = SHORT_REST
-rest_behind false end now = rest_after end now
+abbrev pub next_rest : Bool → TurnEnd → ℤ → ℕ
+next_rest true end now = SHORT_REST
+next_rest false end now = rest_after end now
 
 -- the turn found a damage
 abbrev pub is_damaged : TurnEnd → Bool
@@ -64,12 +64,12 @@ abbrev pub is_alone : List Kid → Bool
 is_alone [] = true
 is_alone (kid ∷ kids) = false
 
--- No turn is made behind one that found a damage, nor, where it is served only until no kid is left, behind one that
+-- No turn is made after one that found a damage, nor, where it is served only until no kid is left, after one that
 -- left none.
 abbrev pub is_last : Bool → TurnEnd → List Kid → Bool
 is_last once end kids = is_damaged end || (once && is_alone kids)
 
--- and so behind these turns
-abbrev pub ends_behind : Bool → Option Item → List Kid → Bool
-ends_behind once None kids = false
-ends_behind once (Some item) kids = is_last once item.end kids
+-- and so after these turns
+abbrev pub ends_after : Bool → Option Item → List Kid → Bool
+ends_after once None kids = false
+ends_after once (Some item) kids = is_last once item.end kids

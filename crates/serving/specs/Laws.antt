@@ -7,7 +7,7 @@ use Rattle.host_calls.specs.Clock.{Answers, with_now}
 use Rattle.host_calls.specs.World.{reading}
 use Rattle.listing_text.specs.declared.cause.Cause.{Cause}
 use Rattle.listing_text.specs.declared.cause.Cause.TheVariants.{Done, Refused, FileFault, InputFault, OutputFault, Busy, Memory, Damaged, StillRunning}
-use Rattle.command_answers.specs.Sinks.{SinkAt}
+use Rattle.command_rules.specs.Sinks.{SinkAt}
 use Rattle.daemon_turn.specs.Laws.{IsGood}
 use Rattle.serving.specs.Serves.{ServeAt, ServeTelling}
 use Rattle.serving.specs.Serving.{Serving}

@@ -1,6 +1,6 @@
 -- What serving prints and says, turn by turn (own).
 use Rattle.std.specs.Prelude.{◌++◌, [], ◌∷◌, ℕ, List, codes}
-use Rattle.command_answers.specs.Sinks.{IsSilent, SinkAt}
+use Rattle.command_rules.specs.Sinks.{IsSilent, SinkAt}
 use Rattle.cause_output.specs.Ends.{SaysEnd}
 use Rattle.cause_output.specs.Putting.{lines_of}
 use Rattle.cause_output.specs.Steps.{step_line}

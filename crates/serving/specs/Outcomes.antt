@@ -6,7 +6,7 @@ use Rattle.listing_text.specs.declared.refusal.Refusal.TheVariants.{BadClock}
 use Rattle.daemon_turn.specs.declared.kid.Kid.{Kid}
 use Rattle.daemon_turn.specs.declared.report.TurnEnd.{TurnEnd}
 use Rattle.daemon_turn.specs.declared.report.TurnEnd.TheVariants.{Done, Busy, FileFault, Damaged, Memory}
-use Rattle.serving.specs.Items.{Item, ends_behind, first_end, last_item}
+use Rattle.serving.specs.Items.{Item, ends_after, first_end, last_item}
 use Rattle.serving.specs.Serves.{ServeAt, StopsAtClock}
 use Rattle.serving.specs.declared.outcome.Outcome.{Outcome}
 use Rattle.serving.specs.declared.outcome.Outcome.TheVariants.{OfTurn, Own}
@@ -19,12 +19,12 @@ pub data Stop : Type 0 where
 
 -- the output failed, or all was done
 abbrev pub output_outcome : Bool → Outcome
-output_outcome cut = Own (if cut then cause.OutputFault else cause.Done)
+output_outcome output_failed = Own (if output_failed then cause.OutputFault else cause.Done)
 
 -- kids that are left come before that
 abbrev pub kids_outcome : List Kid → Bool → Outcome
-kids_outcome [] cut = output_outcome cut
-kids_outcome (kid ∷ kids) cut = Own cause.StillRunning
+kids_outcome [] output_failed = output_outcome output_failed
+kids_outcome (kid ∷ kids) output_failed = Own cause.StillRunning
 
 -- what a turn ended with, unless it was done
 abbrev pub end_outcome : TurnEnd → Outcome → Outcome
@@ -36,13 +36,13 @@ end_outcome Memory other = OfTurn cause.Memory
 
 -- the end of the first turn comes before kids that are left
 abbrev pub first_outcome : Option TurnEnd → List Kid → Bool → Outcome
-first_outcome None kids cut = kids_outcome kids cut
-first_outcome (Some end) kids cut = end_outcome end (kids_outcome kids cut)
+first_outcome None kids output_failed = kids_outcome kids output_failed
+first_outcome (Some end) kids output_failed = end_outcome end (kids_outcome kids output_failed)
 
 -- where all turns are made, by whether it is served only until no kid is left
 abbrev pub turns_outcome : Bool → Option TurnEnd → List Kid → Bool → Outcome
-turns_outcome true first kids cut = first_outcome first kids cut
-turns_outcome false first kids cut = output_outcome cut
+turns_outcome true first kids output_failed = first_outcome first kids output_failed
+turns_outcome false first kids output_failed = output_outcome output_failed
 
 -- a damage that the last turn found comes before all else
 abbrev pub damage_outcome : TurnEnd → Outcome → Outcome
@@ -58,17 +58,18 @@ last_outcome (Some item) other = damage_outcome item.end other
 
 -- What serving comes to: by its turns, the kids that are left, and whether a put on the output failed.
 abbrev pub outcome_by : Stop → Bool → List Item → List Kid → Bool → Outcome
-outcome_by at_the_end once items kids cut = last_outcome (last_item items) (turns_outcome once (first_end items) kids cut)
-outcome_by at_the_clock once items kids cut = Own (cause.Refused BadClock)
-outcome_by at_a_line once items kids cut = Own cause.Memory
+outcome_by at_the_end once items kids output_failed =
+    last_outcome (last_item items) (turns_outcome once (first_end items) kids output_failed)
+outcome_by at_the_clock once items kids output_failed = Own (cause.Refused BadClock)
+outcome_by at_a_line once items kids output_failed = Own cause.Memory
 
 -- When no further turn is made: all are, or one ended it; the clock went out of range before all were; or a line found no
 -- memory.
 abbrev pub StopsBy : Stop → Bool → Bool → ℕ → List Item → ServeAt → ServeAt → Type 0
 StopsBy at_the_end tells once turns items last new =
-    ((length items ≡ turns) ⊎ (ends_behind once (last_item items) last.spool.watch.kids ≡ true)) × (new ≡ last)
+    ((length items ≡ turns) ⊎ (ends_after once (last_item items) last.spool.daemon.kids ≡ true)) × (new ≡ last)
 StopsBy at_the_clock tells once turns items last new =
-    (length items < turns) × (ends_behind once (last_item items) last.spool.watch.kids ≡ false)
+    (length items < turns) × (ends_after once (last_item items) last.spool.daemon.kids ≡ false)
     × StopsAtClock tells once (last_item items) last new
 StopsBy at_a_line tells once turns items last new = new ≡ last
 

@@ -1,7 +1,7 @@
 -- What is served with, at a moment, and what serving leaves of it (own).
 use Rattle.std.specs.Prelude.{◌≡◌, ◌≢◌, ℕ, Bool, List}
-use Rattle.command_answers.specs.Sinks.{SinkAt, sink_at}
-use Rattle.daemon_turn.specs.Daemons.{Watch}
+use Rattle.command_rules.specs.Sinks.{SinkAt, sink_at}
+use Rattle.daemon_turn.specs.Daemons.{DaemonState}
 use Rattle.daemon_turn.specs.Kids.{KeepsChildren}
 use Rattle.host_calls.specs.Causes.{Rose}
 use Rattle.host_calls.specs.Clock.{Readers}
@@ -30,10 +30,11 @@ pub record WorkAt : Type 0 where
   pub out : Outlet
   pub err : Outlet
 
-abbrev pub work_at : {H R O E : Type 0} → host.Ghosts H → readings.Ghosts R → sink.Ghosts O → sink.Ghosts E → Watch → H → R → O → E → WorkAt
-work_at h r o e watch host readings out err = record {
+abbrev pub work_at : {H R O E : Type 0} → host.Ghosts H → readings.Ghosts R → sink.Ghosts O → sink.Ghosts E → DaemonState
+    → H → R → O → E → WorkAt
+work_at h r o e daemon host readings out err = record {
   tells = serve_telling h.tells h.alone r.tells o.tells e.tells;
-  served = serve_at (h.session host) (h.world host) watch (r.answers readings) (r.readers readings);
+  served = serve_at (h.session host) (h.world host) daemon (r.answers readings) (r.readers readings);
   printed = sink_at (o.content out) (o.outlet out);
   said = sink_at (e.content err) (e.outlet err);
   out = o.outlet out;
@@ -45,7 +46,7 @@ pub record HasRisenServing (old new : WorkAt) (cause : Cause) : Type 0 where
   pub file_fault : cause ≡ FileFault → Rose old.served.spool.session.file_faults new.served.spool.session.file_faults
   pub busy : cause ≡ Busy → Rose old.served.spool.session.taken new.served.spool.session.taken
   pub output_fault : cause ≡ OutputFault → Rose old.out.sink_faults new.out.sink_faults
-  pub no_input : cause ≢ InputFault
+  pub no_input_fault : cause ≢ InputFault
 
 -- how it is served, at most so many turns, and only until no kid is left where that is asked for
 abbrev pub IsServed : Bool → ℕ → WorkAt → WorkAt → Cause → Type 0

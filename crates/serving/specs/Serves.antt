@@ -5,9 +5,9 @@ use Rattle.host_calls.specs.Causes.{Rose}
 use Rattle.host_calls.specs.Clock.{Answers, Readers, with_load, with_now, with_rest}
 use Rattle.host_calls.specs.Session.{Session}
 use Rattle.host_calls.specs.World.{World}
-use Rattle.daemon_turn.specs.Daemons.{Watch}
+use Rattle.daemon_turn.specs.Daemons.{DaemonState}
 use Rattle.daemon_turn.specs.Leaving.{DaemonAt, TurnsTo}
-use Rattle.serving.specs.Items.{Item, ends_behind, last_item, mode_behind, rest_behind}
+use Rattle.serving.specs.Items.{Item, ends_after, last_item, mode_after, next_rest}
 
 -- What is served with, at a moment: a host and what its daemon keeps, the answers of the readings, and what they count.
 pub record ServeAt : Type 0 where
@@ -15,9 +15,9 @@ pub record ServeAt : Type 0 where
   pub answers : Answers
   pub readers : Readers
 
-abbrev pub serve_at : Session → World → Watch → Answers → Readers → ServeAt
-serve_at session world watch answers readers =
-    record { spool = record { session = session; world = world; watch = watch }; answers = answers; readers = readers }
+abbrev pub serve_at : Session → World → DaemonState → Answers → Readers → ServeAt
+serve_at session world daemon answers readers =
+    record { spool = record { session = session; world = world; daemon = daemon }; answers = answers; readers = readers }
 
 -- which of the objects that are served with tell what they hold, and whether the host is alone
 pub record ServeTelling : Type 0 where
@@ -34,7 +34,7 @@ serve_telling files alone clock output errors =
 -- The readings answered the second and the load, and nothing else of them changed but the count of loads that were
 -- not read.
 pub record AnswersTurn (tells : Bool) (item : Item) (old new : ServeAt) : Type 0 where
-  pub told : tells ≡ true → new.answers ≡ with_load item.load (with_now item.now old.answers)
+  pub known : tells ≡ true → new.answers ≡ with_load item.load (with_now item.now old.answers)
   pub made_as : new.readers.made_as ≡ old.readers.made_as
   pub later : old.readers.load_faults ≤ new.readers.load_faults
   pub unread : item.load ≡ None → Rose old.readers.load_faults new.readers.load_faults
@@ -43,36 +43,36 @@ pub record AnswersTurn (tells : Bool) (item : Item) (old new : ServeAt) : Type 0
 pub record Served (tells : ServeTelling) (once : Bool) (before : List Item) (item : Item) (old new : ServeAt) : Type 0 where
   pub now : IsClockSecond item.now
   pub read : AnswersTurn tells.clock item old new
-  pub turn : TurnsTo tells.files tells.alone (record { now = item.now; load = item.load; mode = mode_behind once before })
+  pub turn : TurnsTo tells.files tells.alone (record { now = item.now; load = item.load; mode = mode_after once before })
       old.spool new.spool item.end item.steps
 
 -- a rest of so many seconds, which changes nothing else
 pub record Rests (tells : Bool) (seconds : ℕ) (old new : ServeAt) : Type 0 where
-  pub told : tells ≡ true → new.answers ≡ with_rest seconds old.answers
+  pub known : tells ≡ true → new.answers ≡ with_rest seconds old.answers
   pub readers : new.readers ≡ old.readers
   pub spool : new.spool ≡ old.spool
 
--- the rest behind the last turn: none before the first one
-abbrev pub RestsBehind : Bool → Bool → Option Item → ServeAt → ServeAt → Type 0
-RestsBehind tells once None old new = new ≡ old
-RestsBehind tells once (Some item) old new = Rests tells (rest_behind once item.end item.now) old new
+-- the rest after the last turn: none before the first one
+abbrev pub RestsAfter : Bool → Bool → Option Item → ServeAt → ServeAt → Type 0
+RestsAfter tells once None old new = new ≡ old
+RestsAfter tells once (Some item) old new = Rests tells (next_rest once item.end item.now) old new
 
--- The turns lead from the first state to this one: each begins where the one before it ended, behind a rest.
+-- The turns lead from the first state to this one: each begins where the one before it ended, after a rest.
 pub data Serves (tells : ServeTelling) (once : Bool) (first : ServeAt) : List Item → ServeAt → Type 0 where
   no_turn : Serves tells once first [] first
   next_turn : (before : List Item) (item : Item) (last rested after : ServeAt)
       → Serves tells once first before last
-      → ends_behind once (last_item before) last.spool.watch.kids ≡ false
-      → RestsBehind tells.clock once (last_item before) last rested
+      → ends_after once (last_item before) last.spool.daemon.kids ≡ false
+      → RestsAfter tells.clock once (last_item before) last rested
       → Served tells once before item rested after
       → Serves tells once first (before ++ item ∷ []) after
 
--- The clock answered a second out of its range behind the last turn and its rest: no load was read, and no turn made.
+-- The clock answered a second out of its range after the last turn and its rest: no load was read, and no turn made.
 pub record StopsAtClock (tells once : Bool) (last : Option Item) (old new : ServeAt) : Type 0 where
   pub now : ℤ
   pub out : ¬ (IsClockSecond now)
   pub rested : ServeAt
-  pub rests : RestsBehind tells once last old rested
-  pub told : tells ≡ true → new.answers ≡ with_now now rested.answers
+  pub rests : RestsAfter tells once last old rested
+  pub known : tells ≡ true → new.answers ≡ with_now now rested.answers
   pub readers : new.readers ≡ rested.readers
   pub spool : new.spool ≡ rested.spool

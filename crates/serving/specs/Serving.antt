@@ -2,7 +2,7 @@
 use Rattle.std.specs.Prelude.{◌≡◌, ◌≤◌, ℕ, Bool, true, false, List, length}
 use Rattle.host_calls.specs.Causes.{Rose}
 use Rattle.listing_text.specs.declared.cause.Cause.{Cause}
-use Rattle.command_answers.specs.Sinks.{IsCut, IsPut, IsPutInPart, SinkAt}
+use Rattle.command_rules.specs.Sinks.{IsCut, IsPut, IsPutInPart, SinkAt}
 use Rattle.cause_output.specs.Saying.{IsSaid}
 use Rattle.serving.specs.Items.{Item, but_last}
 use Rattle.serving.specs.Lines.{SaysEnds, daemon_name, turn_lines}
@@ -11,22 +11,22 @@ use Rattle.serving.specs.Serves.{ServeAt, Serves, ServeTelling}
 use Rattle.serving.specs.declared.outcome.Outcome.{Outcome}
 use Rattle.serving.specs.declared.outcome.Outcome.TheVariants.{OfTurn, Own}
 
--- the text was put, or a front of it, and then nothing more, since a put of it failed
+-- the text was put, or a prefix of it, and then nothing more, since a put of it failed
 abbrev pub PutsUnless : Bool → List ℕ → SinkAt → SinkAt → Type 0
 PutsUnless false text old new = IsPut text old new
 PutsUnless true text old new = IsCut text old new
 
--- and a front of it where a line found no memory
+-- and a prefix of it where a line found no memory
 abbrev pub PutsBy : Stop → Bool → List ℕ → SinkAt → SinkAt → Type 0
-PutsBy at_the_end cut text old new = PutsUnless cut text old new
-PutsBy at_the_clock cut text old new = PutsUnless cut text old new
-PutsBy at_a_line cut text old new = IsPutInPart text old new
+PutsBy at_the_end output_failed text old new = PutsUnless output_failed text old new
+PutsBy at_the_clock output_failed text old new = PutsUnless output_failed text old new
+PutsBy at_a_line output_failed text old new = IsPutInPart text old new
 
 -- What is printed of the turns. A put fails only where the count of such faults rose.
-pub record Prints (tells : Bool) (stop : Stop) (cut : Bool) (text : List ℕ) (old new : SinkAt) : Type 0 where
+pub record Prints (tells : Bool) (stop : Stop) (output_failed : Bool) (text : List ℕ) (old new : SinkAt) : Type 0 where
   pub later : old.faults ≤ new.faults
-  pub rose : cut ≡ true → Rose old.faults new.faults
-  pub puts : tells ≡ true → PutsBy stop cut text old new
+  pub rose : output_failed ≡ true → Rose old.faults new.faults
+  pub puts : tells ≡ true → PutsBy stop output_failed text old new
 
 -- the turns whose ends were said: not the last one, where a line of it found no memory
 abbrev pub said_of : Stop → List Item → List Item
@@ -46,11 +46,11 @@ pub record Serving (tells : ServeTelling) (once : Bool) (turns : ℕ) (old new :
   pub items : List Item
   pub last : ServeAt
   pub stop : Stop
-  pub cut : Bool
+  pub output_failed : Bool
   pub few : length items ≤ turns
   pub serves : Serves tells once old items last
   pub stops : StopsBy stop tells.clock once turns items last new
-  pub prints : Prints tells.output stop cut (turn_lines items) out_old out_new
+  pub prints : Prints tells.output stop output_failed (turn_lines items) out_old out_new
   pub between : SinkAt
   pub says : tells.errors ≡ true → SaysEnds (said_of stop items) err_old between
-  pub outcome : SaysOutcome tells.errors (outcome_by stop once items last.spool.watch.kids cut) between err_new cause
+  pub outcome : SaysOutcome tells.errors (outcome_by stop once items last.spool.daemon.kids output_failed) between err_new cause

@@ -1,14 +1,14 @@
-//! The daemon at work: turns one behind the other, with rests between them, what is printed and said of them, and how
+//! The daemon at work: turns one after the other, with rests between them, what is printed and said of them, and how
 //! that ends.
 #![tactic(auto)]
 
 mod laws;
-mod looping;
+mod next_turn;
 mod outcome;
+mod outcome_line;
 mod progress;
-mod saying;
-mod serving_turn;
+mod serve_loop;
 
 pub use laws::{serving_ends_well, small_servings};
-pub use looping::{LONGEST_REST, SHORT_REST, serve};
 pub use outcome::Outcome;
+pub use serve_loop::{LONGEST_REST, SHORT_REST, serve};

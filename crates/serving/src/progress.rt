@@ -1,12 +1,12 @@
 //! How far serving has come.
 ghost use Rattle.std.specs.Prelude.{◌≡◌, false, None};
 ghost use Rattle.clock_range.specs.ClockRange.{IsClockSecond};
-ghost use Rattle.serving.specs.Items.{rest_behind};
+ghost use Rattle.serving.specs.Items.{next_rest};
 ghost use Rattle.serving.specs.Outcomes.{end_outcome, kids_outcome, output_outcome, turns_outcome};
 ghost use Rattle.serving.specs.inside.Progressing.{RestsBefore, first_or, mode_by, outcome_if};
 
 use crate::Outcome;
-use crate::looping::{LONGEST_REST, SHORT_REST};
+use crate::serve_loop::{LONGEST_REST, SHORT_REST};
 use daemon_turn::{Kid, Mode, TurnEnd};
 use host_calls::Readings;
 use listing_text::Cause;
@@ -17,18 +17,18 @@ use listing_text::Cause;
 pub(crate) struct Progress {
     pub(crate) first: Option<TurnEnd>,
     pub(crate) rest: u32,
-    pub(crate) cut: bool,
+    pub(crate) output_failed: bool,
 }
 
 impl Progress {
     // No turn was made.
     pub(crate) fn new() -> Progress
-        ensures { result ≡ record { first = None; rest = 0; cut = false } }
+        ensures { result ≡ record { first = None; rest = 0; output_failed = false } }
     {
         Progress {
             first: None,
             rest: 0,
-            cut: false,
+            output_failed: false,
         }
     }
 
@@ -58,16 +58,16 @@ impl Progress {
     pub(crate) fn add(&mut self, once: bool, now: i64, end: &TurnEnd)
         requires { IsClockSecond now }
         ensures first { self.new.first ≡ first_or self.old.first end.now }
-        ensures rest { self.new.rest ≡ rest_behind once end.now now }
-        ensures cut { self.new.cut ≡ self.old.cut }
+        ensures rest { self.new.rest ≡ next_rest once end.now now }
+        ensures output_failed { self.new.output_failed ≡ self.old.output_failed }
     {
         self.first = first_or(&self.first, end);
-        self.rest = rest_behind(once, end, now);
+        self.rest = next_rest(once, end, now);
     }
 
-    // What serving comes to behind a turn that ended so, if no further one is made.
-    pub(crate) fn outcome_behind(&self, once: bool, end: &TurnEnd, kids: &[Kid]) -> Option<Outcome>
-        ensures { result ≡ outcome_if once end.now self.now.first kids.now self.now.cut }
+    // What serving comes to after a turn that ended so, if no further one is made.
+    pub(crate) fn outcome_after(&self, once: bool, end: &TurnEnd, kids: &[Kid]) -> Option<Outcome>
+        ensures { result ≡ outcome_if once end.now self.now.first kids.now self.now.output_failed }
     {
         if let TurnEnd::Damaged(damage) = end {
             return Some(Outcome::OfTurn(Cause::Damaged(*damage)));
@@ -81,12 +81,12 @@ impl Progress {
 
     // What serving comes to where all turns are made.
     pub(crate) fn outcome(&self, once: bool, kids: &[Kid]) -> Outcome
-        ensures { result ≡ turns_outcome once self.now.first kids.now self.now.cut }
+        ensures { result ≡ turns_outcome once self.now.first kids.now self.now.output_failed }
     {
         if !once {
-            return output_outcome(self.cut);
+            return output_outcome(self.output_failed);
         }
-        let other = kids_outcome(kids, self.cut);
+        let other = kids_outcome(kids, self.output_failed);
         match &self.first {
             Some(end) => end_outcome(end, other),
             None => other,
@@ -104,10 +104,10 @@ fn first_or(first: &Option<TurnEnd>, end: &TurnEnd) -> Option<TurnEnd>
     }
 }
 
-// The seconds of the rest behind a turn.
-fn rest_behind(once: bool, end: &TurnEnd, now: i64) -> u32
+// The seconds of the rest after a turn.
+fn next_rest(once: bool, end: &TurnEnd, now: i64) -> u32
     requires { IsClockSecond now }
-    ensures { result ≡ rest_behind once end.now now }
+    ensures { result ≡ next_rest once end.now now }
 {
     if once {
         return SHORT_REST;
@@ -122,10 +122,10 @@ fn rest_behind(once: bool, end: &TurnEnd, now: i64) -> u32
 }
 
 // The output failed, or all was done.
-fn output_outcome(cut: bool) -> Outcome
-    ensures { result ≡ output_outcome cut }
+fn output_outcome(output_failed: bool) -> Outcome
+    ensures { result ≡ output_outcome output_failed }
 {
-    if cut {
+    if output_failed {
         Outcome::Own(Cause::OutputFault)
     } else {
         Outcome::Own(Cause::Done)
@@ -133,11 +133,11 @@ fn output_outcome(cut: bool) -> Outcome
 }
 
 // Kids that are left come before that.
-fn kids_outcome(kids: &[Kid], cut: bool) -> Outcome
-    ensures { result ≡ kids_outcome kids.now cut }
+fn kids_outcome(kids: &[Kid], output_failed: bool) -> Outcome
+    ensures { result ≡ kids_outcome kids.now output_failed }
 {
     match kids {
-        [] => output_outcome(cut),
+        [] => output_outcome(output_failed),
         [..] => Outcome::Own(Cause::StillRunning),
     }
 }

@@ -13,7 +13,7 @@ use Rattle.spool_model.specs.declared.step.Step.{Step}
 use Rattle.spool_model.specs.declared.step.Step.TheVariants.{Draw, Accept, Remove, Start, End, Interrupt, Forget}
 use Rattle.spool_model.specs.JobTable.{JobTable, JobEntries, JobEntry, IsSound, IsDrawn, entry_at}
 use Rattle.spool_model.specs.Steps.{IsLegal, AreLegal, IsFree, FollowDraws, after_step, last_after, times_accepted, with_state}
-use Rattle.spool_model.specs.Laws.{LastNeverFalls, NoStepLeadsBackToPending, NumbersAreAcceptedOnce, OldNumbersAreNotAccepted, StepsKeepTheTableSound, FrontsAreLegal, FrontAndRest}
+use Rattle.spool_model.specs.Laws.{LastNeverFalls, NoStepLeadsBackToPending, NumbersAreAcceptedOnce, OldNumbersAreNotAccepted, StepsKeepTheTableSound, PrefixesAreLegal, PrefixAndRest}
 use Rattle.spool_model.proofs.TableLemmas.{other_choice, get-put, get-put_other, get-taken, some_after_put, some_after_taken}
 
 -- a step does not lower the last number
@@ -110,11 +110,11 @@ pub steps_keep_the_table_sound : StepsKeepTheTableSound
 steps_keep_the_table_sound table [] sound legal = sound
 steps_keep_the_table_sound table (step ∷ later) sound legal = steps_keep_the_table_sound (after_step table step) later (step_keeps_sound table step sound legal.0) legal.1
 
-pub fronts_are_legal : FrontsAreLegal
-fronts_are_legal table [] behind legal = record { front_legal = tt; rest_legal = legal; joined = refl }
-fronts_are_legal table (step ∷ later) behind legal =
-    let rest : FrontAndRest (after_step table step) later behind = fronts_are_legal (after_step table step) later behind legal.1 in
-    record { front_legal = (legal.0, rest.front_legal); rest_legal = rest.rest_legal; joined = rest.joined }
+pub prefixes_are_legal : PrefixesAreLegal
+prefixes_are_legal table [] beyond legal = record { prefix_legal = tt; rest_legal = legal; joined = refl }
+prefixes_are_legal table (step ∷ later) beyond legal =
+    let rest : PrefixAndRest (after_step table step) later beyond = prefixes_are_legal (after_step table step) later beyond legal.1 in
+    record { prefix_legal = (legal.0, rest.prefix_legal); rest_legal = rest.rest_legal; joined = rest.joined }
 
 -- the number was drawn before, and is not the one that was drawn just now
 abbrev IsOld : Bool → ℕ → ℕ → Type 0

@@ -5,11 +5,11 @@ use Rattle.std.proofs.lemmas.List.{drop-replicate}
 use Rattle.spool_model.specs.Users.{IsUserName, IsPadded, padded}
 
 -- the bytes of a user's name before the zeros of an array that had 32
-pub padded_front : (bytes : List ℕ) → IsUserName bytes → IsPadded (bytes ++ drop (length bytes) (replicate 32 0)) (length bytes)
-padded_front bytes name =
-    let front : take (length bytes) (bytes ++ drop (length bytes) (replicate 32 0)) ≡ bytes = take-append_seam bytes _ in
+pub padded_prefix : (bytes : List ℕ) → IsUserName bytes → IsPadded (bytes ++ drop (length bytes) (replicate 32 0)) (length bytes)
+padded_prefix bytes name =
+    let prefix : take (length bytes) (bytes ++ drop (length bytes) (replicate 32 0)) ≡ bytes = take-append_seam bytes _ in
     record {
-      name = subst IsUserName (sym front) name;
-      counted = ap length front;
-      zeros = ap (λ rest. bytes ++ rest) (drop-replicate (length bytes) 32 0) ∙ ap padded (sym front);
+      name = subst IsUserName (sym prefix) name;
+      counted = ap length prefix;
+      zeros = ap (λ rest. bytes ++ rest) (drop-replicate (length bytes) 32 0) ∙ ap padded (sym prefix);
     }

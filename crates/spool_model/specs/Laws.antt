@@ -19,7 +19,7 @@ NoStepLeadsBackToPending = (table : JobTable) (step : Step) → IsLegal table st
     entry_at (after_step table step) number ≡ Some (Live job Pending) →
     entry_at table number ≡ Some (Live job Pending)
 
--- where each Accept stands directly behind its Draw, each number is accepted at most once
+-- where each Accept stands directly after its Draw, each number is accepted at most once
 abbrev pub NumbersAreAcceptedOnce : Type 0
 NumbersAreAcceptedOnce = (table : JobTable) (steps : List Step) → AreLegal table steps → FollowDraws false steps →
     (number : ℕ) → times_accepted number steps ≤ 1
@@ -34,13 +34,13 @@ abbrev pub StepsKeepTheTableSound : Type 0
 StepsKeepTheTableSound = (table : JobTable) (steps : List Step) → IsSound table → AreLegal table steps →
     IsSound (after_steps table steps)
 
--- the front of legal steps is legal, and what stands behind it is legal on the table after it
-pub record FrontAndRest (table : JobTable) (front behind : List Step) : Type 0 where
-  pub front_legal : AreLegal table front
-  pub rest_legal : AreLegal (after_steps table front) behind
-  pub joined : after_steps table (front ++ behind) ≡ after_steps (after_steps table front) behind
+-- the prefix of legal steps is legal, and what stands after it is legal on the table after it
+pub record PrefixAndRest (table : JobTable) (prefix after : List Step) : Type 0 where
+  pub prefix_legal : AreLegal table prefix
+  pub rest_legal : AreLegal (after_steps table prefix) after
+  pub joined : after_steps table (prefix ++ after) ≡ after_steps (after_steps table prefix) after
 
--- each front of legal steps is so
-abbrev pub FrontsAreLegal : Type 0
-FrontsAreLegal = (table : JobTable) (front behind : List Step) → AreLegal table (front ++ behind) →
-    FrontAndRest table front behind
+-- each prefix of legal steps is so
+abbrev pub PrefixesAreLegal : Type 0
+PrefixesAreLegal = (table : JobTable) (prefix after : List Step) → AreLegal table (prefix ++ after) →
+    PrefixAndRest table prefix after

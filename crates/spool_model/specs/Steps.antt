@@ -69,7 +69,7 @@ after_step table step = record {
   last_batch = last_batch_after table step;
 }
 
--- the table after a list of steps, from the front
+-- the table after a list of steps, from the start
 abbrev pub after_steps : JobTable → List Step → JobTable
 after_steps table [] = table
 after_steps table (step ∷ later) = after_steps (after_step table step) later
@@ -80,10 +80,10 @@ AreLegal table [] = Unit {0}
 AreLegal table (step ∷ later) = IsLegal table step × AreLegal (after_step table step) later
 
 -- the steps begin with these
-abbrev pub IsFront : List Step → List Step → Type 0
-IsFront front steps = (behind : List Step) × (steps ≡ front ++ behind)
+abbrev pub IsPrefix : List Step → List Step → Type 0
+IsPrefix prefix steps = (after : List Step) × (steps ≡ prefix ++ after)
 
--- Each Accept stands directly behind a Draw. The flag says that one stands before the first step.
+-- Each Accept stands directly after a Draw. The flag says that one stands before the first step.
 abbrev pub FollowDraws : Bool → List Step → Type 0
 FollowDraws drawn [] = Unit {0}
 FollowDraws drawn (Draw ∷ later) = FollowDraws true later

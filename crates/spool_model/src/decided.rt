@@ -1,7 +1,7 @@
 //! A job that is done.
 use crate::Fate;
 
-/// How many done jobs are remembered behind a removal and behind a turn.
+/// How many done jobs are remembered after a removal and after a turn.
 pub const MAX_DONE: usize = 10_000;
 
 /// A job that is done, by its number.

@@ -1,5 +1,5 @@
 //! What holds of every list of legal steps, each law as the contract of a function.
-ghost use Rattle.spool_model.specs.Laws.{LastNeverFalls, NoStepLeadsBackToPending, NumbersAreAcceptedOnce, OldNumbersAreNotAccepted, StepsKeepTheTableSound, FrontsAreLegal};
+ghost use Rattle.spool_model.specs.Laws.{LastNeverFalls, NoStepLeadsBackToPending, NumbersAreAcceptedOnce, OldNumbersAreNotAccepted, StepsKeepTheTableSound, PrefixesAreLegal};
 
 /// The last number never falls over legal steps.
 pub fn last_never_falls()
@@ -11,7 +11,7 @@ pub fn no_step_leads_back_to_pending()
     ensures { NoStepLeadsBackToPending }
 {}
 
-/// Where each Accept stands directly behind its Draw, a number is accepted at most once, and never
+/// Where each Accept stands directly after its Draw, a number is accepted at most once, and never
 /// one that was drawn before.
 pub fn numbers_are_accepted_once()
     ensures once { NumbersAreAcceptedOnce }
@@ -23,7 +23,7 @@ pub fn steps_keep_the_table_sound()
     ensures { StepsKeepTheTableSound }
 {}
 
-/// A front of legal steps is legal, and the others are legal behind it.
-pub fn fronts_are_legal()
-    ensures { FrontsAreLegal }
+/// A prefix of legal steps is legal, and the others are legal after it.
+pub fn prefixes_are_legal()
+    ensures { PrefixesAreLegal }
 {}

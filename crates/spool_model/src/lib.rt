@@ -22,7 +22,7 @@ pub use entry::Entry;
 pub use fate::Fate;
 pub use job::Job;
 pub use laws::{
-    fronts_are_legal, last_never_falls, no_step_leads_back_to_pending, numbers_are_accepted_once,
+    last_never_falls, no_step_leads_back_to_pending, numbers_are_accepted_once, prefixes_are_legal,
     steps_keep_the_table_sound,
 };
 pub use number::{LAST_NUMBER, number_digits};

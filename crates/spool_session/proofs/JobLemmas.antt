@@ -4,14 +4,14 @@ use Rattle.std.proofs.Math.Seq.{drop-cons}
 use Rattle.std.specs.Prelude.{Option, Some, None, is_some, true}
 use Rattle.spool_model.specs.JobTable.{JobTable}
 use Rattle.listing_text.specs.declared.refusal.Refusal.{Refusal}
-use Rattle.command_answers.specs.Verdict.{jobs_check, row_at, row_check}
+use Rattle.command_rules.specs.Verdict.{jobs_check, row_at, row_check}
 
 module _ (user : List ℕ) (removing : Bool) (table : JobTable) where
   -- the check of a number
   abbrev pub check_at : ℕ → Option Refusal
   check_at number = row_check user removing number (row_at table number)
 
-  -- a number that is not refused leaves the decision to those behind it
+  -- a number that is not refused leaves the decision to those after it
   go_on : (number : ℕ) (later : List ℕ) → check_at number ≡ None → jobs_check user removing table (number ∷ later) ≡ jobs_check user removing table later
   go_on number later is = rw is refl
 
@@ -23,8 +23,8 @@ module _ (user : List ℕ) (removing : Bool) (table : JobTable) where
   from_place : (numbers : List ℕ) (place : ℕ) → place < length numbers →
       jobs_check user removing table (drop place numbers) ≡ jobs_check user removing table (get_or numbers place 0 ∷ drop (place + 1) numbers)
   from_place numbers place inside =
-      let front : drop place numbers ≡ get_or numbers place 0 ∷ drop (place + 1) numbers = rw add-one (drop-cons numbers place 0 inside) in
-      ap (jobs_check user removing table) front
+      let prefix : drop place numbers ≡ get_or numbers place 0 ∷ drop (place + 1) numbers = rw add-one (drop-cons numbers place 0 inside) in
+      ap (jobs_check user removing table) prefix
 
   pub step_on : (numbers : List ℕ) (place : ℕ) → place < length numbers →
       jobs_check user removing table numbers ≡ jobs_check user removing table (drop place numbers) → check_at (get_or numbers place 0) ≡ None →

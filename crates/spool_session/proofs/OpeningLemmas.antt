@@ -5,9 +5,9 @@ use Rattle.host_calls.specs.World.{World, reading}
 use Rattle.whole_file.specs.Others.{ChangesFiles}
 use Rattle.access_lists.specs.Access.{may_use}
 use Rattle.spool_shows.specs.Shown.{shown_by}
-use Rattle.job_runs.specs.Calls.{ShowsAsBefore}
-use Rattle.job_runs.specs.Current.{Kept}
-use Rattle.job_runs.proofs.AttemptLemmas.{recoveries_begin_nothing}
+use Rattle.step_runs.specs.Calls.{ShowsAsBefore}
+use Rattle.step_runs.specs.Current.{Kept}
+use Rattle.step_runs.proofs.AttemptLemmas.{recoveries_begin_nothing}
 use Rattle.host_calls.specs.Damages.{IfDamaged}
 use Rattle.host_calls.specs.declared.fault.HostFault.{HostFault}
 use Rattle.host_calls.specs.declared.fault.HostFault.TheVariants as host
@@ -15,8 +15,8 @@ use Rattle.spool_store.specs.declared.fault.StoreFault.{StoreFault}
 use Rattle.spool_store.specs.declared.fault.StoreFault.TheVariants as store
 use Rattle.spool_store.specs.Faults.{IsOfReading}
 use Rattle.spool_store.specs.Recovering.{IsRecovered, Recovered}
-use Rattle.command_answers.specs.Causes.{cause_of, cause_of_host}
-use Rattle.command_answers.specs.Sessions.{AreListsIn, IsNotOpened, IsOpened, faults, lists_lack_memory, is_damaged, lacks_memory, lists_fault}
+use Rattle.command_rules.specs.Causes.{cause_of, cause_of_host}
+use Rattle.command_rules.specs.Sessions.{AreListsIn, IsNotOpened, IsOpened, faults, lists_lack_memory, is_damaged, lacks_memory, lists_fault}
 
 -- a list could not be read
 pub lists_unread : (tells : Bool) (user : List ℕ) (old new : World) (fault : HostFault) → (tells ≡ true → new ≡ old) →
@@ -29,19 +29,19 @@ module _ (tells : Bool) (user : List ℕ) (allow deny : Option (List ℕ)) (old 
     (lists : tells ≡ true → AreListsIn (reading old) allow deny)
     (changes : tells ≡ true → ChangesFiles (ShowsAsBefore middle.now.folder) middle new) where
   changed : tells ≡ true → ChangesFiles (ShowsAsBefore old.now.folder) old new
-  changed told = subst (λ (from : World). ChangesFiles (ShowsAsBefore from.now.folder) from new) (looks told) (changes told)
+  changed known = subst (λ (from : World). ChangesFiles (ShowsAsBefore from.now.folder) from new) (looks known) (changes known)
 
   -- no store was recovered
   pub unrecovered : (fault : StoreFault) → IsOfReading fault → (tells ≡ true → Recovered middle.now.folder new.now.folder (Err fault)) →
       (tells ≡ true → IfDamaged {T = Kept} store.Damaged (λ damage. reading new ≡ reading middle) (Err fault)) →
       IsNotOpened tells user old new (cause_of fault)
-  unrecovered store.FileFault of_reading recovered untouched = faults allow deny permits lists (λ told. recoveries_begin_nothing old new (changed told))
-  unrecovered store.Memory of_reading recovered untouched = lacks_memory allow deny permits lists (λ told. recoveries_begin_nothing old new (changed told))
+  unrecovered store.FileFault of_reading recovered untouched = faults allow deny permits lists (λ known. recoveries_begin_nothing old new (changed known))
+  unrecovered store.Memory of_reading recovered untouched = lacks_memory allow deny permits lists (λ known. recoveries_begin_nothing old new (changed known))
   unrecovered (store.Damaged damage) of_reading recovered untouched =
-      is_damaged damage allow deny permits lists (λ told. record {
-        shown = sym (ap (λ (world : World). shown_by (reading world)) (looks told)) ∙ recovered told;
-        unbegun = recoveries_begin_nothing old new (changed told);
-        same = untouched told damage refl ∙ ap reading (looks told);
+      is_damaged damage allow deny permits lists (λ known. record {
+        shown = sym (ap (λ (world : World). shown_by (reading world)) (looks known)) ∙ recovered known;
+        unbegun = recoveries_begin_nothing old new (changed known);
+        same = untouched known damage refl ∙ ap reading (looks known);
       })
   unrecovered store.QueueFull of_reading recovered untouched = absurd of_reading
   unrecovered store.NumbersUsedUp of_reading recovered untouched = absurd of_reading
@@ -59,9 +59,9 @@ store_opened true user allow deny old middle new kept permits looks lists change
       deny = deny;
       table = is.table;
       permits = permits;
-      keeps = inl is.current.bare_is;
+      keeps = inl is.current.without_scripts_is;
       lists = lists;
-      recovered = λ told. record {
+      recovered = λ known. record {
         shown = is.shown;
         changes = subst (λ (from : World). ChangesFiles (ShowsAsBefore from.now.folder) from new) (looks refl) (changes refl);
         others = is.others;
@@ -75,5 +75,5 @@ store_opened false user allow deny old middle new kept permits looks lists chang
   permits = permits;
   keeps = inr refl;
   lists = lists;
-  recovered = λ told. let no : false ≡ true = told in cc;
+  recovered = λ known. let no : false ≡ true = known in cc;
 }

@@ -9,34 +9,34 @@ use Rattle.host_calls.specs.Session.{KeepsCounts, Session}
 use Rattle.host_session.specs.Work.{Calls, IsDoneInside, IsUndone}
 use Rattle.listing_text.specs.declared.cause.Cause.{Cause}
 use Rattle.listing_text.specs.declared.cause.Cause.TheVariants.{Busy, Done, FileFault, Memory}
-use Rattle.command_answers.specs.Causes.{cause_in, cause_of_entry, stopped_by}
-use Rattle.command_answers.specs.declared.stopped.Stopped.{Stopped}
-use Rattle.command_answers.proofs.SpoolLemmas.{goes_on_then}
+use Rattle.command_rules.specs.Causes.{cause_in, cause_of_entry, error_of}
+use Rattle.command_rules.specs.declared.command_error.CommandError.{CommandError}
+use Rattle.command_rules.proofs.SpoolLemmas.{goes_on_then}
 use Rattle.spool_session.specs.Sessions.{ComesOfSession, HasRisenIn, IsOfSession, IsWork, StaysQuiet, WorksInside}
 
 pub counts_then : (old middle new : Session) → KeepsCounts old middle → KeepsCounts middle new → KeepsCounts old new
-counts_then old middle new before behind = record {
-  made_as = behind.made_as ∙ before.made_as;
-  file_faults = omega (arith, before.file_faults, behind.file_faults);
-  start_faults = omega (arith, before.start_faults, behind.start_faults);
-  taken = omega (arith, before.taken, behind.taken);
+counts_then old middle new before after = record {
+  made_as = after.made_as ∙ before.made_as;
+  file_faults = omega (arith, before.file_faults, after.file_faults);
+  start_faults = omega (arith, before.start_faults, after.start_faults);
+  taken = omega (arith, before.taken, after.taken);
 }
 
 -- a count that rose on the way has risen in all
 rose_within : (first old new last : ℕ) → first ≤ old → new ≤ last → Rose old new → Rose first last
-rose_within first old new last before behind rose = omega arith
+rose_within first old new last before after rose = omega arith
 
 -- the cause of an answer, where it is that of a fault of a file
-failed : {T : Type 0} (result : Result T Stopped) → cause_in result ≡ FileFault → IsErrOf result (stopped_by FileFault)
+failed : {T : Type 0} (result : Result T CommandError) → cause_in result ≡ FileFault → IsErrOf result (error_of FileFault)
 failed (Ok value) is = let no : Done ≡ FileFault = is in cc
-failed (Err stopped) is = ap (λ (of : Cause). Err (stopped_by of)) is
+failed (Err stopped) is = ap (λ (of : Cause). Err (error_of of)) is
 
 -- within a session the lock is not taken
-never_busy : {T : Type 0} (result : Result T Stopped) → IfErr result ComesOfSession → cause_in result ≡ Busy → ⊥
+never_busy : {T : Type 0} (result : Result T CommandError) → IfErr result ComesOfSession → cause_in result ≡ Busy → ⊥
 never_busy (Ok value) comes is = let no : Done ≡ Busy = is in cc
 never_busy (Err stopped) comes is = subst IsOfSession is comes
 
-module _ {H F T : Type 0} (g : Ghosts H) (calls : Calls H F (Result T Stopped)) (work left : F) (old new : H) (result : Result T Stopped)
+module _ {H F T : Type 0} (g : Ghosts H) (calls : Calls H F (Result T CommandError)) (work left : F) (old new : H) (result : Result T CommandError)
     (is_work : IsWork g calls work) (done : IsDoneInside g calls work left old new result) where
   abbrev works : WorksInside g done.first done.last result
   works = is_work done.first done.last left result done.begun.inside done.did
@@ -49,10 +49,10 @@ module _ {H F T : Type 0} (g : Ghosts H) (calls : Calls H F (Result T Stopped)) 
       counts = counts_then (g.session old) (g.session done.first) (g.session new) done.begun.counts
           (counts_then (g.session done.first) (g.session done.last) (g.session new) works.inside.stays.counts done.over.counts);
     };
-    goes_on = λ told.
+    goes_on = λ known.
         goes_on_then (g.world old) (g.world done.last) (g.world new)
-        (goes_on_then (g.world old) (g.world done.first) (g.world done.last) (done.begun.quiet.goes_on told) (works.goes_on told))
-        (done.quiet.goes_on told);
+        (goes_on_then (g.world old) (g.world done.first) (g.world done.last) (done.begun.quiet.goes_on known) (works.goes_on known))
+        (done.quiet.goes_on known);
   }
 
   pub risen_done : HasRisenIn g old new (cause_in result)

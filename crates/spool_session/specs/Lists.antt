@@ -1,6 +1,6 @@
 -- The lists of users, as they were read (own).
 use Rattle.host_calls.specs.Folder.{Files}
-use Rattle.command_answers.specs.Sessions.{AreListsIn}
+use Rattle.command_rules.specs.Sessions.{AreListsIn}
 use Rattle.spool_session.specs.declared.lists.Lists.{Lists}
 
 -- the texts are those of the files

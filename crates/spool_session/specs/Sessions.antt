@@ -10,8 +10,8 @@ use Rattle.host_calls.specs.World.{GoesOn}
 use Rattle.host_session.specs.Work.{Calls, IsDoneInside, IsUndone}
 use Rattle.listing_text.specs.declared.cause.Cause.{Cause}
 use Rattle.listing_text.specs.declared.cause.Cause.TheVariants.{Done, Refused, FileFault, InputFault, OutputFault, Busy, Memory, Damaged, StillRunning}
-use Rattle.command_answers.specs.Causes.{cause_of_entry, stopped_by}
-use Rattle.command_answers.specs.declared.stopped.Stopped.{Stopped}
+use Rattle.command_rules.specs.Causes.{cause_of_entry, error_of}
+use Rattle.command_rules.specs.declared.command_error.CommandError.{CommandError}
 
 -- a cause that comes within a session: the lock was had, and the inputs were read before
 abbrev pub IsOfSession : Cause → Type 0
@@ -26,7 +26,7 @@ IsOfSession Busy = ⊥
 IsOfSession StillRunning = ⊥
 
 -- the command was stopped by one of these
-abbrev pub ComesOfSession : Stopped → Type 0
+abbrev pub ComesOfSession : CommandError → Type 0
 ComesOfSession stopped = IsOfSession stopped.cause
 
 -- the work may be done at each host within a session
@@ -35,15 +35,15 @@ MayWorkInside {H} g calls work = (at : MutBor H) → IsInside (g.session at.now)
 
 -- Work within a session: it stays in the session and starts no child, it hands nothing over, and each fault of a file comes
 -- only where their count rose.
-pub record WorksInside {H T : Type 0} (g : Ghosts H) (old new : H) (result : Result T Stopped) : Type 0 where
-  pub inside : CallsInside (stopped_by FileFault) (g.session old) (g.session new) result
+pub record WorksInside {H T : Type 0} (g : Ghosts H) (old new : H) (result : Result T CommandError) : Type 0 where
+  pub inside : CallsInside (error_of FileFault) (g.session old) (g.session new) result
   pub comes : IfErr result ComesOfSession
   pub goes_on : g.tells ≡ true → GoesOn (g.world old) (g.world new)
 
 -- each call of it within a session is such work
-abbrev pub IsWork : {H F T : Type 0} → Ghosts H → Calls H F (Result T Stopped) → F → Type 0
+abbrev pub IsWork : {H F T : Type 0} → Ghosts H → Calls H F (Result T CommandError) → F → Type 0
 IsWork {H} {F} {T} g calls work =
-    (old new : H) (left : F) (result : Result T Stopped) → IsInside (g.session old) → CalledAtMut calls work old result left new →
+    (old new : H) (left : F) (result : Result T CommandError) → IsInside (g.session old) → CalledAtMut calls work old result left new →
     WorksInside g old new result
 
 -- no session is on, no child was started, and nothing was handed over
@@ -57,12 +57,12 @@ pub record HasRisenIn {H : Type 0} (g : Ghosts H) (old new : H) (cause : Cause) 
   pub busy : cause ≡ Busy → Rose (g.session old).taken (g.session new).taken
 
 -- the session could not begin, and so nothing was done
-pub record IsUnentered {H F T : Type 0} (g : Ghosts H) (work left : F) (old new : H) (result : Result T Stopped) : Type 0 where
+pub record IsUnentered {H F T : Type 0} (g : Ghosts H) (work left : F) (old new : H) (result : Result T CommandError) : Type 0 where
   pub fault : EnterFault
-  pub is : result ≡ Err (stopped_by (cause_of_entry fault))
+  pub is : result ≡ Err (error_of (cause_of_entry fault))
   pub undone : IsUndone g work left old new fault
 
 -- how the session ends: it could not begin, or the work was done in it
-abbrev pub EndsSession : {H F T : Type 0} → Ghosts H → Calls H F (Result T Stopped) → F → F → H → H → Result T Stopped → Type 0
+abbrev pub EndsSession : {H F T : Type 0} → Ghosts H → Calls H F (Result T CommandError) → F → F → H → H → Result T CommandError → Type 0
 EndsSession g calls work left old new result =
     IsUnentered g work left old new result ⊎ IsDoneInside g calls work left old new result

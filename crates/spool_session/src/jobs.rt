@@ -2,7 +2,7 @@
 ghost use Rattle.std.specs.Prelude.{◌≡◌};
 ghost use Rattle.spool_model.specs.Lists.{is_running};
 ghost use Rattle.listing_text.specs.Listing.{may_see};
-ghost use Rattle.command_answers.specs.Verdict.{jobs_check, row_at, row_check};
+ghost use Rattle.command_rules.specs.Verdict.{jobs_check, row_at, row_check};
 
 use listing_text::Refusal;
 use spool_model::{Row, State, UserName};

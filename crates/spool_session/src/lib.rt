@@ -4,9 +4,9 @@
 
 mod jobs;
 mod lists;
-mod opening;
+mod open_store;
 mod session;
 
 pub use jobs::{is_seen_by, refusal_of_jobs};
-pub use opening::open;
+pub use open_store::open;
 pub use session::in_session;

@@ -6,7 +6,7 @@ ghost use Rattle.host_calls.specs.World.{reading};
 ghost use Rattle.spool_session.specs.Lists.{AreIn};
 
 use access_lists::permits;
-use command_answers::{allow_name, deny_name};
+use command_rules::{allow_name, deny_name};
 use host_calls::{Bytes, Host, HostFault};
 use spool_model::UserName;
 use std::alloc::Global;

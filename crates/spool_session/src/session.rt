@@ -1,19 +1,19 @@
 //! The session of a command, round its work.
 ghost use Rattle.host_calls.specs.Session.{IsOutside};
-ghost use Rattle.command_answers.specs.Causes.{cause_in};
+ghost use Rattle.command_rules.specs.Causes.{cause_in};
 ghost use Rattle.spool_session.specs.Sessions.{EndsSession, HasRisenIn, IsWork, MayWorkInside, StaysQuiet};
 
-use command_answers::Stopped;
+use command_rules::CommandError;
 use host_calls::Host;
 use std::alloc::Global;
 
 /// Does the work of a command within a session of its own, and answers what it answered, or why the session could not
 /// begin.
-pub fn in_session<H: Host, T, F: FnMut(&mut H) -> Result<T, Stopped>>(
+pub fn in_session<H: Host, T, F: FnMut(&mut H) -> Result<T, CommandError>>(
     alloc: Global,
     host: &mut H,
     work: &mut F,
-) -> Result<T, Stopped>
+) -> Result<T, CommandError>
     requires outside { IsOutside (H.session host.old) }
     requires may { MayWorkInside H.Host F.FnMut work.old }
     requires works { IsWork H.Host F.FnMut work.old }

@@ -32,7 +32,7 @@ use Rattle.spool_shows.proofs.NameLemmas.{KeepFiles, entry_kept, is_there, job_n
 -- the file of the job
 abbrev placed_file : List ℕ → ℕ → Job → JobFile
 placed_file name number job =
-    record { name = name; job = record { queue = job.queue; number = number; minute = job.minute; wide = true }; bytes = job.script }
+    record { name = name; job = record { queue = job.queue; number = number; minute = job.minute; new_form = true }; bytes = job.script }
 
 -- a file of these three
 file_is : (file other : JobFile) → file.name ≡ other.name → file.job ≡ other.job → file.bytes ≡ other.bytes → file ≡ other

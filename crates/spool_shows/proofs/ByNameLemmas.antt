@@ -18,7 +18,7 @@ use Rattle.spool_shows.specs.ByName.{AreSound, ShowsByName, ShowsDone, ShowsEntr
 use Rattle.spool_shows.specs.JobFiles.{JobFile, files_damage}
 use Rattle.sequence_file.specs.LastNumber.{last_in}
 use Rattle.spool_shows.specs.Laws.{FoldersAreShownByName}
-use Rattle.spool_shows.specs.Shown.{Shows, damage_of_jobs, entries_shown, live_entry, shown_behind_journal, shown_behind_last, shown_by, starts_damage, table_or_damage, table_shown}
+use Rattle.spool_shows.specs.Shown.{Shows, damage_of_jobs, entries_shown, live_entry, shown_after_journal, shown_after_last, shown_by, starts_damage, table_or_damage, table_shown}
 use Rattle.sequence_file.proofs.LastNumbers.{last_spelled}
 use Rattle.spool_shows.proofs.ByNameReads.{journal_read, last_read, read_gives_journal}
 use Rattle.spool_shows.proofs.DeciderLemmas.{one_done_entry}
@@ -43,12 +43,12 @@ by_damage files table last read number journal (Some damage) is shows = let impo
 by_damage files table last read number journal None is shows =
     record { last = last; read = read; number = number; journal = journal; undamaged = is; shown = cc }
 
-by_journal : (files : Files) (table : JobTable) (last : ℕ) → last_in (find name_cmp sequence_file (entries files)) ≡ Ok last → (found : Result JournalRead Damage) → journal_in last (find name_cmp journal_file (entries files)) ≡ found → shown_behind_journal last found (entries files) ≡ Ok table → Reads files table
+by_journal : (files : Files) (table : JobTable) (last : ℕ) → last_in (find name_cmp sequence_file (entries files)) ≡ Ok last → (found : Result JournalRead Damage) → journal_in last (find name_cmp journal_file (entries files)) ≡ found → shown_after_journal last found (entries files) ≡ Ok table → Reads files table
 by_journal files table last number (Err damage) is shows = let impossible : ◌≡◌ {A = Result JobTable Damage} (Err damage) (Ok table) = shows in cc
 by_journal files table last number (Ok read) is shows =
     by_damage files table last read number is (damage_of_jobs last read.marks (files_that_count read.marks files)) refl shows
 
-by_last : (files : Files) (table : JobTable) (found : Result ℕ Damage) → last_in (find name_cmp sequence_file (entries files)) ≡ found → shown_behind_last found (entries files) ≡ Ok table → Reads files table
+by_last : (files : Files) (table : JobTable) (found : Result ℕ Damage) → last_in (find name_cmp sequence_file (entries files)) ≡ found → shown_after_last found (entries files) ≡ Ok table → Reads files table
 by_last files table (Err damage) is shows = let impossible : ◌≡◌ {A = Result JobTable Damage} (Err damage) (Ok table) = shows in cc
 by_last files table (Ok last) is shows =
     by_journal files table last is (journal_in last (find name_cmp journal_file (entries files))) refl shows
@@ -60,8 +60,8 @@ reads files table shows = by_last files table (last_in (find name_cmp sequence_f
 shown_of_reads : (files : Files) (table : JobTable) → Reads files table → Shows files table
 unfolding shown_by
 shown_of_reads files table is =
-    ap (λ found. shown_behind_last found (entries files)) is.number
-    ∙ ap (λ found. shown_behind_journal is.last found (entries files)) is.journal
+    ap (λ found. shown_after_last found (entries files)) is.number
+    ∙ ap (λ found. shown_after_journal is.last found (entries files)) is.journal
     ∙ ap (table_or_damage is.last is.read.marks (files_that_count is.read.marks files)) is.undamaged
     ∙ ap Ok is.shown
 

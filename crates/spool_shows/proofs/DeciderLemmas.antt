@@ -7,7 +7,7 @@ use Rattle.start_journal.specs.declared.mark.Mark.TheVariants.{Removed, Started,
 use Rattle.start_journal.specs.declared.stage.Stage.{Stage}
 use Rattle.start_journal.specs.declared.stage.Stage.TheVariants.{Fresh, Open, Closed, Gone}
 use Rattle.start_journal.specs.Marks.{AreLegal, decides, marks_of, names}
-use Rattle.start_journal.specs.Stages.{GoThrough, allows, stage_behind}
+use Rattle.start_journal.specs.Stages.{GoThrough, allows, stage_after}
 use Rattle.start_journal.proofs.LifeLemmas.{numbers_live_once}
 use Rattle.start_journal.proofs.MarkLemmas.{decides_names}
 use Rattle.spool_shows.specs.Shown.{done_entry}
@@ -22,7 +22,7 @@ IsOver Closed = Unit {0}
 IsOver Gone = Unit {0}
 
 -- a mark that decides brings its number there
-brings : (number : ℕ) (stage : Stage) (mark : Mark) → decides number mark ≡ true → IsOver (stage_behind stage mark)
+brings : (number : ℕ) (stage : Stage) (mark : Mark) → decides number mark ≡ true → IsOver (stage_after stage mark)
 brings number stage (Removed of) is = tt
 brings number stage (Ended of ending) is = tt
 brings number stage (Interrupted of) is = tt
@@ -33,7 +33,7 @@ brings number stage (Batch second) is = let impossible : false ≡ true = is in 
 -- no mark that comes there decides, and the stage stays over
 record Goes (number : ℕ) (stage : Stage) (mark : Mark) : Type 0 where
   silent : decides number mark ≡ false
-  over : IsOver (stage_behind stage mark)
+  over : IsOver (stage_after stage mark)
 
 goes_on : (number : ℕ) (stage : Stage) (mark : Mark) → IsOver stage → IsTrue (allows stage mark) → Goes number stage mark
 goes_on number Fresh mark over may = absurd over
@@ -57,18 +57,18 @@ none_decides number stage (first ∷ later) mark over through (inl same) is =
     let impossible : false ≡ true = sym (goes_on number stage first over through.0).silent ∙ ap (decides number) same ∙ is in
     cc
 none_decides number stage (first ∷ later) mark over through (inr has) is =
-    none_decides number (stage_behind stage first) later mark (goes_on number stage first over through.0).over through.1 has is
+    none_decides number (stage_after stage first) later mark (goes_on number stage first over through.0).over through.1 has is
 
 -- one mark decides a number
 one_decider : (number : ℕ) (stage : Stage) (list : List Mark) (one other : Mark) → GoThrough stage list → Has list one → Has list other → decides number one ≡ true → decides number other ≡ true → one ≡ other
 one_decider number stage [] one other through has has_other is is_other = absurd has
 one_decider number stage (first ∷ later) one other through (inl same) (inl same_other) is is_other = sym same ∙ same_other
 one_decider number stage (first ∷ later) one other through (inl same) (inr has_other) is is_other =
-    absurd (none_decides number (stage_behind stage first) later other (brings number stage first (ap (decides number) same ∙ is)) through.1 has_other is_other)
+    absurd (none_decides number (stage_after stage first) later other (brings number stage first (ap (decides number) same ∙ is)) through.1 has_other is_other)
 one_decider number stage (first ∷ later) one other through (inr has) (inl same_other) is is_other =
-    absurd (none_decides number (stage_behind stage first) later one (brings number stage first (ap (decides number) same_other ∙ is_other)) through.1 has is)
+    absurd (none_decides number (stage_after stage first) later one (brings number stage first (ap (decides number) same_other ∙ is_other)) through.1 has is)
 one_decider number stage (first ∷ later) one other through (inr has) (inr has_other) is is_other =
-    one_decider number (stage_behind stage first) later one other through.1 has has_other is is_other
+    one_decider number (stage_after stage first) later one other through.1 has has_other is is_other
 
 among_its_marks : (number : ℕ) (marks : List Mark) (mark : Mark) → Has marks mark → decides number mark ≡ true → Has (marks_of number marks) mark
 among_its_marks number marks mark has is = has_filtered (names number) marks mark has (decides_names number mark is)

@@ -18,7 +18,7 @@ use Rattle.spool_shows.specs.ByName.{IsJobFile, IsWhole}
 use Rattle.spool_shows.specs.FirstDamage.{IsBefore, IsDamagedAt, IsFileDamage, IsSecond, IsUndamaged, no_header, not_drawn, second}
 use Rattle.spool_shows.specs.JobFiles.{JobFile, damage_of, file_place, files_damage, header_fault_in}
 use Rattle.spool_shows.proofs.FileLemmas.{counted_is_file, file_is_counted, files_that_count, one_file}
-use Rattle.spool_shows.proofs.FileOrder.{AreInOrder, compare, files_in_order, have_one_name, is_before, is_behind, not_before_itself, not_both_before}
+use Rattle.spool_shows.proofs.FileOrder.{AreInOrder, compare, files_in_order, have_one_name, is_before, is_after, not_before_itself, not_both_before}
 use Rattle.spool_shows.proofs.Membership.{Has, any_passes, has_made, made_has, one_passes}
 use Rattle.spool_shows.proofs.SoundLemmas.{fault_free, neither_first, no_fault, no_place}
 use Rattle.spool_shows.proofs.StartLemmas.{number_passes}
@@ -28,10 +28,10 @@ use Rattle.spool_shows.proofs.StartLemmas.{number_passes}
 -- a place where the bytes leave every header is the one
 one_place : (bytes : List ℕ) (one other : ℕ) → IsHeaderFault bytes one → IsHeaderFault bytes other → one ≡ other
 one_place bytes one other is same = elim (nat_order one other) [
-  | inl less ↦ absurd (is.longest other less same.within same.front)
+  | inl less ↦ absurd (is.longest other less same.within same.prefix)
   | inr least ↦ elim (eq-or-lt_of_le least) [
     | inl alike ↦ sym alike
-    | inr less ↦ absurd (same.longest one less is.within is.front)
+    | inr less ↦ absurd (same.longest one less is.within is.prefix)
   ]
 ] where
   nat_order : (m n : ℕ) → (m < n) ⊎ (n ≤ m)
@@ -46,12 +46,12 @@ header_given bytes place None none is =
     subst (IsHeaderFault bytes) same (header_place-fault bytes ((header_in-none bytes).0 none))
 header_given bytes place (Some header) found is = let impossible : None ≡ Some place = is in cc
 
-header_told : (bytes : List ℕ) (place : ℕ) → IsHeaderFault bytes place → header_fault_in bytes (header_in bytes) ≡ Some place
-header_told bytes place fault =
+header_known : (bytes : List ℕ) (place : ℕ) → IsHeaderFault bytes place → header_fault_in bytes (header_in bytes) ≡ Some place
+header_known bytes place fault =
     ap (header_fault_in bytes) ((header_in-none bytes).1 fault.none)
     ∙ ap Some (one_place bytes (header_place bytes) place (header_place-fault bytes fault.none) fault)
 
--- Files, behind those that were looked at.
+-- Files, after those that were looked at.
 
 abbrev numbers_of : List JobFile → List ℕ
 numbers_of files = map (λ file. file.job.number) files
@@ -78,16 +78,16 @@ module _ (last : ℕ) (marks : List Mark) (files : Files) (seen : List JobFile) 
   one_more = record {
     has = λ other is. elim (left.has other is) [
       | inl before ↦ inl (inr before)
-      | inr rest ↦ elim rest [ inl here ↦ inl (inl here) | inr behind ↦ inr behind ]
+      | inr rest ↦ elim rest [ inl here ↦ inl (inl here) | inr after ↦ inr after ]
     ];
     seen_is = λ other has. elim has [
       | inl here ↦ left.rest_is other (inl here)
       | inr before ↦ left.seen_is other before
     ];
     rest_is = λ other has. left.rest_is other (inr has);
-    before = λ one other has behind. elim has [
-      | inl here ↦ subst (λ (of : JobFile). IsBefore of other) here (left.order.0 other behind)
-      | inr before ↦ left.before one other before (inr behind)
+    before = λ one other has after. elim has [
+      | inl here ↦ subst (λ (of : JobFile). IsBefore of other) here (left.order.0 other after)
+      | inr before ↦ left.before one other before (inr after)
     ];
     order = left.order.1;
   }
@@ -101,19 +101,19 @@ module _ (last : ℕ) (marks : List Mark) (files : Files) (seen : List JobFile) 
     | inl has ↦ has
     | inr rest ↦ elim rest [
       | inl here ↦ absurd (not_before_itself file (subst (λ (of : JobFile). IsBefore of file) (sym here) before))
-      | inr behind ↦ absurd (not_both_before file other (left.order.0 other behind) before)
+      | inr after ↦ absurd (not_both_before file other (left.order.0 other after) before)
     ]
   ]
 
   -- whether a file before it has its number
-  second_told : IsSecond marks files file → list_any (λ number. number == file.job.number) (numbers_of seen) ≡ true
-  second_told is = any_passes (λ number. number == file.job.number) (numbers_of seen) is.first.job.number
+  second_known : IsSecond marks files file → list_any (λ number. number == file.job.number) (numbers_of seen) ≡ true
+  second_known is = any_passes (λ number. number == file.job.number) (numbers_of seen) is.first.job.number
       (has_made (λ (of : JobFile). of.job.number) seen is.first (was_seen is.first is.is is.before))
       (number_passes is.first.job.number file.job.number is.same)
 
-  told_second : list_any (λ number. number == file.job.number) (numbers_of seen) ≡ true → IsSecond marks files file
-  told_second told =
-      let number : (number : ℕ) × Has (numbers_of seen) number × ((number == file.job.number) ≡ true) = one_passes (λ number. number == file.job.number) (numbers_of seen) told in
+  known_second : list_any (λ number. number == file.job.number) (numbers_of seen) ≡ true → IsSecond marks files file
+  known_second known =
+      let number : (number : ℕ) × Has (numbers_of seen) number × ((number == file.job.number) ≡ true) = one_passes (λ number. number == file.job.number) (numbers_of seen) known in
       let other : (other : JobFile) × Has seen other × (other.job.number ≡ number.0) = made_has (λ (of : JobFile). of.job.number) seen number.0 number.1 in
       record {
         first = other.0;
@@ -125,11 +125,11 @@ module _ (last : ℕ) (marks : List Mark) (files : Files) (seen : List JobFile) 
   second_not : ¬ (IsSecond marks files file) → list_any (λ number. number == file.job.number) (numbers_of seen) ≡ false
   second_not not = by_test (list_any (λ number. number == file.job.number) (numbers_of seen)) refl where
     by_test : (b : Bool) → list_any (λ number. number == file.job.number) (numbers_of seen) ≡ b → list_any (λ number. number == file.job.number) (numbers_of seen) ≡ false
-    by_test true is = absurd (not (told_second is))
+    by_test true is = absurd (not (known_second is))
     by_test false is = is
 
   not_second : list_any (λ number. number == file.job.number) (numbers_of seen) ≡ false → ¬ (IsSecond marks files file)
-  not_second none is = let impossible : true ≡ false = sym (second_told is) ∙ none in cc
+  not_second none is = let impossible : true ≡ false = sym (second_known is) ∙ none in cc
 
   -- a file without a place of damage has none
   undamaged : file_place last (numbers_of seen) file ≡ None → IsUndamaged last marks files file
@@ -149,7 +149,7 @@ module _ (last : ℕ) (marks : List Mark) (files : Files) (seen : List JobFile) 
     by_twin : (twin : Bool) → list_any (λ number. number == file.job.number) (numbers_of seen) ≡ twin → nat_lt last file.job.number ≡ false → IsDamagedAt last marks files file place
     by_twin true twin drawn =
         let at : ◌≡◌ {A = Option ℕ} (Some 0) (Some place) = by_place true (ap (λ b. b || list_any (λ number. number == file.job.number) (numbers_of seen)) drawn ∙ twin) in
-        second (told_second twin) cc
+        second (known_second twin) cc
     by_twin false none drawn =
         no_header (grind (arith, nat_tests)) (not_second none)
         (header_given file.bytes place (header_in file.bytes) refl (by_place false (ap (λ b. b || list_any (λ number. number == file.job.number) (numbers_of seen)) drawn ∙ none)))
@@ -165,12 +165,12 @@ module _ (last : ℕ) (marks : List Mark) (files : Files) (seen : List JobFile) 
       let test : nat_lt last file.job.number ≡ true = grind (arith, nat_tests) in
       ap (λ b. if (b || list_any (λ number. number == file.job.number) (numbers_of seen)) then Some 0 else header_fault_in file.bytes (header_in file.bytes)) test ∙ ap Some (sym at)
   place_of place (second is at) =
-      ap (λ b. if (nat_lt last file.job.number || b) then Some 0 else header_fault_in file.bytes (header_in file.bytes)) (second_told is)
+      ap (λ b. if (nat_lt last file.job.number || b) then Some 0 else header_fault_in file.bytes (header_in file.bytes)) (second_known is)
       ∙ ap (λ b. if b then Some 0 else header_fault_in file.bytes (header_in file.bytes)) (or_true (nat_lt last file.job.number)) ∙ ap Some (sym at)
   place_of place (no_header drawn only fault) =
       let test : nat_lt last file.job.number ≡ false = grind (arith, nat_tests) in
       ap (λ b. if (b || list_any (λ number. number == file.job.number) (numbers_of seen)) then Some 0 else header_fault_in file.bytes (header_in file.bytes)) test
-      ∙ ap (λ b. if b then Some 0 else header_fault_in file.bytes (header_in file.bytes)) (second_not only) ∙ header_told file.bytes place fault
+      ∙ ap (λ b. if b then Some 0 else header_fault_in file.bytes (header_in file.bytes)) (second_not only) ∙ header_known file.bytes place fault
 
 -- the first damage that is computed is that of the first damaged file
 files_first : (last : ℕ) (marks : List Mark) (files : Files) (seen rest : List JobFile) (damage : Damage) → AreLeft marks files seen rest → ((file : JobFile) → Has seen file → IsUndamaged last marks files file) → files_damage last (numbers_of seen) rest ≡ Some damage → IsFileDamage last marks files damage
@@ -212,7 +212,7 @@ files_fine last marks files seen (first_file ∷ later) left none file has =
     let both : (damage_of first_file (file_place last (numbers_of seen) first_file) ≡ None) × (files_damage last (first_file.job.number ∷ numbers_of seen) later ≡ None) = neither_first _ _ none in
     elim has [
       | inl same ↦ subst (IsUndamaged last marks files) same (undamaged last marks files seen first_file later left (no_place first_file _ both.0))
-      | inr behind ↦ files_fine last marks files (first_file ∷ seen) later (one_more last marks files seen first_file later left) both.1 file behind
+      | inr after ↦ files_fine last marks files (first_file ∷ seen) later (one_more last marks files seen first_file later left) both.1 file after
     ]
 
 fine_files : (last : ℕ) (marks : List Mark) (files : Files) (seen rest : List JobFile) → AreLeft marks files seen rest → ((file : JobFile) → Has rest file → IsUndamaged last marks files file) → files_damage last (numbers_of seen) rest ≡ None
@@ -239,6 +239,6 @@ undamaged_all last marks files fine = fine_files last marks files [] (files_that
 pub undamaged_once : (last : ℕ) (marks : List Mark) (files : Files) → ((file : JobFile) → IsJobFile marks files file → IsUndamaged last marks files file) → (one other : JobFile) → IsJobFile marks files one → IsJobFile marks files other → one.job.number ≡ other.job.number → one ≡ other
 undamaged_once last marks files fine one other is is_other same = elim (compare one other) [
   | is_before less ↦ absurd ((fine other is_other).only (record { first = one; is = is; before = less; same = same }))
-  | is_behind less ↦ absurd ((fine one is).only (record { first = other; is = is_other; before = less; same = sym same }))
+  | is_after less ↦ absurd ((fine one is).only (record { first = other; is = is_other; before = less; same = sym same }))
   | have_one_name names ↦ one_file marks files one other is is_other names
 ]

@@ -19,7 +19,7 @@ use Rattle.spool_shows.proofs.EntryLists.{below, left, right}
 use Rattle.spool_shows.proofs.FileLemmas.{file_says, files_that_count}
 use Rattle.spool_shows.proofs.Membership.{Has, filtered_has, given_has}
 
--- each element of the list stands before those behind it, by their keys
+-- each element of the list stands before those after it, by their keys
 abbrev pub AreInOrder : {X : Type 0} → (X → List ℕ) → List X → Type 0
 AreInOrder key [] = Unit {0}
 AreInOrder {X} key (x ∷ later) = ((other : X) → Has later other → name_cmp (key x) (key other) ≡ Less) × AreInOrder key later
@@ -62,14 +62,14 @@ not_before_itself file before =
     cc
 
 pub not_both_before : (one other : JobFile) → IsBefore one other → ¬ (IsBefore other one)
-not_both_before one other before behind =
-    let impossible : Less ≡ Greater = sym behind ∙ nat_list_cmp_total.antisymm other.name one.name ∙ ap ordering_reverse before in
+not_both_before one other before after =
+    let impossible : Less ≡ Greater = sym after ∙ nat_list_cmp_total.antisymm other.name one.name ∙ ap ordering_reverse before in
     cc
 
 -- of two files one is before the other, or they have one name
 pub data AreCompared (one other : JobFile) : Type 0 where
   is_before : IsBefore one other → AreCompared one other
-  is_behind : IsBefore other one → AreCompared one other
+  is_after : IsBefore other one → AreCompared one other
   have_one_name : one.name ≡ other.name → AreCompared one other
 
 pub compare : (one other : JobFile) → AreCompared one other
@@ -77,4 +77,4 @@ compare one other = by_order (name_cmp one.name other.name) refl where
   by_order : (order : Ordering) → name_cmp one.name other.name ≡ order → AreCompared one other
   by_order Less is = is_before is
   by_order Equal is = have_one_name (exact_bytes one.name other.name is)
-  by_order Greater is = is_behind (nat_list_cmp_total.antisymm other.name one.name ∙ ap ordering_reverse is)
+  by_order Greater is = is_after (nat_list_cmp_total.antisymm other.name one.name ∙ ap ordering_reverse is)

@@ -14,7 +14,7 @@ pub mod FreshNumbers
 pub mod MarkTests
 pub mod Membership
 pub mod NameLemmas
-pub mod NarrowLemmas
+pub mod OldFormLemmas
 pub mod OneMark
 pub mod OtherLemmas
 pub mod RewriteLemmas

@@ -14,7 +14,7 @@ use Rattle.start_journal.specs.Journals.{JournalRead, journal_file, journal_in}
 use Rattle.spool_shows.specs.JobFiles.{counts, job_file, job_files}
 use Rattle.sequence_file.specs.LastNumber.{last_in}
 use Rattle.spool_shows.specs.Laws.{AgreeOnJobs, HasMarks, OtherFilesCountForNothing}
-use Rattle.spool_shows.specs.Shown.{shown_behind_journal, shown_behind_last, shown_by, shown_by_files}
+use Rattle.spool_shows.specs.Shown.{shown_after_journal, shown_after_last, shown_by, shown_by_files}
 
 -- what is found among the entries under names that pass a test
 found_among : (test : List ℕ → Bool) (files : Files) (name : List ℕ) → find name_cmp name (where_key name_cmp test (entries files)) ≡ cond (test name) (map.get files name) None
@@ -37,28 +37,28 @@ same_among test one other agree =
 pub same_job_files : (marks : List Mark) (one other : Files) → ((name : List ℕ) → counts marks name ≡ true → map.get other name ≡ map.get one name) → job_files marks (entries other) ≡ job_files marks (entries one)
 same_job_files marks one other agree = ap (filter_map job_file) (same_among (counts marks) one other agree)
 
--- behind the journal
-behind_journal : (last : ℕ) (one other : Files) (agree : AgreeOnJobs one other) (journal : Result JournalRead Damage) → last_in (map.get one sequence_file) ≡ Ok last → journal_in last (map.get one journal_file) ≡ journal → shown_behind_journal last journal (entries other) ≡ shown_behind_journal last journal (entries one)
-behind_journal last one other agree (Err damage) number journal = refl
-behind_journal last one other agree (Ok read) number journal =
+-- after the journal
+after_journal : (last : ℕ) (one other : Files) (agree : AgreeOnJobs one other) (journal : Result JournalRead Damage) → last_in (map.get one sequence_file) ≡ Ok last → journal_in last (map.get one journal_file) ≡ journal → shown_after_journal last journal (entries other) ≡ shown_after_journal last journal (entries one)
+after_journal last one other agree (Err damage) number journal = refl
+after_journal last one other agree (Ok read) number journal =
     let has : HasMarks one read.marks = record { last = last; free = read.free; number = number; journal = journal } in
     ap (shown_by_files last read.marks) (same_job_files read.marks one other (agree.jobs read.marks has))
 
--- behind the last number
-behind_last : (one other : Files) (agree : AgreeOnJobs one other) (last : Result ℕ Damage) → last_in (map.get one sequence_file) ≡ last → shown_behind_last last (entries other) ≡ shown_behind_last last (entries one)
-behind_last one other agree (Err damage) number = refl
-behind_last one other agree (Ok last) number =
+-- after the last number
+after_last : (one other : Files) (agree : AgreeOnJobs one other) (last : Result ℕ Damage) → last_in (map.get one sequence_file) ≡ last → shown_after_last last (entries other) ≡ shown_after_last last (entries one)
+after_last one other agree (Err damage) number = refl
+after_last one other agree (Ok last) number =
     let of_other : find name_cmp journal_file (entries other) ≡ map.get one journal_file = sym (get-entries other journal_file) ∙ agree.journal in
     let of_one : find name_cmp journal_file (entries one) ≡ map.get one journal_file = sym (get-entries one journal_file) in
-    ap (λ found. shown_behind_journal last (journal_in last found) (entries other)) of_other
-    ∙ behind_journal last one other agree (journal_in last (map.get one journal_file)) number refl
-    ∙ ap (λ found. shown_behind_journal last (journal_in last found) (entries one)) (sym of_one)
+    ap (λ found. shown_after_journal last (journal_in last found) (entries other)) of_other
+    ∙ after_journal last one other agree (journal_in last (map.get one journal_file)) number refl
+    ∙ ap (λ found. shown_after_journal last (journal_in last found) (entries one)) (sym of_one)
 
 pub other_files_count_for_nothing : OtherFilesCountForNothing
 unfolding shown_by
 other_files_count_for_nothing one other agree =
     let of_other : find name_cmp sequence_file (entries other) ≡ map.get one sequence_file = sym (get-entries other sequence_file) ∙ agree.sequence in
     let of_one : find name_cmp sequence_file (entries one) ≡ map.get one sequence_file = sym (get-entries one sequence_file) in
-    ap (λ found. shown_behind_last (last_in found) (entries other)) of_other
-    ∙ behind_last one other agree (last_in (map.get one sequence_file)) refl
-    ∙ ap (λ found. shown_behind_last (last_in found) (entries one)) (sym of_one)
+    ap (λ found. shown_after_last (last_in found) (entries other)) of_other
+    ∙ after_last one other agree (last_in (map.get one sequence_file)) refl
+    ∙ ap (λ found. shown_after_last (last_in found) (entries one)) (sym of_one)

@@ -80,8 +80,8 @@ record LeavesAs (marks : List Mark) (other number : ℕ) (entry : JobEntry) (fat
   remembered : is_forgotten number marks ≡ false
   is : entry ≡ Done fate
 
-told_as : (marks : List Mark) (other number : ℕ) (fate : Fate) (entry : JobEntry) → done_as marks other fate ≡ Some (number, entry) → LeavesAs marks other number entry fate
-told_as marks other number fate entry leaves = by_test (is_forgotten other marks) refl leaves where
+known_as : (marks : List Mark) (other number : ℕ) (fate : Fate) (entry : JobEntry) → done_as marks other fate ≡ Some (number, entry) → LeavesAs marks other number entry fate
+known_as marks other number fate entry leaves = by_test (is_forgotten other marks) refl leaves where
   by_test : (forgotten : Bool) → is_forgotten other marks ≡ forgotten → cond {A = Option (ℕ × JobEntry)} forgotten None (Some (other, Done fate)) ≡ Some (number, entry) → LeavesAs marks other number entry fate
   by_test true is leaves = cc
   by_test false is leaves =
@@ -91,28 +91,28 @@ told_as marks other number fate entry leaves = by_test (is_forgotten other marks
 -- the entry of a number tells this of the mark that left it
 pub entry_left : (marks : List Mark) (number : ℕ) (entry : JobEntry) (mark : Mark) → done_entry marks mark ≡ Some (number, entry) → LeavesEntry marks number entry mark
 entry_left marks number entry (Removed other) leaves =
-    let told = told_as marks other number fate.Removed entry leaves in
+    let known = known_as marks other number fate.Removed entry leaves in
     record {
-      decides = passes_same other number told.same;
-      remembered = told.remembered;
-      done = (fate.Removed, told.is);
-      always = λ list remembered. leaves_as list other number fate.Removed told.same remembered ∙ ap (λ e. Some (number, e)) (sym told.is);
+      decides = passes_same other number known.same;
+      remembered = known.remembered;
+      done = (fate.Removed, known.is);
+      always = λ list remembered. leaves_as list other number fate.Removed known.same remembered ∙ ap (λ e. Some (number, e)) (sym known.is);
     }
 entry_left marks number entry (Ended other ending) leaves =
-    let told = told_as marks other number (fate.Finished ending) entry leaves in
+    let known = known_as marks other number (fate.Finished ending) entry leaves in
     record {
-      decides = passes_same other number told.same;
-      remembered = told.remembered;
-      done = (fate.Finished ending, told.is);
-      always = λ list remembered. leaves_as list other number (fate.Finished ending) told.same remembered ∙ ap (λ e. Some (number, e)) (sym told.is);
+      decides = passes_same other number known.same;
+      remembered = known.remembered;
+      done = (fate.Finished ending, known.is);
+      always = λ list remembered. leaves_as list other number (fate.Finished ending) known.same remembered ∙ ap (λ e. Some (number, e)) (sym known.is);
     }
 entry_left marks number entry (Interrupted other) leaves =
-    let told = told_as marks other number fate.Interrupted entry leaves in
+    let known = known_as marks other number fate.Interrupted entry leaves in
     record {
-      decides = passes_same other number told.same;
-      remembered = told.remembered;
-      done = (fate.Interrupted, told.is);
-      always = λ list remembered. leaves_as list other number fate.Interrupted told.same remembered ∙ ap (λ e. Some (number, e)) (sym told.is);
+      decides = passes_same other number known.same;
+      remembered = known.remembered;
+      done = (fate.Interrupted, known.is);
+      always = λ list remembered. leaves_as list other number fate.Interrupted known.same remembered ∙ ap (λ e. Some (number, e)) (sym known.is);
     }
 entry_left marks number entry (Started other queue second) leaves = cc
 entry_left marks number entry (Forgotten other) leaves = cc

@@ -36,8 +36,8 @@ live_parts : (job other : Job) (state since : JobState) → Live job state ≡ L
 live_parts job other state since same = (cc, cc)
 
 -- the entry of a live job tells this
-pub live_told : (marks : List Mark) (files : Files) (number : ℕ) (job : Job) (state : JobState) → ShowsEntry marks files number (Some (Live job state)) → IsLiveBy marks files number job state
-live_told marks files number job state shows = by_test (is_decided number marks) refl shows where
+pub live_known : (marks : List Mark) (files : Files) (number : ℕ) (job : Job) (state : JobState) → ShowsEntry marks files number (Some (Live job state)) → IsLiveBy marks files number job state
+live_known marks files number job state shows = by_test (is_decided number marks) refl shows where
   by_test : (decided : Bool) → is_decided number marks ≡ decided → MatchBool decided (ShowsDone marks number (Some (Live job state))) (ShowsLive marks files number (Some (Live job state))) → IsLiveBy marks files number job state
   by_test true is (mark, there, leaves) =
       let left : LeavesEntry marks number (Live job state) mark = entry_left marks number (Live job state) mark leaves in
@@ -61,8 +61,8 @@ pub record IsDoneBy (marks : List Mark) (number : ℕ) : Type 0 where
   pub remembered : is_forgotten number marks ≡ false
 
 -- the entry of a job that is done tells this
-pub done_told : (marks : List Mark) (files : Files) (number : ℕ) (fate : Fate) → ShowsEntry marks files number (Some (Done fate)) → IsDoneBy marks number
-done_told marks files number fate shows = by_test (is_decided number marks) refl shows where
+pub done_known : (marks : List Mark) (files : Files) (number : ℕ) (fate : Fate) → ShowsEntry marks files number (Some (Done fate)) → IsDoneBy marks number
+done_known marks files number fate shows = by_test (is_decided number marks) refl shows where
   by_test : (decided : Bool) → is_decided number marks ≡ decided → MatchBool decided (ShowsDone marks number (Some (Done fate))) (ShowsLive marks files number (Some (Done fate))) → IsDoneBy marks number
   by_test true is (mark, there, leaves) = record { decided = is; remembered = (entry_left marks number (Done fate) mark leaves).remembered }
   by_test false is (file, there, shown) =

@@ -90,7 +90,7 @@ fine_once last before (file ∷ later) first second fine (inr one) (inl two) sam
     absurd (differs_from last before file later first fine.2 one (ap (λ (of : JobFile). of.job.number) two ∙ sym same))
 fine_once last before (file ∷ later) first second fine (inr one) (inr two) same = fine_once last (file.job.number ∷ before) later first second fine.2 one two same
 
--- files that are whole, with names apart and one name a number, are fine behind numbers that none of them has
+-- files that are whole, with names apart and one name a number, are fine after numbers that none of them has
 pub whole_is_fine : (last : ℕ) (before : List ℕ) (files : List JobFile) → ((file : JobFile) → Has files file → IsWhole last file) → ((first second : JobFile) → Has files first → Has files second → first.job.number ≡ second.job.number → first.name ≡ second.name) → AreApart (λ (file : JobFile). file.name) files → ((file : JobFile) → Has files file → list_any (λ number. number == file.job.number) before ≡ false) → AreFine last before files
 whole_is_fine last before [] whole once apart fresh = tt
 whole_is_fine last before (file ∷ later) whole once apart fresh = (

@@ -27,14 +27,14 @@ use Rattle.spool_shows.proofs.EntryLemmas.{done_decides}
 use Rattle.spool_shows.proofs.Membership.{Has, has_contained}
 
 -- the digits of either form spell a number of a job
-few_digits : (wide : Bool) (number : ℕ) → number < 16 ^ number_digits wide → number ≤ LAST_NUMBER
+few_digits : (new_form : Bool) (number : ℕ) → number < 16 ^ number_digits new_form → number ≤ LAST_NUMBER
 few_digits true number fits = omega arith
 few_digits false number fits = omega arith
 
-few_in : (wide : Bool) (bytes : List ℕ) (number : ℕ) → SpellsIn wide bytes number → number ≤ LAST_NUMBER
-few_in wide bytes number spelled =
-    let counted : length (take (number_digits wide) bytes) ≡ number_digits wide = length-take-le (number_digits wide) bytes (omega (arith, spelled.counted)) in
-    few_digits wide number (subst (λ count. number < 16 ^ count) counted spelled.digits.fits)
+few_in : (new_form : Bool) (bytes : List ℕ) (number : ℕ) → SpellsIn new_form bytes number → number ≤ LAST_NUMBER
+few_in new_form bytes number spelled =
+    let counted : length (take (number_digits new_form) bytes) ≡ number_digits new_form = length-take-le (number_digits new_form) bytes (omega (arith, spelled.counted)) in
+    few_digits new_form number (subst (λ count. number < 16 ^ count) counted spelled.digits.fits)
 
 few_of : (content : Option (List ℕ)) (number : ℕ) → Gives content number → number ≤ LAST_NUMBER
 few_of None number is = omega (arith, is)

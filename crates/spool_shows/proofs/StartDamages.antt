@@ -118,8 +118,8 @@ module _ (marks : List Mark) (files : Files) where
   here : (place : ℕ) (mark : Mark) (later : List Mark) → StandFrom place (mark ∷ later) → slice_get marks place ≡ Some mark
   here place mark later stand = let same : place + 0 ≡ place = omega arith in sym (stand 0 ∙ ap (slice_get marks) same)
 
-  behind : (place : ℕ) (mark : Mark) (later : List Mark) → StandFrom place (mark ∷ later) → StandFrom (place + 1) later
-  behind place mark later stand at = let same : place + suc at ≡ place + 1 + at = omega arith in stand (suc at) ∙ ap (slice_get marks) same
+  after : (place : ℕ) (mark : Mark) (later : List Mark) → StandFrom place (mark ∷ later) → StandFrom (place + 1) later
+  after place mark later stand at = let same : place + suc at ≡ place + 1 + at = omega arith in stand (suc at) ∙ ap (slice_get marks) same
 
   -- each such start before the place has its file
   abbrev AreFineBefore : ℕ → Type 0
@@ -127,7 +127,7 @@ module _ (marks : List Mark) (files : Files) where
 
   starts_first : (place : ℕ) (list : List Mark) (damage : Damage) → StandFrom place list → AreFineBefore place → starts_damage marks (files_that_count marks files) place list ≡ Some damage → IsStartDamage marks files damage
   starts_first place [] damage stand fine is = let impossible : None ≡ Some damage = is in cc
-  starts_first place (mark ∷ later) damage stand fine is = by_mark (mark_damage marks (files_that_count marks files) place mark) refl (starts_first (place + 1) later damage (behind place mark later stand)) where
+  starts_first place (mark ∷ later) damage stand fine is = by_mark (mark_damage marks (files_that_count marks files) place mark) refl (starts_first (place + 1) later damage (after place mark later stand)) where
     by_mark : (found : Option Damage) → mark_damage marks (files_that_count marks files) place mark ≡ found → (AreFineBefore (place + 1) → starts_damage marks (files_that_count marks files) (place + 1) later ≡ Some damage → IsStartDamage marks files damage) → IsStartDamage marks files damage
     by_mark (Some one) found go =
         let whole : Some one ≡ Some damage = sym (ap (λ o. option_or o (starts_damage marks (files_that_count marks files) (place + 1) later)) found) ∙ is in
@@ -155,7 +155,7 @@ module _ (marks : List Mark) (files : Files) where
     | inr less ↦
         ap (λ o. option_or o (starts_damage marks (files_that_count marks files) (place + 1) later))
         (mark_fine once place mark (here place mark later stand) (λ number queue start. is.earlier place number queue less start))
-        ∙ starts_found once (place + 1) later damage (behind place mark later stand) is (omega arith)
+        ∙ starts_found once (place + 1) later damage (after place mark later stand) is (omega arith)
   ]
 
   -- of the whole journal

@@ -1,4 +1,4 @@
--- A step that is legal on a table adds a mark that is legal behind those of a folder that shows it.
+-- A step that is legal on a table adds a mark that is legal after those of a folder that shows it.
 use Rattle.std.proofs.Common.{◌≡◌, ◌⊎◌, ℕ, ℤ, Bool, true, false, cond, List, Option, Some, None, [], ◌∷◌, sym, ap, subst, ◌∙◌, refl, inl, inr}
 use Rattle.std.specs.Prelude.{◌==◌, ◌||◌}
 use Rattle.std.specs.Option.{option_or}

@@ -27,16 +27,16 @@ use Rattle.spool_shows.proofs.MarkTests.{not_forgotten, started_more}
 use Rattle.start_journal.proofs.LifeLemmas.{any_with, any_without}
 use Rattle.spool_shows.proofs.OneMark.{decided_shown, marks_legal, step_shown}
 use Rattle.spool_shows.proofs.ShownEntries.{fails_other, file_moves, leaves_as, passes_same, same_jobs, shows_done, shows_live}
-use Rattle.spool_shows.proofs.ShownStates.{IsDoneBy, IsLiveBy, done_told, live_told, not_started}
+use Rattle.spool_shows.proofs.ShownStates.{IsDoneBy, IsLiveBy, done_known, live_known, not_started}
 
 -- the entry that the table has under a number is shown
 pub live_in : (files : Files) (table : JobTable) (number : ℕ) (job : Job) (state : JobState) (shows : ShowsByName files table) → entry_at table number ≡ Some (Live job state) → IsLiveBy shows.read.marks files number job state
 live_in files table number job state shows is =
-    live_told shows.read.marks files number job state (subst (ShowsEntry shows.read.marks files number) is (shows.entries number))
+    live_known shows.read.marks files number job state (subst (ShowsEntry shows.read.marks files number) is (shows.entries number))
 
 pub done_in : (files : Files) (table : JobTable) (number : ℕ) (fate : Fate) (shows : ShowsByName files table) → entry_at table number ≡ Some (Done fate) → IsDoneBy shows.read.marks number
 done_in files table number fate shows is =
-    done_told shows.read.marks files number fate (subst (ShowsEntry shows.read.marks files number) is (shows.entries number))
+    done_known shows.read.marks files number fate (subst (ShowsEntry shows.read.marks files number) is (shows.entries number))
 
 -- a number is not tested as another
 silent_other : (number other : ℕ) → ¬ (other ≡ number) → (number == other) ≡ false

@@ -9,7 +9,7 @@ use Rattle.spool_model.specs.declared.state.State.TheVariants.{Pending, Running}
 use Rattle.spool_model.specs.JobTable.{JobEntry, JobState, JobTable, table_of}
 use Rattle.sequence_file.specs.Sequence.{sequence_file}
 use Rattle.start_journal.specs.Journals.{free_slot, journal_file}
-use Rattle.spool_shows.specs.NarrowForm.{narrow_shown}
+use Rattle.spool_shows.specs.OldForm.{old_form_shown}
 use Rattle.spool_shows.specs.Shown.{shown}
 
 -- a file by its name and its bytes
@@ -32,11 +32,11 @@ script = codes "#!/bin/sh\n# at user=ann mail=0\necho hi\n"
 abbrev pub first_job : File
 first_job = (codes "a0000101b968a0", script)
 
--- the same file under its name in the wide form
-abbrev pub first_job_wide : File
-first_job_wide = (codes "a0000000101b968a0", script)
+-- the same file under its name in the new form
+abbrev pub first_job_new_form : File
+first_job_new_form = (codes "a0000000101b968a0", script)
 
--- the file of the second job, under its name in the wide form
+-- the file of the second job, under its name in the new form
 abbrev pub second_job : File
 second_job = (codes "a0000000201b968a0", script)
 
@@ -85,12 +85,12 @@ pub record SmallFoldersShow : Type 0 where
   pub done : shown (journal (started ++ ended) ∷ sequence (codes "00001\n") ∷ []) ≡ Ok (with_first (Done (Finished (Exit 0))))
   pub done_with_file : shown (journal (started ++ ended) ∷ sequence (codes "00001\n") ∷ first_job ∷ []) ≡ Ok (with_first (Done (Finished (Exit 0))))
   pub free : shown (journal (started ++ free_slot) ∷ sequence (codes "00001\n") ∷ first_job ∷ []) ≡ Ok (with_first (live (Running (pos 1735689600))))
-  pub wide_drawn : shown (sequence (codes "ffffffff\n") ∷ []) ≡ Ok (without_jobs 4294967295)
-  pub wide_pending : shown (sequence (codes "00000001\n") ∷ first_job_wide ∷ deny ∷ []) ≡ Ok (with_first (live Pending))
-  pub wide_running : shown (journal started ∷ sequence (codes "00000001\n") ∷ first_job_wide ∷ []) ≡ Ok (with_first (live (Running (pos 1735689600))))
+  pub new_form_drawn : shown (sequence (codes "ffffffff\n") ∷ []) ≡ Ok (without_jobs 4294967295)
+  pub new_form_pending : shown (sequence (codes "00000001\n") ∷ first_job_new_form ∷ deny ∷ []) ≡ Ok (with_first (live Pending))
+  pub new_form_running : shown (journal started ∷ sequence (codes "00000001\n") ∷ first_job_new_form ∷ []) ≡ Ok (with_first (live (Running (pos 1735689600))))
   pub both_forms : shown (sequence (codes "00000002\n") ∷ second_job ∷ first_job ∷ []) ≡ Ok (with_both Pending)
   pub both_forms_running : shown (journal started ∷ sequence (codes "00000002\n") ∷ second_job ∷ first_job ∷ []) ≡ Ok (with_both (Running (pos 1735689600)))
-  pub wide_name_alone : shown (sequence (codes "00001\n") ∷ first_job_wide ∷ []) ≡ Ok (with_first (live Pending))
+  pub new_form_name_alone : shown (sequence (codes "00001\n") ∷ first_job_new_form ∷ []) ≡ Ok (with_first (live Pending))
   pub other_names : shown (sequence (codes "00001\n") ∷ (codes "README", codes "x") ∷ first_job ∷ []) ≡ Ok (with_first (live Pending))
 
 -- damage that small folders show
@@ -101,29 +101,29 @@ pub record SmallFoldersAreDamaged : Type 0 where
   pub sequence_empty : shown (sequence [] ∷ []) ≡ Err (damaged sequence_file 0 None)
   pub six_digits : shown (sequence (codes "000001\n") ∷ []) ≡ Err (damaged sequence_file 6 (Some 10))
   pub six_digits_alone : shown (sequence (codes "000001") ∷ []) ≡ Err (damaged sequence_file 6 None)
-  pub wide_sequence_digit : shown (sequence (codes "0000000g\n") ∷ []) ≡ Err (damaged sequence_file 7 (Some 103))
-  pub wide_sequence_short : shown (sequence (codes "00000001") ∷ []) ≡ Err (damaged sequence_file 8 None)
-  pub wide_sequence_long : shown (sequence (codes "00000001\n\n") ∷ []) ≡ Err (damaged sequence_file 9 (Some 10))
+  pub new_form_sequence_digit : shown (sequence (codes "0000000g\n") ∷ []) ≡ Err (damaged sequence_file 7 (Some 103))
+  pub new_form_sequence_short : shown (sequence (codes "00000001") ∷ []) ≡ Err (damaged sequence_file 8 None)
+  pub new_form_sequence_long : shown (sequence (codes "00000001\n\n") ∷ []) ≡ Err (damaged sequence_file 9 (Some 10))
   pub rest : shown (journal (codes ".................................") ∷ sequence (codes "00001\n") ∷ []) ≡ Err (damaged journal_file 32 (Some 46))
   pub start_without_file : shown (journal started ∷ sequence (codes "00001\n") ∷ []) ≡ Err (damaged journal_file 0 (Some 43))
   pub start_in_another_queue : shown (journal started ∷ sequence (codes "00001\n") ∷ (codes "b0000101b968a0", script) ∷ []) ≡ Err (damaged journal_file 10 (Some 97))
   pub kind : shown (journal (codes "+Z00000001--000000000000000000.\n") ∷ sequence (codes "00001\n") ∷ []) ≡ Err (damaged journal_file 1 (Some 90))
   pub number_of_zeros : shown (journal (codes "+S00000000a-000000000067748580.\n") ∷ sequence (codes "00001\n") ∷ []) ≡ Err (damaged journal_file 9 (Some 48))
   pub second_start : shown (journal (started ++ started) ∷ sequence (codes "00001\n") ∷ first_job ∷ []) ≡ Err (damaged journal_file 32 (Some 43))
-  pub open_behind_closed : shown (journal (free_slot ++ removed) ∷ sequence (codes "00001\n") ∷ []) ≡ Err (damaged journal_file 32 (Some 43))
+  pub open_after_closed : shown (journal (free_slot ++ removed) ∷ sequence (codes "00001\n") ∷ []) ≡ Err (damaged journal_file 32 (Some 43))
   pub not_drawn : shown (sequence (codes "00001\n") ∷ (codes "a0000201b968a0", script) ∷ []) ≡ Err (damaged (codes "a0000201b968a0") 0 (Some 35))
   pub header : shown (sequence (codes "00001\n") ∷ (codes "a0000101b968a0", codes "#!/bin/sh\n# at user=ann mail=2\n") ∷ []) ≡ Err (damaged (codes "a0000101b968a0") 29 (Some 50))
   pub long_user : shown (sequence (codes "00001\n") ∷ (codes "a0000101b968a0", codes "#!/bin/sh\n# at user=abcdefghijklmnopqrstuvwxyzabcdefg mail=0\n") ∷ []) ≡ Err (damaged (codes "a0000101b968a0") 52 (Some 103))
   pub empty_file : shown (sequence (codes "00001\n") ∷ (codes "a0000101b968a0", []) ∷ []) ≡ Err (damaged (codes "a0000101b968a0") 0 None)
   pub two_files : shown (sequence (codes "00001\n") ∷ first_job ∷ (codes "b0000101b968a0", script) ∷ []) ≡ Err (damaged (codes "b0000101b968a0") 0 (Some 35))
-  pub narrow_behind_wide : shown (sequence (codes "00000001\n") ∷ first_job_wide ∷ first_job ∷ []) ≡ Err (damaged first_job.0 0 (Some 35))
-  pub wide_behind_narrow : shown (sequence (codes "00000001\n") ∷ first_job ∷ (codes "b0000000101b968a0", script) ∷ []) ≡ Err (damaged (codes "b0000000101b968a0") 0 (Some 35))
-  pub wide_not_drawn : shown (sequence (codes "00000001\n") ∷ second_job ∷ []) ≡ Err (damaged second_job.0 0 (Some 35))
+  pub old_form_after_new_form : shown (sequence (codes "00000001\n") ∷ first_job_new_form ∷ first_job ∷ []) ≡ Err (damaged first_job.0 0 (Some 35))
+  pub new_form_after_old_form : shown (sequence (codes "00000001\n") ∷ first_job ∷ (codes "b0000000101b968a0", script) ∷ []) ≡ Err (damaged (codes "b0000000101b968a0") 0 (Some 35))
+  pub new_form_not_drawn : shown (sequence (codes "00000001\n") ∷ second_job ∷ []) ≡ Err (damaged second_job.0 0 (Some 35))
 
--- what folders show by the narrow form alone
-pub record SmallFoldersShowNarrow : Type 0 where
-  pub nothing : narrow_shown (deny ∷ []) ≡ Ok (without_jobs 0)
-  pub pending : narrow_shown (sequence (codes "00001\n") ∷ first_job ∷ deny ∷ []) ≡ Ok (with_first (live Pending))
-  pub running : narrow_shown (journal started ∷ sequence (codes "00001\n") ∷ first_job ∷ []) ≡ Ok (with_first (live (Running (pos 1735689600))))
-  pub wide_name : narrow_shown (sequence (codes "00001\n") ∷ first_job_wide ∷ []) ≡ Ok (without_jobs 1)
-  pub wide_sequence : narrow_shown (sequence (codes "00000001\n") ∷ []) ≡ Err (damaged sequence_file 5 (Some 48))
+-- what folders show by the old form alone
+pub record SmallFoldersShowOldForm : Type 0 where
+  pub nothing : old_form_shown (deny ∷ []) ≡ Ok (without_jobs 0)
+  pub pending : old_form_shown (sequence (codes "00001\n") ∷ first_job ∷ deny ∷ []) ≡ Ok (with_first (live Pending))
+  pub running : old_form_shown (journal started ∷ sequence (codes "00001\n") ∷ first_job ∷ []) ≡ Ok (with_first (live (Running (pos 1735689600))))
+  pub new_form_name : old_form_shown (sequence (codes "00001\n") ∷ first_job_new_form ∷ []) ≡ Ok (without_jobs 1)
+  pub new_form_sequence : old_form_shown (sequence (codes "00000001\n") ∷ []) ≡ Err (damaged sequence_file 5 (Some 48))

@@ -59,7 +59,7 @@ abbrev pub damage_of : JobFile → Option ℕ → Option Damage
 damage_of file (Some place) = Some (damage_at file.name file.bytes place)
 damage_of file None = None
 
--- the first damage of the files, behind files of these numbers
+-- the first damage of the files, after files of these numbers
 abbrev pub files_damage : ℕ → List ℕ → List JobFile → Option Damage
 files_damage last before [] = None
 files_damage last before (file ∷ later) =

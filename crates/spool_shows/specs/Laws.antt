@@ -68,11 +68,11 @@ abbrev pub DrawsAreShown : Type 0
 DrawsAreShown = (before after : Files) (table : JobTable) → Shows before table → HasDrawn table before after →
     Shows after (after_step table Draw)
 
--- the next number was drawn, and the file of the job that has it was placed, under its name in the wide form
+-- the next number was drawn, and the file of the job that has it was placed, under its name in the new form
 pub record HasAccepted (table : JobTable) (job : Job) (before after : Files) : Type 0 where
   pub number : last_in (map.get after sequence_file) ≡ Ok (table.last + 1)
   pub name : List ℕ
-  pub named : job_named name ≡ Some (record { queue = job.queue; number = table.last + 1; minute = job.minute; wide = true })
+  pub named : job_named name ≡ Some (record { queue = job.queue; number = table.last + 1; minute = job.minute; new_form = true })
   pub mail : Bool
   pub header : header_in job.script ≡ Some (job.user, mail)
   pub placed : map.get after name ≡ Some job.script
@@ -110,7 +110,7 @@ MarksAreShown = (before after : Files) (table : JobTable) (step : Step) (added :
     IsLegal table step → AddsMark table step added → HasMarked table added before after →
     Shows after (after_step table step)
 
--- a step that is legal on the table adds a mark that is legal behind those of the journal
+-- a step that is legal on the table adds a mark that is legal after those of the journal
 abbrev pub LegalStepsAddLegalMarks : Type 0
 LegalStepsAddLegalMarks = (files : Files) (table : JobTable) (step : Step) (added : Mark) (marks : List Mark) →
     Shows files table → HasMarks files marks → IsLegal table step → AddsMark table step added →

@@ -4,5 +4,5 @@ pub mod Examples
 pub mod FirstDamage
 pub mod JobFiles
 pub mod Laws
-pub mod NarrowForm
+pub mod OldForm
 pub mod Shown

@@ -115,23 +115,23 @@ abbrev pub table_or_damage : ℕ → List Mark → List JobFile → Option Damag
 table_or_damage last marks files (Some damage) = Err damage
 table_or_damage last marks files None = Ok (table_shown last marks files)
 
--- what such files show, behind a last number and marks
+-- what such files show, after a last number and marks
 abbrev pub shown_by_files : ℕ → List Mark → List JobFile → Result JobTable Damage
 shown_by_files last marks files = table_or_damage last marks files (damage_of_jobs last marks files)
 
--- what files show behind a last number, by what the journal gives
-abbrev pub shown_behind_journal : ℕ → Result JournalRead Damage → List (List ℕ × List ℕ) → Result JobTable Damage
-shown_behind_journal last (Err damage) files = Err damage
-shown_behind_journal last (Ok read) files = shown_by_files last read.marks (job_files read.marks files)
+-- what files show after a last number, by what the journal gives
+abbrev pub shown_after_journal : ℕ → Result JournalRead Damage → List (List ℕ × List ℕ) → Result JobTable Damage
+shown_after_journal last (Err damage) files = Err damage
+shown_after_journal last (Ok read) files = shown_by_files last read.marks (job_files read.marks files)
 
 -- what files show, by what the sequence file gives
-abbrev pub shown_behind_last : Result ℕ Damage → List (List ℕ × List ℕ) → Result JobTable Damage
-shown_behind_last (Err damage) files = Err damage
-shown_behind_last (Ok last) files = shown_behind_journal last (journal_in last (find name_cmp journal_file files)) files
+abbrev pub shown_after_last : Result ℕ Damage → List (List ℕ × List ℕ) → Result JobTable Damage
+shown_after_last (Err damage) files = Err damage
+shown_after_last (Ok last) files = shown_after_journal last (journal_in last (find name_cmp journal_file files)) files
 
 -- what files show that stand in byte order of their names
 abbrev pub shown : List (List ℕ × List ℕ) → Result JobTable Damage
-shown files = shown_behind_last (last_in (find name_cmp sequence_file files)) files
+shown files = shown_after_last (last_in (find name_cmp sequence_file files)) files
 
 -- what a folder shows
 unfoldable pub shown_by : Files → Result JobTable Damage

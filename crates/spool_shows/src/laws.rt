@@ -1,14 +1,14 @@
 //! What holds of every folder, each law as the contract of a function.
 ghost use Rattle.spool_shows.specs.DamageLaws.{FoldersShowTheirFirstDamage, UndamagedFoldersShowTables};
-ghost use Rattle.spool_shows.specs.Examples.{SmallFoldersAreDamaged, SmallFoldersShow, SmallFoldersShowNarrow};
+ghost use Rattle.spool_shows.specs.Examples.{SmallFoldersAreDamaged, SmallFoldersShow, SmallFoldersShowOldForm};
 ghost use Rattle.spool_shows.specs.Laws.{AcceptsAreShown, CompactionsAreShown, DrawsAreShown, FoldersAreShownByName, LegalStepsAddLegalMarks, MarksAreShown, OtherFilesCountForNothing, RewritesAreShown, ShownTablesAreSound};
-ghost use Rattle.spool_shows.specs.NarrowForm.{NarrowFoldersShowTheSame, NarrowTablesAreShown};
+ghost use Rattle.spool_shows.specs.OldForm.{OldFormFoldersShowTheSame, OldFormTablesAreShown};
 
 /// What small folders show, computed.
 pub fn small_folders()
     ensures show { SmallFoldersShow }
     ensures damaged { SmallFoldersAreDamaged }
-    ensures narrow { SmallFoldersShowNarrow }
+    ensures old_form { SmallFoldersShowOldForm }
 {}
 
 /// What a folder shows is what each of its names and numbers shows.
@@ -58,9 +58,9 @@ pub fn rewrites_are_shown()
     ensures { RewritesAreShown }
 {}
 
-/// A folder without wide names shows the table that it shows by the narrow form alone, as spools were read before
+/// A folder without names in the new form shows the table that it shows by the old form alone, as spools were read before
 /// numbers of eight digits. With a last number in that form it shows the same, be it a table or a damage.
-pub fn narrow_folders_show_the_same()
-    ensures tables { NarrowTablesAreShown }
-    ensures damages { NarrowFoldersShowTheSame }
+pub fn old_form_folders_show_the_same()
+    ensures tables { OldFormTablesAreShown }
+    ensures damages { OldFormFoldersShowTheSame }
 {}

@@ -1,11 +1,17 @@
 //! What a spool folder shows: one job table or one damage, as a function of its files, and its laws.
-//! Nothing here runs: the store cites these definitions and lemmas.
+//!
+//! Its definitions are what a reader of the store believes, and not what runs. In the order in which to read them:
+//! 1. `JobFiles`: which files are of jobs and count, and where one is damaged
+//! 2. `Shown`: the table or the damage of all files (`shown_by`, `Shows`); `Examples` has small folders
+//! 3. `ByName` and `FirstDamage`: the same, said name by name, and by places; `DamageLaws` has that both agree
+//! 4. `OldForm`: what is shown by names of the old form alone
+//! 5. `Laws`: what holds of every folder, and of each change that a step makes to one
 #![tactic(auto)]
 
 mod laws;
 
 pub use laws::{
     accepts_are_shown, compactions_are_shown, draws_are_shown, folders_are_shown_by_name,
-    folders_show_their_first_damage, marks_are_shown, narrow_folders_show_the_same,
+    folders_show_their_first_damage, marks_are_shown, old_form_folders_show_the_same,
     other_files_count_for_nothing, rewrites_are_shown, shown_tables_are_sound, small_folders,
 };

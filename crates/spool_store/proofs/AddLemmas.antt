@@ -14,8 +14,8 @@ use Rattle.start_journal.specs.Changing.{Gives, IsChanged, IsChanging, added}
 use Rattle.start_journal.specs.Journals.{JournalRead, journal_file}
 use Rattle.start_journal.specs.Marks.{AreLegal, IsLegalAfter}
 use Rattle.whole_file.specs.Others.{ChangesFiles, IsEither, LeavesOthers}
-use Rattle.job_runs.specs.Calls.{IsSteppingOn}
-use Rattle.job_runs.specs.Current.{IsCurrent, IsSpoolName}
+use Rattle.step_runs.specs.Calls.{IsSteppingOn}
+use Rattle.step_runs.specs.Current.{IsCurrent, IsSpoolName}
 use Rattle.spool_shows.specs.Shown.{Shows}
 use Rattle.spool_store.specs.inside.Marking.{AreSameOrKept, IsMarkOf, IsMarked, KeepsFiles, kept_with}
 use Rattle.spool_store.proofs.KeptMarks.{legal_when_kept}
@@ -24,7 +24,7 @@ use Rattle.spool_store.proofs.MarkingCalls.{journal_is_spool, leaves_through, st
 use Rattle.spool_store.proofs.MarkingLemmas.{IsShownWith, added_shown, same_shown}
 use Rattle.spool_store.proofs.RoomLemmas.{changing_start, decided_still, sequence_still, shown_with}
 
--- a mark that is legal behind marks is so behind the same ones, and behind what a compaction keeps of them
+-- a mark that is legal after marks is so after the same ones, and after what a compaction keeps of them
 pub legal_still : (before after : List Mark) (mark : Mark) → AreLegal before → IsLegalAfter before mark → AreSameOrKept before after → IsLegalAfter after mark
 legal_still before after mark legal is (inl same) = subst (λ marks. IsLegalAfter marks mark) (sym same) is
 legal_still before after mark legal is (inr kept) = subst (λ marks. IsLegalAfter marks mark) (sym kept) (legal_when_kept before mark legal is)
@@ -35,14 +35,14 @@ keeps_through start middle third after (Err fault) keeps changed = tt
 keeps_through start middle third after (Ok new) keeps changed = λ name other. changed.others name other ∙ keeps name other
 
 -- The journal was given room in a first run, and in a second one the mark of the step is added.
-pub record IsAdding (narrow : List ℕ) (journal room : JournalRead) (table : JobTable) (step : Step) (mark : Mark) (first second third : World) : Type 0 where
-  pub is_mark : IsMarkOf narrow journal first.now.folder table step mark
-  pub current : IsCurrent (kept_with narrow room table) second.now.folder table
+pub record IsAdding (old_form : List ℕ) (journal room : JournalRead) (table : JobTable) (step : Step) (mark : Mark) (first second third : World) : Type 0 where
+  pub is_mark : IsMarkOf old_form journal first.now.folder table step mark
+  pub current : IsCurrent (kept_with old_form room table) second.now.folder table
   pub keeps : KeepsFiles first.now.folder second.now.folder
   pub makes_room : ChangesFiles (IsSteppingOn table [] first.now.folder) first second
   pub adds : ChangesFiles (IsChanging room (added room mark) second.now.folder) second third
 
-module _ (narrow : List ℕ) (journal room : JournalRead) (table : JobTable) (step : Step) (mark : Mark) (first second third : World) (adding : IsAdding narrow journal room table step mark first second third) where
+module _ (old_form : List ℕ) (journal room : JournalRead) (table : JobTable) (step : Step) (mark : Mark) (first second third : World) (adding : IsAdding old_form journal room table step mark first second third) where
   abbrev start : Folder
   start = first.now.folder
 
@@ -51,7 +51,7 @@ module _ (narrow : List ℕ) (journal room : JournalRead) (table : JobTable) (st
 
   -- what an image is of which this one differs at the journal
   shown_before : (image : Files) (changing : IsChanging room (added room mark) middle image) → IsShownWith room table changing.alone.from
-  shown_before image changing = shown_with narrow room middle table adding.current changing.alone.from changing.alone.was
+  shown_before image changing = shown_with old_form room middle table adding.current changing.alone.from changing.alone.was
 
   -- with the mark in its journal it shows the table after the step
   shows_after : (image : Files) → IsChanging room (added room mark) middle image → Gives (finite.get image journal_file) (added room mark) → Shows image (after_step table step)
@@ -86,7 +86,7 @@ module _ (narrow : List ℕ) (journal room : JournalRead) (table : JobTable) (st
       record {
         shows = λ image is. shows_after image (each image is) (subst (λ content. Gives content (added room mark)) (sym (changed.holds.same image is)) changed.holds.gives);
         holds = changed.holds;
-        sequence = λ image is. sequence_still room (added room mark) (kept_with narrow room table) table middle third.now.folder image adding.current changed.others (each image is);
+        sequence = λ image is. sequence_still room (added room mark) (kept_with old_form room table) table middle third.now.folder image adding.current changed.others (each image is);
         decided = decided_still journal.marks middle third.now.folder changed.others
             (decided_still journal.marks start middle adding.keeps adding.is_mark.current.decided);
       }

@@ -41,12 +41,12 @@ sorted_filtered test (entry ∷ later) sorted = by_test (test entry) (sorted_fil
 
 -- lists that rise and have the same entries are one
 same_list : (one other : List (ℕ × JobEntry)) → T (is_sorted nat_cmp one) → T (is_sorted nat_cmp other) → ((entry : ℕ × JobEntry) → Has one entry → Has other entry) → ((entry : ℕ × JobEntry) → Has other entry → Has one entry) → one ≡ other
-same_list one other rise rise_too forward back = same_entries nat_cmp nat_cmp_total exact_unsigned one other rise rise_too (λ number. by_found number (find nat_cmp number one) refl (find nat_cmp number other) refl) where
-  by_found : (number : ℕ) (first : Option JobEntry) → find nat_cmp number one ≡ first → (second : Option JobEntry) → find nat_cmp number other ≡ second → find nat_cmp number one ≡ find nat_cmp number other
-  by_found number (Some entry) is second also =
+same_list one other rise rise_too forward back = same_entries nat_cmp nat_cmp_total exact_unsigned one other rise rise_too (λ number. by_surveyed number (find nat_cmp number one) refl (find nat_cmp number other) refl) where
+  by_surveyed : (number : ℕ) (first : Option JobEntry) → find nat_cmp number one ≡ first → (second : Option JobEntry) → find nat_cmp number other ≡ second → find nat_cmp number one ≡ find nat_cmp number other
+  by_surveyed number (Some entry) is second also =
       is ∙ sym (has_key nat_cmp nat_cmp_total other number entry rise_too (forward (number, entry) (key_has nat_cmp exact_unsigned one number entry is)))
-  by_found number None is None also = is ∙ sym also
-  by_found number None is (Some entry) also =
+  by_surveyed number None is None also = is ∙ sym also
+  by_surveyed number None is (Some entry) also =
       has_key nat_cmp nat_cmp_total one number entry rise (back (number, entry) (key_has nat_cmp exact_unsigned other number entry also)) ∙ sym also
 
 -- what is made of the elements that pass a test is all that is made, where the others make nothing

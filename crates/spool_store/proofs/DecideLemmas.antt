@@ -26,14 +26,14 @@ use Rattle.spool_shows.proofs.ShownStates.{IsLiveBy}
 use Rattle.job_name.proofs.NamedJobs.{name_given, one_job_name}
 use Rattle.spool_shows.proofs.StepLaws.{by_name}
 use Rattle.spool_shows.proofs.StepMarks.{live_in}
-use Rattle.job_runs.specs.Current.{HaveForms, is_wide}
+use Rattle.step_runs.specs.Current.{HaveForms, is_new_form}
 use Rattle.spool_store.specs.inside.Marking.{HaveOneMore, IsDecisionOf, KeepsFiles}
 use Rattle.spool_store.specs.Scripts.{IsFileOf}
 use Rattle.spool_store.proofs.KeptMarks.{kept_decided}
 use Rattle.spool_store.proofs.MarkingLemmas.{IsShownWith, reads_as}
 use Rattle.spool_store.proofs.RoomLemmas.{shown_with}
 
--- a number that was drawn was drawn behind a step too
+-- a number that was drawn was drawn after a step too
 pub still_drawn : (table : JobTable) (step : Step) (number : ℕ) → number ≤ table.last → number ≤ (after_step table step).last
 still_drawn table step number few = omega (arith, last_rises table.last step)
 
@@ -50,19 +50,19 @@ pub record IsItsFile (marks : List Mark) (files : Files) (number : ℕ) (name : 
   pub alone : (other : JobFile) → IsJobFile marks files other → other.job.number ≡ number → other.name ≡ name
 
 -- a job's file is the one that has the name of it
-same_job : (one other : NamedJob) → one.queue ≡ other.queue → one.number ≡ other.number → one.minute ≡ other.minute → one.wide ≡ other.wide → one ≡ other
-same_job one other queue number minute wide = λ i. record { queue = queue i; number = number i; minute = minute i; wide = wide i }
+same_job : (one other : NamedJob) → one.queue ≡ other.queue → one.number ≡ other.number → one.minute ≡ other.minute → one.new_form ≡ other.new_form → one ≡ other
+same_job one other queue number minute new_form = λ i. record { queue = queue i; number = number i; minute = minute i; new_form = new_form i }
 
 -- a live job has its file, in a folder that is shown by name
-file_by_name : (narrow : List ℕ) (files : Files) (table : JobTable) (number : ℕ) (name : List ℕ) (shows : ShowsByName files table) → HaveForms narrow table.last files → IsFileOf table narrow number name → IsItsFile shows.read.marks files number name
-file_by_name narrow files table number name shows forms of =
+file_by_name : (old_form : List ℕ) (files : Files) (table : JobTable) (number : ℕ) (name : List ℕ) (shows : ShowsByName files table) → HaveForms old_form table.last files → IsFileOf table old_form number name → IsItsFile shows.read.marks files number name
+file_by_name old_form files table number name shows forms of =
     let marks : List Mark = shows.read.marks in
     let live : IsLiveBy marks files number of.job of.state = live_in files table number of.job of.state shows of.lives in
-    let job : NamedJob = record { queue = of.job.queue; number = number; minute = of.job.minute; wide = is_wide narrow number } in
-    let named : job_named name ≡ Some job = name_given name of.job.queue number of.job.minute (is_wide narrow number) of.spelled in
-    let wide_is : live.file.job.wide ≡ is_wide narrow number =
-    forms.each live.file.name live.file.job live.is.named (subst IsSome (sym live.is.held) refl) ∙ ap (is_wide narrow) live.number_is in
-    let its_job : live.file.job ≡ job = same_job live.file.job job (ap (λ (j : Job). j.queue) live.job_is) live.number_is (ap (λ (j : Job). j.minute) live.job_is) wide_is in
+    let job : NamedJob = record { queue = of.job.queue; number = number; minute = of.job.minute; new_form = is_new_form old_form number } in
+    let named : job_named name ≡ Some job = name_given name of.job.queue number of.job.minute (is_new_form old_form number) of.spelled in
+    let new_form_is : live.file.job.new_form ≡ is_new_form old_form number =
+    forms.each live.file.name live.file.job live.is.named (subst IsSome (sym live.is.held) refl) ∙ ap (is_new_form old_form) live.number_is in
+    let its_job : live.file.job ≡ job = same_job live.file.job job (ap (λ (j : Job). j.queue) live.job_is) live.number_is (ap (λ (j : Job). j.minute) live.job_is) new_form_is in
     let its_name : live.file.name ≡ name = one_job_name live.file.name name job (live.is.named ∙ ap Some its_job) named in
     record {
       job = job;
@@ -75,16 +75,16 @@ file_by_name narrow files table number name shows forms of =
     }
 
 -- and in one that shows the table with the journal
-its_file : (narrow : List ℕ) (journal : JournalRead) (table : JobTable) (files : Files) (number : ℕ) (name : List ℕ) → IsShownWith journal table files → HaveForms narrow table.last files → IsFileOf table narrow number name → IsItsFile journal.marks files number name
-its_file narrow journal table files number name is forms of =
+its_file : (old_form : List ℕ) (journal : JournalRead) (table : JobTable) (files : Files) (number : ℕ) (name : List ℕ) → IsShownWith journal table files → HaveForms old_form table.last files → IsFileOf table old_form number name → IsItsFile journal.marks files number name
+its_file old_form journal table files number name is forms of =
     subst (λ (read : JournalRead). IsItsFile read.marks files number name) (reads_as journal table files is)
-    (file_by_name narrow files table number name (by_name files table is.shows) forms of)
+    (file_by_name old_form files table number name (by_name files table is.shows) forms of)
 
 -- the file of the job that is decided
-pub decided_file : (narrow : List ℕ) (journal : JournalRead) (folder : Folder) (table : JobTable) (step : Step) (mark : Mark) (name : List ℕ) (decision : IsDecisionOf narrow journal folder table step mark name) → IsItsFile journal.marks (reading_of folder) decision.number name
-decided_file narrow journal folder table step mark name decision =
-    its_file narrow journal table (reading_of folder) decision.number name
-    (shown_with narrow journal folder table decision.is_mark.current (reading_of folder) (reading_is_image folder)) decision.is_mark.current.forms decision.file
+pub decided_file : (old_form : List ℕ) (journal : JournalRead) (folder : Folder) (table : JobTable) (step : Step) (mark : Mark) (name : List ℕ) (decision : IsDecisionOf old_form journal folder table step mark name) → IsItsFile journal.marks (reading_of folder) decision.number name
+decided_file old_form journal folder table step mark name decision =
+    its_file old_form journal table (reading_of folder) decision.number name
+    (shown_with old_form journal folder table decision.is_mark.current (reading_of folder) (reading_is_image folder)) decision.is_mark.current.forms decision.file
 
 -- One name alone.
 
@@ -104,9 +104,9 @@ pub apart_from : (name other : List ℕ) → ¬ (other ≡ name) → ¬ (Contain
 apart_from name other differ is = differ (only_one name other is)
 
 -- it is a file still, once the mark stands
-pub decided_held : (narrow : List ℕ) (journal : JournalRead) (first second : Folder) (table : JobTable) (step : Step) (mark : Mark) (name : List ℕ) → IsDecisionOf narrow journal first table step mark name → KeepsFiles first second → AreFiles (name ∷ []) (reading_of second)
-decided_held narrow journal first second table step mark name decision keeps =
-    let file : IsItsFile journal.marks (reading_of first) decision.number name = decided_file narrow journal first table step mark name decision in
+pub decided_held : (old_form : List ℕ) (journal : JournalRead) (first second : Folder) (table : JobTable) (step : Step) (mark : Mark) (name : List ℕ) → IsDecisionOf old_form journal first table step mark name → KeepsFiles first second → AreFiles (name ∷ []) (reading_of second)
+decided_held old_form journal first second table step mark name decision keeps =
+    let file : IsItsFile journal.marks (reading_of first) decision.number name = decided_file old_form journal first table step mark name decision in
     let held : map.get (reading_of second) name ≡ Some file.bytes =
     keeps name (job_name_apart temporary_file journal_file name file.job temporary_no_job journal_no_job file.named) ∙ file.held in
     record {

@@ -17,8 +17,8 @@ use Rattle.start_journal.specs.Marks.{AreLegal, is_decided}
 use Rattle.whole_file.specs.Clearing.{AreCleared}
 use Rattle.whole_file.specs.Others.{ChangesFiles, LeavesOthers}
 use Rattle.whole_file.proofs.OthersLemmas.{one_or_other}
-use Rattle.job_runs.specs.Calls.{IsSteppingOn, KeepsOthers}
-use Rattle.job_runs.specs.Current.{HasNoDecidedFile, HaveForms, IsCurrent, IsSpoolName}
+use Rattle.step_runs.specs.Calls.{IsSteppingOn, KeepsOthers}
+use Rattle.step_runs.specs.Current.{HasNoDecidedFile, HaveForms, IsCurrent, IsSpoolName}
 use Rattle.spool_shows.specs.JobFiles.{counts, counts_as}
 use Rattle.job_name.specs.JobName.{NamedJob, job_named}
 use Rattle.spool_shows.specs.Laws.{HasMarks}
@@ -34,8 +34,8 @@ use Rattle.whole_file.proofs.ChangesJoined.{changes_end, changes_join}
 use Rattle.spool_store.proofs.MarkingCalls.{journal_is_spool, leaves_through, stepping_one, stepping_start}
 
 -- The mark of a decision was added in a first run, and in a second one the job's file is removed.
-pub record IsDeciding (narrow : List ℕ) (journal new : JournalRead) (table : JobTable) (step : Step) (mark : Mark) (name : List ℕ) (first second third : World) : Type 0 where
-  pub decision : IsDecisionOf narrow journal first.now.folder table step mark name
+pub record IsDeciding (old_form : List ℕ) (journal new : JournalRead) (table : JobTable) (step : Step) (mark : Mark) (name : List ℕ) (first second third : World) : Type 0 where
+  pub decision : IsDecisionOf old_form journal first.now.folder table step mark name
   pub legal : AreLegal journal.marks
   pub more : HaveOneMore journal.marks mark new.marks
   pub marked : IsMarked journal.marks new second.now.folder (after_step table step)
@@ -43,7 +43,7 @@ pub record IsDeciding (narrow : List ℕ) (journal new : JournalRead) (table : J
   pub adds : ChangesFiles (IsSteppingOn table (step ∷ []) first.now.folder) first second
   pub clears : ChangesFiles (LeavesOthers (Contains (name ∷ [])) second.now.folder) second third
 
-module _ (narrow : List ℕ) (journal new : JournalRead) (table : JobTable) (step : Step) (mark : Mark) (name : List ℕ) (first second third : World) (deciding : IsDeciding narrow journal new table step mark name first second third) where
+module _ (old_form : List ℕ) (journal new : JournalRead) (table : JobTable) (step : Step) (mark : Mark) (name : List ℕ) (first second third : World) (deciding : IsDeciding old_form journal new table step mark name first second third) where
   abbrev start : Folder
   start = first.now.folder
 
@@ -56,7 +56,7 @@ module _ (narrow : List ℕ) (journal new : JournalRead) (table : JobTable) (ste
 
   -- and the job's file was there at the start
   file : IsItsFile journal.marks (reading_of start) deciding.decision.number name
-  file = decided_file narrow journal start table step mark name deciding.decision
+  file = decided_file old_form journal start table step mark name deciding.decision
 
   -- names that are not those of jobs are other ones
   elsewhere : (other : List ℕ) → job_named other ≡ None → ¬ (Contains (name ∷ []) other)
@@ -131,7 +131,7 @@ module _ (narrow : List ℕ) (journal new : JournalRead) (table : JobTable) (ste
   ]
 
   -- each file that is there was there at the start, so its name has the form that is kept
-  forms_left : AreCleared (name ∷ []) middle third.now.folder → HaveForms narrow (after_step table step).last (reading_of third.now.folder)
+  forms_left : AreCleared (name ∷ []) middle third.now.folder → HaveForms old_form (after_step table step).last (reading_of third.now.folder)
   forms_left cleared = record {
     each = λ other job named there. elim (one_or_other other name) [
       | inl same ↦
@@ -146,7 +146,7 @@ module _ (narrow : List ℕ) (journal new : JournalRead) (table : JobTable) (ste
   }
 
   -- and what is kept is current
-  pub decided_current : AreCleared (name ∷ []) middle third.now.folder → IsCurrent (kept_with narrow new (after_step table step)) third.now.folder (after_step table step)
+  pub decided_current : AreCleared (name ∷ []) middle third.now.folder → IsCurrent (kept_with old_form new (after_step table step)) third.now.folder (after_step table step)
   decided_current cleared =
       let each : (image : Files) → IsImage third.now.folder image → LeavesOthers (Contains (name ∷ [])) middle image =
       changes_end _ second third deciding.clears (λ image is. record { from = image; was = is; others = λ other apart. refl }) in
@@ -154,7 +154,7 @@ module _ (narrow : List ℕ) (journal new : JournalRead) (table : JobTable) (ste
       let no_sequence : ¬ (Contains (name ∷ []) sequence_file) = elsewhere sequence_file sequence_no_job in
       record {
         shows = λ image is. without_file image (each image is);
-        bare_is = refl;
+        without_scripts_is = refl;
         journal = record {
           certain = cleared.certain;
           same = λ image is. (each image is).others journal_file no_journal

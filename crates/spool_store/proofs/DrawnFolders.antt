@@ -23,8 +23,8 @@ use Rattle.spool_shows.proofs.ByNameReads.{journal_read, read_gives_journal}
 use Rattle.spool_shows.proofs.NameLemmas.{AgreeOnNames, agreeing_keep, differ_by, entry_kept, job_name_apart, job_name_differs, journal_apart, sequence_no_job, sound_kept, temporary_no_job}
 use Rattle.sequence_file.proofs.LastNumbers.{last_given, last_spelled}
 use Rattle.spool_shows.proofs.StepLaws.{accepts_are_shown, by_name, draws_are_shown, shown}
-use Rattle.job_runs.specs.Calls.{IsSteppingOn}
-use Rattle.job_runs.specs.Current.{EachShows, IsSpoolName}
+use Rattle.step_runs.specs.Calls.{IsSteppingOn}
+use Rattle.step_runs.specs.Current.{EachShows, IsSpoolName}
 use Rattle.spool_store.specs.Submitting.{submission}
 
 -- where each image shows the table, each gives its last number
@@ -60,14 +60,14 @@ drawing_steps table job start image shows drawing =
     } in
     elim drawing.gives [
       | inl last ↦ record {
-        front = [];
-        is_front = (submission table job, refl);
+        prefix = [];
+        is_prefix = (submission table job, refl);
         shows = same_number_shown from image table (shows from drawing.alone.was) (last_given _ table.last last) drawing.alone.others;
         others = others;
       }
       | inr next ↦ record {
-        front = Draw ∷ [];
-        is_front = (_, refl);
+        prefix = Draw ∷ [];
+        is_prefix = (_, refl);
         shows = draws_are_shown from image table (shows from drawing.alone.was) (record { number = last_given _ (table.last + 1) next; others = drawing.alone.others });
         others = others;
       }
@@ -81,7 +81,7 @@ pub record IsAfterDraw (table : JobTable) (start : Folder) (image : Files) : Typ
 
 -- the name is that of the job's file under the next number, and the script begins with the header of its user
 pub record IsFileOfNext (table : JobTable) (job : Job) (name : List ℕ) : Type 0 where
-  pub named : job_named name ≡ Some (record { queue = job.queue; number = table.last + 1; minute = job.minute; wide = true })
+  pub named : job_named name ≡ Some (record { queue = job.queue; number = table.last + 1; minute = job.minute; new_form = true })
   pub mail : Bool
   pub header : header_in job.script ≡ Some (job.user, mail)
 
@@ -128,14 +128,14 @@ module _ (table : JobTable) (job : Job) (name : List ℕ) (file : IsFileOfNext t
       } in
       elim placing.placed [
         | inl same ↦ record {
-          front = Draw ∷ [];
-          is_front = (_, refl);
+          prefix = Draw ∷ [];
+          is_prefix = (_, refl);
           shows = draws_are_shown draw.from image table (shows draw.from draw.was) (not_placed draw.from from image draw.drawn placing.alone.others same);
           others = others;
         }
         | inr script ↦ record {
-          front = submission table job;
-          is_front = ([], refl);
+          prefix = submission table job;
+          is_prefix = ([], refl);
           shows = accepts_are_shown draw.from image table job (shows draw.from draw.was) (accepted draw.from from image draw.drawn placing.alone.others script);
           others = others;
         }

@@ -68,9 +68,9 @@ not_tied a b differ = by_test (eq_by_cmp nat_cmp a b) refl where
 tied : (a b : ℕ) → a ≡ b → eq_by_cmp nat_cmp a b ≡ true
 tied a b same = ap is_eq (same_cmp a b same)
 
--- what is found behind another number
-pub found_behind : {V : Type 0} → (number : ℕ) (e : ℕ × V) (later : List (ℕ × V)) → (number ≡ e.0 → ⊥) → find nat_cmp number (e ∷ later) ≡ find nat_cmp number later
-found_behind number e later differ = ap (λ b. cond b (Some e.1) (find nat_cmp number later)) (not_tied number e.0 differ)
+-- what is found after another number
+pub found_after : {V : Type 0} → (number : ℕ) (e : ℕ × V) (later : List (ℕ × V)) → (number ≡ e.0 → ⊥) → find nat_cmp number (e ∷ later) ≡ find nat_cmp number later
+found_after number e later differ = ap (λ b. cond b (Some e.1) (find nat_cmp number later)) (not_tied number e.0 differ)
 
 pub found_here : {V : Type 0} → (number : ℕ) (e : ℕ × V) (later : List (ℕ × V)) → number ≡ e.0 → find nat_cmp number (e ∷ later) ≡ Some e.1
 found_here number e later same = ap (λ b. cond b (Some e.1) (find nat_cmp number later)) (tied number e.0 same)
@@ -99,20 +99,20 @@ module _ {X V : Type 0} (entry : X → ℕ × V) where
 
   -- an element at the place of its number is put there
   pub insert_is_put : (xs : List X) (place : ℕ) (x : X) → AllWithin (IsBefore (entry x).0) xs 0 place → AllWithin (IsFrom (entry x).0) xs place (length xs) → place ≤ length xs → find nat_cmp (entry x).0 (map entry xs) ≡ None → map entry (insert xs place x) ≡ put nat_cmp (entry x).0 (entry x).1 (map entry xs)
-  insert_is_put [] zero x before behind inside absent = refl
-  insert_is_put [] (suc place) x before behind inside absent = refl
-  insert_is_put (y ∷ later) zero x before behind inside absent =
-      let here : (entry x).0 ≤ (entry y).0 = behind 0 x (omega arith) (omega arith) in
+  insert_is_put [] zero x before after inside absent = refl
+  insert_is_put [] (suc place) x before after inside absent = refl
+  insert_is_put (y ∷ later) zero x before after inside absent =
+      let here : (entry x).0 ≤ (entry y).0 = after 0 x (omega arith) (omega arith) in
       let apart : (entry x).0 ≡ (entry y).0 → ⊥ = λ same. none_some (entry y).1 (sym absent ∙ found_here (entry x).0 (entry y) (map entry later) same) in
       ap (λ order. by_order order (entry x ∷ entry y ∷ map entry later) (((entry y).0, (entry x).1) ∷ map entry later) (entry y ∷ put nat_cmp (entry x).0 (entry x).1 (map entry later)))
       (sym (less (entry x).0 (entry y).0 (lt_of _ _ here apart))) where
         lt_of : (a b : ℕ) → a ≤ b → (a ≡ b → ⊥) → a < b
         lt_of a b le differ = omega arith
-  insert_is_put (y ∷ later) (suc place) x before behind inside absent =
+  insert_is_put (y ∷ later) (suc place) x before after inside absent =
       let here : (entry y).0 < (entry x).0 = before 0 x (omega arith) (omega arith) in
-      let gone : find nat_cmp (entry x).0 (map entry later) ≡ None = sym (found_behind (entry x).0 (entry y) (map entry later) (λ same. omega arith)) ∙ absent in
+      let gone : find nat_cmp (entry x).0 (map entry later) ≡ None = sym (found_after (entry x).0 (entry y) (map entry later) (λ same. omega arith)) ∙ absent in
       ap (λ (es : List (ℕ × V)). entry y ∷ es)
-      (insert_is_put later place x (λ k d low high. before (suc k) d (omega arith) (omega arith)) (λ k d low high. behind (suc k) d (omega arith) (omega arith)) (omega arith) gone)
+      (insert_is_put later place x (λ k d low high. before (suc k) d (omega arith) (omega arith)) (λ k d low high. after (suc k) d (omega arith) (omega arith)) (omega arith) gone)
       ∙ ap (λ order. by_order order (entry x ∷ entry y ∷ map entry later) (((entry y).0, (entry x).1) ∷ map entry later) (entry y ∷ put nat_cmp (entry x).0 (entry x).1 (map entry later)))
       (sym (more (entry x).0 (entry y).0 here))
 
@@ -151,8 +151,8 @@ module _ {X V : Type 0} (entry : X → ℕ × V) where
 
   -- a number that is there is at its place
   pub at_place : (xs : List X) (place number : ℕ) (value : V) → T (is_sorted nat_cmp (map entry xs)) → AllWithin (IsBefore number) xs 0 place → AllWithin (IsFrom number) xs place (length xs) → find nat_cmp number (map entry xs) ≡ Some value → (place < length xs) × ((d : X) → entry (get_or xs place d) ≡ (number, value))
-  at_place [] place number value rise before behind found = absurd (none_some value found)
-  at_place (y ∷ later) zero number value rise before behind found = by_test (eq_by_cmp nat_cmp number (entry y).0) refl found where
+  at_place [] place number value rise before after found = absurd (none_some value found)
+  at_place (y ∷ later) zero number value rise before after found = by_test (eq_by_cmp nat_cmp number (entry y).0) refl found where
     by_test : (b : Bool) → eq_by_cmp nat_cmp number (entry y).0 ≡ b → cond b (Some (entry y).1) (find nat_cmp number (map entry later)) ≡ Some value → (0 < length (y ∷ later)) × ((d : X) → entry y ≡ (number, value))
     by_test true is some =
         let keys : number ≡ (entry y).0 = exact_unsigned number (entry y).0 (equal _ is) in
@@ -163,15 +163,15 @@ module _ {X V : Type 0} (entry : X → ℕ × V) where
           equal Equal is = refl
           equal Greater is = let impossible : false ≡ true = is in cc
     by_test false is some =
-        let here : number ≤ (entry y).0 = behind 0 y (omega arith) (omega arith) in
+        let here : number ≤ (entry y).0 = after 0 y (omega arith) (omega arith) in
         let has : Has (map entry later) (number, value) = key_has nat_cmp exact_unsigned (map entry later) number value some in
         let under : (entry y).0 < number = each_below (entry y).0 (map entry later) (number, value) (left _ _ rise) has in
         absurd (omega arith)
-  at_place (y ∷ later) (suc place) number value rise before behind found =
+  at_place (y ∷ later) (suc place) number value rise before after found =
       let first : (entry y).0 < number = before 0 y (omega arith) (omega arith) in
       let rest : (place < length later) × ((d : X) → entry (get_or later place d) ≡ (number, value)) =
-      at_place later place number value (right (below_all nat_cmp (entry y).0 (map entry later)) (is_sorted nat_cmp (map entry later)) rise) (λ k d low high. before (suc k) d (omega arith) (omega arith)) (λ k d low high. behind (suc k) d (omega arith) (omega arith))
-      (sym (found_behind number (entry y) (map entry later) (λ same. omega arith)) ∙ found) in
+      at_place later place number value (right (below_all nat_cmp (entry y).0 (map entry later)) (is_sorted nat_cmp (map entry later)) rise) (λ k d low high. before (suc k) d (omega arith) (omega arith)) (λ k d low high. after (suc k) d (omega arith) (omega arith))
+      (sym (found_after number (entry y) (map entry later) (λ same. omega arith)) ∙ found) in
       let inside : place < length later = rest.0 in
       (omega arith, rest.1)
 

@@ -138,8 +138,8 @@ running_undecided number marks legal = runs_on number [] marks legal (λ started
 -- The marks of every journal.
 
 -- a journal whose marks are sound has legal ones
-pub sound_is_legal : (inside seen : JournalRead) → inside ≡ seen → are_sound inside.marks ≡ true → AreLegal seen.marks
-sound_is_legal inside seen is sound = subst (λ (read : JournalRead). AreLegal read.marks) is (sound_legal inside.marks sound)
+pub sound_is_legal : (inside surveyed : JournalRead) → inside ≡ surveyed → are_sound inside.marks ≡ true → AreLegal surveyed.marks
+sound_is_legal inside surveyed is sound = subst (λ (read : JournalRead). AreLegal read.marks) is (sound_legal inside.marks sound)
 
 -- What may follow.
 
@@ -151,7 +151,7 @@ runs_kept marks number legal (started, running) =
       test_kept marks number (ends number) legal (ends_names number) remembered ∙ running,
     )
 
--- a mark that is legal behind marks is so behind what a compaction keeps of them
+-- a mark that is legal after marks is so after what a compaction keeps of them
 pub legal_when_kept : (marks : List Mark) (mark : Mark) → AreLegal marks → IsLegalAfter marks mark → IsLegalAfter (kept_marks marks) mark
 legal_when_kept marks (Removed number) legal is = unnamed_kept marks number legal is
 legal_when_kept marks (Started number queue second) legal is = unnamed_kept marks number legal is

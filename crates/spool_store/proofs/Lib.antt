@@ -4,7 +4,7 @@ pub mod DecideLemmas
 pub mod DecidedFiles
 pub mod DrawnFolders
 pub mod Edits
-pub mod FrontLemmas
+pub mod PrefixLemmas
 pub mod KeptMarks
 pub mod KindLemmas
 pub mod LifecycleLemmas
@@ -23,8 +23,8 @@ pub mod RecoveryNames
 pub mod RoomLemmas
 pub mod RowRanges
 pub mod ScriptLemmas
-pub mod FindingLemmas
-pub mod FoundJobLemmas
+pub mod SurveyedFileLemmas
+pub mod SurveyedJobLemmas
 pub mod ShownLemmas
 pub mod StartLemmas
 pub mod StepCalls

@@ -11,7 +11,7 @@ use Rattle.due_lines.specs.declared.lines.Lines.{Lines}
 use Rattle.due_lines.specs.Dues.{IsLineOf, is_due_at, is_waiting_batch, is_waiting_job}
 use Rattle.due_lines.specs.TwoLines.{AreLinesOf}
 use Rattle.due_lines.proofs.LineLemmas.{lines_put}
-use Rattle.due_lines.proofs.RowLemmas.{front_of_batch, front_of_jobs}
+use Rattle.due_lines.proofs.RowLemmas.{prefix_of_batch, prefix_of_jobs}
 use Rattle.spool_store.proofs.CountLemmas.{rows_listed}
 use Rattle.spool_store.specs.Listed.{ListsLive}
 use Rattle.spool_store.specs.inside.Lined.{IsRowPut, running}
@@ -22,7 +22,7 @@ whole xs i x within is = sym (sym (set_split xs i x within) ∙ ap (set xs i) is
 
 pub row_taken : (rows new : List Row) (place : ℕ) (row : Row) → place < length rows → row ≡ get_or rows place row → new ≡ remove rows place → IsRowPut rows row [] new
 row_taken rows new place row within is taken = record {
-  front = take place rows;
+  prefix = take place rows;
   back = drop (suc place) rows;
   was = whole rows place row within is;
   is = taken;
@@ -30,7 +30,7 @@ row_taken rows new place row within is taken = record {
 
 pub row_set : (rows new : List Row) (place : ℕ) (row put : Row) → place < length rows → row ≡ get_or rows place row → new ≡ set rows place put → IsRowPut rows row (put ∷ []) new
 row_set rows new place row put within is changed = record {
-  front = take place rows;
+  prefix = take place rows;
   back = drop (suc place) rows;
   was = whole rows place row within is;
   is = changed ∙ set_split rows place put within;
@@ -38,33 +38,33 @@ row_set rows new place row put within is changed = record {
 
 -- the lines of the rows before, as the lines of a row among others
 pub lines_with : (old new put : List Row) (row : Row) (lines : Lines) → IsRowPut old row put new → AreLinesOf old lines
-    → (front : List Row) × (back : List Row) × AreLinesOf (front ++ row ∷ back) lines
-lines_with old new put row lines at are = (at.front, at.back, subst (λ (rows : List Row). AreLinesOf rows lines) at.was are)
+    → (prefix : List Row) × (back : List Row) × AreLinesOf (prefix ++ row ∷ back) lines
+lines_with old new put row lines at are = (at.prefix, at.back, subst (λ (rows : List Row). AreLinesOf rows lines) at.was are)
 
 pub lines_less : (old new : List Row) (row : Row) (lines after : Lines) → IsRowPut old row [] new
-    → ((front back : List Row) → AreLinesOf (front ++ row ∷ back) lines → AreLinesOf (front ++ back) after) → AreLinesOf old lines → AreLinesOf new after
+    → ((prefix back : List Row) → AreLinesOf (prefix ++ row ∷ back) lines → AreLinesOf (prefix ++ back) after) → AreLinesOf old lines → AreLinesOf new after
 lines_less old new row lines after at taken are =
-    subst (λ (rows : List Row). AreLinesOf rows after) (sym at.is) (taken at.front at.back (subst (λ (rows : List Row). AreLinesOf rows lines) at.was are))
+    subst (λ (rows : List Row). AreLinesOf rows after) (sym at.is) (taken at.prefix at.back (subst (λ (rows : List Row). AreLinesOf rows lines) at.was are))
 
 pub lines_started : (old new : List Row) (row : Row) (second : ℤ) (lines after : Lines) → IsRowPut old row (running row second ∷ []) new
-    → ((front back : List Row) → AreLinesOf (front ++ row ∷ back) lines → AreLinesOf (front ++ back) after) → AreLinesOf old lines → AreLinesOf new after
+    → ((prefix back : List Row) → AreLinesOf (prefix ++ row ∷ back) lines → AreLinesOf (prefix ++ back) after) → AreLinesOf old lines → AreLinesOf new after
 lines_started old new row second lines after at taken are =
     subst (λ (rows : List Row). AreLinesOf rows after) (sym at.is)
-    (lines_put at.front at.back (running row second) after refl (taken at.front at.back (subst (λ (rows : List Row). AreLinesOf rows lines) at.was are)))
+    (lines_put at.prefix at.back (running row second) after refl (taken at.prefix at.back (subst (λ (rows : List Row). AreLinesOf rows lines) at.was are)))
 
 pub lines_pushed : (old new : List Row) (row : Row) (lines after : Lines) → new ≡ old ++ row ∷ []
     → ((rows : List Row) → AreLinesOf rows lines → AreLinesOf (rows ++ row ∷ []) after) → AreLinesOf old lines → AreLinesOf new after
 lines_pushed old new row lines after is added are = subst (λ (rows : List Row). AreLinesOf rows after) (sym is) (added old are)
 
--- the front of a line up to now is the line of the jobs that are due
-pub due_listed : (table : JobTable) (rows : List Row) (dues front : List Due) (now written : ℤ) → ListsLive table rows → written ≡ now
-    → front ≡ filter (is_due_at written) dues → IsLineOf is_waiting_job rows dues → IsLineOf (is_ready_job now) (live_rows table) front
-due_listed table rows dues front now written lists same is line =
-    subst (λ (listed : List Row). IsLineOf (is_ready_job now) listed front) (sym (rows_listed table rows lists))
-    (subst (IsLineOf (is_ready_job now) rows) (sym (is ∙ ap (λ (at : ℤ). filter (is_due_at at) dues) same)) (front_of_jobs now rows dues line))
+-- the head of a line up to now is the line of the jobs that are due
+pub due_listed : (table : JobTable) (rows : List Row) (dues prefix : List Due) (now written : ℤ) → ListsLive table rows → written ≡ now
+    → prefix ≡ filter (is_due_at written) dues → IsLineOf is_waiting_job rows dues → IsLineOf (is_ready_job now) (live_rows table) prefix
+due_listed table rows dues prefix now written lists same is line =
+    subst (λ (listed : List Row). IsLineOf (is_ready_job now) listed prefix) (sym (rows_listed table rows lists))
+    (subst (IsLineOf (is_ready_job now) rows) (sym (is ∙ ap (λ (at : ℤ). filter (is_due_at at) dues) same)) (prefix_of_jobs now rows dues line))
 
-pub batch_listed : (table : JobTable) (rows : List Row) (dues front : List Due) (now written : ℤ) → ListsLive table rows → written ≡ now
-    → front ≡ filter (is_due_at written) dues → IsLineOf is_waiting_batch rows dues → IsLineOf (is_ready_batch now) (live_rows table) front
-batch_listed table rows dues front now written lists same is line =
-    subst (λ (listed : List Row). IsLineOf (is_ready_batch now) listed front) (sym (rows_listed table rows lists))
-    (subst (IsLineOf (is_ready_batch now) rows) (sym (is ∙ ap (λ (at : ℤ). filter (is_due_at at) dues) same)) (front_of_batch now rows dues line))
+pub batch_listed : (table : JobTable) (rows : List Row) (dues prefix : List Due) (now written : ℤ) → ListsLive table rows → written ≡ now
+    → prefix ≡ filter (is_due_at written) dues → IsLineOf is_waiting_batch rows dues → IsLineOf (is_ready_batch now) (live_rows table) prefix
+batch_listed table rows dues prefix now written lists same is line =
+    subst (λ (listed : List Row). IsLineOf (is_ready_batch now) listed prefix) (sym (rows_listed table rows lists))
+    (subst (IsLineOf (is_ready_batch now) rows) (sym (is ∙ ap (λ (at : ℤ). filter (is_due_at at) dues) same)) (prefix_of_batch now rows dues line))

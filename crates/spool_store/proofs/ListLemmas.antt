@@ -22,11 +22,11 @@ use Rattle.spool_shows.proofs.SoundLemmas.{fine_is_whole, no_damage_is_fine}
 use Rattle.std.proofs.lemmas.Bool.{eqb-true}
 use Rattle.spool_store.specs.declared.lifecycles.Lifecycle.{Lifecycle}
 use Rattle.spool_store.specs.declared.lifecycles.Lifecycles.{Lifecycles}
-use Rattle.spool_store.specs.declared.found_job.FoundJob.{FoundJob}
-use Rattle.spool_store.specs.inside.Lifecycles.{Rise, TellLifecycles, decided_of, remembered_fate, untold}
+use Rattle.spool_store.specs.declared.surveyed_job.SurveyedJob.{SurveyedJob}
+use Rattle.spool_store.specs.inside.Lifecycles.{Rise, TellLifecycles, decided_of, remembered_fate, unknown}
 use Rattle.spool_store.specs.inside.JobRows.{AreRowsOf, RowMap, row_of}
 use Rattle.spool_store.specs.Rows.{listed_table}
-use Rattle.spool_store.specs.inside.FoundJobs.{file_found, files_found}
+use Rattle.spool_store.specs.inside.SurveyedJobs.{file_surveyed, files_surveyed}
 use Rattle.spool_store.specs.inside.Tables.{AreUndecided, IsDrawn, ListsDrawn, ListsTable}
 use Rattle.spool_store.proofs.StartLemmas.{decided_has_fate}
 use Rattle.spool_store.proofs.TableLemmas.{decided_rise, entry_found, rows_rise, table_same}
@@ -59,7 +59,7 @@ has_fate life f is = by_test life.forgotten is where
 
 remembered_decided : (marks : List Mark) (lives : Lifecycles) → TellLifecycles marks lives → (number : ℕ) (life : Lifecycle) (f : Fate) → get nat_cmp lives.by_number number ≡ Some life → remembered_fate life ≡ Some f → is_decided number marks ≡ true
 remembered_decided marks lives tells number life f kept fated =
-    decided_has_fate number marks ∙ ap (λ (l : Lifecycle). is_some l.fate) (sym (tells number) ∙ ap (λ o. unwrap_or o untold) kept) ∙ has_fate life f fated
+    decided_has_fate number marks ∙ ap (λ (l : Lifecycle). is_some l.fate) (sym (tells number) ∙ ap (λ o. unwrap_or o unknown) kept) ∙ has_fate life f fated
 
 made_decided : (entry : ℕ × Lifecycle) (one : Decided) (given : Option Fate) → remembered_fate entry.1 ≡ given → option_map (λ f. record { number = entry.0; fate = f }) given ≡ Some one → (f : Fate) × (remembered_fate entry.1 ≡ Some f) × (entry.0 ≡ one.number)
 made_decided entry one None is made = cc
@@ -101,9 +101,9 @@ number_drawn last marks number writable drawn decided =
     decider_drawn last number mark.0 mark.2 (all_pass (is_drawn last) marks mark.0 drawn mark.1) (All-contains IsWritable marks mark.0 writable (contained marks mark.0 mark.1))
 
 -- a file that was seen has the number of a job
-pub seen_number : (seen : List FoundJob) (file : JobFile) → Has (files_found seen) file → 1 ≤ file.job.number
-seen_number seen file has =
-    let of = made_has file_found seen file has in
+pub surveyed_number : (surveyed : List SurveyedJob) (file : JobFile) → Has (files_surveyed surveyed) file → 1 ≤ file.job.number
+surveyed_number surveyed file has =
+    let of = made_has file_surveyed surveyed file has in
     let one : 1 ≤ of.0.job.number = of.0.job.drawn in
     subst (λ (f : JobFile). 1 ≤ f.job.number) of.2 one
 

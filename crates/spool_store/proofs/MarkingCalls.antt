@@ -4,11 +4,11 @@ use Rattle.host_calls.specs.Folder.{Files, Folder, IsImage}
 use Rattle.whole_file.specs.Temporary.{temporary_file}
 use Rattle.spool_model.specs.declared.step.Step.{Step}
 use Rattle.spool_model.specs.JobTable.{JobTable}
-use Rattle.spool_model.specs.Steps.{IsFront, after_step}
+use Rattle.spool_model.specs.Steps.{IsPrefix, after_step}
 use Rattle.start_journal.specs.Journals.{journal_file}
 use Rattle.whole_file.specs.Others.{IsEither, LeavesOthers}
-use Rattle.job_runs.specs.Calls.{IsSteppingOn}
-use Rattle.job_runs.specs.Current.{EachShows, IsSpoolName}
+use Rattle.step_runs.specs.Calls.{IsSteppingOn}
+use Rattle.step_runs.specs.Current.{EachShows, IsSpoolName}
 use Rattle.spool_shows.specs.Shown.{Shows}
 use Rattle.whole_file.proofs.ChangesJoined.{left_alone}
 
@@ -31,28 +31,28 @@ leaves_through may_change start middle image spool through alone =
 
 -- Steps that were made so far.
 
--- no step stands at the front of any steps
+-- no step stands at the start of any steps
 pub stepping_none : (table : JobTable) (steps : List Step) (start : Folder) (image : Files) → Shows image table → LeavesOthers IsSpoolName start image → IsSteppingOn table steps start image
-stepping_none table steps start image shows others = record { front = []; is_front = (steps, refl); shows = shows; others = others }
+stepping_none table steps start image shows others = record { prefix = []; is_prefix = (steps, refl); shows = shows; others = others }
 
 -- at the start none was made
 pub stepping_start : (table : JobTable) (steps : List Step) (start : Folder) → EachShows start table → (image : Files) → IsImage start image → IsSteppingOn table steps start image
 stepping_start table steps start shows image is = stepping_none table steps start image (shows image is) (left_alone IsSpoolName start image is)
 
--- what stands at the front of no steps stands at the front of any
-front_of_none : (front steps : List Step) → IsFront front [] → IsFront front steps
-front_of_none [] steps (behind, is) = (steps, refl)
-front_of_none (step ∷ later) steps (behind, is) = cc
+-- what stands at the start of no steps stands at the start of any
+prefix_of_none : (prefix steps : List Step) → IsPrefix prefix [] → IsPrefix prefix steps
+prefix_of_none [] steps (after, is) = (steps, refl)
+prefix_of_none (step ∷ later) steps (after, is) = cc
 
 -- where no step was made, none of more was
 pub stepping_more : (table : JobTable) (steps : List Step) (start : Folder) (image : Files) → IsSteppingOn table [] start image → IsSteppingOn table steps start image
 stepping_more table steps start image stepping = record {
-  front = stepping.front;
-  is_front = front_of_none stepping.front steps stepping.is_front;
+  prefix = stepping.prefix;
+  is_prefix = prefix_of_none stepping.prefix steps stepping.is_prefix;
   shows = stepping.shows;
   others = stepping.others;
 }
 
 -- the one step was made
 pub stepping_one : (table : JobTable) (step : Step) (start : Folder) (image : Files) → Shows image (after_step table step) → LeavesOthers IsSpoolName start image → IsSteppingOn table (step ∷ []) start image
-stepping_one table step start image shows others = record { front = step ∷ []; is_front = ([], refl); shows = shows; others = others }
+stepping_one table step start image shows others = record { prefix = step ∷ []; is_prefix = ([], refl); shows = shows; others = others }

@@ -137,7 +137,7 @@ decided_drawn last number (mark ∷ later) drawn is =
     let tests : (is_drawn last mark ≡ true) × (are_drawn last later ≡ true) = and_parts _ _ drawn in
     elim (or_cases (decides number mark) (is_decided number later) is) [
       | inl here ↦ decides_drawn last number mark tests.0 here
-      | inr behind ↦ decided_drawn last number later tests.1 behind
+      | inr beyond ↦ decided_drawn last number later tests.1 beyond
     ]
 
 -- that of a job that is done, which a mark decides

@@ -28,10 +28,10 @@ module _ {X V : Type 0} (entry : X → ℕ × V) where
   pub is_at_place : (xs slice : List X) (place number : ℕ) → slice ≡ xs → T (is_sorted nat_cmp (map entry xs)) → IsPartitionPoint (IsBefore entry number) (IsFrom entry number) slice place → IsSome (find nat_cmp number (map entry xs)) → (place < length xs) × ((d : X) → Some (entry (get_or xs place d)).1 ≡ find nat_cmp number (map entry xs)) × ((d : X) → (entry (get_or xs place d)).0 ≡ number)
   is_at_place xs slice place number same rise point some =
       let at : IsPartitionPoint (IsBefore entry number) (IsFrom entry number) xs place = subst (λ list. IsPartitionPoint (IsBefore entry number) (IsFrom entry number) list place) same point in
-      by_found (find nat_cmp number (map entry xs)) (λ value found. at_place entry xs place number value rise at.0 at.1 found) some where
-        by_found : (found : Option V) → ((value : V) → found ≡ Some value → (place < length xs) × ((d : X) → entry (get_or xs place d) ≡ (number, value))) → IsSome found → (place < length xs) × ((d : X) → Some (entry (get_or xs place d)).1 ≡ found) × ((d : X) → (entry (get_or xs place d)).0 ≡ number)
-        by_found None at held = let impossible : false ≡ true = held in cc
-        by_found (Some value) at held = let there : (place < length xs) × ((d : X) → entry (get_or xs place d) ≡ (number, value)) = at value refl in (there.0, λ d i. Some (there.1 d i).1, λ d i. (there.1 d i).0)
+      by_surveyed (find nat_cmp number (map entry xs)) (λ value found. at_place entry xs place number value rise at.0 at.1 found) some where
+        by_surveyed : (found : Option V) → ((value : V) → found ≡ Some value → (place < length xs) × ((d : X) → entry (get_or xs place d) ≡ (number, value))) → IsSome found → (place < length xs) × ((d : X) → Some (entry (get_or xs place d)).1 ≡ found) × ((d : X) → (entry (get_or xs place d)).0 ≡ number)
+        by_surveyed None at held = let impossible : false ≡ true = held in cc
+        by_surveyed (Some value) at held = let there : (place < length xs) × ((d : X) → entry (get_or xs place d) ≡ (number, value)) = at value refl in (there.0, λ d i. Some (there.1 d i).1, λ d i. (there.1 d i).0)
 
   -- what stands at a place of a slice of the list is found by its number
   pub found_at : (xs slice : List X) (place : ℕ) (x : X) → slice ≡ xs → T (is_sorted nat_cmp (map entry xs)) → (place < length slice) × ((d : X) → x ≡ get_or slice place d) → find nat_cmp (entry x).0 (map entry xs) ≡ Some (entry x).1

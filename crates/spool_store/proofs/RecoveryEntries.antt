@@ -1,4 +1,4 @@
--- What a look has seen is what a store keeps: a sound table, and marks that tell of the same jobs.
+-- What a survey has found is what a store keeps: a sound table, and marks that tell of the same jobs.
 use Rattle.std.proofs.Common.{◌≡◌, ℕ, ℤ, ◌≤◌, Bool, true, false, cond, List, Option, Some, None, [], ◌∷◌, sym, ap, subst, ◌∙◌, refl}
 use Rattle.std.specs.Prelude.{◌==◌, IfSome, IsSome, IsTrue, not, is_some, option_map}
 use Rattle.std.specs.Option.{option_or}
@@ -20,13 +20,13 @@ use Rattle.spool_shows.proofs.MarkTests.{not_forgotten}
 use Rattle.spool_shows.proofs.Membership.{Has, contained, found_has, made_has}
 use Rattle.spool_shows.proofs.SoundLemmas.{fine_is_whole, neither_first, no_damage_is_fine}
 use Rattle.spool_shows.proofs.StepLegal.{is_started_since, unnamed}
-use Rattle.job_runs.specs.Bare.{bare, bare_entry, bare_job}
-use Rattle.spool_store.specs.declared.found_job.FoundJob.{FoundJob}
+use Rattle.step_runs.specs.WithoutScripts.{without_scripts, entry_without_script, job_without_script}
+use Rattle.spool_store.specs.declared.surveyed_job.SurveyedJob.{SurveyedJob}
 use Rattle.spool_store.specs.inside.Lifecycles.{fate_at, remembered_at}
-use Rattle.spool_store.specs.inside.FoundJobs.{file_found, files_found}
-use Rattle.spool_store.specs.Stored.{AreNarrow, IsEntryBy, IsLiveBy, IsStateBy, IsStored, RunsSince}
+use Rattle.spool_store.specs.inside.SurveyedJobs.{file_surveyed, files_surveyed}
+use Rattle.spool_store.specs.Stored.{AreInOldForm, IsEntryBy, IsLiveBy, IsStateBy, IsStored, RunsSince}
 use Rattle.spool_store.specs.inside.Tables.{AreUndecided, IsDrawn, IsTableShown}
-use Rattle.spool_store.proofs.FrontLemmas.{at_shown}
+use Rattle.spool_store.proofs.PrefixLemmas.{at_shown}
 use Rattle.spool_store.proofs.ListLemmas.{number_drawn}
 use Rattle.spool_store.proofs.StartLemmas.{decided_has_fate}
 use Rattle.spool_store.proofs.TableLemmas.{found_shown}
@@ -104,8 +104,8 @@ remembered_is marks number fate is = by_test (is_forgotten number marks) refl is
 
 -- The table.
 
--- a look has seen these marks and these files, and no damage
-pub record HasSeen (last : ℕ) (marks : List Mark) (files : List JobFile) : Type 0 where
+-- a survey has found these marks and these files, and no damage
+pub record HasSurveyed (last : ℕ) (marks : List Mark) (files : List JobFile) : Type 0 where
   pub few : last ≤ LAST_NUMBER
   pub legal : AreLegal marks
   pub writable : AreWritable marks
@@ -115,30 +115,30 @@ pub record HasSeen (last : ℕ) (marks : List Mark) (files : List JobFile) : Typ
   pub whole : damage_of_jobs last marks files ≡ None
 
 -- a file that was seen has the name of a job in range
-pub seen_named : (seen : List FoundJob) (file : JobFile) → Has (files_found seen) file → IsInRange file.job.queue file.job.number file.job.minute
-seen_named seen file has =
-    let of : (one : FoundJob) × Has seen one × (file_found one ≡ file) = made_has file_found seen file has in
+pub surveyed_named : (surveyed : List SurveyedJob) (file : JobFile) → Has (files_surveyed surveyed) file → IsInRange file.job.queue file.job.number file.job.minute
+surveyed_named surveyed file has =
+    let of : (one : SurveyedJob) × Has surveyed one × (file_surveyed one ≡ file) = made_has file_surveyed surveyed file has in
     subst (λ (f : JobFile). IsInRange f.job.queue f.job.number f.job.minute) of.2
     (record { letter = of.0.job.letter; drawn = of.0.job.drawn; in_calendar = of.0.job.in_calendar })
 
 -- the entry of a number with this file and this fate
 abbrev entry_of : List Mark → Option JobFile → Option Fate → Option JobEntry
-entry_of marks found given = option_map bare_entry (option_or (option_map (λ file. (live_entry marks file).1) found) (option_map Done given))
+entry_of marks found given = option_map entry_without_script (option_or (option_map (λ file. (live_entry marks file).1) found) (option_map Done given))
 
-module _ (last : ℕ) (marks : List Mark) (files : List JobFile) (seen : HasSeen last marks files) where
+module _ (last : ℕ) (marks : List Mark) (files : List JobFile) (surveyed : HasSurveyed last marks files) where
   -- the marks tell of the job of a file
-  live_by : (file : JobFile) → Has files file → IsLiveBy marks file.job.number (bare_job (job_of file)) (state_since (started_at file.job.number marks))
+  live_by : (file : JobFile) → Has files file → IsLiveBy marks file.job.number (job_without_script (job_of file)) (state_since (started_at file.job.number marks))
   live_by file has = record {
-    named = record { letter = (seen.named file has).letter; in_calendar = (seen.named file has).in_calendar };
-    since = runs_since (started_at file.job.number marks) (since_in_range file.job.number marks seen.writable);
-    state_by = state_by marks file.job.number (started_at file.job.number marks) refl seen.legal (seen.undecided file (contained files file has));
+    named = record { letter = (surveyed.named file has).letter; in_calendar = (surveyed.named file has).in_calendar };
+    since = runs_since (started_at file.job.number marks) (since_in_range file.job.number marks surveyed.writable);
+    state_by = state_by marks file.job.number (started_at file.job.number marks) refl surveyed.legal (surveyed.undecided file (contained files file has));
   }
 
   -- and of each entry
   entry_by : (number : ℕ) (found : Option JobFile) (given : Option Fate) → file_of number files ≡ found → remembered_at number marks ≡ given → IsEntryBy marks number (entry_of marks found given)
   entry_by number (Some file) given is other =
       let there : Has files file × ((file.job.number == number) ≡ true) = found_has (λ (f : JobFile). f.job.number == number) files file is in
-      subst (λ at. IsLiveBy marks at (bare_job (job_of file)) (state_since (started_at file.job.number marks))) (eqb-true file.job.number number there.1) (live_by file there.0)
+      subst (λ at. IsLiveBy marks at (job_without_script (job_of file)) (state_since (started_at file.job.number marks))) (eqb-true file.job.number number there.1) (live_by file there.0)
   entry_by number None (Some fate) is other =
       let both = remembered_is marks number fate other in
       and_from (is_decided number marks) (not (is_forgotten number marks)) both.0 (ap not both.1)
@@ -148,30 +148,30 @@ module _ (last : ℕ) (marks : List Mark) (files : List JobFile) (seen : HasSeen
   number_in : (number : ℕ) (found : Option JobFile) (given : Option Fate) → file_of number files ≡ found → remembered_at number marks ≡ given → IsSome (entry_of marks found given) → IsDrawn last number
   number_in number (Some file) given is other some =
       let there : Has files file × ((file.job.number == number) ≡ true) = found_has (λ (f : JobFile). f.job.number == number) files file is in
-      let whole = (neither_first _ (starts_damage marks files 0 marks) seen.whole).0 in
+      let whole = (neither_first _ (starts_damage marks files 0 marks) surveyed.whole).0 in
       subst (IsDrawn last) (eqb-true file.job.number number there.1)
-      ((seen.named file there.0).drawn, (fine_is_whole last [] files file (no_damage_is_fine last [] files whole) there.0).drawn)
-  number_in number None (Some fate) is other some = number_drawn last marks number seen.writable seen.drawn (remembered_is marks number fate other).0
+      ((surveyed.named file there.0).drawn, (fine_is_whole last [] files file (no_damage_is_fine last [] files whole) there.0).drawn)
+  number_in number None (Some fate) is other some = number_drawn last marks number surveyed.writable surveyed.drawn (remembered_is marks number fate other).0
   number_in number None None is other some = let impossible : false ≡ true = some in cc
 
   -- what the table has under a number
-  under : (number : ℕ) → entry_at (bare (table_shown last marks files)) number ≡ entry_of marks (file_of number files) (remembered_at number marks)
-  under number = at_shown last marks files number ∙ ap (option_map bare_entry) (found_shown number marks files)
+  under : (number : ℕ) → entry_at (without_scripts (table_shown last marks files)) number ≡ entry_of marks (file_of number files) (remembered_at number marks)
+  under number = at_shown last marks files number ∙ ap (option_map entry_without_script) (found_shown number marks files)
 
   -- what was seen is what a store keeps
-  pub is_stored : (table : JobTable) → IsTableShown last marks files table → (free : ℕ) (narrow : List ℕ) → AreNarrow narrow → IsStored (record { table = table; journal = record { marks = marks; free = free }; narrow = narrow })
-  unfolding bare
-  is_stored table shown free narrow are_narrow = subst (λ one. IsStored (record { table = one; journal = record { marks = marks; free = free }; narrow = narrow })) (sym shown.1) stored where
-    stored : IsStored (record { table = bare (table_shown last marks files); journal = record { marks = marks; free = free }; narrow = narrow })
+  pub is_stored : (table : JobTable) → IsTableShown last marks files table → (free : ℕ) (old_form : List ℕ) → AreInOldForm old_form → IsStored (record { table = table; journal = record { marks = marks; free = free }; old_form = old_form })
+  unfolding without_scripts
+  is_stored table shown free old_form are_old_form = subst (λ one. IsStored (record { table = one; journal = record { marks = marks; free = free }; old_form = old_form })) (sym shown.1) stored where
+    stored : IsStored (record { table = without_scripts (table_shown last marks files); journal = record { marks = marks; free = free }; old_form = old_form })
     stored = record {
       sound = record {
-        few = seen.few;
+        few = surveyed.few;
         each = λ number some.
             let drawn = number_in number (file_of number files) (remembered_at number marks) refl refl (subst IsSome (under number) some) in
             record { some = drawn.0; drawn = drawn.1 };
       };
-      drawn = seen.drawn;
+      drawn = surveyed.drawn;
       entries = λ number. subst (IsEntryBy marks number) (sym (under number)) (entry_by number (file_of number files) (remembered_at number marks) refl refl);
-      batch = last_batch_in_range marks seen.writable;
-      narrow = are_narrow;
+      batch = last_batch_in_range marks surveyed.writable;
+      old_form = are_old_form;
     }

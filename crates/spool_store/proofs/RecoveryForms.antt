@@ -20,13 +20,13 @@ use Rattle.spool_shows.proofs.Membership.{Has, any_passes, filtered_has, has_fil
 use Rattle.spool_shows.proofs.OneMark.{ok_same}
 use Rattle.spool_shows.proofs.ShownEntries.{passes_same}
 use Rattle.spool_shows.proofs.StepLaws.{by_name}
-use Rattle.job_runs.specs.Current.{HaveForms, is_wide}
-use Rattle.spool_store.specs.declared.found_job.FoundJob.{FoundJob}
+use Rattle.step_runs.specs.Current.{HaveForms, is_new_form}
+use Rattle.spool_store.specs.declared.surveyed_job.SurveyedJob.{SurveyedJob}
 use Rattle.spool_store.specs.declared.survey.Survey.{Survey}
-use Rattle.spool_store.specs.inside.FoundJobs.{file_found, files_found, narrow_numbers}
+use Rattle.spool_store.specs.inside.SurveyedJobs.{file_surveyed, files_surveyed, old_form_numbers}
 use Rattle.spool_store.specs.inside.Survey.{IsSurvey, is_decided_job, is_left_over}
-use Rattle.spool_store.specs.Stored.{AreNarrow}
-use Rattle.spool_store.proofs.SurveyLemmas.{seen_at, seen_behind, seen_inside}
+use Rattle.spool_store.specs.Stored.{AreInOldForm}
+use Rattle.spool_store.proofs.SurveyLemmas.{surveyed_at, surveyed_after, surveyed_inside}
 
 -- a test that fails in the negative passes
 was_true : (b : Bool) → not b ≡ false → b ≡ true
@@ -38,48 +38,48 @@ was_false false is = refl
 was_false true is = cc
 
 module _ (last : ℕ) (marks : List Mark) (files : Files) (sound : AreSound last marks files) where
-  -- the numbers of narrow names
+  -- the numbers of names in the old form
   abbrev numbers : List ℕ
-  numbers = narrow_numbers (job_files marks (finite.entries files))
+  numbers = old_form_numbers (job_files marks (finite.entries files))
 
-  -- A file of the number has a narrow name.
-  record HasNarrow (number : ℕ) : Type 0 where
+  -- A file of the number has a name in the old form.
+  record HasOldForm (number : ℕ) : Type 0 where
     file : JobFile
     is : IsJobFile marks files file
     number_is : file.job.number ≡ number
-    narrow : not file.job.wide ≡ true
+    old_form : not file.job.new_form ≡ true
 
   -- each of the numbers is that of one
-  found_narrow : (number : ℕ) → is_wide numbers number ≡ false → HasNarrow number
-  found_narrow number told =
-      let any : list_any (λ other. other == number) numbers ≡ true = was_true _ told in
+  found_old_form : (number : ℕ) → is_new_form numbers number ≡ false → HasOldForm number
+  found_old_form number known =
+      let any : list_any (λ other. other == number) numbers ≡ true = was_true _ known in
       let one = one_passes (λ (other : ℕ). other == number) numbers any in
-      let made = made_has (λ (file : JobFile). file.job.number) (filter (λ (file : JobFile). not file.job.wide) (job_files marks (finite.entries files))) one.0 one.1 in
-      let kept = filtered_has (λ (file : JobFile). not file.job.wide) (job_files marks (finite.entries files)) made.0 made.1 in
+      let made = made_has (λ (file : JobFile). file.job.number) (filter (λ (file : JobFile). not file.job.new_form) (job_files marks (finite.entries files))) one.0 one.1 in
+      let kept = filtered_has (λ (file : JobFile). not file.job.new_form) (job_files marks (finite.entries files)) made.0 made.1 in
       record {
         file = made.0;
         is = counted_is_file marks files made.0 kept.0;
         number_is = made.2 ∙ eqb-true one.0 number one.2;
-        narrow = kept.1;
+        old_form = kept.1;
       }
 
   -- so the form of a file's name is told by its number
-  form_told : (file : JobFile) → IsJobFile marks files file → file.job.wide ≡ is_wide numbers file.job.number
-  form_told file is = by_form file.job.wide refl where
-    by_number : (wide : Bool) → is_wide numbers file.job.number ≡ wide → file.job.wide ≡ true → true ≡ is_wide numbers file.job.number
-    by_number true told form = sym told
-    by_number false told form =
-        let other : HasNarrow file.job.number = found_narrow file.job.number told in
+  form_known : (file : JobFile) → IsJobFile marks files file → file.job.new_form ≡ is_new_form numbers file.job.number
+  form_known file is = by_form file.job.new_form refl where
+    by_number : (new_form : Bool) → is_new_form numbers file.job.number ≡ new_form → file.job.new_form ≡ true → true ≡ is_new_form numbers file.job.number
+    by_number true known form = sym known
+    by_number false known form =
+        let other : HasOldForm file.job.number = found_old_form file.job.number known in
         let same : other.file ≡ file = one_file marks files other.file file other.is is (sound.once other.file file other.is is other.number_is) in
-        let impossible : false ≡ true = sym (ap not form) ∙ sym (ap (λ (one : JobFile). not one.job.wide) same) ∙ other.narrow in
+        let impossible : false ≡ true = sym (ap not form) ∙ sym (ap (λ (one : JobFile). not one.job.new_form) same) ∙ other.old_form in
         cc
 
-    by_form : (wide : Bool) → file.job.wide ≡ wide → file.job.wide ≡ is_wide numbers file.job.number
-    by_form true form = form ∙ by_number (is_wide numbers file.job.number) refl form
+    by_form : (new_form : Bool) → file.job.new_form ≡ new_form → file.job.new_form ≡ is_new_form numbers file.job.number
+    by_form true form = form ∙ by_number (is_new_form numbers file.job.number) refl form
     by_form false form =
         let there : Has numbers file.job.number =
-        has_made (λ (one : JobFile). one.job.number) (filter (λ (one : JobFile). not one.job.wide) (job_files marks (finite.entries files))) file
-        (has_filtered (λ (one : JobFile). not one.job.wide) (job_files marks (finite.entries files)) file (file_is_counted marks files file is) (ap not form)) in
+        has_made (λ (one : JobFile). one.job.number) (filter (λ (one : JobFile). not one.job.new_form) (job_files marks (finite.entries files))) file
+        (has_filtered (λ (one : JobFile). not one.job.new_form) (job_files marks (finite.entries files)) file (file_is_counted marks files file is) (ap not form)) in
         form ∙ sym (ap not (any_passes (λ (other : ℕ). other == file.job.number) numbers file.job.number there (passes_same file.job.number file.job.number refl)))
 
 -- a name that is there has bytes
@@ -87,16 +87,16 @@ held_there : (found : Option (List ℕ)) → IsSome found → (bytes : List ℕ)
 held_there (Some bytes) there = (bytes, refl)
 held_there None there = let impossible : false ≡ true = there in cc
 
--- What is left of a folder that was looked at: the files that count, as they were.
-pub forms_found : (files : Files) (look : Survey) (found : IsSurvey files look) (left : Files) → ((name : List ℕ) → is_left_over look.journal.marks name ≡ false → finite.get left name ≡ finite.get files name) → ((name : List ℕ) → is_left_over look.journal.marks name ≡ true → finite.get left name ≡ None) → HaveForms look.narrow.items found.table.last left
-forms_found files look found left stays gone = subst (λ list. HaveForms list found.table.last left) (sym found.narrow) (record {
+-- What is left of a folder that was surveyed: the files that count, as they were.
+pub forms_found : (files : Files) (survey : Survey) (found : IsSurvey files survey) (left : Files) → ((name : List ℕ) → is_left_over survey.journal.marks name ≡ false → finite.get left name ≡ finite.get files name) → ((name : List ℕ) → is_left_over survey.journal.marks name ≡ true → finite.get left name ≡ None) → HaveForms survey.old_form.items found.table.last left
+forms_found files survey found left stays gone = subst (λ list. HaveForms list found.table.last left) (sym found.old_form) (record {
   each = λ name job named there. by_left name job named there (is_left_over marks name) refl;
-  drawn = λ number told.
-      let one : HasNarrow found.table.last marks files sound number = found_narrow found.table.last marks files sound number told in
+  drawn = λ number known.
+      let one : HasOldForm found.table.last marks files sound number = found_old_form found.table.last marks files sound number known in
       subst (λ n. n ≤ found.table.last) one.number_is (sound.each one.file one.is).drawn;
 }) where
   marks : List Mark
-  marks = look.journal.marks
+  marks = survey.journal.marks
 
   shows : ShowsByName files found.table
   shows = by_name files found.table found.shows
@@ -104,68 +104,68 @@ forms_found files look found left stays gone = subst (λ list. HaveForms list fo
   sound : AreSound found.table.last marks files
   sound = subst (λ (read : JournalRead). AreSound found.table.last read.marks files) (ok_same _ (journal_read files found.table shows) found.journal) shows.sound
 
-  by_left : (name : List ℕ) (job : NamedJob) → job_named name ≡ Some job → IsSome (finite.get left name) → (over : Bool) → is_left_over marks name ≡ over → job.wide ≡ is_wide (narrow_numbers (job_files marks (finite.entries files))) job.number
+  by_left : (name : List ℕ) (job : NamedJob) → job_named name ≡ Some job → IsSome (finite.get left name) → (over : Bool) → is_left_over marks name ≡ over → job.new_form ≡ is_new_form (old_form_numbers (job_files marks (finite.entries files))) job.number
   by_left name job named there true over = let impossible : false ≡ true = sym (ap is_some (gone name over)) ∙ there in cc
   by_left name job named there false over =
       let held = held_there (finite.get files name) (subst IsSome (stays name over) there) in
       let undecided : is_decided job.number marks ≡ false = sym (ap (is_decided_job marks) named) ∙ (neither_of _ _ over).1 in
-      form_told found.table.last marks files sound (record { name = name; job = job; bytes = held.0 }) (record { held = held.1; named = named; undecided = undecided })
+      form_known found.table.last marks files sound (record { name = name; job = job; bytes = held.0 }) (record { held = held.1; named = named; undecided = undecided })
 
 -- The numbers, file by file.
 
 abbrev number_of : JobFile → ℕ
 number_of file = file.job.number
 
-abbrev is_narrow : JobFile → Bool
-is_narrow file = not file.job.wide
+abbrev is_old_form : JobFile → Bool
+is_old_form file = not file.job.new_form
 
 -- cut files have the same
-pub narrow_same : (change : JobFile → JobFile) → ((file : JobFile) → (change file).job ≡ file.job) → (files : List JobFile) → narrow_numbers (map change files) ≡ narrow_numbers files
-narrow_same change same [] = refl
-narrow_same change same (file ∷ files) =
-    ap (λ b. map number_of (cond b (change file ∷ filter is_narrow (map change files)) (filter is_narrow (map change files)))) (ap (λ (job : NamedJob). not job.wide) (same file))
-    ∙ by_test (not file.job.wide) (narrow_same change same files) where
-      by_test : (b : Bool) → narrow_numbers (map change files) ≡ narrow_numbers files → map number_of (cond b (change file ∷ filter is_narrow (map change files)) (filter is_narrow (map change files))) ≡ map number_of (cond b (file ∷ filter is_narrow files) (filter is_narrow files))
+pub old_form_same : (change : JobFile → JobFile) → ((file : JobFile) → (change file).job ≡ file.job) → (files : List JobFile) → old_form_numbers (map change files) ≡ old_form_numbers files
+old_form_same change same [] = refl
+old_form_same change same (file ∷ files) =
+    ap (λ b. map number_of (cond b (change file ∷ filter is_old_form (map change files)) (filter is_old_form (map change files)))) (ap (λ (job : NamedJob). not job.new_form) (same file))
+    ∙ by_test (not file.job.new_form) (old_form_same change same files) where
+      by_test : (b : Bool) → old_form_numbers (map change files) ≡ old_form_numbers files → map number_of (cond b (change file ∷ filter is_old_form (map change files)) (filter is_old_form (map change files))) ≡ map number_of (cond b (file ∷ filter is_old_form files) (filter is_old_form files))
       by_test true rest = λ i. (same file i).number ∷ rest i
       by_test false rest = rest
 
 -- one file more
-pub narrow_more : (files : List JobFile) (file : JobFile) → narrow_numbers (files ++ file ∷ []) ≡ narrow_numbers files ++ narrow_numbers (file ∷ [])
-narrow_more [] file = refl
-narrow_more (first ∷ files) file = by_test (not first.job.wide) (narrow_more files file) where
-  by_test : (b : Bool) → narrow_numbers (files ++ file ∷ []) ≡ narrow_numbers files ++ narrow_numbers (file ∷ []) → map number_of (cond b (first ∷ filter is_narrow (files ++ file ∷ [])) (filter is_narrow (files ++ file ∷ []))) ≡ map number_of (cond b (first ∷ filter is_narrow files) (filter is_narrow files)) ++ narrow_numbers (file ∷ [])
+pub old_form_more : (files : List JobFile) (file : JobFile) → old_form_numbers (files ++ file ∷ []) ≡ old_form_numbers files ++ old_form_numbers (file ∷ [])
+old_form_more [] file = refl
+old_form_more (first ∷ files) file = by_test (not first.job.new_form) (old_form_more files file) where
+  by_test : (b : Bool) → old_form_numbers (files ++ file ∷ []) ≡ old_form_numbers files ++ old_form_numbers (file ∷ []) → map number_of (cond b (first ∷ filter is_old_form (files ++ file ∷ [])) (filter is_old_form (files ++ file ∷ []))) ≡ map number_of (cond b (first ∷ filter is_old_form files) (filter is_old_form files)) ++ old_form_numbers (file ∷ [])
   by_test true rest = ap (λ numbers. first.job.number ∷ numbers) rest
   by_test false rest = rest
 
 -- the numbers of the files up to the next one
-next_numbers : (seen : List FoundJob) (place : ℕ) (file : FoundJob) → place < length seen → file ≡ get_or seen place file → narrow_numbers (take (place + 1) (files_found seen)) ≡ narrow_numbers (take place (files_found seen)) ++ narrow_numbers (file_found file ∷ [])
-next_numbers seen place file inside here =
-    ap narrow_numbers (take_more (files_found seen) place (file_found file) (seen_inside seen place inside) ∙ ap (λ one. take place (files_found seen) ++ one ∷ []) (seen_at seen place file inside here))
-    ∙ narrow_more (take place (files_found seen)) (file_found file)
+next_numbers : (surveyed : List SurveyedJob) (place : ℕ) (file : SurveyedJob) → place < length surveyed → file ≡ get_or surveyed place file → old_form_numbers (take (place + 1) (files_surveyed surveyed)) ≡ old_form_numbers (take place (files_surveyed surveyed)) ++ old_form_numbers (file_surveyed file ∷ [])
+next_numbers surveyed place file inside here =
+    ap old_form_numbers (take_more (files_surveyed surveyed) place (file_surveyed file) (surveyed_inside surveyed place inside) ∙ ap (λ one. take place (files_surveyed surveyed) ++ one ∷ []) (surveyed_at surveyed place file inside here))
+    ∙ old_form_more (take place (files_surveyed surveyed)) (file_surveyed file)
 
--- with one that has a narrow name, and with one that has a wide one
-pub next_is_narrow : (seen : List FoundJob) (place : ℕ) (file : FoundJob) (numbers after : List ℕ) → place < length seen → file ≡ get_or seen place file → file.job.wide ≡ false → numbers ≡ narrow_numbers (take place (files_found seen)) → after ≡ numbers ++ file.job.number ∷ [] → after ≡ narrow_numbers (take (place + 1) (files_found seen))
-next_is_narrow seen place file numbers after inside here form before is =
+-- with one that has a name in the old form, and with one that has a new one
+pub next_is_old_form : (surveyed : List SurveyedJob) (place : ℕ) (file : SurveyedJob) (numbers after : List ℕ) → place < length surveyed → file ≡ get_or surveyed place file → file.job.new_form ≡ false → numbers ≡ old_form_numbers (take place (files_surveyed surveyed)) → after ≡ numbers ++ file.job.number ∷ [] → after ≡ old_form_numbers (take (place + 1) (files_surveyed surveyed))
+next_is_old_form surveyed place file numbers after inside here form before is =
     is ∙ ap (λ list. list ++ file.job.number ∷ []) before
-    ∙ sym (next_numbers seen place file inside here ∙ ap (λ wide. narrow_numbers (take place (files_found seen)) ++ map number_of (cond (not wide) (file_found file ∷ []) [])) form)
+    ∙ sym (next_numbers surveyed place file inside here ∙ ap (λ new_form. old_form_numbers (take place (files_surveyed surveyed)) ++ map number_of (cond (not new_form) (file_surveyed file ∷ []) [])) form)
 
-pub next_is_wide : (seen : List FoundJob) (place : ℕ) (file : FoundJob) (numbers after : List ℕ) → place < length seen → file ≡ get_or seen place file → file.job.wide ≡ true → numbers ≡ narrow_numbers (take place (files_found seen)) → after ≡ numbers → after ≡ narrow_numbers (take (place + 1) (files_found seen))
-next_is_wide seen place file numbers after inside here form before is =
+pub next_is_new_form : (surveyed : List SurveyedJob) (place : ℕ) (file : SurveyedJob) (numbers after : List ℕ) → place < length surveyed → file ≡ get_or surveyed place file → file.job.new_form ≡ true → numbers ≡ old_form_numbers (take place (files_surveyed surveyed)) → after ≡ numbers → after ≡ old_form_numbers (take (place + 1) (files_surveyed surveyed))
+next_is_new_form surveyed place file numbers after inside here form before is =
     is ∙ before
-    ∙ sym (next_numbers seen place file inside here ∙ ap (λ wide. narrow_numbers (take place (files_found seen)) ++ map number_of (cond (not wide) (file_found file ∷ []) [])) form ∙ append-nil (narrow_numbers (take place (files_found seen))))
+    ∙ sym (next_numbers surveyed place file inside here ∙ ap (λ new_form. old_form_numbers (take place (files_surveyed surveyed)) ++ map number_of (cond (not new_form) (file_surveyed file ∷ []) [])) form ∙ append-nil (old_form_numbers (take place (files_surveyed surveyed))))
 
 -- and with all of them
-pub all_numbers : (seen : List FoundJob) (place : ℕ) (numbers : List ℕ) → length seen ≤ place → numbers ≡ narrow_numbers (take place (files_found seen)) → numbers ≡ narrow_numbers (files_found seen)
-all_numbers seen place numbers behind is = is ∙ ap narrow_numbers (take_all place (files_found seen) (seen_behind seen place behind))
+pub all_numbers : (surveyed : List SurveyedJob) (place : ℕ) (numbers : List ℕ) → length surveyed ≤ place → numbers ≡ old_form_numbers (take place (files_surveyed surveyed)) → numbers ≡ old_form_numbers (files_surveyed surveyed)
+all_numbers surveyed place numbers later is = is ∙ ap old_form_numbers (take_all place (files_surveyed surveyed) (surveyed_after surveyed place later))
 
--- Each of the numbers has as many digits as a narrow name has.
-pub are_narrow : (seen : List FoundJob) → AreNarrow (narrow_numbers (files_found seen))
-are_narrow seen number told =
-    let any : list_any (λ other. other == number) (narrow_numbers (files_found seen)) ≡ true = was_true _ told in
-    let one = one_passes (λ (other : ℕ). other == number) (narrow_numbers (files_found seen)) any in
-    let made = made_has number_of (filter is_narrow (files_found seen)) one.0 one.1 in
-    let kept = filtered_has is_narrow (files_found seen) made.0 made.1 in
-    let found = made_has file_found seen made.0 kept.0 in
+-- Each of the numbers has as many digits as a name in the old form has.
+pub are_old_form : (surveyed : List SurveyedJob) → AreInOldForm (old_form_numbers (files_surveyed surveyed))
+are_old_form surveyed number known =
+    let any : list_any (λ other. other == number) (old_form_numbers (files_surveyed surveyed)) ≡ true = was_true _ known in
+    let one = one_passes (λ (other : ℕ). other == number) (old_form_numbers (files_surveyed surveyed)) any in
+    let made = made_has number_of (filter is_old_form (files_surveyed surveyed)) one.0 one.1 in
+    let kept = filtered_has is_old_form (files_surveyed surveyed) made.0 made.1 in
+    let found = made_has file_surveyed surveyed made.0 kept.0 in
     let number_is : found.0.job.number ≡ number = ap number_of found.2 ∙ made.2 ∙ eqb-true one.0 number one.2 in
-    let form : found.0.job.wide ≡ false = was_false found.0.job.wide (ap is_narrow found.2 ∙ kept.1) in
-    subst (λ n. n < 16 ^ number_digits false) number_is (subst (λ wide. found.0.job.number < 16 ^ number_digits wide) form found.0.job.fits)
+    let form : found.0.job.new_form ≡ false = was_false found.0.job.new_form (ap is_old_form found.2 ∙ kept.1) in
+    subst (λ n. n < 16 ^ number_digits false) number_is (subst (λ new_form. found.0.job.number < 16 ^ number_digits new_form) form found.0.job.fits)

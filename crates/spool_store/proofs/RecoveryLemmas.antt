@@ -22,19 +22,19 @@ use Rattle.spool_shows.specs.ByName.{ShowsByName}
 use Rattle.spool_shows.specs.Laws.{HasMarks}
 use Rattle.spool_shows.specs.Shown.{shown_by}
 use Rattle.spool_shows.proofs.ByNameReads.{last_read}
-use Rattle.spool_shows.proofs.NarrowLemmas.{narrow_tables_are_shown}
+use Rattle.spool_shows.proofs.OldFormLemmas.{old_form_tables_are_shown}
 use Rattle.spool_shows.proofs.OneMark.{had_same, ok_same}
 use Rattle.spool_shows.proofs.OtherLemmas.{other_files_count_for_nothing}
 use Rattle.spool_shows.proofs.StepLaws.{by_name}
-use Rattle.job_runs.specs.Calls.{ShowsAsBefore}
-use Rattle.job_runs.specs.Current.{HaveForms, IsCurrent, IsSpoolName, Kept}
+use Rattle.step_runs.specs.Calls.{ShowsAsBefore}
+use Rattle.step_runs.specs.Current.{HaveForms, IsCurrent, IsSpoolName, Kept}
 use Rattle.spool_store.specs.declared.fault.StoreFault.{StoreFault}
 use Rattle.spool_store.specs.declared.fault.StoreFault.TheVariants.{Damaged, FileFault, Memory, NumbersUsedUp, QueueFull}
 use Rattle.spool_store.specs.declared.survey.Survey.{Survey}
 use Rattle.host_calls.specs.Damages.{IfDamaged}
 use Rattle.spool_store.specs.Faults.{IsOfReading, fault_of}
 use Rattle.spool_store.specs.inside.Survey.{IsSurvey, is_left_over}
-use Rattle.spool_store.specs.Recovering.{IsRecovered, Recovered, ShowsAsBeforeWideNames, ShowsTheSame}
+use Rattle.spool_store.specs.Recovering.{IsRecovered, Recovered, ShowsAsBeforeNewFormNames, ShowsTheSame}
 use Rattle.whole_file.proofs.ChangesJoined.{changes_join}
 use Rattle.spool_store.proofs.RecoveryForms.{forms_found}
 use Rattle.spool_store.proofs.RecoveryNames.{are_files, counting_stays, decided_left, journal_stays, left_among, left_is_spool, left_there, sequence_stays, stays_apart, temporary_left}
@@ -67,36 +67,36 @@ settling_reads old new (Err host.Memory) call = ap reading call.outcome
 settling_shows : {T : Type 0} (old new : World) (result : Result T HostFault) → FileCall IsSettled IsSyncedInPart old new result → ShowsTheSame old.now.folder new.now.folder
 settling_shows old new result call = ap shown_by (settling_reads old new result call)
 
--- What a folder showed by the narrow form alone.
+-- What a folder showed by the old form alone.
 
 -- what is kept is current with it
-pub narrow_recovered : (old new : Folder) (kept : Kept) → IsRecovered old new kept → ShowsAsBeforeWideNames old new kept
-narrow_recovered old new kept recovered = λ table none shown.
-    subst (IsCurrent kept new) (ok_same (shown_by (reading_of old)) recovered.shown (narrow_tables_are_shown (reading_of old) table none shown)) recovered.current
+pub old_form_recovered : (old new : Folder) (kept : Kept) → IsRecovered old new kept → ShowsAsBeforeNewFormNames old new kept
+old_form_recovered old new kept recovered = λ table none shown.
+    subst (IsCurrent kept new) (ok_same (shown_by (reading_of old)) recovered.shown (old_form_tables_are_shown (reading_of old) table none shown)) recovered.current
 
--- The look at the settled folder.
+-- The survey of the settled folder.
 
--- the folder was settled and looked at, and no file has changed
-pub record HasSettled (old looked : World) (look : Survey) : Type 0 where
-  pub files : ChangesFiles (ShowsAsBefore old.now.folder) old looked
-  pub settled : looked.now.folder ≡ settled old.now.folder
-  pub found : IsSurvey (reading old) look
+-- the folder was settled and surveyed, and no file has changed
+pub record HasSettled (old surveyed : World) (survey : Survey) : Type 0 where
+  pub files : ChangesFiles (ShowsAsBefore old.now.folder) old surveyed
+  pub settled : surveyed.now.folder ≡ settled old.now.folder
+  pub found : IsSurvey (reading old) survey
 
 -- the reading is that of before
 settled_reading : (old new : World) → IsSettled old.now.folder new.now.folder → reading new ≡ reading old
 settled_reading old new done = ap reading_of done ∙ reading_of-settled old.now.folder
 
--- a look at a folder that was settled
-pub has_settled : {T : Type 0} (old settled looked : World) (value : T) (look : Survey) → FileCall IsSettled IsSyncedInPart old settled (Ok value) → looked ≡ settled → IsSurvey (reading settled) look → HasSettled old looked look
-has_settled old settled looked value look call same is = record {
+-- a survey of a folder that was settled
+pub has_settled : {T : Type 0} (old settled surveyed : World) (value : T) (survey : Survey) → FileCall IsSettled IsSyncedInPart old settled (Ok value) → surveyed ≡ settled → IsSurvey (reading settled) survey → HasSettled old surveyed survey
+has_settled old settled surveyed value survey call same is = record {
   files = subst (ChangesFiles (ShowsAsBefore old.now.folder) old) (sym same) (settling old settled (Ok value) call);
   settled = ap (λ (world : World). world.now.folder) same ∙ call.outcome;
-  found = subst (λ files. IsSurvey files look) (settled_reading old settled call.outcome) is;
+  found = subst (λ files. IsSurvey files survey) (settled_reading old settled call.outcome) is;
 }
 
--- a look that failed: no file has changed
-pub only_settled : {T : Type 0} (old settled looked : World) (result : Result T HostFault) → FileCall IsSettled IsSyncedInPart old settled result → looked ≡ settled → ChangesFiles (ShowsAsBefore old.now.folder) old looked
-only_settled old settled looked result call same = subst (ChangesFiles (ShowsAsBefore old.now.folder) old) (sym same) (settling old settled result call)
+-- a survey that failed: no file has changed
+pub only_settled : {T : Type 0} (old settled surveyed : World) (result : Result T HostFault) → FileCall IsSettled IsSyncedInPart old settled result → surveyed ≡ settled → ChangesFiles (ShowsAsBefore old.now.folder) old surveyed
+only_settled old settled surveyed result call same = subst (ChangesFiles (ShowsAsBefore old.now.folder) old) (sym same) (settling old settled result call)
 
 -- where the settling failed, nothing of what the reading shows has changed
 pub unsettled : {T : Type 0} (old settled : World) (call_result : Result T HostFault) (fault : HostFault) (result : Result Kept StoreFault) → FileCall IsSettled IsSyncedInPart old settled call_result → IsErrAnd result (λ one. one ≡ fault_of fault)
@@ -132,24 +132,24 @@ settled_untouched old settled new value result call same = λ damage is. ap read
 none_among : (name : List ℕ) → Contains [] name → ⊥
 none_among name among = omega (arith, among.1)
 
-module _ (old looked : World) (look : Survey) (at : HasSettled old looked look) (names : List (List ℕ)) (same : names ≡ look.leftover.items) where
+module _ (old surveyed : World) (survey : Survey) (at : HasSettled old surveyed survey) (names : List (List ℕ)) (same : names ≡ survey.leftover.items) where
   abbrev files : Files
   files = reading old
 
   abbrev marks : List Mark
-  marks = look.journal.marks
+  marks = survey.journal.marks
 
   -- the names are those that were left over
   are_left : names ≡ filter (is_left_over marks) (finite.keys files)
   are_left = same ∙ at.found.leftover
 
   -- they can be cleared
-  pub can_clear : AreFiles names (reading looked)
-  can_clear = subst (AreFiles names) (sym (settled_reading old looked at.settled)) (are_files marks files names are_left)
+  pub can_clear : AreFiles names (reading surveyed)
+  can_clear = subst (AreFiles names) (sym (settled_reading old surveyed at.settled)) (are_files marks files names are_left)
 
   -- at all names but those, the image has what was read
   abbrev IsLeft : Files → Type 0
-  IsLeft image = LeavesOthers (Contains names) looked.now.folder image
+  IsLeft image = LeavesOthers (Contains names) surveyed.now.folder image
 
   -- for the reading is the only image of the settled folder
   agrees : (image : Files) → IsLeft image → (name : List ℕ) → ¬ (Contains names name) → finite.get image name ≡ finite.get files name
@@ -166,7 +166,7 @@ module _ (old looked : World) (look : Survey) (at : HasSettled old looked look) 
   marks_are others has =
       let shows : ShowsByName files at.found.table = by_name files at.found.table at.found.shows in
       sym (had_same files at.found.table others shows has)
-      ∙ had_same files at.found.table marks shows (record { last = at.found.table.last; free = look.journal.free; number = last_read files at.found.table shows; journal = at.found.journal })
+      ∙ had_same files at.found.table marks shows (record { last = at.found.table.last; free = survey.journal.free; number = last_read files at.found.table shows; journal = at.found.journal })
 
   -- so it shows the same, since names that are left over count for nothing
   shows_same : (image : Files) → IsLeft image → shown_by image ≡ shown_by files
@@ -181,8 +181,8 @@ module _ (old looked : World) (look : Survey) (at : HasSettled old looked look) 
   others_same image left name other = agrees image left name (λ among. other (left_is_spool marks name (left_there marks files names are_left name among).1))
 
   -- clearing them leaves what shows the same
-  pub clearing : (new : World) → ChangesFiles IsLeft looked new → ChangesFiles (ShowsAsBefore old.now.folder) old new
-  clearing new changes = changes_join (ShowsAsBefore old.now.folder) IsLeft old looked new at.files changes (λ image left. record {
+  pub clearing : (new : World) → ChangesFiles IsLeft surveyed new → ChangesFiles (ShowsAsBefore old.now.folder) old new
+  clearing new changes = changes_join (ShowsAsBefore old.now.folder) IsLeft old surveyed new at.files changes (λ image left. record {
     from = files;
     was = reading_is_image old.now.folder;
     same = shows_same image left;
@@ -190,13 +190,13 @@ module _ (old looked : World) (look : Survey) (at : HasSettled old looked look) 
   })
 
   -- each image of the end is left so
-  left_at_end : (new : World) → ChangesFiles IsLeft looked new → (image : Files) → IsImage new.now.folder image → IsLeft image
+  left_at_end : (new : World) → ChangesFiles IsLeft surveyed new → (image : Files) → IsImage new.now.folder image → IsLeft image
   left_at_end new changes image is =
-      (at_end (λ one handed. IsLeft one × (handed ≡ looked.now.handed)) looked new changes.leaves
+      (at_end (λ one handed. IsLeft one × (handed ≡ surveyed.now.handed)) surveyed new changes.leaves
       (λ one was. (record { from = one; was = was; others = λ name apart. refl }, refl)) image is).0
 
   -- so where the clearing failed, the reading shows what it showed
-  pub uncleared : (new : World) (fault : HostFault) (result : Result Kept StoreFault) → ChangesFiles IsLeft looked new → IsErrAnd result (λ one. one ≡ fault_of fault) → Recovered old.now.folder new.now.folder result
+  pub uncleared : (new : World) (fault : HostFault) (result : Result Kept StoreFault) → ChangesFiles IsLeft surveyed new → IsErrAnd result (λ one. one ≡ fault_of fault) → Recovered old.now.folder new.now.folder result
   uncleared new fault (Ok kept) changes is = absurd is
   uncleared new fault (Err other) changes is = subst (λ one. Recovered old.now.folder new.now.folder (Err one)) (sym is) (by_fault fault) where
     shows_still : ShowsTheSame old.now.folder new.now.folder
@@ -208,11 +208,11 @@ module _ (old looked : World) (look : Survey) (at : HasSettled old looked look) 
 
   -- The end.
 
-  module _ (new : World) (changes : ChangesFiles IsLeft looked new) (nothing : names ≡ [] → new ≡ looked) (cleared : names ≢ [] → AreCleared names looked.now.folder new.now.folder) where
+  module _ (new : World) (changes : ChangesFiles IsLeft surveyed new) (nothing : names ≡ [] → new ≡ surveyed) (cleared : names ≢ [] → AreCleared names surveyed.now.folder new.now.folder) where
     -- no change of names is pending: the folder is settled still, or its names were synced
     certain : new.now.folder.pending ≡ []
     certain = by_names names nothing cleared where
-      by_names : (list : List (List ℕ)) → (list ≡ [] → new ≡ looked) → (list ≢ [] → AreCleared list looked.now.folder new.now.folder) → new.now.folder.pending ≡ []
+      by_names : (list : List (List ℕ)) → (list ≡ [] → new ≡ surveyed) → (list ≢ [] → AreCleared list surveyed.now.folder new.now.folder) → new.now.folder.pending ≡ []
       by_names [] none some = ap (λ (world : World). world.now.folder.pending) (none refl) ∙ ap (λ (folder : Folder). folder.pending) at.settled
       by_names (name ∷ others) none some = (some (λ is. cc)).certain
 
@@ -239,19 +239,19 @@ module _ (old looked : World) (look : Survey) (at : HasSettled old looked look) 
     same_in_each name over image is = stays image (end_left image is) name over ∙ sym (end_reads name over)
 
     -- the name of each file that is left has the form that was found
-    forms : HaveForms look.narrow.items at.found.table.last (reading_of new.now.folder)
-    forms = forms_found files look at.found (reading_of new.now.folder)
+    forms : HaveForms survey.old_form.items at.found.table.last (reading_of new.now.folder)
+    forms = forms_found files survey at.found (reading_of new.now.folder)
         (λ name over. end_reads name over) (λ name over. gone name over (reading_of new.now.folder) (reading_is_image new.now.folder))
 
     -- so what is kept is current
-    current : IsCurrent (record { table = look.jobs; journal = look.journal; narrow = look.narrow.items }) new.now.folder at.found.table
+    current : IsCurrent (record { table = survey.jobs; journal = survey.journal; old_form = survey.old_form.items }) new.now.folder at.found.table
     current = record {
       shows = λ image is. shows_same image (end_left image is) ∙ at.found.shows;
-      bare_is = at.found.jobs;
+      without_scripts_is = at.found.jobs;
       journal = record {
         certain = certain;
         same = same_in_each journal_file (journal_stays marks);
-        gives = subst (λ content. Gives content look.journal) (sym (end_reads journal_file (journal_stays marks))) (recalled_gives at.found.table.last (finite.get files journal_file) look.journal at.found.journal);
+        gives = subst (λ content. Gives content survey.journal) (sym (end_reads journal_file (journal_stays marks))) (recalled_gives at.found.table.last (finite.get files journal_file) survey.journal at.found.journal);
         no_temp = gone temporary_file (temporary_left marks);
       };
       sequence = same_in_each sequence_file (sequence_stays marks);
@@ -260,7 +260,7 @@ module _ (old looked : World) (look : Survey) (at : HasSettled old looked look) 
     }
 
     -- and the folder is recovered
-    pub recovered : IsRecovered old.now.folder new.now.folder (record { table = look.jobs; journal = look.journal; narrow = look.narrow.items })
+    pub recovered : IsRecovered old.now.folder new.now.folder (record { table = survey.jobs; journal = survey.journal; old_form = survey.old_form.items })
     recovered = record {
       table = at.found.table;
       shown = at.found.shows;

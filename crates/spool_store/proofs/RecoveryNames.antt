@@ -21,7 +21,7 @@ use Rattle.job_name.specs.JobName.{NamedJob, job_named}
 use Rattle.spool_shows.proofs.EntryLists.{AreApart, apart_filtered, apart_sorted, entry_is_file, file_is_entry}
 use Rattle.spool_shows.proofs.Membership.{Has, contained, filtered_has, has_contained, has_filtered, has_made, made_has}
 use Rattle.spool_shows.proofs.NameLemmas.{journal_no_job, sequence_no_job}
-use Rattle.job_runs.specs.Current.{IsSpoolName}
+use Rattle.step_runs.specs.Current.{IsSpoolName}
 use Rattle.spool_store.specs.inside.Survey.{is_decided_job, is_left_over}
 use Rattle.spool_store.proofs.KindLemmas.{not_temporary}
 

@@ -17,8 +17,8 @@ use Rattle.start_journal.proofs.MarkLemmas.{forgotten_was_decided}
 use Rattle.start_journal.proofs.OverwriteLemmas.{certain_names}
 use Rattle.whole_file.specs.Others.{ChangesFiles, IsEither, LeavesOthers}
 use Rattle.whole_file.proofs.OthersLemmas.{changes_none, changes_then, names_certain, none_stands, nothing_stands, reading_stands}
-use Rattle.job_runs.specs.Calls.{IsSteppingOn}
-use Rattle.job_runs.specs.Current.{EachShows, HasNoDecidedFile, HaveForms, IsCurrent, IsSpoolName, Kept}
+use Rattle.step_runs.specs.Calls.{IsSteppingOn}
+use Rattle.step_runs.specs.Current.{EachShows, HasNoDecidedFile, HaveForms, IsCurrent, IsSpoolName, Kept}
 use Rattle.spool_shows.specs.Laws.{HasNoForgotten}
 use Rattle.spool_shows.specs.Shown.{Shows}
 use Rattle.spool_shows.proofs.NameLemmas.{job_name_apart, journal_no_job, sequence_apart, temporary_no_job}
@@ -46,7 +46,7 @@ sync_stepping table old new result shows call =
 synced_current : (kept : Kept) (folder : Folder) (table : JobTable) → IsCurrent kept folder table → IsCurrent kept (with_names_certain folder) table
 synced_current kept folder table current = record {
   shows = λ image is. current.shows image (names_certain folder image is);
-  bare_is = current.bare_is;
+  without_scripts_is = current.without_scripts_is;
   journal = record {
     certain = refl;
     same = λ image is. current.journal.same image (names_certain folder image is);
@@ -73,8 +73,8 @@ absent_there folder image name certain is absent =
     (subst (λ found. MayStand folder.body found (map.get image name)) (ap (λ (list : Names). map.get list name) names ∙ held) (is.each name))
 
 -- an image of a current folder shows the table with the journal
-pub shown_with : (narrow : List ℕ) (journal : JournalRead) (folder : Folder) (table : JobTable) → IsCurrent (kept_with narrow journal table) folder table → (image : Files) → IsImage folder image → IsShownWith journal table image
-shown_with narrow journal folder table current image is = record {
+pub shown_with : (old_form : List ℕ) (journal : JournalRead) (folder : Folder) (table : JobTable) → IsCurrent (kept_with old_form journal table) folder table → (image : Files) → IsImage folder image → IsShownWith journal table image
+shown_with old_form journal folder table current image is = record {
   shows = current.shows image is;
   gives = subst (λ content. Gives content journal) (sym (current.journal.same image is)) current.journal.gives;
 }
@@ -101,8 +101,8 @@ decided_still marks old new keeps none name job named decided =
     keeps name (job_name_apart temporary_file journal_file name job temporary_no_job journal_no_job named) ∙ none name job named decided
 
 -- and the names of files have the forms that are kept
-pub forms_still : (narrow : List ℕ) (last : ℕ) (old new : Folder) → KeepsFiles old new → HaveForms narrow last (reading_of old) → HaveForms narrow last (reading_of new)
-forms_still narrow last old new keeps forms = record {
+pub forms_still : (old_form : List ℕ) (last : ℕ) (old new : Folder) → KeepsFiles old new → HaveForms old_form last (reading_of old) → HaveForms old_form last (reading_of new)
+forms_still old_form last old new keeps forms = record {
   each = λ name job named there. forms.each name job named
       (subst IsSome (keeps name (job_name_apart temporary_file journal_file name job temporary_no_job journal_no_job named)) there);
   drawn = forms.drawn;
@@ -111,13 +111,13 @@ forms_still narrow last old new keeps forms = record {
 -- The journal is compacted.
 
 -- The names were synced in a first run, and in a second one the journal is compacted.
-pub record IsCompacting (narrow : List ℕ) (journal : JournalRead) (table : JobTable) (first second third : World) : Type 0 where
-  pub current : IsCurrent (kept_with narrow journal table) first.now.folder table
+pub record IsCompacting (old_form : List ℕ) (journal : JournalRead) (table : JobTable) (first second third : World) : Type 0 where
+  pub current : IsCurrent (kept_with old_form journal table) first.now.folder table
   pub synced : HasNamesSynced first.now.folder second.now.folder
   pub syncs : ChangesFiles (IsSteppingOn table [] first.now.folder) first second
   pub compacts : ChangesFiles (IsChanging journal (compacted journal) second.now.folder) second third
 
-module _ (narrow : List ℕ) (journal : JournalRead) (table : JobTable) (first second third : World) (compacting : IsCompacting narrow journal table first second third) where
+module _ (old_form : List ℕ) (journal : JournalRead) (table : JobTable) (first second third : World) (compacting : IsCompacting old_form journal table first second third) where
   abbrev start : Folder
   start = first.now.folder
 
@@ -125,12 +125,12 @@ module _ (narrow : List ℕ) (journal : JournalRead) (table : JobTable) (first s
   middle = second.now.folder
 
   -- what is kept is current in the middle
-  now_current : IsCurrent (kept_with narrow journal table) middle table
-  now_current = sync_current (kept_with narrow journal table) start middle table compacting.current compacting.synced
+  now_current : IsCurrent (kept_with old_form journal table) middle table
+  now_current = sync_current (kept_with old_form journal table) start middle table compacting.current compacting.synced
 
   -- where each image shows the table with the journal
   shown_in : (image : Files) → IsImage middle image → IsShownWith journal table image
-  shown_in = shown_with narrow journal middle table now_current
+  shown_in = shown_with old_form journal middle table now_current
 
   -- whose marks are legal
   legal : AreLegal journal.marks
@@ -164,21 +164,21 @@ module _ (narrow : List ℕ) (journal : JournalRead) (table : JobTable) (first s
       (leaves_through (IsEither temporary_file journal_file) start middle image journal_is_spool through changing.alone))
 
   -- once it is compacted, what is kept is current
-  current_after : IsChanged (compacted journal) middle third.now.folder → IsCurrent (kept_with narrow (compacted journal) table) third.now.folder table
+  current_after : IsChanged (compacted journal) middle third.now.folder → IsCurrent (kept_with old_form (compacted journal) table) third.now.folder table
   current_after changed =
       let each : (image : Files) → IsImage third.now.folder image → IsChanging journal (compacted journal) middle image =
       changes_end _ second third compacting.compacts (changing_start journal (compacted journal) middle now_current.journal) in
       record {
         shows = λ image is. shows_still image (each image is);
-        bare_is = refl;
+        without_scripts_is = refl;
         journal = changed.holds;
-        sequence = λ image is. sequence_still journal (compacted journal) (kept_with narrow journal table) table middle third.now.folder image now_current changed.others (each image is);
+        sequence = λ image is. sequence_still journal (compacted journal) (kept_with old_form journal table) table middle third.now.folder image now_current changed.others (each image is);
         decided = decided_still (kept_marks journal.marks) middle third.now.folder changed.others
             (λ name job named decided. now_current.decided name job named (kept_decided journal.marks job.number legal decided));
-        forms = forms_still narrow table.last middle third.now.folder changed.others now_current.forms;
+        forms = forms_still old_form table.last middle third.now.folder changed.others now_current.forms;
       }
 
   -- by the answer of the call
-  pub compact_current : (result : Result JournalRead HostFault) → IfOk result (λ new. new ≡ compacted journal) → OnOk result (IsChanged (compacted journal) middle third.now.folder) → IfOk result (λ new. IsCurrent (kept_with narrow new table) third.now.folder table)
+  pub compact_current : (result : Result JournalRead HostFault) → IfOk result (λ new. new ≡ compacted journal) → OnOk result (IsChanged (compacted journal) middle third.now.folder) → IfOk result (λ new. IsCurrent (kept_with old_form new table) third.now.folder table)
   compact_current (Err fault) made changed = tt
-  compact_current (Ok new) made changed = subst (λ (read : JournalRead). IsCurrent (kept_with narrow read table) third.now.folder table) (sym made) (current_after changed)
+  compact_current (Ok new) made changed = subst (λ (read : JournalRead). IsCurrent (kept_with old_form read table) third.now.folder table) (sym made) (current_after changed)

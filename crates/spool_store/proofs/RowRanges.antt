@@ -1,7 +1,7 @@
 -- The rows of a store are in range.
 use Rattle.std.proofs.Common.{List, subst, Contains}
 use Rattle.spool_model.specs.declared.row.Row.{Row}
-use Rattle.job_runs.specs.Current.{Kept}
+use Rattle.step_runs.specs.Current.{Kept}
 use Rattle.spool_store.specs.Listed.{ListsLive, row_job}
 use Rattle.spool_store.specs.Stored.{IsEntryBy, IsLiveBy, IsRowInRange, IsStored}
 

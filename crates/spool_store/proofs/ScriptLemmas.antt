@@ -14,9 +14,9 @@ use Rattle.spool_model.specs.declared.row.Row.{Row}
 use Rattle.spool_model.specs.JobTable.{JobEntry, JobState, JobTable, entry_at}
 use Rattle.start_journal.specs.declared.mark.Mark.{Mark}
 use Rattle.start_journal.specs.Marks.{is_decided}
-use Rattle.job_runs.specs.Bare.{bare_entry, bare_job}
-use Rattle.job_runs.specs.Current.{IsCurrent, Kept, is_wide}
-use Rattle.job_runs.proofs.BareLemmas.{entries_are_bare}
+use Rattle.step_runs.specs.WithoutScripts.{entry_without_script, job_without_script}
+use Rattle.step_runs.specs.Current.{IsCurrent, Kept, is_new_form}
+use Rattle.step_runs.proofs.WithoutScriptsLemmas.{entries_are_without_scripts}
 use Rattle.spool_shows.specs.ByName.{IsJobFile, ShowsByName, ShowsDone, ShowsLive}
 use Rattle.spool_shows.specs.JobFiles.{JobFile}
 use Rattle.spool_shows.specs.Shown.{job_of, live_entry}
@@ -24,18 +24,18 @@ use Rattle.spool_shows.proofs.ShownEntries.{entry_left}
 use Rattle.job_name.proofs.NamedJobs.{name_given, one_job_name}
 use Rattle.spool_shows.proofs.StepLaws.{by_name}
 use Rattle.spool_model.specs.Numbers.{number_digits}
-use Rattle.spool_store.specs.Stored.{AreNarrow}
+use Rattle.spool_store.specs.Stored.{AreInOldForm}
 use Rattle.spool_store.specs.Rows.{row_entry}
 use Rattle.spool_store.specs.Scripts.{HoldsScript, IsFileOf, IsScriptOf}
 
 -- a number has as many digits as the form of its name
-pub fits_form : (narrow : List ℕ) (number : ℕ) (wide : Bool) → AreNarrow narrow → number < 2 ^ 32 → wide ≡ is_wide narrow number → number < 16 ^ number_digits wide
-fits_form narrow number true narrow_are few form = omega (arith, few)
-fits_form narrow number false narrow_are few form = narrow_are number (sym form)
+pub fits_form : (old_form : List ℕ) (number : ℕ) (new_form : Bool) → AreInOldForm old_form → number < 2 ^ 32 → new_form ≡ is_new_form old_form number → number < 16 ^ number_digits new_form
+fits_form old_form number true old_form_are few form = omega (arith, few)
+fits_form old_form number false old_form_are few form = old_form_are number (sym form)
 
 -- the name that is spelled after a row is that of its file
-pub row_is_file : (table : JobTable) (narrow : List ℕ) (number : ℕ) (row : Row) (name : List ℕ) → entry_at table number ≡ Some (row_entry row).1 → SpellsJobName name row.queue number row.minute (is_wide narrow number) → IsFileOf table narrow number name
-row_is_file table narrow number row name found spelled = record { job = _; state = row.state; lives = found; spelled = spelled }
+pub row_is_file : (table : JobTable) (old_form : List ℕ) (number : ℕ) (row : Row) (name : List ℕ) → entry_at table number ≡ Some (row_entry row).1 → SpellsJobName name row.queue number row.minute (is_new_form old_form number) → IsFileOf table old_form number name
+row_is_file table old_form number row name found spelled = record { job = _; state = row.state; lives = found; spelled = spelled }
 
 -- The file of a number is there, and it shows this entry.
 pub record HasEntryFile (marks : List Mark) (files : Files) (number : ℕ) (entry : JobEntry) : Type 0 where
@@ -59,39 +59,39 @@ live_has_file files table shows number job state lives =
 record IsWholeOf (found : Option JobEntry) (job : Job) (state : JobState) : Type 0 where
   whole : Job
   is : found ≡ Some (Live whole state)
-  bare_is : bare_job whole ≡ job
+  without_scripts_is : job_without_script whole ≡ job
 
-whole_of : (found : Option JobEntry) (job : Job) (state : JobState) → option_map bare_entry found ≡ Some (Live job state) → IsWholeOf found job state
+whole_of : (found : Option JobEntry) (job : Job) (state : JobState) → option_map entry_without_script found ≡ Some (Live job state) → IsWholeOf found job state
 whole_of None job state is = let impossible : ◌≡◌ {A = Option JobEntry} None (Some (Live job state)) = is in cc
 whole_of (Some (Done fate)) job state is = let impossible : ◌≡◌ {A = Option JobEntry} (Some (Done fate)) (Some (Live job state)) = is in cc
 whole_of (Some (Live whole other)) job state is =
-    let same : ◌≡◌ {A = Option JobEntry} (Some (Live (bare_job whole) other)) (Some (Live job state)) = is in
+    let same : ◌≡◌ {A = Option JobEntry} (Some (Live (job_without_script whole) other)) (Some (Live job state)) = is in
     let states : other ≡ state = cc in
-    record { whole = whole; is = ap (λ s. Some (Live whole s)) states; bare_is = cc }
+    record { whole = whole; is = ap (λ s. Some (Live whole s)) states; without_scripts_is = cc }
 
 -- the file that shows a job has the name that is spelled after it
-same_name : (file : JobFile) (name : List ℕ) (number : ℕ) (job : Job) (wide : Bool) → job_named file.name ≡ Some file.job → file.job.number ≡ number → file.job.wide ≡ wide → bare_job (job_of file) ≡ job → SpellsJobName name job.queue number job.minute wide → name ≡ file.name
-same_name file name number job wide named number_is wide_is bare_is spelled =
-    let given : NamedJob = record { queue = job.queue; number = number; minute = job.minute; wide = wide } in
-    let queue_is : file.job.queue ≡ job.queue = ap (λ (of : Job). of.queue) bare_is in
-    let minute_is : file.job.minute ≡ job.minute = ap (λ (of : Job). of.minute) bare_is in
-    let job_is : file.job ≡ given = λ i. record { queue = queue_is i; number = number_is i; minute = minute_is i; wide = wide_is i } in
-    one_job_name name file.name given (name_given name job.queue number job.minute wide spelled) (named ∙ ap Some job_is)
+same_name : (file : JobFile) (name : List ℕ) (number : ℕ) (job : Job) (new_form : Bool) → job_named file.name ≡ Some file.job → file.job.number ≡ number → file.job.new_form ≡ new_form → job_without_script (job_of file) ≡ job → SpellsJobName name job.queue number job.minute new_form → name ≡ file.name
+same_name file name number job new_form named number_is new_form_is without_scripts_is spelled =
+    let given : NamedJob = record { queue = job.queue; number = number; minute = job.minute; new_form = new_form } in
+    let queue_is : file.job.queue ≡ job.queue = ap (λ (of : Job). of.queue) without_scripts_is in
+    let minute_is : file.job.minute ≡ job.minute = ap (λ (of : Job). of.minute) without_scripts_is in
+    let job_is : file.job ≡ given = λ i. record { queue = queue_is i; number = number_is i; minute = minute_is i; new_form = new_form_is i } in
+    one_job_name name file.name given (name_given name job.queue number job.minute new_form spelled) (named ∙ ap Some job_is)
 
 -- where what is kept is current, the file of a live job holds its script
-pub file_holds : (kept : Kept) (folder : Folder) (table : JobTable) (number : ℕ) (name : List ℕ) → IsCurrent kept folder table → IsFileOf kept.table kept.narrow number name → HoldsScript table folder number name
+pub file_holds : (kept : Kept) (folder : Folder) (table : JobTable) (number : ℕ) (name : List ℕ) → IsCurrent kept folder table → IsFileOf kept.table kept.old_form number name → HoldsScript table folder number name
 file_holds kept folder table number name current is_file =
     let shows : ShowsByName (reading_of folder) table = by_name (reading_of folder) table (current.shows (reading_of folder) (reading_is_image folder)) in
     let whole : IsWholeOf (entry_at table number) is_file.job is_file.state =
-    whole_of (entry_at table number) is_file.job is_file.state (sym (entries_are_bare table number) ∙ ap (λ at. entry_at at number) (sym current.bare_is) ∙ is_file.lives) in
+    whole_of (entry_at table number) is_file.job is_file.state (sym (entries_are_without_scripts table number) ∙ ap (λ at. entry_at at number) (sym current.without_scripts_is) ∙ is_file.lives) in
     let has : HasEntryFile shows.read.marks (reading_of folder) number (Live whole.whole is_file.state) =
     live_has_file (reading_of folder) table shows number whole.whole is_file.state whole.is in
     let number_is : has.file.job.number ≡ number = ap (λ (pair : ℕ × JobEntry). pair.0) has.shows in
     let entry_is : Live (job_of has.file) _ ≡ Live whole.whole is_file.state = ap (λ (pair : ℕ × JobEntry). pair.1) has.shows in
     let job_is : job_of has.file ≡ whole.whole = cc in
-    let wide_is : has.file.job.wide ≡ is_wide kept.narrow number =
-    current.forms.each has.file.name has.file.job has.is.named (subst IsSome (sym has.is.held) refl) ∙ ap (is_wide kept.narrow) number_is in
-    let name_is : name ≡ has.file.name = same_name has.file name number is_file.job (is_wide kept.narrow number) has.is.named number_is wide_is (ap bare_job job_is ∙ whole.bare_is) is_file.spelled in
+    let new_form_is : has.file.job.new_form ≡ is_new_form kept.old_form number =
+    current.forms.each has.file.name has.file.job has.is.named (subst IsSome (sym has.is.held) refl) ∙ ap (is_new_form kept.old_form) number_is in
+    let name_is : name ≡ has.file.name = same_name has.file name number is_file.job (is_new_form kept.old_form number) has.is.named number_is new_form_is (ap job_without_script job_is ∙ whole.without_scripts_is) is_file.spelled in
     record {
       bytes = has.file.bytes;
       held = ap (finite.get (reading_of folder)) name_is ∙ has.is.held;

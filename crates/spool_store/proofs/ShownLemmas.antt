@@ -1,4 +1,4 @@
--- A look finds what the folder shows.
+-- A survey finds what the folder shows.
 use Rattle.std.proofs.Common.{◌≡◌, ℕ, List, Option, Some, map, sym, ap, subst, ◌∙◌, refl}
 use Rattle.std.specs.Prelude.{Result, Ok, Err, IsErrAnd}
 use Rattle.std.specs.FinMap as finite
@@ -12,23 +12,23 @@ use Rattle.start_journal.specs.declared.fault.JournalFault.{JournalFault}
 use Rattle.start_journal.specs.declared.fault.JournalFault.TheVariants as journal
 use Rattle.start_journal.specs.declared.mark.Mark.{Mark}
 use Rattle.start_journal.specs.Journals.{JournalRead, journal_file, journal_in}
-use Rattle.job_runs.specs.Bare.{bare}
+use Rattle.step_runs.specs.WithoutScripts.{without_scripts}
 use Rattle.spool_shows.specs.JobFiles.{job_files}
 use Rattle.sequence_file.specs.LastNumber.{last_in}
-use Rattle.spool_shows.specs.Shown.{damage_of_jobs, shown_behind_journal, shown_behind_last, shown_by, shown_by_files, table_or_damage, table_shown}
+use Rattle.spool_shows.specs.Shown.{damage_of_jobs, shown_after_journal, shown_after_last, shown_by, shown_by_files, table_or_damage, table_shown}
 use Rattle.spool_store.specs.declared.fault.StoreFault.{StoreFault}
 use Rattle.spool_store.specs.declared.fault.StoreFault.TheVariants.{Damaged}
-use Rattle.spool_store.specs.declared.findings.Findings.{Findings}
+use Rattle.spool_store.specs.declared.surveyed_files.SurveyedFiles.{SurveyedFiles}
 use Rattle.spool_store.specs.declared.survey.Survey.{Survey}
-use Rattle.spool_store.specs.declared.found_job.FoundJob.{FoundJob}
+use Rattle.spool_store.specs.declared.surveyed_job.SurveyedJob.{SurveyedJob}
 use Rattle.host_calls.specs.Damages.{IfDamaged}
 use Rattle.spool_store.specs.Faults.{IsFound, fault_of_journal, fault_of_sequence}
 use Rattle.std.specs.List.{filter}
-use Rattle.spool_store.specs.inside.Survey.{AreFindings, IsSurvey, is_left_over}
-use Rattle.spool_store.specs.inside.FoundJobs.{files_found, narrow_numbers}
+use Rattle.spool_store.specs.inside.Survey.{AreSurveyedFiles, IsSurvey, is_left_over}
+use Rattle.spool_store.specs.inside.SurveyedJobs.{files_surveyed, old_form_numbers}
 use Rattle.spool_store.specs.inside.Tables.{IsTableShown}
-use Rattle.spool_store.proofs.RecoveryForms.{narrow_same}
-use Rattle.spool_store.proofs.FrontLemmas.{cut, damage_of_jobs_same, files_cut, table_same}
+use Rattle.spool_store.proofs.RecoveryForms.{old_form_same}
+use Rattle.spool_store.proofs.PrefixLemmas.{cut, damage_of_jobs_same, files_cut, table_same}
 
 -- Answers that are a damage.
 
@@ -60,37 +60,37 @@ found_damage P found f result is of go = λ damage same. go damage (subst (IsFou
 
 pub number_damage : (files : Files) (damage : Damage) → last_in (finite.get files sequence_file) ≡ Err damage → shown_by files ≡ Err damage
 unfolding shown_by
-number_damage files damage is = ap (λ number. shown_behind_last number (entries files)) (ap last_in (sym (get-entries files sequence_file)) ∙ is)
+number_damage files damage is = ap (λ number. shown_after_last number (entries files)) (ap last_in (sym (get-entries files sequence_file)) ∙ is)
 
-shown_at : (files : Files) (last : ℕ) → last_in (finite.get files sequence_file) ≡ Ok last → shown_by files ≡ shown_behind_journal last (journal_in last (finite.get files journal_file)) (entries files)
+shown_at : (files : Files) (last : ℕ) → last_in (finite.get files sequence_file) ≡ Ok last → shown_by files ≡ shown_after_journal last (journal_in last (finite.get files journal_file)) (entries files)
 unfolding shown_by
 shown_at files last is =
-    ap (λ number. shown_behind_last number (entries files)) (ap last_in (sym (get-entries files sequence_file)) ∙ is)
-    ∙ ap (λ content. shown_behind_journal last (journal_in last content) (entries files)) (sym (get-entries files journal_file))
+    ap (λ number. shown_after_last number (entries files)) (ap last_in (sym (get-entries files sequence_file)) ∙ is)
+    ∙ ap (λ content. shown_after_journal last (journal_in last content) (entries files)) (sym (get-entries files journal_file))
 
 pub journal_damage : (files : Files) (last : ℕ) (damage : Damage) → last_in (finite.get files sequence_file) ≡ Ok last → journal_in last (finite.get files journal_file) ≡ Err damage → shown_by files ≡ Err damage
-journal_damage files last damage number is = shown_at files last number ∙ ap (λ read. shown_behind_journal last read (entries files)) is
+journal_damage files last damage number is = shown_at files last number ∙ ap (λ read. shown_after_journal last read (entries files)) is
 
-module _ (files : Files) (last : ℕ) (journal : JournalRead) (findings : Findings) (marks : List Mark) (slice : List FoundJob) (number : last_in (finite.get files sequence_file) ≡ Ok last) (read : journal_in last (finite.get files journal_file) ≡ Ok journal) (are : AreFindings journal.marks (entries files) findings) (marks_is : marks ≡ journal.marks) (slice_is : slice ≡ findings.seen.items) where
+module _ (files : Files) (last : ℕ) (journal : JournalRead) (surveyed_files : SurveyedFiles) (marks : List Mark) (slice : List SurveyedJob) (number : last_in (finite.get files sequence_file) ≡ Ok last) (read : journal_in last (finite.get files journal_file) ≡ Ok journal) (are : AreSurveyedFiles journal.marks (entries files) surveyed_files) (marks_is : marks ≡ journal.marks) (slice_is : slice ≡ surveyed_files.surveyed.items) where
   shown_of : shown_by files ≡ shown_by_files last journal.marks (job_files journal.marks (entries files))
-  shown_of = shown_at files last number ∙ ap (λ one. shown_behind_journal last one (entries files)) read
+  shown_of = shown_at files last number ∙ ap (λ one. shown_after_journal last one (entries files)) read
 
-  seen_is : files_found slice ≡ map cut (job_files journal.marks (entries files))
-  seen_is = ap files_found slice_is ∙ are.seen ∙ files_cut journal.marks (entries files)
+  surveyed_is : files_surveyed slice ≡ map cut (job_files journal.marks (entries files))
+  surveyed_is = ap files_surveyed slice_is ∙ are.surveyed ∙ files_cut journal.marks (entries files)
 
-  damage_is : damage_of_jobs last marks (files_found slice) ≡ damage_of_jobs last journal.marks (job_files journal.marks (entries files))
-  damage_is = (λ i. damage_of_jobs last (marks_is i) (seen_is i)) ∙ damage_of_jobs_same last journal.marks (job_files journal.marks (entries files))
+  damage_is : damage_of_jobs last marks (files_surveyed slice) ≡ damage_of_jobs last journal.marks (job_files journal.marks (entries files))
+  damage_is = (λ i. damage_of_jobs last (marks_is i) (surveyed_is i)) ∙ damage_of_jobs_same last journal.marks (job_files journal.marks (entries files))
 
-  pub jobs_damage : (damage : Damage) → damage_of_jobs last marks (files_found slice) ≡ Some damage → shown_by files ≡ Err damage
+  pub jobs_damage : (damage : Damage) → damage_of_jobs last marks (files_surveyed slice) ≡ Some damage → shown_by files ≡ Err damage
   jobs_damage damage is = shown_of ∙ ap (table_or_damage last journal.marks (job_files journal.marks (entries files))) (sym damage_is ∙ is)
 
-  pub is_survey : (look : Survey) → look.journal ≡ journal → look.narrow.items ≡ narrow_numbers (files_found slice) → look.leftover.items ≡ findings.leftover.items → IsTableShown last marks (files_found slice) look.jobs → IsSurvey files look
-  is_survey look journal_same narrow left shown = record {
+  pub is_survey : (survey : Survey) → survey.journal ≡ journal → survey.old_form.items ≡ old_form_numbers (files_surveyed slice) → survey.leftover.items ≡ surveyed_files.leftover.items → IsTableShown last marks (files_surveyed slice) survey.jobs → IsSurvey files survey
+  is_survey survey journal_same old_form left shown = record {
     table = table_shown last journal.marks (job_files journal.marks (entries files));
     shows = shown_of ∙ ap (table_or_damage last journal.marks (job_files journal.marks (entries files))) (sym damage_is ∙ shown.0);
-    jobs = shown.1 ∙ (λ i. bare (table_shown last (marks_is i) (seen_is i))) ∙ table_same last journal.marks (job_files journal.marks (entries files));
+    jobs = shown.1 ∙ (λ i. without_scripts (table_shown last (marks_is i) (surveyed_is i))) ∙ table_same last journal.marks (job_files journal.marks (entries files));
     journal = read ∙ ap Ok (sym journal_same);
-    narrow = narrow ∙ ap narrow_numbers seen_is ∙ narrow_same cut (λ file. refl) (job_files journal.marks (entries files))
-        ∙ ap (λ (one : JournalRead). narrow_numbers (job_files one.marks (entries files))) (sym journal_same);
+    old_form = old_form ∙ ap old_form_numbers surveyed_is ∙ old_form_same cut (λ file. refl) (job_files journal.marks (entries files))
+        ∙ ap (λ (one : JournalRead). old_form_numbers (job_files one.marks (entries files))) (sym journal_same);
     leftover = left ∙ are.leftover ∙ ap (λ (one : JournalRead). filter (is_left_over one.marks) (finite.keys files)) (sym journal_same);
   }

@@ -16,10 +16,10 @@ use Rattle.start_journal.specs.declared.mark.Mark.TheVariants.{Started}
 use Rattle.start_journal.specs.Journals.{JournalRead}
 use Rattle.start_journal.specs.Marks.{AreLegal, decides, is_ended, is_started}
 use Rattle.whole_file.specs.Others.{ChangesFiles}
-use Rattle.job_runs.specs.Bare.{bare, bare_entry, bare_job, bare_step}
-use Rattle.job_runs.specs.Calls.{IsSteppingOn, KeepsOthers, StoreCall}
-use Rattle.job_runs.specs.Current.{HaveForms, IsCurrent, Kept, is_wide}
-use Rattle.job_runs.proofs.BareLemmas.{entries_are_bare, legal_as_on_the_table, steps_as_on_the_table}
+use Rattle.step_runs.specs.WithoutScripts.{without_scripts, entry_without_script, job_without_script, step_without_script}
+use Rattle.step_runs.specs.Calls.{IsSteppingOn, KeepsOthers, StoreCall}
+use Rattle.step_runs.specs.Current.{HaveForms, IsCurrent, Kept, is_new_form}
+use Rattle.step_runs.proofs.WithoutScriptsLemmas.{entries_are_without_scripts, legal_as_on_the_table, steps_as_on_the_table}
 use Rattle.spool_shows.specs.Laws.{AddsMark}
 use Rattle.spool_store.specs.declared.fault.StoreFault.{StoreFault}
 use Rattle.spool_store.specs.inside.Marking.{HaveOneMore, IsDecisionOf, IsMarkOf, IsMarked, KeepsFiles, kept_with}
@@ -28,7 +28,7 @@ use Rattle.spool_store.specs.Stored.{IsStored}
 use Rattle.spool_store.proofs.DecideLemmas.{decided_before_or_by_it, still_drawn}
 use Rattle.spool_store.proofs.MarkingCalls.{journal_is_spool}
 use Rattle.spool_store.proofs.RoomLemmas.{forms_still}
-use Rattle.spool_store.proofs.StoredSteps.{IsStartInRange, none_narrow, running_unended, stored, stored_with}
+use Rattle.spool_store.proofs.StoredSteps.{IsStartInRange, none_old_form, running_unended, stored, stored_with}
 
 -- From the table without scripts to the table.
 
@@ -36,33 +36,33 @@ use Rattle.spool_store.proofs.StoredSteps.{IsStartInRange, none_narrow, running_
 record IsLiveOn (table : JobTable) (number : ℕ) (job : Job) (state : JobState) : Type 0 where
   whole : Job
   held : entry_at table number ≡ Some (Live whole state)
-  same : bare_job whole ≡ job
+  same : job_without_script whole ≡ job
 
 -- each of them is
-live_on : (table : JobTable) (number : ℕ) (job : Job) (state : JobState) → entry_at (bare table) number ≡ Some (Live job state) → IsLiveOn table number job state
+live_on : (table : JobTable) (number : ℕ) (job : Job) (state : JobState) → entry_at (without_scripts table) number ≡ Some (Live job state) → IsLiveOn table number job state
 live_on table number job state is = by_entry (entry_at table number) refl where
   by_entry : (found : Option JobEntry) → entry_at table number ≡ found → IsLiveOn table number job state
-  by_entry None held = let impossible : ◌≡◌ {A = Option JobEntry} None (Some (Live job state)) = sym (entries_are_bare table number ∙ ap (option_map bare_entry) held) ∙ is in cc
-  by_entry (Some (Done of)) held = let impossible : ◌≡◌ {A = Option JobEntry} (Some (Done of)) (Some (Live job state)) = sym (entries_are_bare table number ∙ ap (option_map bare_entry) held) ∙ is in cc
+  by_entry None held = let impossible : ◌≡◌ {A = Option JobEntry} None (Some (Live job state)) = sym (entries_are_without_scripts table number ∙ ap (option_map entry_without_script) held) ∙ is in cc
+  by_entry (Some (Done of)) held = let impossible : ◌≡◌ {A = Option JobEntry} (Some (Done of)) (Some (Live job state)) = sym (entries_are_without_scripts table number ∙ ap (option_map entry_without_script) held) ∙ is in cc
   by_entry (Some (Live whole other)) held =
-      let same : ◌≡◌ {A = Option JobEntry} (Some (Live (bare_job whole) other)) (Some (Live job state)) = sym (entries_are_bare table number ∙ ap (option_map bare_entry) held) ∙ is in
+      let same : ◌≡◌ {A = Option JobEntry} (Some (Live (job_without_script whole) other)) (Some (Live job state)) = sym (entries_are_without_scripts table number ∙ ap (option_map entry_without_script) held) ∙ is in
       let same_state : other ≡ state = cc in
-      let same_job : bare_job whole ≡ job = cc in
+      let same_job : job_without_script whole ≡ job = cc in
       record { whole = whole; held = held ∙ ap (λ s. Some (Live whole s)) same_state; same = same_job }
 
 -- the file of a job of the table without scripts is that of the table's job
-file_on : (table : JobTable) (narrow : List ℕ) (number : ℕ) (name : List ℕ) → IsFileOf (bare table) narrow number name → IsFileOf table narrow number name
-file_on table narrow number name of =
+file_on : (table : JobTable) (old_form : List ℕ) (number : ℕ) (name : List ℕ) → IsFileOf (without_scripts table) old_form number name → IsFileOf table old_form number name
+file_on table old_form number name of =
     let live : IsLiveOn table number of.job of.state = live_on table number of.job of.state of.lives in
     record {
       job = live.whole;
       state = of.state;
       lives = live.held;
-      spelled = subst (λ (job : Job). SpellsJobName name job.queue number job.minute (is_wide narrow number)) (sym live.same) of.spelled;
+      spelled = subst (λ (job : Job). SpellsJobName name job.queue number job.minute (is_new_form old_form number)) (sym live.same) of.spelled;
     }
 
 -- the mark of a step there is its mark on the table
-adds_on : (table : JobTable) (step : Step) (mark : Mark) → AddsMark (bare table) step mark → AddsMark table step mark
+adds_on : (table : JobTable) (step : Step) (mark : Mark) → AddsMark (without_scripts table) step mark → AddsMark table step mark
 adds_on table Draw mark adds = adds
 adds_on table (Accept number job) mark adds = adds
 adds_on table (Remove number) mark adds = adds
@@ -76,29 +76,29 @@ adds_on table (Forget number) mark adds = adds
 -- A step of a store.
 
 -- The store is seen so, and the step, which has no script, is legal on it and adds the mark.
-pub record IsStepOf (inside seen : Kept) (step : Step) (mark : Mark) : Type 0 where
-  pub view : inside ≡ seen
-  pub legal : IsLegal seen.table step
+pub record IsStepOf (inside surveyed : Kept) (step : Step) (mark : Mark) : Type 0 where
+  pub view : inside ≡ surveyed
+  pub legal : IsLegal surveyed.table step
   pub adds : AddsMark inside.table step mark
-  pub bare : bare_step step ≡ step
+  pub without_scripts : step_without_script step ≡ step
 
 -- what is known of what is seen is known of what is kept
-legal_inside : (inside seen : Kept) (step : Step) (mark : Mark) → IsStepOf inside seen step mark → IsLegal inside.table step
-legal_inside inside seen step mark of = subst (λ (kept : Kept). IsLegal kept.table step) (sym of.view) of.legal
+legal_inside : (inside surveyed : Kept) (step : Step) (mark : Mark) → IsStepOf inside surveyed step mark → IsLegal inside.table step
+legal_inside inside surveyed step mark of = subst (λ (kept : Kept). IsLegal kept.table step) (sym of.view) of.legal
 
 -- and so it is current
-current_inside : (inside seen : Kept) (folder : Folder) (table : JobTable) → inside ≡ seen → IsCurrent seen folder table → IsCurrent inside folder table
-current_inside inside seen folder table view current = subst (λ (kept : Kept). IsCurrent kept folder table) (sym view) current
+current_inside : (inside surveyed : Kept) (folder : Folder) (table : JobTable) → inside ≡ surveyed → IsCurrent surveyed folder table → IsCurrent inside folder table
+current_inside inside surveyed folder table view current = subst (λ (kept : Kept). IsCurrent kept folder table) (sym view) current
 
 -- it is a step on the table too
-pub mark_of_step : (inside seen : Kept) (folder : Folder) (table : JobTable) (step : Step) (mark : Mark) → IsStepOf inside seen step mark → IsCurrent seen folder table → IsMarkOf inside.narrow inside.journal folder table step mark
-mark_of_step inside seen folder table step mark of current =
-    let now : IsCurrent inside folder table = current_inside inside seen folder table of.view current in
+pub mark_of_step : (inside surveyed : Kept) (folder : Folder) (table : JobTable) (step : Step) (mark : Mark) → IsStepOf inside surveyed step mark → IsCurrent surveyed folder table → IsMarkOf inside.old_form inside.journal folder table step mark
+mark_of_step inside surveyed folder table step mark of current =
+    let now : IsCurrent inside folder table = current_inside inside surveyed folder table of.view current in
     record {
-      current = record { shows = now.shows; bare_is = refl; journal = now.journal; sequence = now.sequence; decided = now.decided; forms = now.forms };
+      current = record { shows = now.shows; without_scripts_is = refl; journal = now.journal; sequence = now.sequence; decided = now.decided; forms = now.forms };
       legal = (legal_as_on_the_table table step).0
-          (subst (IsLegal (bare table)) (sym of.bare) (subst (λ t. IsLegal t step) now.bare_is (legal_inside inside seen step mark of)));
-      adds = adds_on table step mark (subst (λ t. AddsMark t step mark) now.bare_is of.adds);
+          (subst (IsLegal (without_scripts table)) (sym of.without_scripts) (subst (λ t. IsLegal t step) now.without_scripts_is (legal_inside inside surveyed step mark of)));
+      adds = adds_on table step mark (subst (λ t. AddsMark t step mark) now.without_scripts_is of.adds);
     }
 
 -- what holds of a value that may be missing holds of the one that is there
@@ -106,38 +106,38 @@ pub of_some : {X : Type 0} (P : X → Type 0) (found : Option X) (value : X) →
 of_some P found value is holds = subst (λ some. IfSome some P) is holds
 
 -- The step decides the live job whose file has the name.
-pub record IsDecidingStep (inside seen : Kept) (step : Step) (mark : Mark) (name : List ℕ) : Type 0 where
-  pub step_of : IsStepOf inside seen step mark
+pub record IsDecidingStep (inside surveyed : Kept) (step : Step) (mark : Mark) (name : List ℕ) : Type 0 where
+  pub step_of : IsStepOf inside surveyed step mark
   pub number : ℕ
   pub decided : decides number mark ≡ true
-  pub file : IsFileOf seen.table seen.narrow number name
+  pub file : IsFileOf surveyed.table surveyed.old_form number name
 
 -- it is a decision on the table too
-pub decision_of_step : (inside seen : Kept) (folder : Folder) (table : JobTable) (step : Step) (mark : Mark) (name : List ℕ) → IsDecidingStep inside seen step mark name → IsCurrent seen folder table → IsDecisionOf inside.narrow inside.journal folder table step mark name
-decision_of_step inside seen folder table step mark name of current = record {
-  is_mark = mark_of_step inside seen folder table step mark of.step_of current;
+pub decision_of_step : (inside surveyed : Kept) (folder : Folder) (table : JobTable) (step : Step) (mark : Mark) (name : List ℕ) → IsDecidingStep inside surveyed step mark name → IsCurrent surveyed folder table → IsDecisionOf inside.old_form inside.journal folder table step mark name
+decision_of_step inside surveyed folder table step mark name of current = record {
+  is_mark = mark_of_step inside surveyed folder table step mark of.step_of current;
   number = of.number;
   decided = of.decided;
-  file = file_on table inside.narrow of.number name
-      (subst (λ (kept : Kept). IsFileOf (bare table) kept.narrow of.number name) (sym of.step_of.view)
-      (subst (λ t. IsFileOf t seen.narrow of.number name) current.bare_is of.file));
+  file = file_on table inside.old_form of.number name
+      (subst (λ (kept : Kept). IsFileOf (without_scripts table) kept.old_form of.number name) (sym of.step_of.view)
+      (subst (λ t. IsFileOf t surveyed.old_form of.number name) current.without_scripts_is of.file));
 }
 
 -- what is kept then is as it should be
-pub stored_step : (inside seen : Kept) (jobs : JobTable) (new : JournalRead) (step : Step) (mark : Mark) → IsStepOf inside seen step mark → IsStored inside → AreLegal inside.journal.marks → IsStartInRange step → HaveOneMore inside.journal.marks mark new.marks → jobs ≡ after_step inside.table step → IsStored (record { table = jobs; journal = new; narrow = inside.narrow })
-stored_step inside seen jobs new step mark of is legal range more after =
+pub stored_step : (inside surveyed : Kept) (jobs : JobTable) (new : JournalRead) (step : Step) (mark : Mark) → IsStepOf inside surveyed step mark → IsStored inside → AreLegal inside.journal.marks → IsStartInRange step → HaveOneMore inside.journal.marks mark new.marks → jobs ≡ after_step inside.table step → IsStored (record { table = jobs; journal = new; old_form = inside.old_form })
+stored_step inside surveyed jobs new step mark of is legal range more after =
     let whole : IsStored (stored (after_step inside.table step) new.marks) =
     stored_with inside.table inside.journal.marks new.marks step mark
-    (record { sound = is.sound; drawn = is.drawn; entries = is.entries; batch = is.batch; narrow = none_narrow })
-    legal (legal_inside inside seen step mark of) of.adds range more in
-    subst (λ table. IsStored (record { table = table; journal = new; narrow = inside.narrow })) (sym after)
-    (record { sound = whole.sound; drawn = whole.drawn; entries = whole.entries; batch = whole.batch; narrow = is.narrow })
+    (record { sound = is.sound; drawn = is.drawn; entries = is.entries; batch = is.batch; old_form = none_old_form })
+    legal (legal_inside inside surveyed step mark of) of.adds range more in
+    subst (λ table. IsStored (record { table = table; journal = new; old_form = inside.old_form })) (sym after)
+    (record { sound = whole.sound; drawn = whole.drawn; entries = whole.entries; batch = whole.batch; old_form = is.old_form })
 
 -- a mark that ends a running job may follow
-pub running_legal : (inside seen : Kept) (number : ℕ) → inside ≡ seen → IsRunning seen.table number → IsStored inside → (is_started number inside.journal.marks ≡ true) × (is_ended number inside.journal.marks ≡ false)
-running_legal inside seen number view running is =
+pub running_legal : (inside surveyed : Kept) (number : ℕ) → inside ≡ surveyed → IsRunning surveyed.table number → IsStored inside → (is_started number inside.journal.marks ≡ true) × (is_ended number inside.journal.marks ≡ false)
+running_legal inside surveyed number view running is =
     let here : IsRunning inside.table number = subst (λ (kept : Kept). IsRunning kept.table number) (sym view) running in
-    running_unended inside.table inside.journal.marks (record { sound = is.sound; drawn = is.drawn; entries = is.entries; batch = is.batch; narrow = none_narrow }) number here.0 here.1 here.2
+    running_unended inside.table inside.journal.marks (record { sound = is.sound; drawn = is.drawn; entries = is.entries; batch = is.batch; old_form = none_old_form }) number here.0 here.1 here.2
 
 -- The call.
 
@@ -147,47 +147,47 @@ failed_call table steps old new (Ok kept) failed files = cc
 failed_call table steps old new (Err fault) failed files = record { files = files; current = tt; others = tt }
 
 -- The step was made, also of what is kept, and the call changed files as it may.
-pub record IsMade (inside seen : Kept) (jobs : JobTable) (table : JobTable) (step : Step) (mark : Mark) (before after : World) : Type 0 where
-  pub step_of : IsStepOf inside seen step mark
+pub record IsMade (inside surveyed : Kept) (jobs : JobTable) (table : JobTable) (step : Step) (mark : Mark) (before after : World) : Type 0 where
+  pub step_of : IsStepOf inside surveyed step mark
   pub kept : jobs ≡ after_step inside.table step
-  pub current : IsCurrent seen before.now.folder table
+  pub current : IsCurrent surveyed before.now.folder table
   pub files : ChangesFiles (IsSteppingOn table (step ∷ []) before.now.folder) before after
 
-module _ (inside seen : Kept) (jobs : JobTable) (new : JournalRead) (table : JobTable) (step : Step) (mark : Mark) (before after : World) (made : IsMade inside seen jobs table step mark before after) where
+module _ (inside surveyed : Kept) (jobs : JobTable) (new : JournalRead) (table : JobTable) (step : Step) (mark : Mark) (before after : World) (made : IsMade inside surveyed jobs table step mark before after) where
   -- the table that is kept is the one after the step, without scripts
-  bare_after : jobs ≡ bare (after_step table step)
-  bare_after =
-      made.kept ∙ ap (λ t. after_step t step) (current_inside inside seen before.now.folder table made.step_of.view made.current).bare_is
-      ∙ ap (after_step (bare table)) (sym made.step_of.bare) ∙ sym (steps_as_on_the_table table step)
+  without_scripts_after : jobs ≡ without_scripts (after_step table step)
+  without_scripts_after =
+      made.kept ∙ ap (λ t. after_step t step) (current_inside inside surveyed before.now.folder table made.step_of.view made.current).without_scripts_is
+      ∙ ap (after_step (without_scripts table)) (sym made.step_of.without_scripts) ∙ sym (steps_as_on_the_table table step)
 
-  -- a call whose journal is current behind the step
-  pub current_call : IsCurrent (kept_with inside.narrow new (after_step table step)) after.now.folder (after_step table step) → KeepsOthers before.now.folder after.now.folder → StoreCall {E = StoreFault} table (step ∷ []) before after (Ok (record { table = jobs; journal = new; narrow = inside.narrow }))
+  -- a call whose journal is current after the step
+  pub current_call : IsCurrent (kept_with inside.old_form new (after_step table step)) after.now.folder (after_step table step) → KeepsOthers before.now.folder after.now.folder → StoreCall {E = StoreFault} table (step ∷ []) before after (Ok (record { table = jobs; journal = new; old_form = inside.old_form }))
   current_call now others = record {
     files = made.files;
-    current = record { shows = now.shows; bare_is = bare_after; journal = now.journal; sequence = now.sequence; decided = now.decided; forms = now.forms };
+    current = record { shows = now.shows; without_scripts_is = without_scripts_after; journal = now.journal; sequence = now.sequence; decided = now.decided; forms = now.forms };
     others = others;
   }
 
-  -- names that have the forms that are kept have them behind the step
-  forms_on : HaveForms inside.narrow table.last (reading_of after.now.folder) → HaveForms inside.narrow (after_step table step).last (reading_of after.now.folder)
+  -- names that have the forms that are kept have them after the step
+  forms_on : HaveForms inside.old_form table.last (reading_of after.now.folder) → HaveForms inside.old_form (after_step table step).last (reading_of after.now.folder)
   forms_on forms = record { each = forms.each; drawn = λ number is. still_drawn table step number (forms.drawn number is) }
 
   -- a mark that decides nothing leaves no file of a decided number
-  marked_current : AreLegal inside.journal.marks → HaveOneMore inside.journal.marks mark new.marks → ((number : ℕ) → decides number mark ≡ false) → IsMarked inside.journal.marks new after.now.folder (after_step table step) → KeepsFiles before.now.folder after.now.folder → IsCurrent (kept_with inside.narrow new (after_step table step)) after.now.folder (after_step table step)
+  marked_current : AreLegal inside.journal.marks → HaveOneMore inside.journal.marks mark new.marks → ((number : ℕ) → decides number mark ≡ false) → IsMarked inside.journal.marks new after.now.folder (after_step table step) → KeepsFiles before.now.folder after.now.folder → IsCurrent (kept_with inside.old_form new (after_step table step)) after.now.folder (after_step table step)
   marked_current legal more silent marked keeps = record {
     shows = marked.shows;
-    bare_is = refl;
+    without_scripts_is = refl;
     journal = marked.holds;
     sequence = marked.sequence;
     decided = λ name job named decided. elim (decided_before_or_by_it inside.journal.marks new.marks mark job.number legal more decided) [
       | inl old ↦ marked.decided name job named old
       | inr now ↦ let impossible : true ≡ false = sym now ∙ silent job.number in cc
     ];
-    forms = forms_on (forms_still inside.narrow table.last before.now.folder after.now.folder keeps
-        (current_inside inside seen before.now.folder table made.step_of.view made.current).forms);
+    forms = forms_on (forms_still inside.old_form table.last before.now.folder after.now.folder keeps
+        (current_inside inside surveyed before.now.folder table made.step_of.view made.current).forms);
   }
 
-  -- so a call of such a mark is current behind it too
-  pub marked_call : AreLegal inside.journal.marks → HaveOneMore inside.journal.marks mark new.marks → ((number : ℕ) → decides number mark ≡ false) → IsMarked inside.journal.marks new after.now.folder (after_step table step) → KeepsFiles before.now.folder after.now.folder → StoreCall {E = StoreFault} table (step ∷ []) before after (Ok (record { table = jobs; journal = new; narrow = inside.narrow }))
+  -- so a call of such a mark is current after it too
+  pub marked_call : AreLegal inside.journal.marks → HaveOneMore inside.journal.marks mark new.marks → ((number : ℕ) → decides number mark ≡ false) → IsMarked inside.journal.marks new after.now.folder (after_step table step) → KeepsFiles before.now.folder after.now.folder → StoreCall {E = StoreFault} table (step ∷ []) before after (Ok (record { table = jobs; journal = new; old_form = inside.old_form }))
   marked_call legal more silent marked keeps =
       current_call (marked_current legal more silent marked keeps) (λ name other. keeps name (λ either. other (journal_is_spool name either)))

@@ -22,23 +22,23 @@ use Rattle.clock_range.specs.ClockRange.{IsClockSecond}
 use Rattle.std.proofs.lemmas.Bool.{and_from, and_parts, not-true}
 use Rattle.start_journal.proofs.LifeLemmas.{any_with, any_without}
 use Rattle.start_journal.proofs.MarkLemmas.{decides_names, forgets_names, kept_marks_are_legal}
-use Rattle.job_runs.specs.Current.{Kept}
+use Rattle.step_runs.specs.Current.{Kept}
 use Rattle.spool_shows.specs.Laws.{AddsMark}
 use Rattle.spool_shows.proofs.MarkTests.{not_forgotten}
 use Rattle.spool_shows.proofs.ShownEntries.{fails_other, passes_same}
 use Rattle.spool_store.specs.inside.Marking.{HaveOneMore}
-use Rattle.spool_store.specs.Stored.{AreNarrow, IsEntryBy, IsLiveBy, IsStored}
+use Rattle.spool_store.specs.Stored.{AreInOldForm, IsEntryBy, IsLiveBy, IsStored}
 use Rattle.spool_store.proofs.KeptMarks.{ends_decides, kept_drawn, none_narrower}
 use Rattle.spool_store.proofs.MarkingLemmas.{drawn_is, more_drawn}
 use Rattle.spool_store.proofs.StoredEntries.{entry_alike, kept_alike, other_alike}
 
 -- the table and the marks, as a store keeps them
 abbrev pub stored : JobTable → List Mark → Kept
-stored table marks = record { table = table; journal = record { marks = marks; free = 0 }; narrow = [] }
+stored table marks = record { table = table; journal = record { marks = marks; free = 0 }; old_form = [] }
 
 -- none of no numbers has too many digits
-pub none_narrow : AreNarrow []
-none_narrow number told = let impossible : true ≡ false = told in cc
+pub none_old_form : AreInOldForm []
+none_old_form number known = let impossible : true ≡ false = known in cc
 
 -- The mark names the number of the step alone, and with it the marks tell of the number's new entry. All other
 -- entries stay, and the second of the last batch start is in the clock's range.
@@ -105,7 +105,7 @@ module _ (table : JobTable) (marks : List Mark) (is : IsStored (stored table mar
           (entry_alike marks (marks ++ mark ∷ []) other (entry_at table other) (other_alike marks mark other (at.silent other apart.1)) (is.entries other))
     ];
     batch = at.batch;
-    narrow = none_narrow;
+    old_form = none_old_form;
   }
 
   -- a step that decides a job
@@ -240,7 +240,7 @@ stored_kept table marks is legal = record {
   drawn = kept_drawn table.last marks is.drawn;
   entries = λ number. entry_alike marks (kept_marks marks) number (entry_at table number) (kept_alike marks number legal) (is.entries number);
   batch = is.batch;
-  narrow = none_narrow;
+  old_form = none_old_form;
 }
 
 -- so it is as it should be with one mark more, compacted before or not

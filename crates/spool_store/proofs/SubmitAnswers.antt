@@ -18,18 +18,18 @@ use Rattle.spool_model.specs.JobTable.{JobTable}
 use Rattle.spool_model.specs.Steps.{after_step, after_steps}
 use Rattle.start_journal.specs.Journals.{JournalRead}
 use Rattle.spool_shows.specs.Shown.{user_of}
-use Rattle.job_runs.specs.Bare.{bare_job}
-use Rattle.job_runs.specs.Calls.{StoreCall}
-use Rattle.job_runs.specs.Current.{IsCurrent, Kept}
+use Rattle.step_runs.specs.WithoutScripts.{job_without_script}
+use Rattle.step_runs.specs.Calls.{StoreCall}
+use Rattle.step_runs.specs.Current.{IsCurrent, Kept}
 use Rattle.spool_store.specs.declared.fault.StoreFault.{StoreFault}
 use Rattle.spool_store.specs.Listed.{ListsLive}
 use Rattle.spool_store.specs.Stored.{IsStored}
 use Rattle.spool_store.specs.Submitting.{IsFull, IsNextNumber, IsNextOn, IsUsedUp, job_of_script, kept_of, submission, with_job}
 use Rattle.spool_model.specs.Lists.{live_count}
 use Rattle.spool_store.proofs.CountLemmas.{rows_counted}
-use Rattle.spool_store.proofs.FoundJobLemmas.{user_read}
-use Rattle.spool_store.proofs.SubmittedFolders.{last_bare}
-use Rattle.spool_store.specs.declared.submitting.TheConstants.{MAX_LIVE}
+use Rattle.spool_store.proofs.SurveyedJobLemmas.{user_read}
+use Rattle.spool_store.proofs.SubmittedFolders.{last_without_scripts}
+use Rattle.spool_store.specs.declared.submit.TheConstants.{MAX_LIVE}
 
 -- nothing is not something
 not_some : (found : Option (List ℕ × Bool)) → found ≡ None → IsSome found → ⊥
@@ -59,7 +59,7 @@ call_done table steps old new kept after same call = record {
   others = call.others;
 }
 
-module _ (kept : Kept) (jobs : JobTable) (journal : JournalRead) (narrow : List ℕ) (view : ◌≡◌ {A = Kept} (record { table = jobs; journal = journal; narrow = narrow }) kept) where
+module _ (kept : Kept) (jobs : JobTable) (journal : JournalRead) (old_form : List ℕ) (view : ◌≡◌ {A = Kept} (record { table = jobs; journal = journal; old_form = old_form }) kept) where
   jobs_are : jobs ≡ kept.table
   jobs_are = ap (λ (at : Kept). at.table) view
 
@@ -70,7 +70,7 @@ module _ (kept : Kept) (jobs : JobTable) (journal : JournalRead) (narrow : List 
   room : (rows : List Row) → ListsLive jobs rows → length rows < MAX_LIVE → live_count kept.table < MAX_LIVE
   room rows lists few = subst (λ table. live_count table < MAX_LIVE) jobs_are (subst (λ count. count < MAX_LIVE) (rows_counted jobs rows lists) few)
 
-  pub no_number : IsStored (record { table = jobs; journal = journal; narrow = narrow }) → (rows : List Row) (last : ℕ) → ListsLive jobs rows → length rows < MAX_LIVE → last ≡ jobs.last → LAST_NUMBER ≤ last → IsUsedUp kept.table
+  pub no_number : IsStored (record { table = jobs; journal = journal; old_form = old_form }) → (rows : List Row) (last : ℕ) → ListsLive jobs rows → length rows < MAX_LIVE → last ≡ jobs.last → LAST_NUMBER ≤ last → IsUsedUp kept.table
   no_number stored rows last lists few is greatest =
       let most : jobs.last ≤ LAST_NUMBER = stored.sound.few in
       let all : jobs.last ≡ LAST_NUMBER = omega arith in
@@ -85,19 +85,19 @@ module _ (kept : Kept) (jobs : JobTable) (journal : JournalRead) (narrow : List 
       }
 
   -- the next number, of the table of the folder
-  pub is_next : IsStored (record { table = jobs; journal = journal; narrow = narrow }) → (folder : Folder) (table : JobTable) (number : ℕ) → IsNextNumber kept.table number → IsCurrent kept folder table → IsNextOn kept folder table number
+  pub is_next : IsStored (record { table = jobs; journal = journal; old_form = old_form }) → (folder : Folder) (table : JobTable) (number : ℕ) → IsNextNumber kept.table number → IsCurrent kept folder table → IsNextOn kept folder table number
   is_next stored folder table number next current = record {
     stored = subst IsStored view stored;
     current = current;
-    number_is = next.next ∙ ap (λ n. n + 1) (ap (λ (at : JobTable). at.last) current.bare_is ∙ last_bare table);
+    number_is = next.next ∙ ap (λ n. n + 1) (ap (λ (at : JobTable). at.last) current.without_scripts_is ∙ last_without_scripts table);
   }
 
   -- the table of the store with the new job
-  pub submitted_table : (drawn after : JobTable) (queue minute number : ℕ) (script : List ℕ) (found : Option JobHeader) (header : JobHeader) → drawn ≡ after_step jobs Draw → after ≡ after_step drawn (Accept number (record { queue = queue; minute = minute; user = header.user; script = [] })) → IsNextNumber kept.table number → MatchOption found (¬ HasHeader script) (IsHeaderOf script) → found ≡ Some header → after ≡ after_steps kept.table (submission kept.table (bare_job (job_of_script queue minute script)))
+  pub submitted_table : (drawn after : JobTable) (queue minute number : ℕ) (script : List ℕ) (found : Option JobHeader) (header : JobHeader) → drawn ≡ after_step jobs Draw → after ≡ after_step drawn (Accept number (record { queue = queue; minute = minute; user = header.user; script = [] })) → IsNextNumber kept.table number → MatchOption found (¬ HasHeader script) (IsHeaderOf script) → found ≡ Some header → after ≡ after_steps kept.table (submission kept.table (job_without_script (job_of_script queue minute script)))
   submitted_table drawn after queue minute number script found header drawn_is after_is next read is =
       after_is
       ∙ ap (λ at. after_step at (Accept number (record { queue = queue; minute = minute; user = header.user; script = [] }))) drawn_is
       ∙ (λ i. after_step (after_step (jobs_are i) Draw) (Accept (next.next i) (record { queue = queue; minute = minute; user = sym (header_user script found header read is) i; script = [] })))
 
-  pub submitted_kept : (after : JobTable) (job : Job) → after ≡ after_steps kept.table (submission kept.table (bare_job job)) → ◌≡◌ {A = Kept} (record { table = after; journal = journal; narrow = narrow }) (with_job kept job)
-  submitted_kept after job is = λ i. record { table = is i; journal = (view i).journal; narrow = (view i).narrow }
+  pub submitted_kept : (after : JobTable) (job : Job) → after ≡ after_steps kept.table (submission kept.table (job_without_script job)) → ◌≡◌ {A = Kept} (record { table = after; journal = journal; old_form = old_form }) (with_job kept job)
+  submitted_kept after job is = λ i. record { table = is i; journal = (view i).journal; old_form = (view i).old_form }

@@ -19,14 +19,14 @@ use Rattle.whole_file.specs.Placing.{IsPlaced, IsPlacing}
 use Rattle.spool_shows.specs.Shown.{user_of}
 use Rattle.sequence_file.proofs.LastNumbers.{last_given}
 use Rattle.job_name.proofs.NamedJobs.{name_given}
-use Rattle.job_runs.specs.Calls.{IsSteppingOn, StoreCall}
-use Rattle.job_runs.specs.Current.{EachShows, Kept}
-use Rattle.spool_store.specs.Submitting.{HasWideFile, IsNextOn, job_of_script, submission, with_job_if}
+use Rattle.step_runs.specs.Calls.{IsSteppingOn, StoreCall}
+use Rattle.step_runs.specs.Current.{EachShows, Kept}
+use Rattle.spool_store.specs.Submitting.{HasNewFormFile, IsNextOn, job_of_script, submission, with_job_if}
 use Rattle.whole_file.proofs.ChangesJoined.{changes_end, changes_on, changes_weaker, left_alone}
 use Rattle.spool_store.proofs.DrawnFolders.{IsAfterDraw, IsFileOfNext, drawing_steps, each_gives, placing_steps}
 use Rattle.spool_store.proofs.SubmittedFolders.{IsSubmitted, keeps_others, submitted_current}
 
--- each image behind the draw is one of the start with the next number drawn
+-- each image after the draw is one of the start with the next number drawn
 drawn_images : (table : JobTable) (old middle : World) → EachShows old.now.folder table → ChangesFiles (IsDrawing table.last old.now.folder) old middle → IsDrawn (table.last + 1) old.now.folder middle.now.folder → (image : Files) → IsImage middle.now.folder image → IsAfterDraw table old.now.folder image
 drawn_images table old middle shows changes drawn image is =
     let drawing : IsDrawing table.last old.now.folder image =
@@ -42,7 +42,7 @@ drawn_images table old middle shows changes drawn image is =
       };
     }
 
--- each image behind the placing has what the placing lets a crash leave
+-- each image after the placing has what the placing lets a crash leave
 placing_images : (name script : List ℕ) (middle new : World) → ChangesFiles (IsPlacing temporary_file name script middle.now.folder) middle new → (image : Files) → IsImage new.now.folder image → IsPlacing temporary_file name script middle.now.folder image
 placing_images name script middle new changes =
     changes_end (IsPlacing temporary_file name script middle.now.folder) middle new changes
@@ -53,10 +53,10 @@ header_of : (found : Option (List ℕ × Bool)) → IsSome found → (mail : Boo
 header_of None some = let impossible : false ≡ true = some in cc
 header_of (Some header) some = (header.1, refl)
 
--- a script that was placed under a wide name is in the file of that name
-pub placed_wide : (name script : List ℕ) (queue minute number : ℕ) (temp : List ℕ) (middle new : Folder) (result : Result (Unit {0}) HostFault) → SpellsJobName name queue number minute true → OnOk result (IsPlaced temp name script middle new) → OnOk result (HasWideFile new queue minute script number)
-placed_wide name script queue minute number temp middle new (Ok done) spelled placed = record { name = name; spelled = spelled; held = placed.placed (reading_of new) (reading_is_image new) }
-placed_wide name script queue minute number temp middle new (Err fault) spelled placed = tt
+-- a script that was placed under a name in the new form is in the file of that name
+pub placed_new_form : (name script : List ℕ) (queue minute number : ℕ) (temp : List ℕ) (middle new : Folder) (result : Result (Unit {0}) HostFault) → SpellsJobName name queue number minute true → OnOk result (IsPlaced temp name script middle new) → OnOk result (HasNewFormFile new queue minute script number)
+placed_new_form name script queue minute number temp middle new (Ok done) spelled placed = record { name = name; spelled = spelled; held = placed.placed (reading_of new) (reading_is_image new) }
+placed_new_form name script queue minute number temp middle new (Err fault) spelled placed = tt
 
 module _ (kept : Kept) (table : JobTable) (queue number minute : ℕ) (script : List ℕ) (old : World) (next : IsNextOn kept old.now.folder table number) where
   last_is : number - 1 ≡ table.last
@@ -77,17 +77,17 @@ module _ (kept : Kept) (table : JobTable) (queue number minute : ℕ) (script : 
     others = tt;
   }
 
-  -- the file that is placed behind a draw is that of the job
+  -- the file that is placed after a draw is that of the job
   file_of_next : (name : List ℕ) → SpellsJobName name queue number minute true → IsSome (header_in script) → IsFileOfNext table (job_of_script queue minute script) name
   file_of_next name spelled header =
       let mail : (mail : Bool) × (header_in script ≡ Some (user_of (header_in script), mail)) = header_of (header_in script) header in
       record {
-        named = name_given name queue number minute true spelled ∙ ap (λ at. Some (record { queue = queue; number = at; minute = minute; wide = true })) next.number_is;
+        named = name_given name queue number minute true spelled ∙ ap (λ at. Some (record { queue = queue; number = at; minute = minute; new_form = true })) next.number_is;
         mail = mail.0;
         header = mail.1;
       }
 
-  -- a placing behind a draw
+  -- a placing after a draw
   pub placing_done : (name : List ℕ) (middle new : World) (result : Result (Unit {0}) HostFault) → SpellsJobName name queue number minute true → IsSome (header_in script) → ChangesFiles (IsDrawing (number - 1) old.now.folder) old middle → IsDrawn (number - 1 + 1) old.now.folder middle.now.folder → ChangesFiles (IsPlacing temporary_file name script middle.now.folder) middle new → OnOk result (IsPlaced temporary_file name script middle.now.folder new.now.folder) → StoreCall table (submission table (job_of_script queue minute script)) old new (with_job_if kept (job_of_script queue minute script) result)
   placing_done name middle new result spelled header draws drawn_at places placed = by_result result placed where
     job : Job

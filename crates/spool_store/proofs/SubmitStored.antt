@@ -16,8 +16,8 @@ use Rattle.start_journal.specs.declared.mark.Mark.TheVariants.{Removed, Started,
 use Rattle.start_journal.specs.Journals.{are_drawn, is_drawn}
 use Rattle.std.proofs.lemmas.Bool.{and_from, and_parts}
 use Rattle.spool_shows.proofs.FreshNumbers.{fresh_unnamed}
-use Rattle.job_runs.specs.Bare.{bare_job}
-use Rattle.job_runs.specs.Current.{Kept}
+use Rattle.step_runs.specs.WithoutScripts.{job_without_script}
+use Rattle.step_runs.specs.Current.{Kept}
 use Rattle.spool_store.specs.Stored.{CanBeNamed, IsEntryBy, IsLiveBy, IsStored}
 use Rattle.spool_store.specs.Submitting.{submission, with_job}
 
@@ -52,11 +52,11 @@ marks_drawn last (mark ∷ later) drawn =
 -- what is kept with one job more is as it has to be
 pub submitted_stored : (kept : Kept) (job : Job) → IsStored kept → kept.table.last < LAST_NUMBER → CanBeNamed job.queue job.minute → IsStored (with_job kept job)
 submitted_stored kept job stored more named = record {
-  sound = steps_keep_the_table_sound table (submission table (bare_job job)) stored.sound (submission_legal table (bare_job job) stored.sound more);
+  sound = steps_keep_the_table_sound table (submission table (job_without_script job)) stored.sound (submission_legal table (job_without_script job) stored.sound more);
   drawn = marks_drawn table.last marks stored.drawn;
   entries = by_number;
   batch = stored.batch;
-  narrow = stored.narrow;
+  old_form = stored.old_form;
 } where
   table : JobTable
   table = kept.table
@@ -64,12 +64,12 @@ submitted_stored kept job stored more named = record {
   marks : List Mark
   marks = kept.journal.marks
 
-  here : IsLiveBy marks (table.last + 1) (bare_job job) Pending
+  here : IsLiveBy marks (table.last + 1) (job_without_script job) Pending
   here = record { named = named; since = tt; state_by = fresh_unnamed table.last (table.last + 1) marks (omega arith) stored.drawn }
 
-  by_number : (number : ℕ) → IsEntryBy marks number (finite.get (finite.insert table.entries (table.last + 1) (Live (bare_job job) Pending)) number)
+  by_number : (number : ℕ) → IsEntryBy marks number (finite.get (finite.insert table.entries (table.last + 1) (Live (job_without_script job) Pending)) number)
   by_number number = elim (eqb_tells number (table.last + 1)) [
-    | inl same ↦ subst (λ (at : ℕ). IsEntryBy marks at (finite.get (finite.insert table.entries (table.last + 1) (Live (bare_job job) Pending)) at)) (sym same.1)
-        (subst (IsEntryBy marks (table.last + 1)) (sym (get-put_same table.entries (table.last + 1) (Live (bare_job job) Pending))) here)
-    | inr apart ↦ subst (IsEntryBy marks number) (sym (get-put_other table.entries (table.last + 1) number (Live (bare_job job) Pending) apart.1)) (stored.entries number)
+    | inl same ↦ subst (λ (at : ℕ). IsEntryBy marks at (finite.get (finite.insert table.entries (table.last + 1) (Live (job_without_script job) Pending)) at)) (sym same.1)
+        (subst (IsEntryBy marks (table.last + 1)) (sym (get-put_same table.entries (table.last + 1) (Live (job_without_script job) Pending))) here)
+    | inr apart ↦ subst (IsEntryBy marks number) (sym (get-put_other table.entries (table.last + 1) number (Live (job_without_script job) Pending) apart.1)) (stored.entries number)
   ]

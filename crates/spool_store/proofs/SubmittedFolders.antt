@@ -20,23 +20,23 @@ use Rattle.job_name.specs.JobName.{NamedJob, job_named}
 use Rattle.spool_shows.proofs.FreshNumbers.{fresh_undecided}
 use Rattle.spool_shows.proofs.NameLemmas.{differ_by, job_name_apart, job_name_differs, journal_apart, journal_no_job, sequence_no_job, temporary_no_job}
 use Rattle.spool_shows.proofs.StepLaws.{accepts_are_shown}
-use Rattle.job_runs.specs.Bare.{bare, bare_job}
-use Rattle.job_runs.specs.Calls.{KeepsOthers}
-use Rattle.job_runs.specs.Current.{EachShows, HaveForms, IsCurrent, Kept, is_wide}
-use Rattle.job_runs.proofs.BareLemmas.{steps_as_on_the_table}
+use Rattle.step_runs.specs.WithoutScripts.{without_scripts, job_without_script}
+use Rattle.step_runs.specs.Calls.{KeepsOthers}
+use Rattle.step_runs.specs.Current.{EachShows, HaveForms, IsCurrent, Kept, is_new_form}
+use Rattle.step_runs.proofs.WithoutScriptsLemmas.{steps_as_on_the_table}
 use Rattle.spool_store.specs.Submitting.{IsNextOn, submission, with_job}
 use Rattle.spool_store.proofs.DrawnFolders.{IsAfterDraw, IsFileOfNext, accepted, not_either, sequence_differs}
 
 -- the table without scripts, after a submission
-pub last_bare : (table : JobTable) → (bare table).last ≡ table.last
-unfolding bare
-last_bare table = refl
+pub last_without_scripts : (table : JobTable) → (without_scripts table).last ≡ table.last
+unfolding without_scripts
+last_without_scripts table = refl
 
-bare_submission : (table : JobTable) (job : Job) → bare (after_steps table (submission table job)) ≡ after_steps (bare table) (submission (bare table) (bare_job job))
-bare_submission table job =
+without_scripts_submission : (table : JobTable) (job : Job) → without_scripts (after_steps table (submission table job)) ≡ after_steps (without_scripts table) (submission (without_scripts table) (job_without_script job))
+without_scripts_submission table job =
     steps_as_on_the_table (after_step table Draw) (Accept (table.last + 1) job)
-    ∙ ap (λ at. after_step at (Accept (table.last + 1) (bare_job job))) (steps_as_on_the_table table Draw)
-    ∙ ap (λ last. after_step (after_step (bare table) Draw) (Accept (last + 1) (bare_job job))) (sym (last_bare table))
+    ∙ ap (λ at. after_step at (Accept (table.last + 1) (job_without_script job))) (steps_as_on_the_table table Draw)
+    ∙ ap (λ last. after_step (after_step (without_scripts table) Draw) (Accept (last + 1) (job_without_script job))) (sym (last_without_scripts table))
 
 -- The folder once the number is drawn and the file placed.
 pub record IsSubmitted (table : JobTable) (job : Job) (name : List ℕ) (old middle new : Folder) : Type 0 where
@@ -71,7 +71,7 @@ module _ (kept : Kept) (table : JobTable) (job : Job) (name : List ℕ) (file : 
   -- no mark decides the new number
   undecided : is_decided (table.last + 1) kept.journal.marks ≡ false
   undecided =
-      let last_is : kept.table.last ≡ table.last = ap (λ (at : JobTable). at.last) next.current.bare_is ∙ last_bare table in
+      let last_is : kept.table.last ≡ table.last = ap (λ (at : JobTable). at.last) next.current.without_scripts_is ∙ last_without_scripts table in
       let drawn : are_drawn kept.table.last kept.journal.marks ≡ true = next.stored.drawn in
       fresh_undecided kept.table.last (table.last + 1) kept.journal.marks (omega arith) drawn
 
@@ -85,27 +85,27 @@ module _ (kept : Kept) (table : JobTable) (job : Job) (name : List ℕ) (file : 
   ] where
     not_new : ¬ (other ≡ name)
     not_new same =
-        let both : Some named ≡ Some (record { queue = job.queue; number = table.last + 1; minute = job.minute; wide = true }) = sym of ∙ ap job_named same ∙ file.named in
+        let both : Some named ≡ Some (record { queue = job.queue; number = table.last + 1; minute = job.minute; new_form = true }) = sym of ∙ ap job_named same ∙ file.named in
         let number_is : named.number ≡ table.last + 1 = cc in
         let impossible : true ≡ false = sym decided ∙ ap (λ n. is_decided n kept.journal.marks) number_is ∙ undecided in
         cc
 
-  -- the new number has no narrow name, since it was not drawn before
-  new_is_wide : is_wide kept.narrow (table.last + 1) ≡ true
-  new_is_wide = by_form (is_wide kept.narrow (table.last + 1)) refl where
-    by_form : (wide : Bool) → is_wide kept.narrow (table.last + 1) ≡ wide → is_wide kept.narrow (table.last + 1) ≡ true
+  -- the new number has no name in the old form, since it was not drawn before
+  new_is_new_form : is_new_form kept.old_form (table.last + 1) ≡ true
+  new_is_new_form = by_form (is_new_form kept.old_form (table.last + 1)) refl where
+    by_form : (new_form : Bool) → is_new_form kept.old_form (table.last + 1) ≡ new_form → is_new_form kept.old_form (table.last + 1) ≡ true
     by_form true form = form
     by_form false form = absurd (omega (arith, next.current.forms.drawn (table.last + 1) form))
 
   -- and no other name has come
-  forms : HaveForms kept.narrow (after_steps table (submission table job)).last (reading_of new)
+  forms : HaveForms kept.old_form (after_steps table (submission table job)).last (reading_of new)
   forms = record {
     each = λ other named of there. elim (one_or_other other name) [
       | inl same ↦
-          let both : Some named ≡ Some (record { queue = job.queue; number = table.last + 1; minute = job.minute; wide = true }) = sym of ∙ ap job_named same ∙ file.named in
+          let both : Some named ≡ Some (record { queue = job.queue; number = table.last + 1; minute = job.minute; new_form = true }) = sym of ∙ ap job_named same ∙ file.named in
           let number_is : named.number ≡ table.last + 1 = cc in
-          let wide_is : named.wide ≡ true = cc in
-          wide_is ∙ sym (ap (is_wide kept.narrow) number_is ∙ new_is_wide)
+          let new_form_is : named.new_form ≡ true = cc in
+          new_form_is ∙ sym (ap (is_new_form kept.old_form) number_is ∙ new_is_new_form)
       | inr differs ↦ next.current.forms.each other named of (subst IsSome
           (is.placed.others other (neither temporary_file name other (job_name_differs other temporary_file named of temporary_no_job) differs)
           ∙ is.drawn.placed.others other (job_name_apart temporary_file sequence_file other named temporary_no_job sequence_no_job of)) there)
@@ -116,7 +116,7 @@ module _ (kept : Kept) (table : JobTable) (job : Job) (name : List ℕ) (file : 
   pub submitted_current : IsCurrent (with_job kept job) new (after_steps table (submission table job))
   submitted_current = record {
     shows = shows;
-    bare_is = ap (λ at. after_steps at (submission at (bare_job job))) next.current.bare_is ∙ sym (bare_submission table job);
+    without_scripts_is = ap (λ at. after_steps at (submission at (job_without_script job))) next.current.without_scripts_is ∙ sym (without_scripts_submission table job);
     journal = record {
       certain = is.placed.certain;
       same = λ image of. journal_same image of ∙ sym (journal_same (reading_of new) (reading_is_image new));

@@ -1,4 +1,4 @@
--- The look at one file more.
+-- The survey of one file more.
 use Rattle.std.proofs.Common.{◌≡◌, ℕ, ◌+◌, ◌<◌, ◌≤◌, Bool, true, false, cond, List, Option, Some, None, [], ◌∷◌, ◌++◌, length, get_or, take, drop, sym, ap, subst, ◌∙◌, refl, arith}
 use Rattle.std.specs.Prelude.{◌==◌, ◌||◌, MatchResult, Result, Ok, Err, IsErrAnd, is_some, nat_lt, option_map}
 use Rattle.std.specs.BTreeMap.{Updates, get, is_at}
@@ -18,10 +18,10 @@ use Rattle.spool_shows.proofs.MarkTests.{neither}
 use Rattle.spool_shows.proofs.StartLemmas.{number_passes}
 use Rattle.spool_store.specs.declared.fault.StoreFault.{StoreFault}
 use Rattle.spool_store.specs.declared.fault.StoreFault.TheVariants.{Damaged}
-use Rattle.spool_store.specs.declared.found_job.FoundJob.{FoundJob}
+use Rattle.spool_store.specs.declared.surveyed_job.SurveyedJob.{SurveyedJob}
 use Rattle.spool_store.specs.Faults.{IsFound}
-use Rattle.spool_store.specs.inside.FoundJobs.{file_found, files_found}
-use Rattle.spool_store.specs.inside.JobRows.{AreRowsOf, HasLooked, HaveNumbers, IsRowOrDamage, RowMap, numbers_behind, row_of}
+use Rattle.spool_store.specs.inside.SurveyedJobs.{file_surveyed, files_surveyed}
+use Rattle.spool_store.specs.inside.JobRows.{AreRowsOf, IsSurveyedSoFar, HaveNumbers, IsRowOrDamage, RowMap, numbers_after, row_of}
 use Rattle.spool_store.proofs.LifecycleLemmas.{key_is, or_nothing}
 
 -- Keys.
@@ -45,18 +45,18 @@ find_last test (first ∷ before) last = by_test (test first) (find_last test be
   by_test true rest = refl
   by_test false rest = rest
 
-behind_last : (before : List ℕ) (files : List JobFile) (file : JobFile) → numbers_behind before (files ++ file ∷ []) ≡ file.job.number ∷ numbers_behind before files
-behind_last before [] file = refl
-behind_last before (first ∷ files) file = behind_last (first.job.number ∷ before) files file
+after_last : (before : List ℕ) (files : List JobFile) (file : JobFile) → numbers_after before (files ++ file ∷ []) ≡ file.job.number ∷ numbers_after before files
+after_last before [] file = refl
+after_last before (first ∷ files) file = after_last (first.job.number ∷ before) files file
 
 any_of_file : (same : Bool) (found : Option JobFile) (file : JobFile) (rest : Bool) → (is_some found || (same || rest)) ≡ (is_some (cond same (Some file) found) || rest)
 any_of_file true found file rest = or_true (is_some found)
 any_of_file false found file rest = refl
 
-any_behind : (number : ℕ) (before : List ℕ) (files : List JobFile) → list_any (λ other. other == number) (numbers_behind before files) ≡ (is_some (file_of number files) || list_any (λ other. other == number) before)
-any_behind number before [] = refl
-any_behind number before (file ∷ files) =
-    any_behind number (file.job.number ∷ before) files
+any_after : (number : ℕ) (before : List ℕ) (files : List JobFile) → list_any (λ other. other == number) (numbers_after before files) ≡ (is_some (file_of number files) || list_any (λ other. other == number) before)
+any_after number before [] = refl
+any_after number before (file ∷ files) =
+    any_after number (file.job.number ∷ before) files
     ∙ any_of_file (file.job.number == number) (file_of number files) file (list_any (λ other. other == number) before)
 
 some_row : (marks : List Mark) (found : Option JobFile) → is_some (option_map (row_of marks) found) ≡ is_some found
@@ -64,10 +64,10 @@ some_row marks None = refl
 some_row marks (Some file) = refl
 
 -- the rows have the numbers of their files
-pub rows_have : (marks : List Mark) (files : List JobFile) (rows : RowMap) → AreRowsOf marks files rows → HaveNumbers (numbers_behind [] files) rows
+pub rows_have : (marks : List Mark) (files : List JobFile) (rows : RowMap) → AreRowsOf marks files rows → HaveNumbers (numbers_after [] files) rows
 rows_have marks files rows are number =
     ap is_some (are number) ∙ some_row marks (file_of number files)
-    ∙ sym (any_behind number [] files ∙ or_false (is_some (file_of number files)))
+    ∙ sym (any_after number [] files ∙ or_false (is_some (file_of number files)))
 
 not_some : {X : Type 0} → (found : Option X) → is_some found ≡ false → found ≡ None
 not_some None is = refl
@@ -99,51 +99,51 @@ rows_more marks files file rows new row are is none updates number =
           ∙ sym (ap (λ b. option_map (row_of marks) (option_or (file_of number files) (cond b (Some file) None))) differ
           ∙ ap (option_map (row_of marks)) (or_nothing (file_of number files)))
 
--- The look.
+-- The survey.
 
 -- the damage of the others, with the next of them first
-next_damage : (last : ℕ) (marks : List Mark) (files : List JobFile) (place : ℕ) (rows : RowMap) (file : JobFile) → place < length files → get_or files place file ≡ file → HasLooked last marks files place rows
-    → files_damage last [] files ≡ option_or (damage_of file (file_place last (numbers_behind [] (take place files)) file)) (files_damage last (file.job.number ∷ numbers_behind [] (take place files)) (drop (place + 1) files))
-next_damage last marks files place rows file inside at looked =
-    looked.damage ∙ ap (files_damage last (numbers_behind [] (take place files))) (drop_more files place file inside ∙ ap (λ f. f ∷ drop (place + 1) files) at)
+next_damage : (last : ℕ) (marks : List Mark) (files : List JobFile) (place : ℕ) (rows : RowMap) (file : JobFile) → place < length files → get_or files place file ≡ file → IsSurveyedSoFar last marks files place rows
+    → files_damage last [] files ≡ option_or (damage_of file (file_place last (numbers_after [] (take place files)) file)) (files_damage last (file.job.number ∷ numbers_after [] (take place files)) (drop (place + 1) files))
+next_damage last marks files place rows file inside at so_far =
+    so_far.damage ∙ ap (files_damage last (numbers_after [] (take place files))) (drop_more files place file inside ∙ ap (λ f. f ∷ drop (place + 1) files) at)
 
-pub looked_more : (last : ℕ) (marks : List Mark) (files : List JobFile) (place : ℕ) (rows new : RowMap) (file : JobFile) (row : Row) → place < length files → get_or files place file ≡ file → HasLooked last marks files place rows
-    → IsRowOrDamage last (numbers_behind [] (take place files)) marks file (Ok row) → Updates nat_cmp rows new row.number (Some row) → HasLooked last marks files (place + 1) new
-looked_more last marks files place rows new file row inside at looked whole updates =
+pub so_far_more : (last : ℕ) (marks : List Mark) (files : List JobFile) (place : ℕ) (rows new : RowMap) (file : JobFile) (row : Row) → place < length files → get_or files place file ≡ file → IsSurveyedSoFar last marks files place rows
+    → IsRowOrDamage last (numbers_after [] (take place files)) marks file (Ok row) → Updates nat_cmp rows new row.number (Some row) → IsSurveyedSoFar last marks files (place + 1) new
+so_far_more last marks files place rows new file row inside at so_far whole updates =
     let more : take (place + 1) files ≡ take place files ++ file ∷ [] = take_more files place file inside ∙ ap (λ f. take place files ++ f ∷ []) at in
     let none : file_of file.job.number (take place files) ≡ None =
-    not_some _ (sym (any_behind file.job.number [] (take place files) ∙ or_false (is_some (file_of file.job.number (take place files)))) ∙ new_number last _ file whole.0) in
+    not_some _ (sym (any_after file.job.number [] (take place files) ∙ or_false (is_some (file_of file.job.number (take place files)))) ∙ new_number last _ file whole.0) in
     record {
       damage =
-          next_damage last marks files place rows file inside at looked
-          ∙ ap (λ p. option_or (damage_of file p) (files_damage last (file.job.number ∷ numbers_behind [] (take place files)) (drop (place + 1) files))) whole.0
-          ∙ ap (λ numbers. files_damage last numbers (drop (place + 1) files)) (sym (ap (numbers_behind []) more ∙ behind_last [] (take place files) file));
-      rows_are = λ number. rows_more marks (take place files) file rows new row looked.rows_are whole.1 none updates number ∙ ap (λ fs. option_map (row_of marks) (file_of number fs)) (sym more);
+          next_damage last marks files place rows file inside at so_far
+          ∙ ap (λ p. option_or (damage_of file p) (files_damage last (file.job.number ∷ numbers_after [] (take place files)) (drop (place + 1) files))) whole.0
+          ∙ ap (λ numbers. files_damage last numbers (drop (place + 1) files)) (sym (ap (numbers_after []) more ∙ after_last [] (take place files) file));
+      rows_are = λ number. rows_more marks (take place files) file rows new row so_far.rows_are whole.1 none updates number ∙ ap (λ fs. option_map (row_of marks) (file_of number fs)) (sym more);
     }
 
-pub looked_damage : (last : ℕ) (marks : List Mark) (files : List JobFile) (place : ℕ) (rows : RowMap) (file : JobFile) (damage : Damage) → place < length files → get_or files place file ≡ file → HasLooked last marks files place rows
-    → IsRowOrDamage last (numbers_behind [] (take place files)) marks file (Err damage) → files_damage last [] files ≡ Some damage
-looked_damage last marks files place rows file damage inside at looked fault =
-    next_damage last marks files place rows file inside at looked
-    ∙ ap (λ d. option_or d (files_damage last (file.job.number ∷ numbers_behind [] (take place files)) (drop (place + 1) files))) fault
+pub so_far_damage : (last : ℕ) (marks : List Mark) (files : List JobFile) (place : ℕ) (rows : RowMap) (file : JobFile) (damage : Damage) → place < length files → get_or files place file ≡ file → IsSurveyedSoFar last marks files place rows
+    → IsRowOrDamage last (numbers_after [] (take place files)) marks file (Err damage) → files_damage last [] files ≡ Some damage
+so_far_damage last marks files place rows file damage inside at so_far fault =
+    next_damage last marks files place rows file inside at so_far
+    ∙ ap (λ d. option_or d (files_damage last (file.job.number ∷ numbers_after [] (take place files)) (drop (place + 1) files))) fault
 
--- all were looked at
-pub looked_all : (last : ℕ) (marks : List Mark) (files : List JobFile) (place : ℕ) (rows : RowMap) → length files ≤ place → HasLooked last marks files place rows → (files_damage last [] files ≡ None) × AreRowsOf marks files rows
-looked_all last marks files place rows behind looked = (
-  looked.damage ∙ ap (files_damage last (numbers_behind [] (take place files))) (drop_all place files behind),
-  λ number. looked.rows_are number ∙ ap (λ fs. option_map (row_of marks) (file_of number fs)) (take_all place files behind),
+-- all were surveyed
+pub so_far_all : (last : ℕ) (marks : List Mark) (files : List JobFile) (place : ℕ) (rows : RowMap) → length files ≤ place → IsSurveyedSoFar last marks files place rows → (files_damage last [] files ≡ None) × AreRowsOf marks files rows
+so_far_all last marks files place rows after so_far = (
+  so_far.damage ∙ ap (files_damage last (numbers_after [] (take place files))) (drop_all place files after),
+  λ number. so_far.rows_are number ∙ ap (λ fs. option_map (row_of marks) (file_of number fs)) (take_all place files after),
 )
 
 -- Files as they were seen.
 
-pub seen_inside : (seen : List FoundJob) (place : ℕ) → place < length seen → place < length (files_found seen)
-seen_inside seen place inside = omega (arith, length-map seen file_found)
+pub surveyed_inside : (surveyed : List SurveyedJob) (place : ℕ) → place < length surveyed → place < length (files_surveyed surveyed)
+surveyed_inside surveyed place inside = omega (arith, length-map surveyed file_surveyed)
 
-pub seen_behind : (seen : List FoundJob) (place : ℕ) → length seen ≤ place → length (files_found seen) ≤ place
-seen_behind seen place behind = omega (arith, length-map seen file_found)
+pub surveyed_after : (surveyed : List SurveyedJob) (place : ℕ) → length surveyed ≤ place → length (files_surveyed surveyed) ≤ place
+surveyed_after surveyed place after = omega (arith, length-map surveyed file_surveyed)
 
-pub seen_at : (seen : List FoundJob) (place : ℕ) (file : FoundJob) → place < length seen → file ≡ get_or seen place file → get_or (files_found seen) place (file_found file) ≡ file_found file
-seen_at seen place file inside here = get_or-map file_found seen place file (file_found file) inside ∙ ap file_found (sym here)
+pub surveyed_at : (surveyed : List SurveyedJob) (place : ℕ) (file : SurveyedJob) → place < length surveyed → file ≡ get_or surveyed place file → get_or (files_surveyed surveyed) place (file_surveyed file) ≡ file_surveyed file
+surveyed_at surveyed place file inside here = get_or-map file_surveyed surveyed place file (file_surveyed file) inside ∙ ap file_surveyed (sym here)
 
 -- an answer that is this fault is the damage that was found
 pub answer_fault : {T : Type 0} → (P : T → Type 0) (found : Option Damage) (damage : Damage) (result : Result T StoreFault) → IsErrAnd result (λ fault. fault ≡ Damaged damage) → found ≡ Some damage → MatchResult result P (IsFound found)

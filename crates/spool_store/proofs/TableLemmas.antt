@@ -26,10 +26,10 @@ use Rattle.spool_shows.proofs.Membership.{Has, found_has}
 use Rattle.spool_shows.proofs.ShownEntries.{fails_other, some_same}
 use Rattle.spool_shows.proofs.StartLemmas.{number_passes}
 use Rattle.std.proofs.lemmas.Bool.{eqb-true}
-use Rattle.job_runs.specs.Bare.{bare, bare_entries, bare_entry}
+use Rattle.step_runs.specs.WithoutScripts.{without_scripts, entries_without_scripts, entry_without_script}
 use Rattle.spool_store.specs.declared.lifecycles.Lifecycle.{Lifecycle}
 use Rattle.spool_store.specs.declared.lifecycles.Lifecycles.{Lifecycles}
-use Rattle.spool_store.specs.inside.Lifecycles.{Rise, TellLifecycles, decided_of, fate_at, remembered_at, remembered_fate, untold}
+use Rattle.spool_store.specs.inside.Lifecycles.{Rise, TellLifecycles, decided_of, fate_at, remembered_at, remembered_fate, unknown}
 use Rattle.spool_store.specs.inside.JobRows.{AreRowsOf, RowMap, row_of}
 use Rattle.spool_store.specs.Rows.{decided_entry, listed_entries, listed_table, row_entry}
 use Rattle.spool_store.proofs.LifecycleLemmas.{key_is}
@@ -52,11 +52,11 @@ find_in_two number (entry ∷ one) other = by_test (eq_by_cmp nat_cmp number ent
   by_test true rest = refl
   by_test false rest = rest
 
-find_bare : (number : ℕ) (list : List (ℕ × JobEntry)) → find_entry nat_cmp number (bare_entries list) ≡ option_map bare_entry (find_entry nat_cmp number list)
-find_bare number [] = refl
-find_bare number (entry ∷ list) = by_test (eq_by_cmp nat_cmp number entry.0) (find_bare number list) where
-  by_test : (at : Bool) → find_entry nat_cmp number (bare_entries list) ≡ option_map bare_entry (find_entry nat_cmp number list)
-      → cond at (Some (bare_entry entry.1)) (find_entry nat_cmp number (bare_entries list)) ≡ option_map bare_entry (cond at (Some entry.1) (find_entry nat_cmp number list))
+find_without_scripts : (number : ℕ) (list : List (ℕ × JobEntry)) → find_entry nat_cmp number (entries_without_scripts list) ≡ option_map entry_without_script (find_entry nat_cmp number list)
+find_without_scripts number [] = refl
+find_without_scripts number (entry ∷ list) = by_test (eq_by_cmp nat_cmp number entry.0) (find_without_scripts number list) where
+  by_test : (at : Bool) → find_entry nat_cmp number (entries_without_scripts list) ≡ option_map entry_without_script (find_entry nat_cmp number list)
+      → cond at (Some (entry_without_script entry.1)) (find_entry nat_cmp number (entries_without_scripts list)) ≡ option_map entry_without_script (cond at (Some entry.1) (find_entry nat_cmp number list))
   by_test true rest = refl
   by_test false rest = rest
 
@@ -169,12 +169,12 @@ rows_keyed marks files rows are ordered key row has =
 
 -- what is found in the two lists, with the file of the number and its fate
 joined : (marks : List Mark) (found : Option JobFile) (given : Option Fate)
-    → option_or (option_map (λ row. (row_entry row).1) (option_map (row_of marks) found)) (option_map Done given) ≡ option_map bare_entry (option_or (option_map (λ file. (live_entry marks file).1) found) (option_map Done given))
+    → option_or (option_map (λ row. (row_entry row).1) (option_map (row_of marks) found)) (option_map Done given) ≡ option_map entry_without_script (option_or (option_map (λ file. (live_entry marks file).1) found) (option_map Done given))
 joined marks (Some file) given = refl
 joined marks None (Some f) = refl
 joined marks None None = refl
 
-remembered : (kept : Option Lifecycle) → option_and_then remembered_fate kept ≡ remembered_fate (unwrap_or kept untold)
+remembered : (kept : Option Lifecycle) → option_and_then remembered_fate kept ≡ remembered_fate (unwrap_or kept unknown)
 remembered None = refl
 remembered (Some life) = refl
 
@@ -192,26 +192,26 @@ found_shown number marks files =
     ∙ ap (option_or (option_map (λ file. (live_entry marks file).1) (file_of number files))) (find_done number marks marks)
 
 found_same : (marks : List Mark) (files : List JobFile) (rows : RowMap) (lives : Lifecycles) → TellLifecycles marks lives → AreRowsOf marks files rows → IsOrdered nat_cmp rows → IsOrdered nat_cmp lives.by_number → (number : ℕ)
-    → find_entry nat_cmp number (listed_entries (values rows) (filter_map decided_of lives.by_number.entries)) ≡ option_map bare_entry (find_entry nat_cmp number (entries_shown marks files))
+    → find_entry nat_cmp number (listed_entries (values rows) (filter_map decided_of lives.by_number.entries)) ≡ option_map entry_without_script (find_entry nat_cmp number (entries_shown marks files))
 found_same marks files rows lives tells are ordered orders number =
     find_in_two number (map row_entry (values rows)) (map decided_entry (filter_map decided_of lives.by_number.entries))
     ∙ ap (λ o. option_or o (find_entry nat_cmp number (map decided_entry (filter_map decided_of lives.by_number.entries))))
     (find_rows number rows.entries (rows_keyed marks files rows are ordered) ∙ ap (option_map (λ row. (row_entry row).1)) (are number))
     ∙ ap (option_or (option_map (λ row. (row_entry row).1) (option_map (row_of marks) (file_of number files)))) (lives_decided marks lives tells orders number)
     ∙ joined marks (file_of number files) (remembered_at number marks)
-    ∙ ap (option_map bare_entry) (sym (found_shown number marks files))
+    ∙ ap (option_map entry_without_script) (sym (found_shown number marks files))
 
 pub table_same : (last : ℕ) (marks : List Mark) (files : List JobFile) (rows : RowMap) (lives : Lifecycles) → TellLifecycles marks lives → AreRowsOf marks files rows → IsOrdered nat_cmp rows → IsOrdered nat_cmp lives.by_number
-    → listed_table last (values rows) (filter_map decided_of lives.by_number.entries) (last_batch marks) ≡ bare (table_shown last marks files)
-unfolding bare
+    → listed_table last (values rows) (filter_map decided_of lives.by_number.entries) (last_batch marks) ≡ without_scripts (table_shown last marks files)
+unfolding without_scripts
 table_same last marks files rows lives tells are ordered orders =
     ap (λ es. table_of last es (last_batch marks))
     (same_map nat_cmp_total nat_cmp-IsAntisymmetric _ _
     (λ number. get-from_entries nat_cmp_total (listed_entries (values rows) (filter_map decided_of lives.by_number.entries)) number
     ∙ found_same marks files rows lives tells are ordered orders number
-    ∙ sym (get-from_entries nat_cmp_total (bare_entries (entries (from_entries {R = nat_cmp} (entries_shown marks files)))) number
-    ∙ find_bare number (entries (from_entries {R = nat_cmp} (entries_shown marks files)))
-    ∙ ap (option_map bare_entry) (sym (get-entries (from_entries {R = nat_cmp} (entries_shown marks files)) number) ∙ get-from_entries nat_cmp_total (entries_shown marks files) number))))
+    ∙ sym (get-from_entries nat_cmp_total (entries_without_scripts (entries (from_entries {R = nat_cmp} (entries_shown marks files)))) number
+    ∙ find_without_scripts number (entries (from_entries {R = nat_cmp} (entries_shown marks files)))
+    ∙ ap (option_map entry_without_script) (sym (get-entries (from_entries {R = nat_cmp} (entries_shown marks files)) number) ∙ get-from_entries nat_cmp_total (entries_shown marks files) number))))
 
 -- Orders.
 

@@ -2,10 +2,10 @@
 use Rattle.std.specs.Prelude.{◌≡◌, Result, Ok, Err}
 use Rattle.host_calls.specs.Folder.{Folder, reading_of}
 use Rattle.spool_model.specs.JobTable.{JobTable}
-use Rattle.spool_shows.specs.NarrowForm.{HasNoWideName, ShowsNarrow}
+use Rattle.spool_shows.specs.OldForm.{HasNoNewFormName, ShowsOldForm}
 use Rattle.spool_shows.specs.Shown.{shown_by}
-use Rattle.job_runs.specs.Calls.{KeepsOthers}
-use Rattle.job_runs.specs.Current.{IsCurrent, Kept}
+use Rattle.step_runs.specs.Calls.{KeepsOthers}
+use Rattle.step_runs.specs.Current.{IsCurrent, Kept}
 use Rattle.spool_store.specs.declared.fault.StoreFault.{StoreFault}
 use Rattle.spool_store.specs.declared.fault.StoreFault.TheVariants.{Damaged, FileFault, Memory, NumbersUsedUp, QueueFull}
 
@@ -16,11 +16,11 @@ pub record IsRecovered (old new : Folder) (kept : Kept) : Type 0 where
   pub current : IsCurrent kept new table
   pub others : KeepsOthers old new
 
--- where no file of the reading had a name of the wide form, and it showed a table by the narrow form alone, what is kept
+-- where no file of the reading had a name of the new form, and it showed a table by the old form alone, what is kept
 -- is current with that table
-abbrev pub ShowsAsBeforeWideNames : Folder → Folder → Kept → Type 0
-ShowsAsBeforeWideNames old new kept = (table : JobTable) → HasNoWideName (reading_of old) →
-    ShowsNarrow (reading_of old) table → IsCurrent kept new table
+abbrev pub ShowsAsBeforeNewFormNames : Folder → Folder → Kept → Type 0
+ShowsAsBeforeNewFormNames old new kept = (table : JobTable) → HasNoNewFormName (reading_of old) →
+    ShowsOldForm (reading_of old) table → IsCurrent kept new table
 
 -- the reading shows what it showed: the same table, or the same damage
 abbrev pub ShowsTheSame : Folder → Folder → Type 0

@@ -6,14 +6,14 @@ use Rattle.job_name.specs.JobName.{SpellsJobName}
 use Rattle.spool_model.specs.declared.entry.Entry.TheVariants.{Live}
 use Rattle.spool_model.specs.declared.job.Job.{Job}
 use Rattle.spool_model.specs.JobTable.{JobState, JobTable, entry_at}
-use Rattle.job_runs.specs.Current.{is_wide}
+use Rattle.step_runs.specs.Current.{is_new_form}
 
 -- the name is that of the live job's file, in the form that is kept for its number
-pub record IsFileOf (table : JobTable) (narrow : List ℕ) (number : ℕ) (name : List ℕ) : Type 0 where
+pub record IsFileOf (table : JobTable) (old_form : List ℕ) (number : ℕ) (name : List ℕ) : Type 0 where
   pub job : Job
   pub state : JobState
   pub lives : entry_at table number ≡ Some (Live job state)
-  pub spelled : SpellsJobName name job.queue number job.minute (is_wide narrow number)
+  pub spelled : SpellsJobName name job.queue number job.minute (is_new_form old_form number)
 
 -- the bytes are the script of the live job
 pub record IsScriptOf (table : JobTable) (number : ℕ) (bytes : List ℕ) : Type 0 where

@@ -5,8 +5,8 @@ use Rattle.host_calls.specs.World.{World}
 use Rattle.spool_model.specs.declared.step.Step.{Step}
 use Rattle.spool_model.specs.JobTable.{JobTable}
 use Rattle.spool_model.specs.Steps.{IsLegal, after_step}
-use Rattle.job_runs.specs.Calls.{StoreCall}
-use Rattle.job_runs.specs.Current.{IsCurrent, Kept}
+use Rattle.step_runs.specs.Calls.{StoreCall}
+use Rattle.step_runs.specs.Current.{IsCurrent, Kept}
 use Rattle.spool_store.specs.declared.fault.StoreFault.{StoreFault}
 use Rattle.spool_store.specs.declared.fault.StoreFault.TheVariants.{FileFault}
 use Rattle.spool_store.specs.Faults.{IsOfStep}

@@ -11,7 +11,7 @@ use Rattle.start_journal.specs.declared.mark.Mark.{Mark}
 use Rattle.start_journal.specs.Journals.{are_drawn}
 use Rattle.start_journal.specs.Marks.{is_named, is_open, is_remembered}
 use Rattle.clock_range.specs.ClockRange.{IsClockMinute, IsClockSecond}
-use Rattle.job_runs.specs.Current.{Kept, is_wide}
+use Rattle.step_runs.specs.Current.{Kept, is_new_form}
 use Rattle.spool_model.specs.Numbers.{number_digits}
 
 -- the queue and the minute can stand in the name of a job's file
@@ -42,18 +42,18 @@ IsEntryBy marks number None = Unit {0}
 IsEntryBy marks number (Some (Live job state)) = IsLiveBy marks number job state
 IsEntryBy marks number (Some (Done fate)) = is_remembered number marks ≡ true
 
--- each number that is kept as that of a narrow name has as many digits as such a name has
-abbrev pub AreNarrow : List ℕ → Type 0
-AreNarrow narrow = (number : ℕ) → is_wide narrow number ≡ false → number < 16 ^ number_digits false
+-- each number that is kept as that of a name in the old form has as many digits as such a name has
+abbrev pub AreInOldForm : List ℕ → Type 0
+AreInOldForm old_form = (number : ℕ) → is_new_form old_form number ≡ false → number < 16 ^ number_digits false
 
 -- What a store keeps, over any host: a sound table, marks of numbers that were drawn, each entry as the marks have it,
--- and numbers of narrow names.
+-- and numbers of names in the old form.
 pub record IsStored (kept : Kept) : Type 0 where
   pub sound : IsSound kept.table
   pub drawn : IsTrue (are_drawn kept.table.last kept.journal.marks)
   pub entries : (number : ℕ) → IsEntryBy kept.journal.marks number (entry_at kept.table number)
   pub batch : IfSome kept.table.last_batch IsClockSecond
-  pub narrow : AreNarrow kept.narrow
+  pub old_form : AreInOldForm kept.old_form
 
 -- the row of a live job can have a file, and a running one has a second of the clock's range
 pub record IsRowInRange (row : Row) : Type 0 where

@@ -11,11 +11,11 @@ use Rattle.spool_model.specs.declared.step.Step.TheVariants.{Draw, Accept}
 use Rattle.spool_model.specs.JobTable.{JobTable}
 use Rattle.spool_model.specs.Steps.{after_steps}
 use Rattle.spool_shows.specs.Shown.{user_of}
-use Rattle.job_runs.specs.Bare.{bare_job}
-use Rattle.job_runs.specs.Current.{IsCurrent, Kept}
+use Rattle.step_runs.specs.WithoutScripts.{job_without_script}
+use Rattle.step_runs.specs.Current.{IsCurrent, Kept}
 use Rattle.spool_store.specs.declared.fault.StoreFault.{StoreFault}
 use Rattle.spool_store.specs.declared.fault.StoreFault.TheVariants.{FileFault, Memory, NumbersUsedUp, QueueFull, Damaged}
-use Rattle.spool_store.specs.declared.submitting.TheConstants.{MAX_LIVE}
+use Rattle.spool_store.specs.declared.submit.TheConstants.{MAX_LIVE}
 use Rattle.spool_store.specs.Stored.{IsStored}
 use Rattle.spool_model.specs.Lists.{live_count}
 
@@ -54,7 +54,7 @@ job_of_script queue minute script = record { queue = queue; minute = minute; use
 abbrev pub submission : JobTable → Job → List Step
 submission table job = Draw ∷ Accept (table.last + 1) job ∷ []
 
--- What is kept is current with the table, and this is the number behind its last one.
+-- What is kept is current with the table, and this is the number after its last one.
 pub record IsNextOn (kept : Kept) (folder : Folder) (table : JobTable) (number : ℕ) : Type 0 where
   pub stored : IsStored kept
   pub current : IsCurrent kept folder table
@@ -63,13 +63,13 @@ pub record IsNextOn (kept : Kept) (folder : Folder) (table : JobTable) (number :
 -- what is kept, with one job more
 abbrev pub with_job : Kept → Job → Kept
 with_job kept job = record {
-  table = after_steps kept.table (submission kept.table (bare_job job));
+  table = after_steps kept.table (submission kept.table (job_without_script job));
   journal = kept.journal;
-  narrow = kept.narrow;
+  old_form = kept.old_form;
 }
 
--- the script is in the file of the job's wide name
-pub record HasWideFile (folder : Folder) (queue minute : ℕ) (script : List ℕ) (number : ℕ) : Type 0 where
+-- the script is in the file of the job's name in the new form
+pub record HasNewFormFile (folder : Folder) (queue minute : ℕ) (script : List ℕ) (number : ℕ) : Type 0 where
   pub name : List ℕ
   pub spelled : SpellsJobName name queue number minute true
   pub held : finite.get (reading_of folder) name ≡ Some script
@@ -79,7 +79,7 @@ abbrev pub with_job_if : {E : Type 0} → Kept → Job → Result (Unit {0}) E �
 with_job_if kept job (Ok done) = Ok (with_job kept job)
 with_job_if kept job (Err fault) = Err fault
 
--- what a store keeps behind a submission, by its answer
+-- what a store keeps after a submission, by its answer
 abbrev pub kept_of : Result (Kept × ℕ) StoreFault → Result Kept StoreFault
 kept_of (Ok stored) = Ok stored.0
 kept_of (Err fault) = Err fault

@@ -1,4 +1,4 @@
-pub mod FoundJobs
+pub mod SurveyedJobs
 pub mod JobRows
 pub mod Lifecycles
 pub mod Lined

@@ -1,4 +1,4 @@
-//! The look at the files of jobs, file by file.
+//! The survey of the files of jobs, file by file.
 ghost use Rattle.std.specs.Prelude.{◌≡◌, ℕ, [], Some, None, List, IfOk, OnOk, MatchResult};
 ghost use Rattle.std.specs.BTreeMap.{Updates};
 ghost use Rattle.std.specs.Ordering.{nat_cmp};
@@ -9,11 +9,11 @@ ghost use Rattle.start_journal.specs.declared.mark.Mark.{Mark};
 ghost use Rattle.spool_store.specs.Faults.{IsFound};
 ghost use Rattle.spool_store.specs.inside.Lifecycles.{TellLifecycles};
 ghost use Rattle.spool_store.specs.inside.JobRows.{AreRowsOf, HaveNumbers, IsRowOrDamage};
-ghost use Rattle.spool_store.specs.inside.FoundJobs.{file_found, files_found};
+ghost use Rattle.spool_store.specs.inside.SurveyedJobs.{file_surveyed, files_surveyed};
 
 use crate::fault::StoreFault;
-use crate::found_job::FoundJob;
 use crate::lifecycles::Lifecycles;
+use crate::surveyed_job::SurveyedJob;
 use host_calls::Damage;
 use spool_model::{Row, State};
 use std::alloc::{AllocError, Global};
@@ -24,29 +24,29 @@ pub(crate) fn rows_of_files(
     alloc: Global,
     last: u32,
     lives: &Lifecycles,
-    seen: &[FoundJob],
+    surveyed: &[SurveyedJob],
 ) -> Result<BTreeMap<u32, Row>, StoreFault>
     ensures { (marks : List Mark) → TellLifecycles marks lives.now → MatchResult result
-        (λ rows. (files_damage last [] (files_found seen.now) ≡ None) × AreRowsOf marks (files_found seen.now) rows)
-        (IsFound (files_damage last [] (files_found seen.now))) }
+        (λ rows. (files_damage last [] (files_surveyed surveyed.now) ≡ None) × AreRowsOf marks (files_surveyed surveyed.now) rows)
+        (IsFound (files_damage last [] (files_surveyed surveyed.now))) }
 {
     let mut rows = BTreeMap::new(alloc);
-    for file in seen {
+    for file in surveyed {
         let row = row_of(last, &rows, lives, file)?;
         put(&mut rows, row)?;
     }
     Ok(rows)
 }
 
-// The row of a file, or its damage behind these rows.
+// The row of a file, or its damage after these rows.
 fn row_of(
     last: u32,
     rows: &BTreeMap<u32, Row>,
     lives: &Lifecycles,
-    file: &FoundJob,
+    file: &SurveyedJob,
 ) -> Result<Row, Damage>
     ensures { (before : List ℕ) (marks : List Mark) → HaveNumbers before rows.now → TellLifecycles marks lives.now
-        → IsRowOrDamage last before marks (file_found file.now) result }
+        → IsRowOrDamage last before marks (file_surveyed file.now) result }
 {
     let job = file.job;
     if job.number > last || rows.contains_key(&job.number) {

@@ -2,21 +2,21 @@
 #![tactic(auto)]
 
 mod fault;
-mod findings;
-mod found_job;
 mod job_rows;
 mod jobs;
 mod laws;
 mod lifecycles;
-mod marking;
+mod mark;
 mod recovery;
 mod scripts;
 mod sorted;
 mod starts;
-mod stepping;
+mod steps;
 mod store;
-mod submitting;
+mod submit;
 mod survey;
+mod surveyed_files;
+mod surveyed_job;
 mod tables;
 
 pub use due_lines::Due;
@@ -24,4 +24,4 @@ pub use fault::StoreFault;
 pub(crate) use jobs::Jobs;
 pub use laws::lists_are_of_the_table;
 pub use store::Store;
-pub use submitting::MAX_LIVE;
+pub use submit::MAX_LIVE;

@@ -3,10 +3,10 @@ ghost use Rattle.std.specs.Prelude.{◌≡◌, IfErr, IfOk, IsTrue};
 ghost use Rattle.host_calls.specs.Session.{CallsInside, IsInside};
 ghost use Rattle.host_calls.specs.World.{reading};
 ghost use Rattle.whole_file.specs.Others.{ChangesFiles};
-ghost use Rattle.job_runs.specs.Calls.{ShowsAsBefore};
+ghost use Rattle.step_runs.specs.Calls.{ShowsAsBefore};
 ghost use Rattle.host_calls.specs.Damages.{IfDamaged};
 ghost use Rattle.spool_store.specs.Faults.{IsOfReading};
-ghost use Rattle.spool_store.specs.Recovering.{Recovered, ShowsAsBeforeWideNames};
+ghost use Rattle.spool_store.specs.Recovering.{Recovered, ShowsAsBeforeNewFormNames};
 
 use crate::survey::{Survey, take_survey};
 use crate::{Store, StoreFault};
@@ -25,8 +25,8 @@ impl Store {
             → ChangesFiles (ShowsAsBefore (H.world host.old).now.folder) (H.world host.old) (H.world host.new) }
         ensures recovered { IsTrue H.tells
             → Recovered (H.world host.old).now.folder (H.world host.new).now.folder result }
-        ensures narrow { IsTrue H.tells → IfOk result
-            (ShowsAsBeforeWideNames (H.world host.old).now.folder (H.world host.new).now.folder) }
+        ensures old_form { IsTrue H.tells → IfOk result
+            (ShowsAsBeforeNewFormNames (H.world host.old).now.folder (H.world host.new).now.folder) }
         ensures untouched { IsTrue H.tells
             → IfDamaged StoreFault.Damaged (λ damage. reading (H.world host.new) ≡ reading (H.world host.old)) result }
     {
@@ -35,14 +35,14 @@ impl Store {
         let Survey {
             jobs,
             journal,
-            narrow,
+            old_form,
             leftover,
         } = take_survey(alloc, host)?;
         clear(alloc, host, leftover.as_slice())?;
         Ok(Store {
             jobs,
             journal,
-            narrow,
+            old_form,
         })
     }
 }

@@ -3,7 +3,7 @@ ghost use Rattle.std.specs.Prelude.{◌≡◌, IfNone, IfOk, IfSome, IsTrue};
 ghost use Rattle.host_calls.specs.Folder.{Folder};
 ghost use Rattle.host_calls.specs.Session.{CallsInside, IsInside};
 ghost use Rattle.spool_model.specs.JobTable.{JobTable};
-ghost use Rattle.job_runs.specs.Current.{IsCurrent};
+ghost use Rattle.step_runs.specs.Current.{IsCurrent};
 ghost use Rattle.spool_store.specs.Listed.{IsLive};
 ghost use Rattle.spool_store.specs.Scripts.{HoldsScript, IsFileOf, IsScriptOf};
 
@@ -15,7 +15,7 @@ use std::alloc::Global;
 impl Store {
     /// The name of the live job's file, which holds its script. None where no live job has the number.
     pub fn file(&self, number: u32) -> Option<Name>
-        ensures found { IfSome result (IsFileOf self.now.table self.now.narrow number) }
+        ensures found { IfSome result (IsFileOf self.now.table self.now.old_form number) }
         ensures absent { IfNone result (IsLive self.now.table number → ⊥) }
         ensures holds { (folder : Folder) (table : JobTable) → IsCurrent self.now folder table
             → IfSome result (HoldsScript table folder number) }
@@ -25,7 +25,7 @@ impl Store {
             queue: row.queue,
             number,
             minute: row.minute,
-            wide: !self.narrow.contains(&number),
+            new_form: !self.old_form.contains(&number),
         };
         Some(job.name())
     }

@@ -16,7 +16,7 @@ use start_journal::Journal;
 use std::marker::Model;
 
 /// The jobs of a spool folder as they stood at the last call: seen as the job table without scripts, the
-/// journal, and the numbers whose files have names of the narrow form.
+/// journal, and the numbers whose files have names of the old form.
 ///
 /// A store is current on a host where each image shows its table. Each call that changes the folder takes
 /// the store, and hands a current one back only on Ok.
@@ -24,23 +24,23 @@ use std::marker::Model;
 pub struct Store {
     pub(crate) jobs: Jobs,
     pub(crate) journal: Journal,
-    // Those that were found at the recovery: a new job never has one. In a spool of the wide form it is empty.
-    pub(crate) narrow: Vec<u32>,
+    // Those that were found at the recovery: a new job never has one. In a spool of the new form it is empty.
+    pub(crate) old_form: Vec<u32>,
 }
 
 impl Model for Store {
-    ghost use Rattle.job_runs.specs.Current.{Kept};
-    ghost use Rattle.job_runs.specs.Codes.{kept_code};
+    ghost use Rattle.step_runs.specs.Current.{Kept};
+    ghost use Rattle.step_runs.specs.Codes.{kept_code};
     ghost use Rattle.spool_store.specs.Stored.{IsStored};
 
     ghost Value = { Kept };
 
     ghost coded = { kept_code };
 
-    ghost view = { λ store. record { table = store.jobs; journal = store.journal; narrow = store.narrow.items } };
+    ghost view = { λ store. record { table = store.jobs; journal = store.journal; old_form = store.old_form.items } };
 
     ghost invariant = { λ store. IsStored
-        (record { table = store.jobs; journal = store.journal; narrow = store.narrow.items }) };
+        (record { table = store.jobs; journal = store.journal; old_form = store.old_form.items }) };
 }
 
 impl Store {

@@ -1,4 +1,4 @@
-//! The look at a settled folder, which changes nothing.
+//! The survey of a settled folder, which changes nothing.
 ghost use Rattle.std.specs.Prelude.{◌≡◌, Err, IfOk, IfErr, IsTrue};
 ghost use Rattle.host_calls.specs.Session.{CallsInside, IsInside};
 ghost use Rattle.host_calls.specs.World.{reading};
@@ -9,9 +9,9 @@ ghost use Rattle.spool_store.specs.inside.Survey.{IsSurvey};
 ghost use Rattle.spool_store.specs.Stored.{IsStored};
 
 use crate::fault::StoreFault;
-use crate::findings::{Findings, find_files, narrow_numbers};
 use crate::jobs::Jobs;
 use crate::lifecycles::Lifecycles;
+use crate::surveyed_files::{SurveyedFiles, old_form_numbers, survey_files};
 use crate::tables::jobs_shown;
 use host_calls::{Host, Name};
 use sequence_file::last;
@@ -23,8 +23,8 @@ use std::alloc::Global;
 pub(crate) struct Survey {
     pub(crate) jobs: Jobs,
     pub(crate) journal: Journal,
-    /// The numbers of the files that count and have narrow names.
-    pub(crate) narrow: Vec<u32>,
+    /// The numbers of the files that count and have names in the old form.
+    pub(crate) old_form: Vec<u32>,
     /// The names of the files that count no more.
     pub(crate) leftover: Vec<Name>,
 }
@@ -35,8 +35,8 @@ pub(crate) fn take_survey<H: Host>(alloc: Global, host: &mut H) -> Result<Survey
     ensures inside { CallsInside StoreFault.FileFault (H.session host.old) (H.session host.new) result }
     ensures of_reading { IfErr result IsOfReading }
     ensures looks { IsTrue H.tells → H.world host.new ≡ H.world host.old }
-    ensures stored { IfOk result (λ look. IsStored
-        (record { table = look.jobs; journal = look.journal; narrow = look.narrow.items })) }
+    ensures stored { IfOk result (λ survey. IsStored
+        (record { table = survey.jobs; journal = survey.journal; old_form = survey.old_form.items })) }
     ensures shown { IsTrue H.tells → IfOk result (IsSurvey (reading (H.world host.old))) }
     ensures damaged { IsTrue H.tells
         → IfDamaged StoreFault.Damaged (λ damage. shown_by (reading (H.world host.old)) ≡ Err damage) result }
@@ -44,13 +44,13 @@ pub(crate) fn take_survey<H: Host>(alloc: Global, host: &mut H) -> Result<Survey
     let number = last(alloc, host)?;
     let journal = Journal::recall(alloc, host, number)?;
     let lives = Lifecycles::of(alloc, journal.marks())?;
-    let Findings { seen, leftover } = find_files(alloc, host, &lives)?;
-    let jobs = jobs_shown(alloc, number, journal.marks(), &lives, seen.as_slice())?;
-    let narrow = narrow_numbers(alloc, seen.as_slice())?;
+    let SurveyedFiles { surveyed, leftover } = survey_files(alloc, host, &lives)?;
+    let jobs = jobs_shown(alloc, number, journal.marks(), &lives, surveyed.as_slice())?;
+    let old_form = old_form_numbers(alloc, surveyed.as_slice())?;
     Ok(Survey {
         jobs,
         journal,
-        narrow,
+        old_form,
         leftover,
     })
 }

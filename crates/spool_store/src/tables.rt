@@ -6,15 +6,15 @@ ghost use Rattle.spool_shows.specs.Shown.{damage_of_jobs};
 ghost use Rattle.start_journal.specs.Journals.{AreWritable, are_drawn};
 ghost use Rattle.spool_store.specs.Faults.{IsFound};
 ghost use Rattle.spool_store.specs.inside.Lifecycles.{TellLifecycles};
-ghost use Rattle.spool_store.specs.inside.FoundJobs.{files_found};
+ghost use Rattle.spool_store.specs.inside.SurveyedJobs.{files_surveyed};
 ghost use Rattle.spool_store.specs.inside.Tables.{AreUndecided, IsTableShown, ListsDrawn, ListsTable};
 
 use crate::fault::StoreFault;
-use crate::found_job::FoundJob;
 use crate::job_rows::rows_of_files;
 use crate::jobs::Jobs;
 use crate::lifecycles::Lifecycles;
 use crate::starts::starts_fault;
+use crate::surveyed_job::SurveyedJob;
 use spool_model::{Decided, Row};
 use start_journal::{Mark, last_batch};
 use std::alloc::{AllocError, Global};
@@ -27,17 +27,17 @@ pub(crate) fn listed(
     last: u32,
     marks: &[Mark],
     lives: &Lifecycles,
-    seen: &[FoundJob],
+    surveyed: &[SurveyedJob],
 ) -> Result<(Vec<Row>, Vec<Decided>), StoreFault>
-    requires told { TellLifecycles marks.now lives.now }
+    requires known { TellLifecycles marks.now lives.now }
     requires fits { 32 * length marks.now < 2 ^ 64 }
     ensures table { MatchResult result
-        (λ lists. ListsTable last marks.now (files_found seen.now) lists.0.items lists.1.items)
-        (IsFound (damage_of_jobs last marks.now (files_found seen.now))) }
-    ensures drawn { AreUndecided marks.now (files_found seen.now) → AreWritable marks.now
+        (λ lists. ListsTable last marks.now (files_surveyed surveyed.now) lists.0.items lists.1.items)
+        (IsFound (damage_of_jobs last marks.now (files_surveyed surveyed.now))) }
+    ensures drawn { AreUndecided marks.now (files_surveyed surveyed.now) → AreWritable marks.now
         → IsTrue (are_drawn last marks.now) → IfOk result (λ lists. ListsDrawn last lists.0.items lists.1.items) }
 {
-    let by_number = rows_of_files(alloc, last, lives, seen)?;
+    let by_number = rows_of_files(alloc, last, lives, surveyed)?;
     if let Some(damage) = starts_fault(marks, lives, &by_number) {
         return Err(StoreFault::Damaged(damage));
     }
@@ -52,18 +52,18 @@ pub(crate) fn jobs_shown(
     last: u32,
     marks: &[Mark],
     lives: &Lifecycles,
-    seen: &[FoundJob],
+    surveyed: &[SurveyedJob],
 ) -> Result<Jobs, StoreFault>
-    requires told { TellLifecycles marks.now lives.now }
-    requires undecided { AreUndecided marks.now (files_found seen.now) }
+    requires known { TellLifecycles marks.now lives.now }
+    requires undecided { AreUndecided marks.now (files_surveyed surveyed.now) }
     requires writable { AreWritable marks.now }
     requires drawn { IsTrue (are_drawn last marks.now) }
     requires fits { 32 * length marks.now < 2 ^ 64 }
     ensures { MatchResult result
-        (IsTableShown last marks.now (files_found seen.now))
-        (IsFound (damage_of_jobs last marks.now (files_found seen.now))) }
+        (IsTableShown last marks.now (files_surveyed surveyed.now))
+        (IsFound (damage_of_jobs last marks.now (files_surveyed surveyed.now))) }
 {
-    let (rows, decided) = listed(alloc, last, marks, lives, seen)?;
+    let (rows, decided) = listed(alloc, last, marks, lives, surveyed)?;
     let jobs = Jobs::of(alloc, last, last_batch(marks), rows, decided)?;
     Ok(jobs)
 }

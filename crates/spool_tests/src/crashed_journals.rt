@@ -29,7 +29,7 @@ fn spool(alloc: Global, fuse: u64) -> Result<MemoryHost, AllocError>
     MemoryHost::make(alloc, files, plan)
 }
 
-// Whether a compaction is done that stops at this call, and the journal behind a reboot of this pick.
+// Whether a compaction is done that stops at this call, and the journal after a reboot of this pick.
 fn stopped(alloc: Global, fuse: u64, pick: u64) -> Result<(bool, Journal), Fail> {
     let mut host = spool(alloc, fuse)?;
     over_a_reboot(alloc, pick, &mut host)

@@ -7,7 +7,7 @@ use std::test::Fail;
 
 const HEADER: &[u8] = b"#!/bin/sh\n# at user=ann mail=0\n";
 
-// So many bytes of commands stand behind the header.
+// So many bytes of commands stand after the header.
 const COMMANDS: usize = 1_048_576;
 
 // How often the file of job 1 is read in a recovery, and how many bytes one read asks for at most.

@@ -131,7 +131,7 @@ fn journals_that_are_damaged(rt: HostRuntime) -> Result<(), Fail> {
     Ok(())
 }
 
-// The journal's file behind a compaction of one of these bytes.
+// The journal's file after a compaction of one of these bytes.
 fn compacted(alloc: Global, bytes: &[u8]) -> Result<Vec<u8>, Fail> {
     let mut host = session(alloc, &[(".JRN", bytes)])?;
     let journal = compact(alloc, &mut host).ok().flatten();

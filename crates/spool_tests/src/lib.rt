@@ -18,6 +18,8 @@ mod journals;
 #[cfg(test)]
 mod noting_host;
 #[cfg(test)]
+mod replaced_files;
+#[cfg(test)]
 mod sequence_files;
 #[cfg(test)]
 mod tables;

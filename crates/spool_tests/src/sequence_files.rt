@@ -12,7 +12,7 @@ fn read(alloc: Global, content: &str) -> Result<Result<u32, SequenceFault>, Fail
 }
 
 #[test]
-fn sequence_files_and_their_damage(rt: HostRuntime) -> Result<(), Fail> {
+fn sequence_files_and_their_numbers(rt: HostRuntime) -> Result<(), Fail> {
     for (content, number) in [
         ("00000\n", 0),
         ("00001\n", 1),
@@ -25,6 +25,11 @@ fn sequence_files_and_their_damage(rt: HostRuntime) -> Result<(), Fail> {
         let found = read(rt.alloc(), content)?.ok();
         assert_eq!(rt; found, Some(number), "{content}");
     }
+    Ok(())
+}
+
+#[test]
+fn sequence_files_and_their_damage(rt: HostRuntime) -> Result<(), Fail> {
     for (content, offset, byte) in [
         ("0000g\n", 4, Some(b'g')),
         ("00001", 5, None),
@@ -49,7 +54,7 @@ fn sequence_files_and_their_damage(rt: HostRuntime) -> Result<(), Fail> {
     Ok(())
 }
 
-// The sequence file behind a draw on one of this content.
+// The sequence file after a draw on one of this content.
 fn drawn(alloc: Global, content: &str) -> Result<Vec<u8>, Fail> {
     let mut host = session(alloc, &[(".SEQ", content.as_bytes())])?;
     let number = draw_next(alloc, &mut host).ok().flatten();
@@ -59,7 +64,7 @@ fn drawn(alloc: Global, content: &str) -> Result<Vec<u8>, Fail> {
 }
 
 #[test]
-fn numbers_are_written_in_the_wide_form(rt: HostRuntime) -> Result<(), Fail> {
+fn numbers_are_written_in_the_new_form(rt: HostRuntime) -> Result<(), Fail> {
     for (before, content) in [
         ("00000\n", "00000001\n"),
         ("fffff\n", "00100000\n"),

@@ -66,8 +66,8 @@ fn damaged_starts(rt: HostRuntime) -> Result<(), Fail> {
         10,
         Some(b'a'),
     )?;
-    let behind = "+B00000000--000000000000000005.\n+S00000001a-000000000067748580.\n";
-    shows_damage(&rt, alloc, behind, &[], ".JRN", 32, Some(b'+'))
+    let after = "+B00000000--000000000000000005.\n+S00000001a-000000000067748580.\n";
+    shows_damage(&rt, alloc, after, &[], ".JRN", 32, Some(b'+'))
 }
 
 #[test]

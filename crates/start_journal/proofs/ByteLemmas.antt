@@ -35,8 +35,8 @@ pub writable_is : (mark : Mark) → can_write mark ≡ true → IsWritable mark
 writable_is (Removed number) is = at_least_one number is
 writable_is (Started number queue second) is =
     let tests : ((nat_le 1 number && is_ascii_alphabetic queue) ≡ true) × (is_clock_second second ≡ true) = and_parts (nat_le 1 number && is_ascii_alphabetic queue) (is_clock_second second) is in
-    let front : (nat_le 1 number ≡ true) × (is_ascii_alphabetic queue ≡ true) = and_parts (nat_le 1 number) (is_ascii_alphabetic queue) tests.0 in
-    record { drawn = at_least_one number front.0; letter = front.1; second_of = second_is second tests.1 }
+    let prefix : (nat_le 1 number ≡ true) × (is_ascii_alphabetic queue ≡ true) = and_parts (nat_le 1 number) (is_ascii_alphabetic queue) tests.0 in
+    record { drawn = at_least_one number prefix.0; letter = prefix.1; second_of = second_is second tests.1 }
 writable_is (Ended number ending) is = at_least_one number is
 writable_is (Interrupted number) is = at_least_one number is
 writable_is (Forgotten number) is = at_least_one number is

@@ -7,11 +7,11 @@ use Rattle.host_calls.specs.Folder.{overwritten}
 
 module _ (old : List ℕ) (offset : ℕ) (part : List ℕ) (within : offset + length part ≤ length old) where
   -- what stands before the range is as long as its offset, and what stands before its end too
-  front_long : length (take offset old) ≡ offset
-  front_long = length-take-le offset old (omega arith)
+  prefix_long : length (take offset old) ≡ offset
+  prefix_long = length-take-le offset old (omega arith)
 
   both_long : length (take offset old ++ part) ≡ offset + length part
-  both_long = length-append (take offset old) part ∙ ap (λ n. n + length part) front_long
+  both_long = length-append (take offset old) part ∙ ap (λ n. n + length part) prefix_long
 
   -- the list is as long as before
   pub over_long : length (overwritten old offset part) ≡ length old
@@ -21,20 +21,20 @@ module _ (old : List ℕ) (offset : ℕ) (part : List ℕ) (within : offset + le
   pub over_before : (at : ℕ) → at < offset → slice_index (overwritten old offset part) at ≡ slice_index old at
   over_before at before =
       get_or-append (take offset old ++ part) (drop (offset + length part) old) 0 at (omega (arith, both_long))
-      ∙ get_or-append (take offset old) part 0 at (omega (arith, front_long))
+      ∙ get_or-append (take offset old) part 0 at (omega (arith, prefix_long))
       ∙ get_or-take offset old at 0 before
 
   -- in the range the new ones
   pub over_inside : (at : ℕ) → offset ≤ at → at < offset + length part → slice_index (overwritten old offset part) at ≡ slice_index part (at - offset)
-  over_inside at behind before =
+  over_inside at after before =
       get_or-append (take offset old ++ part) (drop (offset + length part) old) 0 at (omega (arith, both_long))
-      ∙ get_or-append_right (take offset old) part offset at 0 front_long behind
+      ∙ get_or-append_right (take offset old) part offset at 0 prefix_long after
 
-  -- and behind it the old ones again
-  pub over_behind : (at : ℕ) → offset + length part ≤ at → slice_index (overwritten old offset part) at ≡ slice_index old at
-  over_behind at behind =
+  -- and after it the old ones again
+  pub over_after : (at : ℕ) → offset + length part ≤ at → slice_index (overwritten old offset part) at ≡ slice_index old at
+  over_after at after =
       let there : offset + length part + (at - (offset + length part)) ≡ at = omega arith in
-      get_or-append_right (take offset old ++ part) (drop (offset + length part) old) (offset + length part) at 0 both_long behind
+      get_or-append_right (take offset old ++ part) (drop (offset + length part) old) (offset + length part) at 0 both_long after
       ∙ get_or-drop (offset + length part) old (at - (offset + length part)) 0
       ∙ ap (slice_index old) there
 

@@ -8,26 +8,26 @@ use Rattle.host_calls.specs.declared.damage.Damage.{Damage}
 use Rattle.host_calls.specs.Damages.{damage_at}
 use Rattle.start_journal.specs.declared.mark.Mark.{Mark}
 use Rattle.start_journal.specs.DamageLaws.{JournalsAreDamaged, JournalsAreGiven, WholeJournalsAreGiven}
-use Rattle.start_journal.specs.FirstFault.{GivesJournal, IsFirstFault, IsJournalDamage, IsRestFault, IsRightBefore, IsRightJournal, IsSlotFault, IsWrong, behind_closed, misspelled, not_drawn, not_legal, slot_at}
-use Rattle.start_journal.specs.JournalLaws.{IsLongestFront}
+use Rattle.start_journal.specs.FirstFault.{GivesJournal, IsFirstFault, IsJournalDamage, IsRestFault, IsRightBefore, IsRightJournal, IsSlotFault, IsWrong, after_closed, misspelled, not_drawn, not_legal, slot_at}
+use Rattle.start_journal.specs.JournalLaws.{IsLongestPrefix}
 use Rattle.start_journal.specs.Journals.{JournalRead, is_drawn, is_legal_after, journal_file, journal_in, nothing_read, one_slot, open_slot, with_free}
-use Rattle.start_journal.specs.SlotBytes.{mark_in, right_front}
+use Rattle.start_journal.specs.SlotBytes.{mark_in, right_prefix}
 use Rattle.start_journal.specs.Slots.{SpellsMark}
 use Rattle.start_journal.proofs.ByteLemmas.{given, spells}
-use Rattle.start_journal.proofs.JournalFronts.{NamesUndrawn, chunks_long, chunks_of, drawn_names, get_more, legal_more, named_more, read_behind, slot_inside, slot_is, undrawn_names}
+use Rattle.start_journal.proofs.JournalPrefixes.{NamesUndrawn, chunks_long, chunks_of, drawn_names, get_more, legal_more, named_more, read_after, slot_inside, slot_is, undrawn_names}
 use Rattle.start_journal.proofs.JournalLemmas.{legal_is, legal_tested}
 use Rattle.start_journal.proofs.MarkLemmas.{and_false}
 use Rattle.start_journal.proofs.ReadLemmas.{none_read, read_whole, refused, rest_damaged, slot_damaged}
-use Rattle.start_journal.proofs.RightLemmas.{right_fronts_are_longest}
+use Rattle.start_journal.proofs.RightLemmas.{right_prefixes_are_longest}
 
 -- A fault is computed.
 
--- an open slot behind a closed one
-behind_read : (last : ℕ) (read : JournalRead) (slot : List ℕ) → slice_index slot 0 ≡ 43 → (read.free == 0) ≡ false → one_slot last read slot ≡ Err 0
-behind_read last read slot gate some =
+-- an open slot after a closed one
+after_read : (last : ℕ) (read : JournalRead) (slot : List ℕ) → slice_index slot 0 ≡ 43 → (read.free == 0) ≡ false → one_slot last read slot ≡ Err 0
+after_read last read slot gate some =
     let open_gate : (slice_index slot 0 == 43) ≡ true = grind (arith, nat_tests) in
-    ap (λ b. if b then (if read.free == 0 then open_slot last read (mark_in slot) (right_front slot) else Err 0) else Ok (with_free read)) open_gate
-    ∙ ap (λ b. if b then open_slot last read (mark_in slot) (right_front slot) else Err 0) some
+    ap (λ b. if b then (if read.free == 0 then open_slot last read (mark_in slot) (right_prefix slot) else Err 0) else Ok (with_free read)) open_gate
+    ∙ ap (λ b. if b then open_slot last read (mark_in slot) (right_prefix slot) else Err 0) some
 
 not_tested : (test : Bool) → ¬ (test ≡ true) → test ≡ false
 not_tested true not = absurd (not refl)
@@ -35,13 +35,13 @@ not_tested false not = refl
 
 wrong_read : (last : ℕ) (marks : List Mark) (place : ℕ) (slot : List ℕ) (offset : ℕ) → slice_index slot 0 ≡ 43 → IsWrong last marks place slot offset →
     one_slot last (record { marks = marks; free = place - length marks }) slot ≡ Err offset
-wrong_read last marks place slot offset gate (behind_closed less at_gate) =
+wrong_read last marks place slot offset gate (after_closed less at_gate) =
     let some : ((place - length marks) == 0) ≡ false = grind (arith, nat_tests) in
-    behind_read last (record { marks = marks; free = place - length marks }) slot gate some ∙ ap Err (sym at_gate)
+    after_read last (record { marks = marks; free = place - length marks }) slot gate some ∙ ap Err (sym at_gate)
 wrong_read last marks place slot offset gate (misspelled full none longest) =
-    let right : IsLongestFront slot (right_front slot) = right_fronts_are_longest slot in
-    let one : offset ≤ right_front slot = right.longest offset longest.front in
-    let two : right_front slot ≤ offset = longest.longest (right_front slot) right.front in
+    let right : IsLongestPrefix slot (right_prefix slot) = right_prefixes_are_longest slot in
+    let one : offset ≤ right_prefix slot = right.longest offset longest.prefix in
+    let two : right_prefix slot ≤ offset = longest.longest (right_prefix slot) right.prefix in
     none_read last offset (record { marks = marks; free = place - length marks }) slot gate (omega arith) none (omega arith)
 wrong_read last marks place slot offset gate (not_legal mark full spelled wrong at_gate) =
     let test : is_legal_after marks mark ≡ false = not_tested (is_legal_after marks mark) (λ legal. wrong (legal_is marks mark legal)) in
@@ -60,7 +60,7 @@ slot_fault_read last bytes offset fault =
     let counted : length (chunks_of bytes) ≡ length bytes / 32 = chunks_long (length bytes / 32) bytes in
     let there : offset ≡ fault.place * 32 + fault.inside = omega (arith, fault.offset_is) in
     slot_damaged last fault.place fault.inside bytes (chunks_of bytes) (record { marks = fault.marks; free = fault.place - length fault.marks }) fault.marks [] (damage_at journal_file bytes offset) refl
-    (read_behind last bytes fault.place fault.marks fault.before) (omega arith) refl
+    (read_after last bytes fault.place fault.marks fault.before) (omega arith) refl
     (ap (one_slot last (record { marks = fault.marks; free = fault.place - length fault.marks })) (slot_is bytes fault.place [] whole)
     ∙ wrong_read last fault.marks fault.place (slot_at bytes fault.place) fault.inside fault.opened.gate fault.wrong)
     (ap (damage_at journal_file bytes) there)
@@ -75,7 +75,7 @@ rest_fault_read last bytes offset fault =
     let counted : length (chunks_of bytes) ≡ length bytes / 32 = chunks_long (length bytes / 32) bytes in
     let there : offset ≡ length (chunks_of bytes) * 32 = omega arith in
     rest_damaged last fault.place (length bytes % 32) bytes (chunks_of bytes) (record { marks = fault.marks; free = fault.place - length fault.marks }) (damage_at journal_file bytes offset) refl
-    (read_behind last bytes fault.place fault.marks fault.before) (omega arith) counted refl (sym rest) (ap (damage_at journal_file bytes) there)
+    (read_after last bytes fault.place fault.marks fault.before) (omega arith) counted refl (sym rest) (ap (damage_at journal_file bytes) there)
 
 fault_read : (last : ℕ) (bytes : List ℕ) (offset : ℕ) → IsFirstFault last bytes offset → journal_in last (Some bytes) ≡ Err (damage_at journal_file bytes offset)
 fault_read last bytes offset (inl fault) = slot_fault_read last bytes offset fault
@@ -89,7 +89,7 @@ right_read last bytes read right =
     let none : (length bytes % 32 == 0) ≡ true = (let left : length bytes % 32 ≡ 0 = omega arith in grind (arith, nat_tests)) in
     let free : length read.marks + read.free - length read.marks ≡ read.free = omega arith in
     read_whole last (length read.marks + read.free) (length bytes % 32) bytes (chunks_of bytes) (record { marks = read.marks; free = length read.marks + read.free - length read.marks }) refl
-    (read_behind last bytes (length read.marks + read.free) read.marks right.slots) (omega arith) refl (sym none)
+    (read_after last bytes (length read.marks + read.free) read.marks right.slots) (omega arith) refl (sym none)
     ∙ ap (λ n. Ok (record { marks = read.marks; free = n })) free
 
 -- Each journal has a first fault or is right.
@@ -160,15 +160,15 @@ module _ (last : ℕ) (bytes : List ℕ) (place : ℕ) (marks : List Mark) (righ
 
   by_mark : (found : Option Mark) → mark_in (slot_at bytes place) ≡ found → slice_index (slot_at bytes place) 0 ≡ 43 → length marks ≡ place → HasFault last bytes ⊎ HasMarks last bytes (suc place)
   by_mark None none gate full =
-      inl (wrong_here (right_front (slot_at bytes place)) gate
-      (misspelled full (λ mark spelled. (let impossible : None ≡ Some mark = sym none ∙ given (slot_at bytes place) mark spelled in cc)) (right_fronts_are_longest (slot_at bytes place))))
+      inl (wrong_here (right_prefix (slot_at bytes place)) gate
+      (misspelled full (λ mark spelled. (let impossible : None ≡ Some mark = sym none ∙ given (slot_at bytes place) mark spelled in cc)) (right_prefixes_are_longest (slot_at bytes place))))
   by_mark (Some mark) found gate full = by_legal mark (is_legal_after marks mark) refl gate full (spells (slot_at bytes place) mark found)
 
   slot_more : HasFault last bytes ⊎ HasMarks last bytes (suc place)
   slot_more = elim (eqb_tells (slice_index (slot_at bytes place) 0) 43) [
     | inl same ↦ elim (eq-or-lt_of_le right.few) [
       | inl full ↦ by_mark (mark_in (slot_at bytes place)) refl same.1 full
-      | inr less ↦ inl (wrong_here 0 same.1 (behind_closed less refl))
+      | inr less ↦ inl (wrong_here 0 same.1 (after_closed less refl))
     ]
     | inr apart ↦ inr (marks, closed_more apart.1)
   ]

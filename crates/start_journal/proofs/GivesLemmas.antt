@@ -7,7 +7,7 @@ use Rattle.host_calls.specs.declared.damage.Damage.{Damage}
 use Rattle.start_journal.specs.declared.mark.Mark.{Mark}
 use Rattle.start_journal.specs.Journals.{journal_file, GivesMarks, JournalRead, all_slots, are_drawn, go_on, is_drawn, is_legal_after, journal_in, nothing_read, one_slot, open_slot, whole_journal, with_slot}
 use Rattle.host_calls.specs.Damages.{damage_at}
-use Rattle.start_journal.specs.SlotBytes.{mark_in, right_front}
+use Rattle.start_journal.specs.SlotBytes.{mark_in, right_prefix}
 use Rattle.std.proofs.lemmas.Bool.{and_from, and_parts}
 
 -- each of a list and one more
@@ -26,14 +26,14 @@ record IsAgain (other : ℕ) (read next : JournalRead) (slot : List ℕ) : Type 
 one_again : (last other : ℕ) (read next : JournalRead) (slot : List ℕ) → one_slot last read slot ≡ Ok next → are_drawn other next.marks ≡ true → IsAgain other read next slot
 one_again last other read next slot answer drawn = by_gate (slice_index slot 0 == 43) refl where
   opened : ℕ → Result JournalRead ℕ
-  opened limit = open_slot limit read (mark_in slot) (right_front slot)
+  opened limit = open_slot limit read (mark_in slot) (right_prefix slot)
 
   whole : (limit : ℕ) (gate free : Bool) → (slice_index slot 0 == 43) ≡ gate → (read.free == 0) ≡ free → one_slot limit read slot ≡ (if gate then (if free then opened limit else Err 0) else Ok (with_slot read None))
   whole limit gate free of_gate of_free =
       ap (λ b. if b then (if read.free == 0 then opened limit else Err 0) else Ok (with_slot read None)) of_gate
       ∙ ap (λ b. if gate then (if b then opened limit else Err 0) else Ok (with_slot read None)) of_free
 
-  by_tests : (mark : Mark) (pass : Bool) → (slice_index slot 0 == 43) ≡ true → (read.free == 0) ≡ true → mark_in slot ≡ Some mark → (is_legal_after read.marks mark && is_drawn last mark) ≡ pass → open_slot last read (Some mark) (right_front slot) ≡ Ok next → IsAgain other read next slot
+  by_tests : (mark : Mark) (pass : Bool) → (slice_index slot 0 == 43) ≡ true → (read.free == 0) ≡ true → mark_in slot ≡ Some mark → (is_legal_after read.marks mark && is_drawn last mark) ≡ pass → open_slot last read (Some mark) (right_prefix slot) ≡ Ok next → IsAgain other read next slot
   by_tests mark true gate free found tests is =
       let parts : (is_legal_after read.marks mark ≡ true) × (is_drawn last mark ≡ true) = and_parts _ _ tests in
       let took : Ok (with_slot read (Some mark)) ≡ Ok next = sym (ap (λ b. if b then Ok (with_slot read (Some mark)) else Err 0) tests) ∙ is in
@@ -42,7 +42,7 @@ one_again last other read next slot answer drawn = by_gate (slice_index slot 0 =
       let rest : (are_drawn other read.marks ≡ true) × (is_drawn other mark ≡ true) = all_of_more (is_drawn other) read.marks mark of_next in
       record {
         same = whole other true true gate free
-            ∙ ap (λ m. open_slot other read m (right_front slot)) found
+            ∙ ap (λ m. open_slot other read m (right_prefix slot)) found
             ∙ ap (λ b. if b then Ok (with_slot read (Some mark)) else Err 0) (and_from _ _ parts.0 rest.1)
             ∙ took;
         drawn = rest.0;
@@ -52,7 +52,7 @@ one_again last other read next slot answer drawn = by_gate (slice_index slot 0 =
       let wrong : bad ≡ Ok next = sym (ap (λ b. if b then Ok (with_slot read (Some mark)) else Err 0) tests) ∙ is in
       cc
 
-  by_mark : (found : Option Mark) → (slice_index slot 0 == 43) ≡ true → (read.free == 0) ≡ true → mark_in slot ≡ found → open_slot last read found (right_front slot) ≡ Ok next → IsAgain other read next slot
+  by_mark : (found : Option Mark) → (slice_index slot 0 == 43) ≡ true → (read.free == 0) ≡ true → mark_in slot ≡ found → open_slot last read found (right_prefix slot) ≡ Ok next → IsAgain other read next slot
   by_mark None gate free is_none is = cc
   by_mark (Some mark) gate free found is = by_tests mark (is_legal_after read.marks mark && is_drawn last mark) gate free found refl is
 

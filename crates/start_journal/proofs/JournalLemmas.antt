@@ -11,7 +11,7 @@ use Rattle.start_journal.specs.JournalLaws.{JournalsReadBack}
 use Rattle.start_journal.specs.Journals.{journal_file, JournalRead, SpellMarks, all_slots, are_drawn, free_slot, go_on, is_drawn, is_legal_after, journal_in, nothing_read, one_slot, open_slot, whole_journal}
 use Rattle.host_calls.specs.Damages.{damage_at}
 use Rattle.start_journal.specs.Marks.{AreLegalAfter, IsLegalAfter, is_decided, is_ended, is_forgotten, is_named, is_started}
-use Rattle.start_journal.specs.SlotBytes.{mark_in, right_front}
+use Rattle.start_journal.specs.SlotBytes.{mark_in, right_prefix}
 use Rattle.start_journal.specs.Slots.{SpellsMark}
 use Rattle.start_journal.proofs.ByteLemmas.{given}
 use Rattle.std.proofs.lemmas.Bool.{and_from, and_parts, not-true}
@@ -41,17 +41,17 @@ legal_is before (Interrupted number) is = started_not_ended (is_started number b
 legal_is before (Forgotten number) is = started_not_ended (is_decided number before) (is_forgotten number before) is
 legal_is before (Batch second) is = tt
 
--- the slot of a legal mark behind others
+-- the slot of a legal mark after others
 spelled_slot : (last : ℕ) (before : List Mark) (slot : List ℕ) (mark : Mark) → SpellsMark slot mark → IsLegalAfter before mark → is_drawn last mark ≡ true → one_slot last (record { marks = before; free = 0 }) slot ≡ Ok (record { marks = before ++ mark ∷ []; free = 0 })
 spelled_slot last before slot mark spelled legal drawn =
     let read : JournalRead = record { marks = before; free = 0 } in
     let more : JournalRead = record { marks = before ++ mark ∷ []; free = 0 } in
     let whole : (is_legal_after before mark && is_drawn last mark) ≡ true = and_from (is_legal_after before mark) (is_drawn last mark) (legal_tested before mark legal) drawn in
-    ap (λ b. if b then open_slot last read (mark_in slot) (right_front slot) else Ok (record { marks = before; free = 1 })) (eq-eqb (slice_index slot 0) 43 spelled.fields.gate)
-    ∙ ap (λ found. open_slot last read found (right_front slot)) (given slot mark spelled)
+    ap (λ b. if b then open_slot last read (mark_in slot) (right_prefix slot) else Ok (record { marks = before; free = 1 })) (eq-eqb (slice_index slot 0) 43 spelled.fields.gate)
+    ∙ ap (λ found. open_slot last read found (right_prefix slot)) (given slot mark spelled)
     ∙ ap (λ b. if b then Ok more else Err 0) whole
 
--- the slots of legal marks, and others behind them
+-- the slots of legal marks, and others after them
 marks_read : (last : ℕ) (before : List Mark) (slots : List (List ℕ)) (marks : List Mark) (tail : List (List ℕ)) (answer : Result JournalRead ℕ) → SpellMarks slots marks → AreLegalAfter before marks → are_drawn last marks ≡ true → ((offset : ℕ) → all_slots last offset (record { marks = before ++ marks; free = 0 }) tail ≡ answer) → (offset : ℕ) → all_slots last offset (record { marks = before; free = 0 }) (slots ++ tail) ≡ answer
 marks_read last before [] [] tail answer spelled legal drawn later offset =
     subst (λ list. all_slots last offset (record { marks = list; free = 0 }) tail ≡ answer) (append-nil before) (later offset)
@@ -69,7 +69,7 @@ free_closed : (last : ℕ) (read : JournalRead) → one_slot last read free_slot
 unfolding free_slot
 free_closed last read = refl
 
--- free slots behind others
+-- free slots after others
 free_read : (last : ℕ) (marks : List Mark) (before free offset : ℕ) → all_slots last offset (record { marks = marks; free = before }) (replicate free free_slot) ≡ Ok (record { marks = marks; free = before + free })
 free_read last marks before zero offset = ap (λ count. Ok (record { marks = marks; free = count })) (let same : before ≡ before + 0 = omega arith in same)
 free_read last marks before (suc free) offset =
@@ -97,7 +97,7 @@ long_append : (one other : List (List ℕ)) → AreLong one → AreLong other �
 long_append [] other of_one of_other = of_other
 long_append (slot ∷ slots) other of_one of_other = (of_one.0, long_append slots other of_one.1 of_other)
 
--- such slots one behind the other
+-- such slots one after the other
 long_counted : (slots : List (List ℕ)) → AreLong slots → length (concat slots) ≡ length slots * 32
 long_counted [] long = refl
 long_counted (slot ∷ slots) long = length-append slot (concat slots) ∙ (let rest : length (concat slots) ≡ length slots * 32 = long_counted slots long.1 in omega (arith, long.0))
@@ -110,7 +110,7 @@ long_cut (slot ∷ slots) long =
     ∙ ap (λ rest. slot ∷ first_chunks 32 (length slots) rest) (drop_at slot (concat slots) 32 long.0)
     ∙ ap (λ rest. slot ∷ rest) (long_cut slots long.1)
 
--- bytes that are such slots, and no rest behind them
+-- bytes that are such slots, and no rest after them
 long_journal : (last : ℕ) (slots : List (List ℕ)) (read : JournalRead) → AreLong slots → all_slots last 0 nothing_read slots ≡ Ok read → journal_in last (Some (concat slots)) ≡ Ok read
 unfolding journal_in
 long_journal last slots read long is =

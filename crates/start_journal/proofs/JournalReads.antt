@@ -9,7 +9,7 @@ use Rattle.start_journal.specs.declared.mark.Mark.TheVariants.{Removed, Started,
 use Rattle.start_journal.specs.Journals.{journal_file, AreWritable, JournalRead, all_slots, are_drawn, go_on, is_drawn, is_legal_after, journal_in, nothing_read, one_slot, open_slot, whole_journal, with_free, with_mark}
 use Rattle.host_calls.specs.Damages.{damage_at}
 use Rattle.start_journal.specs.Marks.{AreLegal}
-use Rattle.start_journal.specs.SlotBytes.{mark_in, right_front}
+use Rattle.start_journal.specs.SlotBytes.{mark_in, right_prefix}
 use Rattle.std.proofs.lemmas.Bool.{and_from, and_parts}
 use Rattle.start_journal.proofs.ReadLemmas.{IsRead, all_read, all_writable, legal_list, none_yet}
 
@@ -36,29 +36,29 @@ passed : (test : Bool) (answer next : JournalRead) → given_if test answer ≡ 
 passed true answer next is = (refl, cc)
 passed false answer next is = cc
 
-added_by : (last : ℕ) (read next : JournalRead) (mark : Mark) (front : ℕ) → open_slot last read (Some mark) front ≡ Ok next → IsAdded last read next mark
-added_by last read next mark front is =
+added_by : (last : ℕ) (read next : JournalRead) (mark : Mark) (prefix : ℕ) → open_slot last read (Some mark) prefix ≡ Ok next → IsAdded last read next mark
+added_by last read next mark prefix is =
     let test : ((is_legal_after read.marks mark && is_drawn last mark) ≡ true) × (next ≡ with_mark read mark) = passed (is_legal_after read.marks mark && is_drawn last mark) (with_mark read mark) next is in
     let tests : (is_legal_after read.marks mark ≡ true) × (is_drawn last mark ≡ true) = and_parts (is_legal_after read.marks mark) (is_drawn last mark) test.0 in
     record { legal = tests.0; drawn = tests.1; is = test.1 }
 
-open_again : (last : ℕ) (read next : JournalRead) (mark : Mark) (front : ℕ) → IsAdded last read next mark → open_slot last read (Some mark) front ≡ Ok next
-open_again last read next mark front added =
+open_again : (last : ℕ) (read next : JournalRead) (mark : Mark) (prefix : ℕ) → IsAdded last read next mark → open_slot last read (Some mark) prefix ≡ Ok next
+open_again last read next mark prefix added =
     ap (λ b. given_if b (with_mark read mark)) (and_from (is_legal_after read.marks mark) (is_drawn last mark) added.legal added.drawn) ∙ ap Ok (sym added.is)
 
 -- what a slot gives, by its gate, by whether a closed one stands before it, and by its mark
 abbrev slot_by : ℕ → JournalRead → Bool → Bool → Option Mark → ℕ → Result JournalRead ℕ
-slot_by last read gate first found front =
-    if gate then (if first then open_slot last read found front else Err 0) else Ok (with_free read)
+slot_by last read gate first found prefix =
+    if gate then (if first then open_slot last read found prefix else Err 0) else Ok (with_free read)
 
 -- a slot gives the same under a greater last number
-slot_more : (last more : ℕ) (read next : JournalRead) (gate first : Bool) (found : Option Mark) (front : ℕ) → last ≤ more → slot_by last read gate first found front ≡ Ok next → slot_by more read gate first found front ≡ Ok next
-slot_more last more read next false first found front least is = is
-slot_more last more read next true false found front least is = is
-slot_more last more read next true true None front least is = is
-slot_more last more read next true true (Some mark) front least is =
-    let added : IsAdded last read next mark = added_by last read next mark front is in
-    open_again more read next mark front (record { legal = added.legal; drawn = drawn_more last more mark least added.drawn; is = added.is })
+slot_more : (last more : ℕ) (read next : JournalRead) (gate first : Bool) (found : Option Mark) (prefix : ℕ) → last ≤ more → slot_by last read gate first found prefix ≡ Ok next → slot_by more read gate first found prefix ≡ Ok next
+slot_more last more read next false first found prefix least is = is
+slot_more last more read next true false found prefix least is = is
+slot_more last more read next true true None prefix least is = is
+slot_more last more read next true true (Some mark) prefix least is =
+    let added : IsAdded last read next mark = added_by last read next mark prefix is in
+    open_again more read next mark prefix (record { legal = added.legal; drawn = drawn_more last more mark least added.drawn; is = added.is })
 
 -- so do all slots
 slots_more : (last more offset : ℕ) (read end : JournalRead) (slots : List (List ℕ)) → last ≤ more → all_slots last offset read slots ≡ Ok end → all_slots more offset read slots ≡ Ok end
@@ -67,7 +67,7 @@ slots_more last more offset read end (slot ∷ later) least is =
     by_slot (one_slot last read slot) refl is (λ next. slots_more last more (offset + 32) next end later least) where
       by_slot : (one : Result JournalRead ℕ) → one_slot last read slot ≡ one → go_on offset (λ next. all_slots last (offset + 32) next later) one ≡ Ok end → ((next : JournalRead) → all_slots last (offset + 32) next later ≡ Ok end → all_slots more (offset + 32) next later ≡ Ok end) → all_slots more offset read (slot ∷ later) ≡ Ok end
       by_slot (Ok next) one rest go =
-          ap (go_on offset (λ other. all_slots more (offset + 32) other later)) (slot_more last more read next (slice_index slot 0 == 43) (read.free == 0) (mark_in slot) (right_front slot) least one) ∙ go next rest
+          ap (go_on offset (λ other. all_slots more (offset + 32) other later)) (slot_more last more read next (slice_index slot 0 == 43) (read.free == 0) (mark_in slot) (right_prefix slot) least one) ∙ go next rest
       by_slot (Err place) one rest go = cc
 
 whole_more : (bytes : List ℕ) (one other : Result JournalRead ℕ) (read : JournalRead) → ((end : JournalRead) → one ≡ Ok end → other ≡ Ok end) → whole_journal bytes one ≡ Ok read → whole_journal bytes other ≡ Ok read

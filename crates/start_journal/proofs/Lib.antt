@@ -2,9 +2,9 @@ pub mod ByteLemmas
 pub mod ByteRanges
 pub mod ChangeLemmas
 pub mod FirstFaults
-pub mod FrontLemmas
+pub mod PrefixLemmas
 pub mod GivesLemmas
-pub mod JournalFronts
+pub mod JournalPrefixes
 pub mod JournalLemmas
 pub mod JournalReads
 pub mod KeepLemmas
@@ -21,6 +21,6 @@ pub mod SlotWrites
 pub mod StageLemmas
 pub mod StandLemmas
 pub mod TextLemmas
-pub mod WearLemmas
+pub mod CompactionLemmas
 pub mod WholeLemmas
 pub mod WriteLemmas

@@ -9,7 +9,7 @@ use Rattle.start_journal.specs.declared.stage.Stage.{Stage}
 use Rattle.start_journal.specs.declared.stage.Stage.TheVariants.{Fresh, Open, Closed, Gone}
 use Rattle.start_journal.specs.Laws.{NumbersLiveOnce}
 use Rattle.start_journal.specs.Marks.{AreLegalAfter, IsLegalAfter, decides, ends, forgets, is_decided, is_ended, is_forgotten, is_named, is_started, marks_of, names, starts}
-use Rattle.start_journal.specs.Stages.{GoThrough, Reaches, allows, is_running, stage_behind, was_decided, was_forgotten, was_named}
+use Rattle.start_journal.specs.Stages.{GoThrough, Reaches, allows, is_running, stage_after, was_decided, was_forgotten, was_named}
 use Rattle.start_journal.proofs.MarkLemmas.{decides_names, ends_names, forgets_names, starts_names, and_false, or_false, or_true}
 use Rattle.std.proofs.lemmas.Bool.{eqb-true}
 
@@ -109,7 +109,7 @@ ended_stops : (started ended : Bool) → ended ≡ true → (started && not ende
 ended_stops started ended is = ap (λ b. started && not b) is ∙ and_false started
 
 -- and the mark brings it to the next stage
-reaches_next : (number : ℕ) (before : List Mark) (mark : Mark) (stage : Stage) → names number mark ≡ true → Reaches number before (stage_for mark stage) → Reaches number (before ++ mark ∷ []) (stage_behind (stage_for mark stage) mark)
+reaches_next : (number : ℕ) (before : List Mark) (mark : Mark) (stage : Stage) → names number mark ≡ true → Reaches number before (stage_for mark stage) → Reaches number (before ++ mark ∷ []) (stage_after (stage_for mark stage) mark)
 reaches_next number before (Removed other) stage is reached =
     let mark : Mark = Removed other in
     record {
@@ -161,13 +161,13 @@ reaches_next number before (Forgotten other) stage is reached =
 reaches_next number before (Batch second) stage is reached = cc
 
 -- a legal mark of the number brings it from its stage to the next
-pub reaches_same : (number : ℕ) (before : List Mark) (mark : Mark) (stage : Stage) → names number mark ≡ true → Reaches number before stage → IsLegalAfter before mark → Reaches number (before ++ mark ∷ []) (stage_behind stage mark)
+pub reaches_same : (number : ℕ) (before : List Mark) (mark : Mark) (stage : Stage) → names number mark ≡ true → Reaches number before stage → IsLegalAfter before mark → Reaches number (before ++ mark ∷ []) (stage_after stage mark)
 reaches_same number before mark stage named reached legal =
     let here : stage ≡ stage_for mark stage = at_its_stage number before stage mark named reached legal in
-    subst (λ at. Reaches number (before ++ mark ∷ []) (stage_behind at mark)) (sym here)
+    subst (λ at. Reaches number (before ++ mark ∷ []) (stage_after at mark)) (sym here)
     (reaches_next number before mark stage named (subst (Reaches number before) here reached))
 
--- the marks behind a stage go on from it
+-- the marks after a stage go on from it
 goes_on : (number : ℕ) (before later : List Mark) (stage : Stage) → Reaches number before stage → AreLegalAfter before later → GoThrough stage (marks_of number later)
 goes_on number before [] stage reached legal = tt
 goes_on number before (mark ∷ later) stage reached legal =

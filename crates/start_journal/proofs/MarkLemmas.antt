@@ -64,7 +64,7 @@ test_filtered marks list number test of_number is = any-filter_same test (is_kep
 test_forgotten : (marks list : List Mark) (number : ℕ) (test : Mark → Bool) → ((mark : Mark) → test mark ≡ true → names number mark ≡ true) → is_forgotten number marks ≡ true → list_any test (filter (is_kept marks) list) ≡ false
 test_forgotten marks list number test of_number is = any-filter_same test (is_kept marks) false (λ mark passes. named_kept marks number true is mark (of_number mark passes)) list
 
--- a mark that is kept is legal behind what is kept of those before it
+-- a mark that is kept is legal after what is kept of those before it
 legal_kept : (marks before : List Mark) (mark : Mark) → is_kept marks mark ≡ true → IsLegalAfter before mark → IsLegalAfter (filter (is_kept marks) before) mark
 legal_kept marks before (Removed number) kept legal = test_filtered marks before number (names number) (λ mark is. is) (not-true _ kept) ∙ legal
 legal_kept marks before (Started number queue second) kept legal = test_filtered marks before number (names number) (λ mark is. is) (not-true _ kept) ∙ legal
@@ -84,10 +84,10 @@ legal_filtered marks before (mark ∷ later) legal = by_test (is_kept marks mark
   longer kept is = filter-append (is_kept marks) before (mark ∷ []) ∙ ap (λ b. filter (is_kept marks) before ++ cond b (mark ∷ []) []) is
 
   by_test : (kept : Bool) → is_kept marks mark ≡ kept → AreLegalAfter (filter (is_kept marks) (before ++ mark ∷ [])) (filter (is_kept marks) later) → AreLegalAfter (filter (is_kept marks) before) (filter (is_kept marks) (mark ∷ later))
-  by_test true is rest = rw is (legal_kept marks before mark is legal.0, subst (λ front. AreLegalAfter front (filter (is_kept marks) later)) (longer true is) rest)
-  by_test false is rest = rw is (subst (λ front. AreLegalAfter front (filter (is_kept marks) later)) (longer false is ∙ append-nil (filter (is_kept marks) before)) rest)
+  by_test true is rest = rw is (legal_kept marks before mark is legal.0, subst (λ prefix. AreLegalAfter prefix (filter (is_kept marks) later)) (longer true is) rest)
+  by_test false is rest = rw is (subst (λ prefix. AreLegalAfter prefix (filter (is_kept marks) later)) (longer false is ∙ append-nil (filter (is_kept marks) before)) rest)
 
--- a mark of the last batch start is legal behind all marks
+-- a mark of the last batch start is legal after all marks
 legal_with_batch : (before later : List Mark) (last : Option ℤ) → AreLegalAfter before later → AreLegalAfter before (later ++ batch_mark last)
 legal_with_batch before [] (Some second) legal = (tt, tt)
 legal_with_batch before [] None legal = tt
@@ -118,7 +118,7 @@ test_gone marks number test of_number is =
     ∙ or_false (list_any test (filter (is_kept marks) marks))
     ∙ test_forgotten marks marks number test of_number is
 
--- a mark that forgets a number stands behind one that decides it
+-- a mark that forgets a number stands after one that decides it
 pub decided_before : (number : ℕ) (before : List Mark) (mark : Mark) → IsLegalAfter before mark → forgets number mark ≡ true → is_decided number before ≡ true
 decided_before number before (Forgotten other) legal is = subst (λ n. is_decided n before ≡ true) (eqb-true other number is) legal.0
 decided_before number before _ legal is = cc
@@ -127,7 +127,7 @@ pub forgotten_was_decided : (number : ℕ) (before later : List Mark) → AreLeg
 forgotten_was_decided number before [] legal is = cc
 forgotten_was_decided number before (mark ∷ later) legal is = elim (or_cases (forgets number mark) (is_forgotten number later) is) [
   | inl here ↦ list_any-append (decides number) before (mark ∷ later) ∙ ap (λ b. b || is_decided number (mark ∷ later)) (decided_before number before mark legal.0 here)
-  | inr behind ↦ subst (λ list. is_decided number list ≡ true) (append_assoc before (mark ∷ []) later) (forgotten_was_decided number (before ++ mark ∷ []) later legal.1 behind)
+  | inr after ↦ subst (λ list. is_decided number list ≡ true) (append_assoc before (mark ∷ []) later) (forgotten_was_decided number (before ++ mark ∷ []) later legal.1 after)
 ]
 
 -- the marks of a number that is not forgotten are all kept

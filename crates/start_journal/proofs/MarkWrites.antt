@@ -1,4 +1,4 @@
--- A mark that is added to the journal of a folder: what a crash leaves behind each of the two writes.
+-- A mark that is added to the journal of a folder: what a crash leaves after each of the two writes.
 use Rattle.std.proofs.Common.{◌≡◌, ℕ, ◌+◌, ◌*◌, ◌≤◌, true, false, List, length, take, drop, sym, ap, subst, ◌∙◌, inl, inr, arith, get_or-take}
 use Rattle.std.specs.Prelude.{Option, Some, IsSomeAnd, option_map, slice_index}
 use Rattle.std.specs.FinMap as map
@@ -39,7 +39,7 @@ module _ (name : List ℕ) (journal : JournalRead) (mark : Mark) (slot : List �
   gives : Gives (Some held.bytes) journal
   gives = subst (λ content. Gives content journal) held.is gives_there
 
-  -- the slot behind its gate, and its gate
+  -- the slot after its gate, and its gate
   abbrev rest : List ℕ
   rest = take 31 (drop 1 slot)
 
@@ -49,24 +49,24 @@ module _ (name : List ℕ) (journal : JournalRead) (mark : Mark) (slot : List �
   gate_long : length gate ≡ 1
   gate_long = length-take-le 1 slot (omega (arith, spelled.fields.counted))
 
-  behind_long : length rest ≡ 31
-  behind_long = rest_long journal mark slot held.bytes free legal spelled gives held.long
+  after_long : length rest ≡ 31
+  after_long = rest_long journal mark slot held.bytes free legal spelled gives held.long
 
   -- the slot lies within the file
   pub rest_within : IsWithinFile (reading_of start) name (offset + 1) (length rest)
-  rest_within = subst (λ content. IsSomeAnd content (λ bytes. offset + 1 + length rest ≤ length bytes)) (sym held.is) (omega (arith, held.long, behind_long))
+  rest_within = subst (λ content. IsSomeAnd content (λ bytes. offset + 1 + length rest ≤ length bytes)) (sym held.is) (omega (arith, held.long, after_long))
 
   -- other files are left alone
   widened : (image : Files) → LeavesOthers (λ other. other ≡ name) start image → LeavesOthers (IsEither temporary_file journal_file) start image
   widened image alone = record { from = alone.from; was = alone.was; others = λ other apart. alone.others other (λ same. apart (inr (same ∙ is_name))) }
 
-  -- while the slot is written behind its gate
+  -- while the slot is written after its gate
   half_changing : (image : Files) → IsOverwriting name (offset + 1) (length rest) start image → IsChanging journal (added journal mark) start image
   half_changing image over = record {
     alone = widened image over.alone;
     gives = inl (subst (λ content. Gives content journal)
         (sym (ap (map.get image) (sym is_name) ∙ over.written ∙ ap (option_map (λ bytes. overwritten bytes (offset + 1) over.part)) held.is ∙ ap (λ n. Some (overwritten held.bytes (n + 1) over.part)) at))
-        (half_gives journal mark slot held.bytes free legal spelled gives held.long over.part (over.as_long ∙ behind_long)));
+        (half_gives journal mark slot held.bytes free legal spelled gives held.long over.part (over.as_long ∙ after_long)));
   }
 
   pub half_files : (old new : World) → ChangesFiles (IsOverwriting name (offset + 1) (length rest) start) old new → ChangesFiles (IsChanging journal (added journal mark) start) old new
@@ -79,7 +79,7 @@ module _ (name : List ℕ) (journal : JournalRead) (mark : Mark) (slot : List �
 
     pub gate_within : IsWithinFile (reading_of middle) name offset (length gate)
     gate_within = subst (λ content. IsSomeAnd content (λ bytes. offset + length gate ≤ length bytes)) (sym reads_half)
-        (omega (arith, held.long, gate_long, behind_long, over_long held.bytes (32 * length journal.marks + 1) rest (omega (arith, held.long, behind_long))))
+        (omega (arith, held.long, gate_long, after_long, over_long held.bytes (32 * length journal.marks + 1) rest (omega (arith, held.long, after_long))))
 
     -- what the file reads as with some byte at the gate
     reads_whole : (content : Option (List ℕ)) (part : List ℕ) → content ≡ option_map (λ bytes. overwritten bytes offset part) (map.get (reading_of middle) name)
@@ -98,7 +98,7 @@ module _ (name : List ℕ) (journal : JournalRead) (mark : Mark) (slot : List �
         → content ≡ option_map (λ bytes. overwritten bytes offset part) (map.get (reading_of middle) name) → Gives content journal
     closed content part one closed_gate is =
         subst (λ some. Gives some journal) (sym (reads_whole content part is))
-        (closed_gives journal mark slot held.bytes free legal spelled gives held.long rest behind_long part one closed_gate)
+        (closed_gives journal mark slot held.bytes free legal spelled gives held.long rest after_long part one closed_gate)
 
     -- while the gate is written
     gate_changing : (image : Files) → IsOverwriting name offset (length gate) middle image → IsChanging journal (added journal mark) start image

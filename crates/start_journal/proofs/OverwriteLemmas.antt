@@ -226,7 +226,7 @@ write_files name offset bytes old new result certain within call =
       | inr done ↦ leaves_written name offset bytes old.now.folder done.0 done.0 certain within done.1 image done.2
     ])
 
--- the call that syncs, behind it
+-- the call that syncs, after it
 module _ {T : Type 0} (name : List ℕ) (offset : ℕ) (bytes : List ℕ) (old written new : World) (value : T) (result : Result T HostFault) (certain : IsCertain name old.now.folder) (within : IsWithinFile (reading old) name offset (length bytes)) (writes : FileCall (IsWritten name offset bytes) (IsWrittenInPart name offset bytes) old written (Ok value)) where
   pub held_to_sync : IsSome (map.get (reading written) name)
   held_to_sync = written_held name offset bytes old.now.folder written.now.folder written.now.folder certain within writes.outcome

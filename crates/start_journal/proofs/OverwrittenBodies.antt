@@ -4,14 +4,14 @@ use Rattle.std.specs.Prelude.{◌&&◌, ◌||◌, MatchBool, slice_index, nat_lt
 use Rattle.std.proofs.lemmas.Bool.Decides.{leb_tells}
 use Rattle.std.proofs.lemmas.List.{ext_get_or, get_or-drop, length-drop, length-take-le}
 use Rattle.host_calls.specs.Folder.{Body, IsSameElsewhere, MayHold, is_within, overwritten, written_body}
-use Rattle.start_journal.proofs.ByteRanges.{over_before, over_behind, over_inside, over_long}
+use Rattle.start_journal.proofs.ByteRanges.{over_before, over_after, over_inside, over_long}
 
 -- a place lies in a range
 record IsIn (offset count place : ℕ) : Type 0 where
   from : offset ≤ place
   to : place < offset + count
 
--- or before it or behind it
+-- or before it or after it
 record IsOut (offset count place : ℕ) : Type 0 where
   test : is_within offset count place ≡ false
   apart : (place < offset) ⊎ (offset + count ≤ place)
@@ -21,7 +21,7 @@ in_or_out offset count place = elim (leb_tells offset place) [
   | inr before ↦ inr (record { test = ap (λ b. b && nat_lt place (offset + count)) before.0; apart = inl before.1 })
   | inl from ↦ elim (leb_tells (suc place) (offset + count)) [
     | inl to ↦ inl (record { from = from.1; to = omega (arith, to.1) })
-    | inr behind ↦ inr (record { test = ap (λ b. b && nat_lt place (offset + count)) from.0 ∙ behind.0; apart = inr (omega (arith, behind.1)) })
+    | inr after ↦ inr (record { test = ap (λ b. b && nat_lt place (offset + count)) from.0 ∙ after.0; apart = inr (omega (arith, after.1)) })
   ]
 ]
 
@@ -67,7 +67,7 @@ module _ (body : Body) (offset : ℕ) (bytes : List ℕ) (within : offset + leng
               holds.certain place (ap (λ b. b || is_within offset (length bytes) place) certain ∙ out.test) in
               elim out.apart [
                 | inl before ↦ over_before found offset own inside place before ∙ kept ∙ over_before body.bytes offset bytes within place before
-                | inr behind ↦ over_behind found offset own inside place (omega (arith, behind, own_long)) ∙ kept ∙ over_behind body.bytes offset bytes within place behind
+                | inr after ↦ over_after found offset own inside place (omega (arith, after, own_long)) ∙ kept ∙ over_after body.bytes offset bytes within place after
               ]
         ];
       } in
@@ -88,8 +88,8 @@ module _ (body : Body) (offset : ℕ) (bytes : List ℕ) (within : offset + leng
           | inl here ↦ sym (over_inside body.bytes offset now still place here.from (omega (arith, here.to, now_long)) ∙ index_range found place here.from here.to)
           | inr out ↦ elim out.apart [
             | inl before ↦ sym (over_before found offset own inside place before) ∙ ap (λ list. slice_index list place) was ∙ sym (over_before body.bytes offset now still place before)
-            | inr behind ↦ sym (over_behind found offset own inside place (omega (arith, behind, own_long))) ∙ ap (λ list. slice_index list place) was
-                ∙ sym (over_behind body.bytes offset now still place (omega (arith, behind, now_long)))
+            | inr after ↦ sym (over_after found offset own inside place (omega (arith, after, own_long))) ∙ ap (λ list. slice_index list place) was
+                ∙ sym (over_after body.bytes offset now still place (omega (arith, after, now_long)))
           ]
         ]);
       }

@@ -9,7 +9,7 @@ use Rattle.start_journal.specs.declared.mark.Mark.{Mark}
 use Rattle.start_journal.specs.Journals.{journal_file, AreWritable, JournalRead, all_slots, are_drawn, are_legal_after, are_sound, go_on, is_drawn, is_legal_after, journal_in, nothing_read, one_slot, open_slot, whole_journal, with_slot}
 use Rattle.host_calls.specs.Damages.{damage_at}
 use Rattle.start_journal.specs.Marks.{AreLegal, AreLegalAfter, IsLegalAfter}
-use Rattle.start_journal.specs.SlotBytes.{can_write, mark_in, right_front}
+use Rattle.start_journal.specs.SlotBytes.{can_write, mark_in, right_prefix}
 use Rattle.start_journal.specs.Slots.{IsWritable, SpellsMark}
 use Rattle.start_journal.proofs.ByteLemmas.{given, spells, writable_is, writable_tested}
 use Rattle.std.proofs.lemmas.Bool.{and_from, and_parts}
@@ -23,19 +23,19 @@ none_given slot none = by_mark (mark_in slot) refl where
   by_mark (Some mark) is = absurd (none mark (spells slot mark is))
 
 -- an open slot where no slot before it is closed
-open_read : (last : ℕ) (read : JournalRead) (slot : List ℕ) → slice_index slot 0 ≡ 43 → read.free ≡ 0 → one_slot last read slot ≡ open_slot last read (mark_in slot) (right_front slot)
+open_read : (last : ℕ) (read : JournalRead) (slot : List ℕ) → slice_index slot 0 ≡ 43 → read.free ≡ 0 → one_slot last read slot ≡ open_slot last read (mark_in slot) (right_prefix slot)
 open_read last read slot gate none =
-    ap (λ b. if b then (if read.free == 0 then open_slot last read (mark_in slot) (right_front slot) else Err 0) else Ok (record { marks = read.marks; free = read.free + 1 })) (eq-eqb (slice_index slot 0) 43 gate)
-    ∙ ap (λ b. if b then open_slot last read (mark_in slot) (right_front slot) else Err 0) (eq-eqb read.free 0 none)
+    ap (λ b. if b then (if read.free == 0 then open_slot last read (mark_in slot) (right_prefix slot) else Err 0) else Ok (record { marks = read.marks; free = read.free + 1 })) (eq-eqb (slice_index slot 0) 43 gate)
+    ∙ ap (λ b. if b then open_slot last read (mark_in slot) (right_prefix slot) else Err 0) (eq-eqb read.free 0 none)
 
-pub none_read : (last front : ℕ) (read : JournalRead) (slot : List ℕ) → slice_index slot 0 ≡ 43 → read.free ≡ 0 → ((mark : Mark) → ¬ (SpellsMark slot mark)) → front ≡ right_front slot → one_slot last read slot ≡ Err front
-none_read last front read slot gate free none is =
-    open_read last read slot gate free ∙ ap (λ found. open_slot last read found (right_front slot)) (none_given slot none) ∙ ap Err (sym is)
+pub none_read : (last prefix : ℕ) (read : JournalRead) (slot : List ℕ) → slice_index slot 0 ≡ 43 → read.free ≡ 0 → ((mark : Mark) → ¬ (SpellsMark slot mark)) → prefix ≡ right_prefix slot → one_slot last read slot ≡ Err prefix
+none_read last prefix read slot gate free none is =
+    open_read last read slot gate free ∙ ap (λ found. open_slot last read found (right_prefix slot)) (none_given slot none) ∙ ap Err (sym is)
 
 -- the answer at an open slot with a mark, by the two tests
 pub mark_read : (last : ℕ) (read : JournalRead) (slot : List ℕ) (mark : Mark) → slice_index slot 0 ≡ 43 → read.free ≡ 0 → SpellsMark slot mark → one_slot last read slot ≡ (if is_legal_after read.marks mark && is_drawn last mark then Ok (record { marks = read.marks ++ mark ∷ []; free = read.free }) else Err 0)
 mark_read last read slot mark gate free spelled =
-    open_read last read slot gate free ∙ ap (λ found. open_slot last read found (right_front slot)) (given slot mark spelled)
+    open_read last read slot gate free ∙ ap (λ found. open_slot last read found (right_prefix slot)) (given slot mark spelled)
 
 pub taken : (last : ℕ) (read : JournalRead) (slot : List ℕ) (mark : Mark) → slice_index slot 0 ≡ 43 → read.free ≡ 0 → SpellsMark slot mark → true ≡ is_legal_after read.marks mark → true ≡ is_drawn last mark → one_slot last read slot ≡ Ok (with_slot read (Some mark))
 taken last read slot mark gate free spelled legal drawn =
@@ -101,9 +101,9 @@ none_yet = record { sound = record { legal = refl; writable = refl }; drawn = re
 one_read : (last : ℕ) (read more : JournalRead) (slot : List ℕ) → IsRead last read.marks → one_slot last read slot ≡ Ok more → IsRead last more.marks
 one_read last read more slot is answer = by_gate (slice_index slot 0 == 43) refl where
   one : Result JournalRead ℕ
-  one = if read.free == 0 then open_slot last read (mark_in slot) (right_front slot) else Err 0
+  one = if read.free == 0 then open_slot last read (mark_in slot) (right_prefix slot) else Err 0
 
-  by_tests : (mark : Mark) (pass : Bool) → mark_in slot ≡ Some mark → (is_legal_after read.marks mark && is_drawn last mark) ≡ pass → open_slot last read (Some mark) (right_front slot) ≡ Ok more → IsRead last more.marks
+  by_tests : (mark : Mark) (pass : Bool) → mark_in slot ≡ Some mark → (is_legal_after read.marks mark && is_drawn last mark) ≡ pass → open_slot last read (Some mark) (right_prefix slot) ≡ Ok more → IsRead last more.marks
   by_tests mark true found tests opened =
       let parts : (is_legal_after read.marks mark ≡ true) × (is_drawn last mark ≡ true) = and_parts _ _ tests in
       let whole : Ok (with_slot read (Some mark)) ≡ Ok more = sym (ap (λ b. if b then Ok (with_slot read (Some mark)) else Err 0) tests) ∙ opened in
@@ -117,15 +117,15 @@ one_read last read more slot is answer = by_gate (slice_index slot 0 == 43) refl
       let whole : bad ≡ Ok more = sym (ap (λ b. if b then Ok (with_slot read (Some mark)) else Err 0) tests) ∙ opened in
       cc
 
-  by_mark : (found : Option Mark) → mark_in slot ≡ found → open_slot last read found (right_front slot) ≡ Ok more → IsRead last more.marks
+  by_mark : (found : Option Mark) → mark_in slot ≡ found → open_slot last read found (right_prefix slot) ≡ Ok more → IsRead last more.marks
   by_mark None is_none opened = cc
   by_mark (Some mark) found opened = by_tests mark (is_legal_after read.marks mark && is_drawn last mark) found refl opened
 
   by_free : (none : Bool) → (read.free == 0) ≡ none → one ≡ Ok more → IsRead last more.marks
-  by_free true none opened = by_mark (mark_in slot) refl (sym (ap (λ b. if b then open_slot last read (mark_in slot) (right_front slot) else Err 0) none) ∙ opened)
+  by_free true none opened = by_mark (mark_in slot) refl (sym (ap (λ b. if b then open_slot last read (mark_in slot) (right_prefix slot) else Err 0) none) ∙ opened)
   by_free false none opened =
       let bad : Result JournalRead ℕ = Err 0 in
-      let whole : bad ≡ Ok more = sym (ap (λ b. if b then open_slot last read (mark_in slot) (right_front slot) else Err 0) none) ∙ opened in
+      let whole : bad ≡ Ok more = sym (ap (λ b. if b then open_slot last read (mark_in slot) (right_prefix slot) else Err 0) none) ∙ opened in
       cc
 
   by_gate : (gate : Bool) → (slice_index slot 0 == 43) ≡ gate → IsRead last more.marks
@@ -150,21 +150,21 @@ read_sound last read slots answer =
     sound_tested read.marks (all_read last 0 nothing_read read slots none_yet answer).sound
 
 -- what was read of the slots before a place, and what is left of them
-abbrev pub IsBehind : ℕ → List (List ℕ) → ℕ → JournalRead → Type 0
-IsBehind last slots place read = all_slots last 0 nothing_read slots ≡ all_slots last (place * 32) read (drop place slots)
+abbrev pub IsAfter : ℕ → List (List ℕ) → ℕ → JournalRead → Type 0
+IsAfter last slots place read = all_slots last 0 nothing_read slots ≡ all_slots last (place * 32) read (drop place slots)
 
 -- a slot that breaks the form
-broken : (last place offset : ℕ) (slots : List (List ℕ)) (read : JournalRead) (other : List ℕ) → IsBehind last slots place read → place < length slots → one_slot last read (get_or slots place other) ≡ Err offset → all_slots last 0 nothing_read slots ≡ Err (place * 32 + offset)
-broken last place offset slots read other behind inside wrong =
-    behind ∙ ap (all_slots last (place * 32) read) (drop-cons slots place other inside)
+broken : (last place offset : ℕ) (slots : List (List ℕ)) (read : JournalRead) (other : List ℕ) → IsAfter last slots place read → place < length slots → one_slot last read (get_or slots place other) ≡ Err offset → all_slots last 0 nothing_read slots ≡ Err (place * 32 + offset)
+broken last place offset slots read other after inside wrong =
+    after ∙ ap (all_slots last (place * 32) read) (drop-cons slots place other inside)
     ∙ ap (go_on (place * 32) (λ more. all_slots last (place * 32 + 32) more (drop (suc place) slots))) wrong
 
 -- one slot more
-pub one_behind : (last place : ℕ) (slots : List (List ℕ)) (read next : JournalRead) (other : List ℕ) → IsBehind last slots place read → place < length slots → one_slot last read (get_or slots place other) ≡ Ok next → IsBehind last slots (place + 1) next
-one_behind last place slots read next other behind inside is =
+pub one_after : (last place : ℕ) (slots : List (List ℕ)) (read next : JournalRead) (other : List ℕ) → IsAfter last slots place read → place < length slots → one_slot last read (get_or slots place other) ≡ Ok next → IsAfter last slots (place + 1) next
+one_after last place slots read next other after inside is =
     let offset : place * 32 + 32 ≡ (place + 1) * 32 = omega arith in
     let count : suc place ≡ place + 1 = omega arith in
-    behind ∙ ap (all_slots last (place * 32) read) (drop-cons slots place other inside)
+    after ∙ ap (all_slots last (place * 32) read) (drop-cons slots place other inside)
     ∙ ap (go_on (place * 32) (λ more. all_slots last (place * 32 + 32) more (drop (suc place) slots))) is
     ∙ ap (λ at. all_slots last at next (drop (suc place) slots)) offset
     ∙ ap (λ n. all_slots last ((place + 1) * 32) next (drop n slots)) count
@@ -176,36 +176,36 @@ marked read found mark marks free is more same = ap (with_slot read) is ∙ (λ 
 pub unmarked : (read : JournalRead) (found : Option Mark) (marks : List Mark) (free : ℕ) → found ≡ None → marks ≡ read.marks → free ≡ read.free + 1 → with_slot read found ≡ record { marks = marks; free = free }
 unmarked read found marks free is same more = ap (with_slot read) is ∙ (λ i. record { marks = sym same i; free = sym more i })
 
-pub slot_damaged : (last place offset : ℕ) (bytes : List ℕ) (slots : List (List ℕ)) (read : JournalRead) (marks : List Mark) (other : List ℕ) (damage : Damage) → slots ≡ first_chunks 32 (length bytes / 32) bytes → IsBehind last slots place read → place < length slots → marks ≡ read.marks → one_slot last (record { marks = marks; free = read.free }) (get_or slots place other) ≡ Err offset → damage ≡ damage_at journal_file bytes (place * 32 + offset) → journal_in last (Some bytes) ≡ Err damage
+pub slot_damaged : (last place offset : ℕ) (bytes : List ℕ) (slots : List (List ℕ)) (read : JournalRead) (marks : List Mark) (other : List ℕ) (damage : Damage) → slots ≡ first_chunks 32 (length bytes / 32) bytes → IsAfter last slots place read → place < length slots → marks ≡ read.marks → one_slot last (record { marks = marks; free = read.free }) (get_or slots place other) ≡ Err offset → damage ≡ damage_at journal_file bytes (place * 32 + offset) → journal_in last (Some bytes) ≡ Err damage
 unfolding journal_in
-slot_damaged last place offset bytes slots read marks other damage cut behind inside same wrong is =
+slot_damaged last place offset bytes slots read marks other damage cut after inside same wrong is =
     let at_marks : List Mark → Type 0 = λ list. one_slot last (record { marks = list; free = read.free }) (get_or slots place other) ≡ Err offset in
     ap (λ list. whole_journal bytes (all_slots last 0 nothing_read list)) (sym cut)
-    ∙ ap (whole_journal bytes) (broken last place offset slots read other behind inside (subst at_marks same wrong))
+    ∙ ap (whole_journal bytes) (broken last place offset slots read other after inside (subst at_marks same wrong))
     ∙ ap Err (sym is)
 
 -- all slots read
-all_behind : (last place : ℕ) (slots : List (List ℕ)) (read : JournalRead) → IsBehind last slots place read → length slots ≤ place → all_slots last 0 nothing_read slots ≡ Ok read
-all_behind last place slots read behind past = behind ∙ at_drop_all (all_slots last (place * 32) read) slots place past
+all_after : (last place : ℕ) (slots : List (List ℕ)) (read : JournalRead) → IsAfter last slots place read → length slots ≤ place → all_slots last 0 nothing_read slots ≡ Ok read
+all_after last place slots read after past = after ∙ at_drop_all (all_slots last (place * 32) read) slots place past
 
-pub end_sound : (last place : ℕ) (slots : List (List ℕ)) (read : JournalRead) → IsBehind last slots place read → length slots ≤ place → are_sound read.marks ≡ true
-end_sound last place slots read behind past = read_sound last read slots (all_behind last place slots read behind past)
+pub end_sound : (last place : ℕ) (slots : List (List ℕ)) (read : JournalRead) → IsAfter last slots place read → length slots ≤ place → are_sound read.marks ≡ true
+end_sound last place slots read after past = read_sound last read slots (all_after last place slots read after past)
 
--- what stands behind the last slot
-end_of : (last place : ℕ) (bytes : List ℕ) (slots : List (List ℕ)) (read : JournalRead) → slots ≡ first_chunks 32 (length bytes / 32) bytes → IsBehind last slots place read → length slots ≤ place → journal_in last (Some bytes) ≡ whole_journal bytes (Ok read)
+-- what stands after the last slot
+end_of : (last place : ℕ) (bytes : List ℕ) (slots : List (List ℕ)) (read : JournalRead) → slots ≡ first_chunks 32 (length bytes / 32) bytes → IsAfter last slots place read → length slots ≤ place → journal_in last (Some bytes) ≡ whole_journal bytes (Ok read)
 unfolding journal_in
-end_of last place bytes slots read cut behind past =
-    ap (λ list. whole_journal bytes (all_slots last 0 nothing_read list)) (sym cut) ∙ ap (whole_journal bytes) (all_behind last place slots read behind past)
+end_of last place bytes slots read cut after past =
+    ap (λ list. whole_journal bytes (all_slots last 0 nothing_read list)) (sym cut) ∙ ap (whole_journal bytes) (all_after last place slots read after past)
 
-pub rest_damaged : (last place rest : ℕ) (bytes : List ℕ) (slots : List (List ℕ)) (read : JournalRead) (damage : Damage) → slots ≡ first_chunks 32 (length bytes / 32) bytes → IsBehind last slots place read → length slots ≤ place → length slots ≡ length bytes / 32 → rest ≡ length bytes % 32 → false ≡ (rest == 0) → damage ≡ damage_at journal_file bytes (length slots * 32) → journal_in last (Some bytes) ≡ Err damage
-rest_damaged last place rest bytes slots read damage cut behind past counted left some is =
-    end_of last place bytes slots read cut behind past
+pub rest_damaged : (last place rest : ℕ) (bytes : List ℕ) (slots : List (List ℕ)) (read : JournalRead) (damage : Damage) → slots ≡ first_chunks 32 (length bytes / 32) bytes → IsAfter last slots place read → length slots ≤ place → length slots ≡ length bytes / 32 → rest ≡ length bytes % 32 → false ≡ (rest == 0) → damage ≡ damage_at journal_file bytes (length slots * 32) → journal_in last (Some bytes) ≡ Err damage
+rest_damaged last place rest bytes slots read damage cut after past counted left some is =
+    end_of last place bytes slots read cut after past
     ∙ ap (λ b. if b then Ok read else Err (damage_at journal_file bytes (length bytes / 32 * 32))) (sym (some ∙ ap (λ n. n == 0) left))
     ∙ ap Err (ap (λ n. damage_at journal_file bytes (n * 32)) (sym counted) ∙ sym is)
 
-pub read_whole : (last place rest : ℕ) (bytes : List ℕ) (slots : List (List ℕ)) (read : JournalRead) → slots ≡ first_chunks 32 (length bytes / 32) bytes → IsBehind last slots place read → length slots ≤ place → rest ≡ length bytes % 32 → true ≡ (rest == 0) → journal_in last (Some bytes) ≡ Ok read
-read_whole last place rest bytes slots read cut behind past left none =
-    end_of last place bytes slots read cut behind past
+pub read_whole : (last place rest : ℕ) (bytes : List ℕ) (slots : List (List ℕ)) (read : JournalRead) → slots ≡ first_chunks 32 (length bytes / 32) bytes → IsAfter last slots place read → length slots ≤ place → rest ≡ length bytes % 32 → true ≡ (rest == 0) → journal_in last (Some bytes) ≡ Ok read
+read_whole last place rest bytes slots read cut after past left none =
+    end_of last place bytes slots read cut after past
     ∙ ap (λ b. if b then Ok read else Err (damage_at journal_file bytes (length bytes / 32 * 32))) (sym (none ∙ ap (λ n. n == 0) left))
 
 -- without a file there is no mark and no free slot

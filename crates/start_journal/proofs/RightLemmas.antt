@@ -1,4 +1,4 @@
--- The right front of a slot is its longest front that some mark's slot has too.
+-- The right prefix of a slot is its longest prefix that some mark's slot has too.
 use Rattle.std.proofs.Common.{◌≡◌, ◌⊎◌, ℕ, zero, suc, ◌+◌, ◌-◌, ◌*◌, ◌/◌, ◌^◌, ◌<◌, ◌≤◌, Bool, true, false, List, [], ◌∷◌, ◌++◌, length, take, drop, lit≤, sym, ap, subst, ◌∙◌, refl, inl, inr, arith, eq-eqb, zero-add, below_more, length-append, length-drop}
 use Rattle.std.specs.Prelude.{unsigned_abs, ◌==◌, ◌&&◌, ◌||◌, nat_le, nat_lt, slice_index, slice_range, if◌then◌else◌}
 use Rattle.std.proofs.Math.ListN.{get_or-append}
@@ -7,18 +7,18 @@ use Rattle.std.proofs.Math.Seq.{get_or-append_seam}
 use Rattle.std.proofs.lemmas.Bool.Decides.{nat_tests}
 use Rattle.std.proofs.lemmas.List.{drop-append-le, length-take, length-take-le, nil_from_length, take-append-le, take-take, take_all}
 use Rattle.std.proofs.lemmas.Nat.{le-div}
-use Rattle.start_journal.specs.JournalLaws.{RightFrontsAreLongest}
-use Rattle.start_journal.specs.SlotBytes.{HasRightFront, begins_number, begins_second, is_ending_of, is_kind, is_queue_of, is_status_of, may_stand, right_front, standing_from}
+use Rattle.start_journal.specs.JournalLaws.{RightPrefixesAreLongest}
+use Rattle.start_journal.specs.SlotBytes.{HasRightPrefix, is_number_prefix, is_second_prefix, is_ending_of, is_kind, is_queue_of, is_status_of, may_stand, right_prefix, standing_from}
 use Rattle.hex_digits.specs.Values.{are_digits, are_zeros, is_digit, value_of}
 use Rattle.std.proofs.lemmas.Bool.{and_from, and_parts, eqb-true}
 use Rattle.hex_digits.proofs.TestLemmas.{one_passes}
 use Rattle.start_journal.proofs.MarkLemmas.{or_true}
-use Rattle.start_journal.proofs.StandLemmas.{behind_place, from_place, if_true, same_stand, spelled_stands}
+use Rattle.start_journal.proofs.StandLemmas.{after_place, from_place, if_true, same_stand, spelled_stands}
 use Rattle.hex_digits.proofs.ValueLemmas.{value_last, some_power}
 use Rattle.start_journal.proofs.WholeLemmas.{parts_of, all_spelled, SpellsSome, AllStand}
 use Rattle.clock_range.specs.declared.range.TheConstants.{LAST_SECOND}
 
--- a byte that may stand behind the others
+-- a byte that may stand after the others
 next_byte : List ℕ → ℕ
 next_byte slot =
     if length slot == 0 then 43 else if length slot == 1 then 82
@@ -35,28 +35,28 @@ if_no : {A : Type 0} (b : Bool) (x y : A) → b ≡ false → (if b then x else 
 if_no b x y is = ap (λ c. if c then x else y) is
 
 not_place : (place at : ℕ) → at < place → (place == at) ≡ false
-not_place place at behind = grind (arith, nat_tests)
+not_place place at after = grind (arith, nat_tests)
 
 not_before : (place at : ℕ) → at ≤ place → nat_lt place at ≡ false
-not_before place at behind = grind (arith, nat_tests)
+not_before place at after = grind (arith, nat_tests)
 
 before_place : (place at : ℕ) → place < at → nat_lt place at ≡ true
 before_place place at before = grind (arith, nat_tests)
 
 -- the tests of the digits of a number and of a second
-number_part : (slot : List ℕ) (place : ℕ) → 2 ≤ place → place < 10 → may_stand slot place ≡ begins_number (slice_index slot 1) (slice_range slot 2 (place + 1))
+number_part : (slot : List ℕ) (place : ℕ) → 2 ≤ place → place < 10 → may_stand slot place ≡ is_number_prefix (slice_index slot 1) (slice_range slot 2 (place + 1))
 unfolding may_stand
 number_part slot place from to =
     if_no (place == 0) _ _ (not_place place 0 (omega arith)) ∙ if_no (place == 1) _ _ (not_place place 1 (omega arith)) ∙ if_yes (nat_lt place 10) _ _ (before_place place 10 to)
 
-second_part : (slot : List ℕ) (place : ℕ) → 14 ≤ place → place < 30 → may_stand slot place ≡ begins_second (slice_index slot 1) (slice_range slot 14 (place + 1))
+second_part : (slot : List ℕ) (place : ℕ) → 14 ≤ place → place < 30 → may_stand slot place ≡ is_second_prefix (slice_index slot 1) (slice_range slot 14 (place + 1))
 unfolding may_stand
 second_part slot place from to =
     if_no (place == 0) _ _ (not_place place 0 (omega arith)) ∙ if_no (place == 1) _ _ (not_place place 1 (omega arith)) ∙ if_no (nat_lt place 10) _ _ (not_before place 10 (omega arith))
     ∙ if_no (place == 10) _ _ (not_place place 10 (omega arith)) ∙ if_no (place == 11) _ _ (not_place place 11 (omega arith)) ∙ if_no (nat_lt place 14) _ _ (not_before place 14 from) ∙ if_yes (nat_lt place 30) _ _ (before_place place 30 to)
 
 -- one digit more of a number
-number_next : (kind : ℕ) (digits : List ℕ) → (digits ≡ []) ⊎ (begins_number kind digits ≡ true) → begins_number kind (digits ++ (if kind == 66 then 48 else 49) ∷ []) ≡ true
+number_next : (kind : ℕ) (digits : List ℕ) → (digits ≡ []) ⊎ (is_number_prefix kind digits ≡ true) → is_number_prefix kind (digits ++ (if kind == 66 then 48 else 49) ∷ []) ≡ true
 number_next kind digits before = by_kind (kind == 66) refl where
   zeros_before : (kind == 66) ≡ true → are_zeros digits ≡ true
   zeros_before batch = elim before [ inl none ↦ ap are_zeros none | inr begun ↦ sym (if_yes (kind == 66) (are_zeros digits) _ batch) ∙ begun ]
@@ -64,20 +64,20 @@ number_next kind digits before = by_kind (kind == 66) refl where
   digits_before : (kind == 66) ≡ false → are_digits digits ≡ true
   digits_before other = elim before [ inl none ↦ ap are_digits none | inr begun ↦ (and_parts (are_digits digits) _ (sym (if_no (kind == 66) (are_zeros digits) _ other) ∙ begun)).0 ]
 
-  by_kind : (batch : Bool) → (kind == 66) ≡ batch → begins_number kind (digits ++ (if kind == 66 then 48 else 49) ∷ []) ≡ true
+  by_kind : (batch : Bool) → (kind == 66) ≡ batch → is_number_prefix kind (digits ++ (if kind == 66 then 48 else 49) ∷ []) ≡ true
   by_kind true batch =
-      ap (λ byte. begins_number kind (digits ++ byte ∷ [])) (if_yes (kind == 66) 48 49 batch)
+      ap (λ byte. is_number_prefix kind (digits ++ byte ∷ [])) (if_yes (kind == 66) 48 49 batch)
       ∙ if_yes (kind == 66) (are_zeros (digits ++ 48 ∷ [])) _ batch ∙ one_passes (λ byte. byte == 48) digits 48 (zeros_before batch) refl
   by_kind false other =
       let value : value_of (digits ++ 49 ∷ []) ≡ value_of digits * 16 + 1 = value_last digits 49 in
       let some : nat_le 1 (value_of (digits ++ 49 ∷ [])) ≡ true = grind (arith, nat_tests) in
-      ap (λ byte. begins_number kind (digits ++ byte ∷ [])) (if_no (kind == 66) 48 49 other)
+      ap (λ byte. is_number_prefix kind (digits ++ byte ∷ [])) (if_no (kind == 66) 48 49 other)
       ∙ if_no (kind == 66) _ _ other
       ∙ and_from (are_digits (digits ++ 49 ∷ [])) _ (one_passes is_digit digits 49 (digits_before other) refl)
       (ap (λ b. nat_lt (length (digits ++ 49 ∷ [])) 8 || b) some ∙ or_true (nat_lt (length (digits ++ 49 ∷ [])) 8))
 
 -- one digit more of a second
-second_next : (kind : ℕ) (digits : List ℕ) → length digits < 16 → (digits ≡ []) ⊎ (begins_second kind digits ≡ true) → begins_second kind (digits ++ 48 ∷ []) ≡ true
+second_next : (kind : ℕ) (digits : List ℕ) → length digits < 16 → (digits ≡ []) ⊎ (is_second_prefix kind digits ≡ true) → is_second_prefix kind (digits ++ 48 ∷ []) ≡ true
 second_next kind digits few before = by_kind (kind == 83 || kind == 66) refl where
   test : List ℕ → Bool
   test list = are_digits list && nat_le (value_of list) (unsigned_abs LAST_SECOND / 16 ^ (16 - length list))
@@ -90,7 +90,7 @@ second_next kind digits few before = by_kind (kind == 83 || kind == 66) refl whe
         (tests.0, grind (arith, nat_tests))
   ]
 
-  by_kind : (timed : Bool) → (kind == 83 || kind == 66) ≡ timed → begins_second kind (digits ++ 48 ∷ []) ≡ true
+  by_kind : (timed : Bool) → (kind == 83 || kind == 66) ≡ timed → is_second_prefix kind (digits ++ 48 ∷ []) ≡ true
   by_kind true timed =
       let more : ℕ = 15 - length digits in
       let here : 16 - length digits ≡ suc more = omega arith in
@@ -136,22 +136,22 @@ part_whole : (slot : List ℕ) (from place : ℕ) → place + 1 ≡ length slot 
 part_whole slot from place at = take_all (place + 1 - from) (drop from slot) (omega (arith, length-drop from slot))
 
 -- the digits before the last one, if there are some
-number_before : (slot : List ℕ) → AllStand slot → 2 ≤ length slot → length slot < 10 → (drop 2 slot ≡ []) ⊎ (begins_number (slice_index slot 1) (drop 2 slot) ≡ true)
+number_before : (slot : List ℕ) → AllStand slot → 2 ≤ length slot → length slot < 10 → (drop 2 slot ≡ []) ⊎ (is_number_prefix (slice_index slot 1) (drop 2 slot) ≡ true)
 number_before slot each from to = elim (eq-or-lt_of_le from) [
   | inl none ↦ inl (nil_from_length (drop 2 slot) (omega (arith, length-drop 2 slot)))
   | inr some ↦
       let place : ℕ = length slot - 1 in
       let at : place + 1 ≡ length slot = omega arith in
-      inr (ap (begins_number (slice_index slot 1)) (sym (part_whole slot 2 place at)) ∙ sym (number_part slot place (omega arith) (omega arith)) ∙ each place (omega arith))
+      inr (ap (is_number_prefix (slice_index slot 1)) (sym (part_whole slot 2 place at)) ∙ sym (number_part slot place (omega arith) (omega arith)) ∙ each place (omega arith))
 ]
 
-second_before : (slot : List ℕ) → AllStand slot → 14 ≤ length slot → length slot < 30 → (drop 14 slot ≡ []) ⊎ (begins_second (slice_index slot 1) (drop 14 slot) ≡ true)
+second_before : (slot : List ℕ) → AllStand slot → 14 ≤ length slot → length slot < 30 → (drop 14 slot ≡ []) ⊎ (is_second_prefix (slice_index slot 1) (drop 14 slot) ≡ true)
 second_before slot each from to = elim (eq-or-lt_of_le from) [
   | inl none ↦ inl (nil_from_length (drop 14 slot) (omega (arith, length-drop 14 slot)))
   | inr some ↦
       let place : ℕ = length slot - 1 in
       let at : place + 1 ≡ length slot = omega arith in
-      inr (ap (begins_second (slice_index slot 1)) (sym (part_whole slot 14 place at)) ∙ sym (second_part slot place (omega arith) (omega arith)) ∙ each place (omega arith))
+      inr (ap (is_second_prefix (slice_index slot 1)) (sym (part_whole slot 14 place at)) ∙ sym (second_part slot place (omega arith) (omega arith)) ∙ each place (omega arith))
 ]
 
 -- the byte that comes next may stand
@@ -181,16 +181,16 @@ next_stands slot each inside =
     if_true (place == 0) _ _ (λ is.
     let at : 0 ≡ place = sym (eqb-true place 0 is) in
     ap (λ b. b == 43) (byte_last slot 0 43 at (if_yes (place == 0) _ _ is))) (λ not_0.
-    let from_1 : 1 ≤ place = behind_place place 0 (omega arith) not_0 in
+    let from_1 : 1 ≤ place = after_place place 0 (omega arith) not_0 in
     if_true (place == 1) _ _ (λ is.
     let at : 1 ≡ place = sym (eqb-true place 1 is) in
     ap is_kind (byte_last slot 1 82 at (if_no (place == 0) _ _ not_0 ∙ if_yes (place == 1) _ _ is))) (λ not_1.
-    let from_2 : 2 ≤ place = behind_place place 1 from_1 not_1 in
+    let from_2 : 2 ≤ place = after_place place 1 from_1 not_1 in
     let kind : slice_index more 1 ≡ slice_index slot 1 = byte_before slot 1 (omega arith) in
     if_true (nat_lt place 10) _ _ (λ is.
     let few : place < 10 = grind (arith, nat_tests) in
-    ap (λ k. begins_number k (slice_range more 2 (place + 1))) kind
-    ∙ ap (begins_number (slice_index slot 1)) (part_next slot 2 _ from_2 (if_no (place == 0) _ _ not_0 ∙ if_no (place == 1) _ _ not_1 ∙ if_yes (nat_lt place 10) _ _ is))
+    ap (λ k. is_number_prefix k (slice_range more 2 (place + 1))) kind
+    ∙ ap (is_number_prefix (slice_index slot 1)) (part_next slot 2 _ from_2 (if_no (place == 0) _ _ not_0 ∙ if_no (place == 1) _ _ not_1 ∙ if_yes (nat_lt place 10) _ _ is))
     ∙ number_next (slice_index slot 1) (drop 2 slot) (number_before slot each from_2 few)) (λ not_9.
     let from_10 : 10 ≤ place = from_place place 10 not_9 in
     if_true (place == 10) _ _ (λ is.
@@ -198,7 +198,7 @@ next_stands slot each inside =
     ap (λ k. is_queue_of k (slice_index more 10)) kind
     ∙ ap (is_queue_of (slice_index slot 1)) (byte_last slot 10 _ at (if_no (place == 0) _ _ not_0 ∙ if_no (place == 1) _ _ not_1 ∙ if_no (nat_lt place 10) _ _ not_9 ∙ if_yes (place == 10) _ _ is))
     ∙ queue_next (slice_index slot 1)) (λ not_10.
-    let from_11 : 11 ≤ place = behind_place place 10 from_10 not_10 in
+    let from_11 : 11 ≤ place = after_place place 10 from_10 not_10 in
     if_true (place == 11) _ _ (λ is.
     let at : 11 ≡ place = sym (eqb-true place 11 is) in
     ap (λ k. is_ending_of k (slice_index more 11)) kind
@@ -212,8 +212,8 @@ next_stands slot each inside =
     let from_14 : 14 ≤ place = from_place place 14 not_13 in
     if_true (nat_lt place 30) _ _ (λ is.
     let few : place < 30 = grind (arith, nat_tests) in
-    ap (λ k. begins_second k (slice_range more 14 (place + 1))) kind
-    ∙ ap (begins_second (slice_index slot 1)) (part_next slot 14 48 from_14 (to_30 is))
+    ap (λ k. is_second_prefix k (slice_range more 14 (place + 1))) kind
+    ∙ ap (is_second_prefix (slice_index slot 1)) (part_next slot 14 48 from_14 (to_30 is))
     ∙ second_next (slice_index slot 1) (drop 14 slot) (omega (arith, length-drop 14 slot)) (second_before slot each from_14 few)) (λ not_29.
     let last : (byte : ℕ) → (if place == 30 then 46 else 10) ≡ byte → next_byte slot ≡ byte =
     λ byte is. if_no (place == 0) _ _ not_0 ∙ if_no (place == 1) _ _ not_1 ∙ if_no (nat_lt place 10) _ _ not_9 ∙ if_no (place == 10) _ _ not_10 ∙ if_no (place == 11) _ _ not_11 ∙ if_no (nat_lt place 30) _ _ not_29 ∙ is in
@@ -221,7 +221,7 @@ next_stands slot each inside =
     if_true (place == 30) _ _ (λ is.
     let at : 30 ≡ place = sym (eqb-true place 30 is) in
     ap (λ b. b == 46) (byte_last slot 30 46 at (last 46 (if_yes (place == 30) _ _ is)))) (λ not_30.
-    let from_31 : 31 ≤ place = behind_place place 30 from_30 not_30 in
+    let from_31 : 31 ≤ place = after_place place 30 from_30 not_30 in
     let at : 31 ≡ place = omega arith in
     and_from (place == 31) _ (eq-eqb place 31 (sym at)) (ap (λ b. b == 10) (byte_last slot 31 10 at (last 10 (if_no (place == 30) _ _ not_30))))))))))))
 
@@ -239,11 +239,11 @@ record IsCompleted (slot : List ℕ) : Type 0 where
   right : List ℕ
   counted : length right ≡ 32
   each : AllStand right
-  front : take (length slot) right ≡ slot
+  prefix : take (length slot) right ≡ slot
 
 completed : (more : ℕ) (slot : List ℕ) → length slot + more ≡ 32 → AllStand slot → IsCompleted slot
 unfolding longer
-completed zero slot counted each = record { right = slot; counted = omega arith; each = each; front = take_all (length slot) slot (omega arith) }
+completed zero slot counted each = record { right = slot; counted = omega arith; each = each; prefix = take_all (length slot) slot (omega arith) }
 completed (suc more) slot counted each =
     let long : length (slot ++ next_byte slot ∷ []) ≡ length slot + 1 = length-append slot (next_byte slot ∷ []) in
     let rest : IsCompleted (longer slot) = completed more (longer slot) (omega arith) (all_next slot each (omega arith)) in
@@ -252,7 +252,7 @@ completed (suc more) slot counted each =
       right = rest.right;
       counted = rest.counted;
       each = rest.each;
-      front = shorter ∙ ap (take (length slot)) rest.front ∙ take-append-le (length slot) slot (next_byte slot ∷ []) (omega arith) ∙ take_all (length slot) slot (omega arith);
+      prefix = shorter ∙ ap (take (length slot)) rest.prefix ∙ take-append-le (length slot) slot (next_byte slot ∷ []) (omega arith) ∙ take_all (length slot) slot (omega arith);
     }
 
 -- what the count of standing bytes says
@@ -274,9 +274,9 @@ counts_from slot place (byte ∷ later) each = by_test (may_stand slot place) re
       subst (λ count. Counts slot count (place + suc (length later))) (sym (if_no (may_stand slot place) (standing_from slot (suc place) later) place stands))
       (record { inside = omega arith; each = each; next = λ inside. stands })
 
-front_counts : (slot : List ℕ) → Counts slot (right_front slot) (length slot)
-unfolding right_front
-front_counts slot = subst (Counts slot (standing_from slot 0 slot)) (zero-add (length slot)) (counts_from slot 0 slot (λ at none. absurd (omega arith)))
+prefix_counts : (slot : List ℕ) → Counts slot (right_prefix slot) (length slot)
+unfolding right_prefix
+prefix_counts slot = subst (Counts slot (standing_from slot 0 slot)) (zero-add (length slot)) (counts_from slot 0 slot (λ at none. absurd (omega arith)))
 
 past_slot : (slot : List ℕ) → may_stand slot 32 ≡ false
 unfolding may_stand
@@ -291,7 +291,7 @@ few_stand slot count end counts = by_test (nat_le count 32) refl where
       let impossible : false ≡ true = sym (past_slot slot) ∙ counts.each 32 more in
       cc
 
-right_has : (slot : List ℕ) (count : ℕ) → Counts slot count (length slot) → HasRightFront slot count
+right_has : (slot : List ℕ) (count : ℕ) → Counts slot count (length slot) → HasRightPrefix slot count
 right_has slot count counts =
     let few : count ≤ 32 = few_stand slot count (length slot) counts in
     let start : List ℕ = take count slot in
@@ -299,23 +299,23 @@ right_has slot count counts =
     let each : AllStand start = λ place inside. same_stand start slot place (take-take (place + 1) count slot (omega arith)) ∙ counts.each place (omega arith) in
     let whole : IsCompleted start = completed (32 - count) start (omega arith) each in
     let some : SpellsSome whole.right = all_spelled whole.right (parts_of whole.right whole.counted whole.each) in
-    record { mark = some.mark; right = whole.right; spelled = some.spelled; inside = counts.inside; front = ap (λ n. take n whole.right) (sym counted) ∙ whole.front }
+    record { mark = some.mark; right = whole.right; spelled = some.spelled; inside = counts.inside; prefix = ap (λ n. take n whole.right) (sym counted) ∙ whole.prefix }
 
-no_more : (slot : List ℕ) (count more : ℕ) → Counts slot count (length slot) → HasRightFront slot more → more ≤ count
-no_more slot count more counts front = by_test (nat_le more count) refl where
+no_more : (slot : List ℕ) (count more : ℕ) → Counts slot count (length slot) → HasRightPrefix slot more → more ≤ count
+no_more slot count more counts prefix = by_test (nat_le more count) refl where
   by_test : (few : Bool) → nat_le more count ≡ few → more ≤ count
   by_test true is = grind (arith, nat_tests)
   by_test false is =
-      let behind : count < more = grind (arith, nat_tests) in
-      let inside : more ≤ length slot = front.inside in
-      let long : more ≤ 32 = omega (arith, front.spelled.fields.counted, ap length front.front, length-take more front.right, length-take more slot) in
-      let same : take (count + 1) front.right ≡ take (count + 1) slot =
-      sym (take-take (count + 1) more front.right (omega arith)) ∙ ap (take (count + 1)) front.front ∙ take-take (count + 1) more slot (omega arith) in
-      let impossible : true ≡ false = sym (spelled_stands front.right front.mark count front.spelled (omega arith)) ∙ same_stand front.right slot count same ∙ counts.next (omega arith) in
+      let after : count < more = grind (arith, nat_tests) in
+      let inside : more ≤ length slot = prefix.inside in
+      let long : more ≤ 32 = omega (arith, prefix.spelled.fields.counted, ap length prefix.prefix, length-take more prefix.right, length-take more slot) in
+      let same : take (count + 1) prefix.right ≡ take (count + 1) slot =
+      sym (take-take (count + 1) more prefix.right (omega arith)) ∙ ap (take (count + 1)) prefix.prefix ∙ take-take (count + 1) more slot (omega arith) in
+      let impossible : true ≡ false = sym (spelled_stands prefix.right prefix.mark count prefix.spelled (omega arith)) ∙ same_stand prefix.right slot count same ∙ counts.next (omega arith) in
       cc
 
-pub right_fronts_are_longest : RightFrontsAreLongest
-right_fronts_are_longest slot = record {
-  front = right_has slot (right_front slot) (front_counts slot);
-  longest = λ more front. no_more slot (right_front slot) more (front_counts slot) front;
+pub right_prefixes_are_longest : RightPrefixesAreLongest
+right_prefixes_are_longest slot = record {
+  prefix = right_has slot (right_prefix slot) (prefix_counts slot);
+  longest = λ more prefix. no_more slot (right_prefix slot) more (prefix_counts slot) prefix;
 }

@@ -10,23 +10,23 @@ use Rattle.start_journal.specs.FirstFault.{IsOpenSlot, IsRightJournal, slot_at}
 use Rattle.start_journal.specs.Journals.{JournalRead, is_drawn}
 use Rattle.start_journal.specs.Marks.{IsLegalAfter}
 use Rattle.start_journal.specs.Slots.{SpellsMark}
-use Rattle.start_journal.proofs.JournalFronts.{drawn_names, get_more, legal_more, named_more}
+use Rattle.start_journal.proofs.JournalPrefixes.{drawn_names, get_more, legal_more, named_more}
 
 -- at most the slot of this place differs
 pub record DiffersInSlot (place : ℕ) (old new : List ℕ) : Type 0 where
   pub counted : length new ≡ length old
   pub before : (at : ℕ) → at < 32 * place → slice_index new at ≡ slice_index old at
-  pub behind : (at : ℕ) → 32 * place + 32 ≤ at → slice_index new at ≡ slice_index old at
+  pub after : (at : ℕ) → 32 * place + 32 ≤ at → slice_index new at ≡ slice_index old at
 
 -- one change after another
 pub differs_then : (place : ℕ) (old middle new : List ℕ) → DiffersInSlot place old middle → DiffersInSlot place middle new → DiffersInSlot place old new
 differs_then place old middle new first second = record {
   counted = second.counted ∙ first.counted;
   before = λ at early. second.before at early ∙ first.before at early;
-  behind = λ at late. second.behind at late ∙ first.behind at late;
+  after = λ at late. second.after at late ∙ first.after at late;
 }
 
--- a byte of a slot stands in the journal behind the slots before it
+-- a byte of a slot stands in the journal after the slots before it
 pub index_slot : (bytes : List ℕ) (place at : ℕ) → at < 32 → slice_index (slot_at bytes place) at ≡ slice_index bytes (32 * place + at)
 index_slot bytes place at inside = get_or-take 32 (drop (32 * place) bytes) at 0 inside ∙ get_or-drop (32 * place) bytes at 0
 
@@ -42,7 +42,7 @@ same_slot place at old new differs apart =
     ext_get_or 0 (slot_at new at) (slot_at old at) as_long (λ i inside.
     let early : i < 32 = omega (arith, inside, length-take 32 (drop (32 * at) new)) in
     index_slot new at i early
-    ∙ elim apart [ inl less ↦ differs.before (32 * at + i) (omega (arith, less)) | inr more ↦ differs.behind (32 * at + i) (omega (arith, more)) ]
+    ∙ elim apart [ inl less ↦ differs.before (32 * at + i) (omega (arith, less)) | inr more ↦ differs.after (32 * at + i) (omega (arith, more)) ]
     ∙ sym (index_slot old at i early))
 
 -- so are their gates
@@ -60,9 +60,9 @@ module _ (last : ℕ) (old new : List ℕ) (read : JournalRead) (right : IsRight
   abbrev places : ℕ
   places = length read.marks + read.free
 
-  -- a slot behind it is closed as before
-  closed_behind : (at : ℕ) → count < at → at < places → ¬ IsOpenSlot new at
-  closed_behind at late inside is_open = right.slots.closed at (omega (arith, late)) inside (same_gate count at old new differs (inr late) is_open)
+  -- a slot after it is closed as before
+  closed_after : (at : ℕ) → count < at → at < places → ¬ IsOpenSlot new at
+  closed_after at late inside is_open = right.slots.closed at (omega (arith, late)) inside (same_gate count at old new differs (inr late) is_open)
 
   -- a slot before it spells its mark as before
   spelled_before : (at : ℕ) (mark : Mark) → at < count → SpellsMark (slot_at old at) mark → SpellsMark (slot_at new at) mark
@@ -77,7 +77,7 @@ module _ (last : ℕ) (old new : List ℕ) (read : JournalRead) (right : IsRight
       spelled = λ at mark is. spelled_before at mark (slice_get_within read.marks at mark is) (right.slots.spelled at mark is);
       closed = λ at past inside. elim (cases_order at count) [
         | inl here ↦ λ is_open. closed (subst (λ p. slice_index (slot_at new p) 0 ≡ 43) here is_open.gate)
-        | inr apart ↦ elim apart [ inl less ↦ absurd (omega (arith, less, past)) | inr more ↦ closed_behind at more inside ]
+        | inr apart ↦ elim apart [ inl less ↦ absurd (omega (arith, less, past)) | inr more ↦ closed_after at more inside ]
       ];
       legal = right.slots.legal;
       drawn = right.slots.drawn;
@@ -97,7 +97,7 @@ module _ (last : ℕ) (old new : List ℕ) (read : JournalRead) (right : IsRight
             | inl before ↦ spelled_before at found (slice_get_within read.marks at found before) (right.slots.spelled at found before)
             | inr here ↦ subst (λ p. SpellsMark (slot_at new p) found) (sym here.0) (subst (SpellsMark (slot_at new count)) here.1 spelled)
           ];
-          closed = λ at past inside. closed_behind at (omega (arith, past, long)) (omega (arith, inside, long));
+          closed = λ at past inside. closed_after at (omega (arith, past, long)) (omega (arith, inside, long));
           legal = legal_more [] read.marks mark right.slots.legal legal;
           drawn = λ number named. elim (named_more number read.marks mark named) [
             | inl before ↦ right.slots.drawn number before

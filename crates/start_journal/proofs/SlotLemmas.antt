@@ -71,21 +71,21 @@ slots_spell_one_mark slot first second of_first of_second =
     let found : Some first ≡ Some second = sym (mark_again first of_first.writable) ∙ ap mark_with same ∙ mark_again second of_second.writable in
     cc
 
--- slots with the same front, and the same byte or the same digits behind it, have the same longer front
+-- slots with the same prefix, and the same byte or the same digits after it, have the same longer prefix
 byte_more : (first second : List ℕ) (count : ℕ) → count < length first → count < length second → take count first ≡ take count second → slice_index first count ≡ slice_index second count → take (count + 1) first ≡ take (count + 1) second
-byte_more first second count in_first in_second front byte =
+byte_more first second count in_first in_second prefix byte =
     take_more first count 0 in_first
-    ∙ ap (λ bytes. bytes ++ slice_index first count ∷ []) front
+    ∙ ap (λ bytes. bytes ++ slice_index first count ∷ []) prefix
     ∙ ap (λ byte. take count second ++ byte ∷ []) byte
     ∙ sym (take_more second count 0 in_second)
 
 digits_more : (first second : List ℕ) (count more number : ℕ) → count + more ≤ length first → count + more ≤ length second → take count first ≡ take count second → SpellsNumber (take more (drop count first)) number → SpellsNumber (take more (drop count second)) number → take (count + more) first ≡ take (count + more) second
-digits_more first second count more number in_first in_second front of_first of_second =
+digits_more first second count more number in_first in_second prefix of_first of_second =
     let long_first : length (take more (drop count first)) ≡ more = length-take-le more (drop count first) (omega (arith, length-drop count first)) in
     let long_second : length (take more (drop count second)) ≡ more = length-take-le more (drop count second) (omega (arith, length-drop count second)) in
     let digits : take more (drop count first) ≡ take more (drop count second) = one_spelling _ _ number (long_first ∙ sym long_second) of_first of_second in
     take-add count more first
-    ∙ ap (λ bytes. bytes ++ take more (drop count first)) front
+    ∙ ap (λ bytes. bytes ++ take more (drop count first)) prefix
     ∙ ap (λ digits. take count second ++ digits) digits
     ∙ sym (take-add count more second)
 

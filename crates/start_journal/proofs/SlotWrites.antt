@@ -1,4 +1,4 @@
--- A mark that is written into the first free slot: the slot behind its gate, and then the gate.
+-- A mark that is written into the first free slot: the slot after its gate, and then the gate.
 use Rattle.std.proofs.Common.{◌≡◌, ◌⊎◌, ℕ, ◌+◌, ◌-◌, ◌*◌, ◌<◌, ◌≤◌, true, false, List, [], ◌∷◌, length, take, drop, sym, ap, subst, ◌∙◌, refl, inl, inr, arith, get_or-take}
 use Rattle.std.specs.Prelude.{◌≢◌, ◌==◌, Option, Some, None, slice_index}
 use Rattle.std.proofs.lemmas.Bool.{and_from, and_parts}
@@ -13,9 +13,9 @@ use Rattle.start_journal.specs.FirstFault.{GivesJournal, IsRightJournal, slot_at
 use Rattle.start_journal.specs.Journals.{JournalRead, are_drawn, is_drawn}
 use Rattle.start_journal.specs.Marks.{IsLegalAfter}
 use Rattle.start_journal.specs.Slots.{SpellsMark}
-use Rattle.start_journal.proofs.ByteRanges.{over_before, over_behind, over_inside, over_long}
+use Rattle.start_journal.proofs.ByteRanges.{over_before, over_after, over_inside, over_long}
 use Rattle.start_journal.proofs.FirstFaults.{journals_are_given}
-use Rattle.start_journal.proofs.JournalFronts.{drawn_all, drawn_names}
+use Rattle.start_journal.proofs.JournalPrefixes.{drawn_all, drawn_names}
 use Rattle.start_journal.proofs.SlotChanges.{DiffersInSlot, differs_then, index_slot, right_closed, right_open, slot_long}
 
 -- The bytes of a journal that gives marks.
@@ -72,7 +72,7 @@ module _ (journal : JournalRead) (mark : Mark) (slot bytes : List ℕ) (free : 1
   abbrev rest : List ℕ
   rest = take 31 (drop 1 slot)
 
-  -- the journal has no fault, whatever number was drawn last behind those that it names
+  -- the journal has no fault, whatever number was drawn last after those that it names
   right : (last : ℕ) → are_drawn last journal.marks ≡ true → IsRightJournal last bytes journal
   right last drawn = (journals_are_given last (Some bytes) journal).0 (gives last drawn)
 
@@ -82,7 +82,7 @@ module _ (journal : JournalRead) (mark : Mark) (slot bytes : List ℕ) (free : 1
       (right last drawn).slots.closed count (omega arith) (omega arith)
       (record { whole = omega arith; gate = index_slot bytes count 0 (omega arith) ∙ ap (slice_index bytes) (let there : 32 * count + 0 ≡ 32 * count = omega arith in there) ∙ gate })
 
-  -- with any bytes behind its gate it is closed still
+  -- with any bytes after its gate it is closed still
   module _ (part : List ℕ) (part_long : length part ≡ 31) where
     abbrev half : List ℕ
     half = overwritten bytes (32 * count + 1) part
@@ -94,7 +94,7 @@ module _ (journal : JournalRead) (mark : Mark) (slot bytes : List ℕ) (free : 1
     half_differs = record {
       counted = over_long bytes (32 * count + 1) part half_within;
       before = λ at early. over_before bytes (32 * count + 1) part half_within at (omega arith);
-      behind = λ at late. over_behind bytes (32 * count + 1) part half_within at (omega arith);
+      after = λ at late. over_after bytes (32 * count + 1) part half_within at (omega arith);
     }
 
     pub half_gives : Gives (Some half) journal
@@ -116,7 +116,7 @@ module _ (journal : JournalRead) (mark : Mark) (slot bytes : List ℕ) (free : 1
       whole_differs = differs_then count bytes half whole half_differs (record {
         counted = over_long half (32 * count) gate whole_within;
         before = λ at early. over_before half (32 * count) gate whole_within at (omega arith);
-        behind = λ at late. over_behind half (32 * count) gate whole_within at (omega arith);
+        after = λ at late. over_after half (32 * count) gate whole_within at (omega arith);
       })
 
       -- the gate of the slot
@@ -130,19 +130,19 @@ module _ (journal : JournalRead) (mark : Mark) (slot bytes : List ℕ) (free : 1
       closed_gives closed = λ last drawn. (journals_are_given last (Some whole) journal).1
           (right_closed last bytes whole journal (right last drawn) free whole_differs (λ is_open. closed (sym gate_there ∙ is_open)))
 
-      -- a byte of the slot behind its gate
+      -- a byte of the slot after its gate
       part_there : (at : ℕ) → 1 ≤ at → at < 32 → slice_index (slot_at whole count) at ≡ slice_index part (at - 1)
-      part_there at behind inside =
+      part_there at after inside =
           index_slot whole count at inside
-          ∙ over_behind half (32 * count) gate whole_within (32 * count + at) (omega arith)
+          ∙ over_after half (32 * count) gate whole_within (32 * count + at) (omega arith)
           ∙ over_inside bytes (32 * count + 1) part half_within (32 * count + at) (omega arith) (omega arith)
           ∙ ap (slice_index part) (let there : 32 * count + at - (32 * count + 1) ≡ at - 1 = omega arith in there)
 
-  -- the slot behind its gate has 31 bytes
+  -- the slot after its gate has 31 bytes
   pub rest_long : length rest ≡ 31
   rest_long = length-take-le 31 (drop 1 slot) (omega (arith, length-drop 1 slot, spelled.fields.counted))
 
-  -- with the slot behind its gate and the gate open, the slot is that of the mark
+  -- with the slot after its gate and the gate open, the slot is that of the mark
   module _ (gate : List ℕ) (gate_long : length gate ≡ 1) (opened : slice_index gate 0 ≡ 43) where
     abbrev all : List ℕ
     all = whole rest rest_long gate gate_long
@@ -154,8 +154,8 @@ module _ (journal : JournalRead) (mark : Mark) (slot bytes : List ℕ) (free : 1
           by_place : (at : ℕ) → at < 32 → ((at == 0) ≡ true) × (at ≡ 0) ⊎ ((at == 0) ≡ false) × (at ≢ 0) → slice_index (slot_at all count) at ≡ slice_index slot at
           by_place at early (inl first) =
               ap (slice_index (slot_at all count)) first.1 ∙ gate_there rest rest_long gate gate_long ∙ opened ∙ sym spelled.fields.gate ∙ ap (slice_index slot) (sym first.1)
-          by_place at early (inr behind) =
-              let more : 1 ≤ at = (let some : ¬ (at ≡ 0) = behind.1 in omega arith) in
+          by_place at early (inr after) =
+              let more : 1 ≤ at = (let some : ¬ (at ≡ 0) = after.1 in omega arith) in
               let there : 1 + (at - 1) ≡ at = omega arith in
               part_there rest rest_long gate gate_long at more early
               ∙ get_or-take 31 (drop 1 slot) (at - 1) 0 (omega arith)

@@ -12,7 +12,7 @@ use Rattle.start_journal.specs.declared.stage.Stage.TheVariants.{Fresh, Open, Cl
 use Rattle.start_journal.specs.declared.stages.Stages.{Stages}
 use Rattle.start_journal.specs.Journals.{is_legal_after}
 use Rattle.start_journal.specs.Marks.{IsLegalAfter, is_decided, names, number_of}
-use Rattle.start_journal.specs.Stages.{Reaches, TellStages, allows, is_running, stage_behind, stage_in, was_decided, was_forgotten, was_named}
+use Rattle.start_journal.specs.Stages.{Reaches, TellStages, allows, is_running, stage_after, stage_in, was_decided, was_forgotten, was_named}
 use Rattle.start_journal.proofs.LifeLemmas.{reaches_other, reaches_same}
 
 -- a key of a map is the one that is asked for where the numbers are the same
@@ -59,7 +59,7 @@ allows_by Gone (Interrupted number) = refl
 allows_by Gone (Forgotten number) = refl
 allows_by Gone (Batch second) = refl
 
--- and that is what is legal behind marks that bring the number there
+-- and that is what is legal after marks that bring the number there
 legal_by : (marks : List Mark) (stages : Stages) (number : ℕ) (mark : Mark) → number_of mark ≡ Some number → Reaches number marks (stage_in stages number) → allowed_by (stage_in stages number) mark ≡ is_legal_after marks mark
 legal_by marks stages number (Removed other) is reached =
     let same : other ≡ number = cc in
@@ -93,9 +93,9 @@ named_is number other (Forgotten own) is = let same : own ≡ number = cc in ap 
 named_is number other (Batch second) is = cc
 
 -- a legal mark of a number brings it to its next stage
-pub stages_more : (marks : List Mark) (old new : Stages) (mark : Mark) (number : ℕ) (stage : Stage) → number_of mark ≡ Some number → stage ≡ stage_behind (stage_in old number) mark
+pub stages_more : (marks : List Mark) (old new : Stages) (mark : Mark) (number : ℕ) (stage : Stage) → number_of mark ≡ Some number → stage ≡ stage_after (stage_in old number) mark
     → Updates nat_cmp old.by_number new.by_number number (Some stage) → TellStages marks old → IsLegalAfter marks mark → TellStages (marks ++ mark ∷ []) new
-stages_more marks old new mark number stage is behind updates tell legal = λ other. by_key other (number == other) refl where
+stages_more marks old new mark number stage is after updates tell legal = λ other. by_key other (number == other) refl where
   found : (other : ℕ) (same : Bool) → (number == other) ≡ same → stage_in new other ≡ unwrap_or (cond same (Some stage) (get nat_cmp old.by_number other)) Fresh
   found other same key =
       ap (λ at. unwrap_or at Fresh) (updates.0 other)
@@ -104,15 +104,15 @@ stages_more marks old new mark number stage is behind updates tell legal = λ ot
   by_key : (other : ℕ) (same : Bool) → (number == other) ≡ same → Reaches other (marks ++ mark ∷ []) (stage_in new other)
   by_key other true key =
       let one : number ≡ other = grind (arith, nat_tests) in
-      let there : Reaches number (marks ++ mark ∷ []) (stage_behind (stage_in old number) mark) =
+      let there : Reaches number (marks ++ mark ∷ []) (stage_after (stage_in old number) mark) =
       reaches_same number marks mark (stage_in old number) (named_is number number mark is ∙ ap (λ n. number == n) one ∙ key) (tell number) legal in
       subst (λ n. Reaches n (marks ++ mark ∷ []) (stage_in new other)) one
-      (subst (Reaches number (marks ++ mark ∷ [])) (sym (found other true key ∙ behind)) there)
+      (subst (Reaches number (marks ++ mark ∷ [])) (sym (found other true key ∙ after)) there)
   by_key other false key =
       subst (Reaches other (marks ++ mark ∷ [])) (sym (found other false key))
       (reaches_other other marks (stage_in old other) mark (named_is number other mark is ∙ key) (tell other))
 
 -- the same marks and stages
-pub told_again : (marks more : List Mark) (old new : Stages) → more ≡ marks → new ≡ old → TellStages marks old → TellStages more new
-told_again marks more old new same_marks same_stages tell = λ number.
+pub known_again : (marks more : List Mark) (old new : Stages) → more ≡ marks → new ≡ old → TellStages marks old → TellStages more new
+known_again marks more old new same_marks same_stages tell = λ number.
     subst (λ list. Reaches number list (stage_in new number)) (sym same_marks) (subst (λ stages. Reaches number marks (stage_in stages number)) (sym same_stages) (tell number))

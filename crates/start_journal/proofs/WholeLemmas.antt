@@ -10,7 +10,7 @@ use Rattle.host_calls.specs.declared.child.Ending.TheVariants.{Exit, Signal, Not
 use Rattle.start_journal.specs.declared.fields.Fields.{Fields}
 use Rattle.start_journal.specs.declared.mark.Mark.{Mark}
 use Rattle.start_journal.specs.declared.mark.Mark.TheVariants.{Removed, Started, Ended, Interrupted, Forgotten, Batch}
-use Rattle.start_journal.specs.SlotBytes.{begins_number, begins_second, is_ending_of, is_kind, is_queue_of, is_status_of, may_stand}
+use Rattle.start_journal.specs.SlotBytes.{is_number_prefix, is_second_prefix, is_ending_of, is_kind, is_queue_of, is_status_of, may_stand}
 use Rattle.hex_digits.specs.Values.{are_digits, are_zeros, is_digit, value_of}
 use Rattle.start_journal.specs.Slots.{SpellsFields, SpellsMark, plain_fields}
 use Rattle.clock_range.specs.ClockRange.{IsClockSecond}
@@ -35,12 +35,12 @@ pub record HasParts (slot : List ℕ) : Type 0 where
   pub counted : length slot ≡ 32
   pub gate : (slice_index slot 0 == 43) ≡ true
   pub kind : is_kind (slice_index slot 1) ≡ true
-  pub number : begins_number (slice_index slot 1) (slice_range slot 2 10) ≡ true
+  pub number : is_number_prefix (slice_index slot 1) (slice_range slot 2 10) ≡ true
   pub queue : is_queue_of (slice_index slot 1) (slice_index slot 10) ≡ true
   pub ending : is_ending_of (slice_index slot 1) (slice_index slot 11) ≡ true
   pub first : is_status_of (slice_index slot 11) (slice_index slot 12) ≡ true
   pub last : is_status_of (slice_index slot 11) (slice_index slot 13) ≡ true
-  pub second : begins_second (slice_index slot 1) (slice_range slot 14 30) ≡ true
+  pub second : is_second_prefix (slice_index slot 1) (slice_range slot 14 30) ≡ true
   pub point : (slice_index slot 30 == 46) ≡ true
   pub newline : (slice_index slot 31 == 10) ≡ true
 
@@ -128,12 +128,12 @@ plain_slot slot kind parts is not_batch not_start not_end =
 -- the slot of a start
 pub start_slot : (slot : List ℕ) → HasParts slot → slice_index slot 1 ≡ 83 → SpellsSome slot
 start_slot slot parts is =
-    let number = number_of_job slot parts.counted (subst (λ kind. begins_number kind (slice_range slot 2 10) ≡ true) is parts.number) in
+    let number = number_of_job slot parts.counted (subst (λ kind. is_number_prefix kind (slice_range slot 2 10) ≡ true) is parts.number) in
     let letter : is_ascii_alphabetic (slice_index slot 10) ≡ true = subst (λ kind. is_queue_of kind (slice_index slot 10) ≡ true) is parts.queue in
     let ending : slice_index slot 11 ≡ 45 = eqb-true (slice_index slot 11) 45 (subst (λ kind. is_ending_of kind (slice_index slot 11) ≡ true) is parts.ending) in
     let first : (slice_index slot 12 == 48) ≡ true = subst (λ e. is_status_of e (slice_index slot 12) ≡ true) ending parts.first in
     let last : (slice_index slot 13 == 48) ≡ true = subst (λ e. is_status_of e (slice_index slot 13) ≡ true) ending parts.last in
-    let second = second_of_slot slot parts.counted (subst (λ kind. begins_second kind (slice_range slot 14 30) ≡ true) is parts.second) in
+    let second = second_of_slot slot parts.counted (subst (λ kind. is_second_prefix kind (slice_range slot 14 30) ≡ true) is parts.second) in
     record {
       mark = Started (value_of (slice_range slot 2 10)) (slice_index slot 10) (pos (value_of (slice_range slot 14 30)));
       spelled = record {
@@ -145,12 +145,12 @@ start_slot slot parts is =
 -- the slot of a batch start
 pub batch_slot : (slot : List ℕ) → HasParts slot → slice_index slot 1 ≡ 66 → SpellsSome slot
 batch_slot slot parts is =
-    let zeros : are_zeros (slice_range slot 2 10) ≡ true = subst (λ kind. begins_number kind (slice_range slot 2 10) ≡ true) is parts.number in
+    let zeros : are_zeros (slice_range slot 2 10) ≡ true = subst (λ kind. is_number_prefix kind (slice_range slot 2 10) ≡ true) is parts.number in
     let queue : slice_index slot 10 ≡ 45 = eqb-true (slice_index slot 10) 45 (subst (λ kind. is_queue_of kind (slice_index slot 10) ≡ true) is parts.queue) in
     let ending : slice_index slot 11 ≡ 45 = eqb-true (slice_index slot 11) 45 (subst (λ kind. is_ending_of kind (slice_index slot 11) ≡ true) is parts.ending) in
     let first : (slice_index slot 12 == 48) ≡ true = subst (λ e. is_status_of e (slice_index slot 12) ≡ true) ending parts.first in
     let last : (slice_index slot 13 == 48) ≡ true = subst (λ e. is_status_of e (slice_index slot 13) ≡ true) ending parts.last in
-    let second = second_of_slot slot parts.counted (subst (λ kind. begins_second kind (slice_range slot 14 30) ≡ true) is parts.second) in
+    let second = second_of_slot slot parts.counted (subst (λ kind. is_second_prefix kind (slice_range slot 14 30) ≡ true) is parts.second) in
     record {
       mark = Batch (pos (value_of (slice_range slot 14 30)));
       spelled = record {
@@ -162,9 +162,9 @@ batch_slot slot parts is =
 -- the slot of an end, by its ending
 pub end_slot : (slot : List ℕ) → HasParts slot → slice_index slot 1 ≡ 69 → SpellsSome slot
 end_slot slot parts is =
-    let number = number_of_job slot parts.counted (subst (λ kind. begins_number kind (slice_range slot 2 10) ≡ true) is parts.number) in
+    let number = number_of_job slot parts.counted (subst (λ kind. is_number_prefix kind (slice_range slot 2 10) ≡ true) is parts.number) in
     let queue : slice_index slot 10 ≡ 45 = eqb-true (slice_index slot 10) 45 (subst (λ kind. is_queue_of kind (slice_index slot 10) ≡ true) is parts.queue) in
-    let zeros : are_zeros (slice_range slot 14 30) ≡ true = subst (λ kind. begins_second kind (slice_range slot 14 30) ≡ true) is parts.second in
+    let zeros : are_zeros (slice_range slot 14 30) ≡ true = subst (λ kind. is_second_prefix kind (slice_range slot 14 30) ≡ true) is parts.second in
     let second : SpellsNumber (slice_range slot 14 30) 0 = spelled_zero (slice_range slot 14 30) zeros in
     let digits : (e : ℕ) → slice_index slot 11 ≡ e → ((byte : ℕ) → is_status_of e byte ≡ is_digit byte) → SpellsNumber (slice_range slot 12 14) (value_of (slice_range slot 12 14)) =
     λ e at same. digits_spell (slice_range slot 12 14) (two_pass is_digit slot parts.counted

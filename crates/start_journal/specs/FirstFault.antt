@@ -1,9 +1,9 @@
--- The first fault of a journal (own): slots are looked at from the front, and then what is left behind them.
+-- The first fault of a journal (own): slots are looked at from the start, and then what is left after them.
 use Rattle.std.specs.Prelude.{◌≡◌, ◌⊎◌, ◌+◌, ◌*◌, ◌≤◌, ◌<◌, true, ℕ, List, Option, Some, None, length, take, drop, slice_get, slice_index}
 use Rattle.host_calls.specs.declared.damage.Damage.{Damage}
 use Rattle.host_calls.specs.Damages.{damage_at}
 use Rattle.start_journal.specs.declared.mark.Mark.{Mark}
-use Rattle.start_journal.specs.JournalLaws.{IsLongestFront}
+use Rattle.start_journal.specs.JournalLaws.{IsLongestPrefix}
 use Rattle.start_journal.specs.Journals.{JournalRead, journal_file, nothing_read}
 use Rattle.start_journal.specs.Marks.{AreLegal, IsLegalAfter, is_named, names}
 use Rattle.start_journal.specs.Slots.{SpellsMark}
@@ -27,14 +27,14 @@ pub record IsRightBefore (last : ℕ) (bytes : List ℕ) (place : ℕ) (marks : 
   pub legal : AreLegal marks
   pub drawn : (number : ℕ) → is_named number marks ≡ true → number ≤ last
 
--- Why the open slot at a place is wrong, behind slots of which the first spell these marks, and where in it.
+-- Why the open slot at a place is wrong, after slots of which the first spell these marks, and where in it.
 pub data IsWrong (last : ℕ) (marks : List Mark) (place : ℕ) (slot : List ℕ) (offset : ℕ) : Type 0 where
   -- a closed slot stands before it: at its gate
-  behind_closed : length marks < place → offset ≡ 0 → IsWrong last marks place slot offset
-  -- it spells no mark: behind the longest front that some mark's slot has too
-  misspelled : length marks ≡ place → ((mark : Mark) → ¬ SpellsMark slot mark) → IsLongestFront slot offset
+  after_closed : length marks < place → offset ≡ 0 → IsWrong last marks place slot offset
+  -- it spells no mark: after the longest prefix that some mark's slot has too
+  misspelled : length marks ≡ place → ((mark : Mark) → ¬ SpellsMark slot mark) → IsLongestPrefix slot offset
       → IsWrong last marks place slot offset
-  -- its mark is not legal behind those before it: at its gate
+  -- its mark is not legal after those before it: at its gate
   not_legal : (mark : Mark) → length marks ≡ place → SpellsMark slot mark → ¬ IsLegalAfter marks mark → offset ≡ 0
       → IsWrong last marks place slot offset
   -- its mark names a number that was not drawn: at its gate
@@ -51,7 +51,7 @@ pub record IsSlotFault (last : ℕ) (bytes : List ℕ) (offset : ℕ) : Type 0 w
   pub wrong : IsWrong last marks place (slot_at bytes place) inside
   pub offset_is : offset ≡ 32 * place + inside
 
--- the first fault is a rest of fewer than 32 bytes behind all slots: at its first byte
+-- the first fault is a rest of fewer than 32 bytes after all slots: at its first byte
 pub record IsRestFault (last : ℕ) (bytes : List ℕ) (offset : ℕ) : Type 0 where
   pub place : ℕ
   pub marks : List Mark
@@ -71,7 +71,7 @@ pub record IsJournalDamage (last : ℕ) (content : Option (List ℕ)) (damage : 
   pub fault : IsFirstFault last bytes damage.offset
   pub damage_is : damage ≡ damage_at journal_file bytes damage.offset
 
--- no slot has a fault, there are as many as marks and free slots together, and nothing is behind them
+-- no slot has a fault, there are as many as marks and free slots together, and nothing is after them
 pub record IsRightJournal (last : ℕ) (bytes : List ℕ) (read : JournalRead) : Type 0 where
   pub slots : IsRightBefore last bytes (length read.marks + read.free) read.marks
   pub all : length bytes ≡ 32 * (length read.marks + read.free)

@@ -3,7 +3,7 @@ use Rattle.std.specs.Prelude.{◌≡◌, ◌≤◌, ℕ, true, List, Some, Ok}
 use Rattle.start_journal.specs.declared.mark.Mark.{Mark}
 use Rattle.start_journal.specs.Journals.{SpellsJournal, are_drawn, journal_in}
 use Rattle.start_journal.specs.Marks.{AreLegal}
-use Rattle.start_journal.specs.SlotBytes.{HasRightFront, mark_in, right_front}
+use Rattle.start_journal.specs.SlotBytes.{HasRightPrefix, mark_in, right_prefix}
 use Rattle.start_journal.specs.Slots.{SpellsMark}
 
 -- a slot gives a mark exactly where it spells it
@@ -15,13 +15,13 @@ abbrev pub SlotsGiveTheirMarks : Type 0
 SlotsGiveTheirMarks = (slot : List ℕ) (mark : Mark) → GivesItsMark slot mark
 
 -- some mark's slot has so many of the first bytes too, and none has more of them
-pub record IsLongestFront (slot : List ℕ) (count : ℕ) : Type 0 where
-  pub front : HasRightFront slot count
-  pub longest : (more : ℕ) → HasRightFront slot more → more ≤ count
+pub record IsLongestPrefix (slot : List ℕ) (count : ℕ) : Type 0 where
+  pub prefix : HasRightPrefix slot count
+  pub longest : (more : ℕ) → HasRightPrefix slot more → more ≤ count
 
--- the right front of a slot is its longest front that some mark's slot has too
-abbrev pub RightFrontsAreLongest : Type 0
-RightFrontsAreLongest = (slot : List ℕ) → IsLongestFront slot (right_front slot)
+-- the right prefix of a slot is its longest prefix that some mark's slot has too
+abbrev pub RightPrefixesAreLongest : Type 0
+RightPrefixesAreLongest = (slot : List ℕ) → IsLongestPrefix slot (right_prefix slot)
 
 -- a journal that was placed whole reads back, where its marks are legal and name drawn numbers
 abbrev pub JournalsReadBack : Type 0

@@ -7,7 +7,7 @@ use Rattle.host_calls.specs.Damages.{damage_at}
 use Rattle.start_journal.specs.declared.mark.Mark.{Mark}
 use Rattle.start_journal.specs.declared.mark.Mark.TheVariants.{Removed, Started, Ended, Interrupted, Forgotten, Batch}
 use Rattle.start_journal.specs.Marks.{is_decided, is_ended, is_forgotten, is_named, is_started}
-use Rattle.start_journal.specs.SlotBytes.{can_write, mark_in, right_front}
+use Rattle.start_journal.specs.SlotBytes.{can_write, mark_in, right_prefix}
 use Rattle.start_journal.specs.Slots.{IsWritable, SpellsMark}
 
 -- the name of the journal
@@ -26,7 +26,7 @@ queue_damage place queue = record { name = journal_file; offset = 32 * place + 1
 unfoldable pub free_slot : List ℕ
 free_slot = codes "-..............................\n"
 
--- the mark is legal behind those before it, as a test
+-- the mark is legal after those before it, as a test
 abbrev pub is_legal_after : List Mark → Mark → Bool
 is_legal_after before (Removed number) = not (is_named number before)
 is_legal_after before (Started number queue second) = not (is_named number before)
@@ -35,7 +35,7 @@ is_legal_after before (Interrupted number) = is_started number before && not (is
 is_legal_after before (Forgotten number) = is_decided number before && not (is_forgotten number before)
 is_legal_after before (Batch second) = true
 
--- each mark is legal behind those before it, as a test
+-- each mark is legal after those before it, as a test
 abbrev pub are_legal_after : List Mark → List Mark → Bool
 are_legal_after before [] = true
 are_legal_after before (mark ∷ later) = is_legal_after before mark && are_legal_after (before ++ mark ∷ []) later
@@ -77,20 +77,20 @@ with_mark read mark = record { marks = read.marks ++ mark ∷ []; free = read.fr
 abbrev pub with_free : JournalRead → JournalRead
 with_free read = record { marks = read.marks; free = read.free + 1 }
 
--- An open slot behind others, or the place in it that breaks the form of the journal: behind the bytes
+-- An open slot after others, or the place in it that breaks the form of the journal: after the bytes
 -- that some mark's slot has too where it spells none, and its gate where its mark isn't legal or names
 -- a number that was not drawn.
 abbrev pub open_slot : ℕ → JournalRead → Option Mark → ℕ → Result JournalRead ℕ
-open_slot last read None front = Err front
-open_slot last read (Some mark) front =
+open_slot last read None prefix = Err prefix
+open_slot last read (Some mark) prefix =
     if is_legal_after read.marks mark && is_drawn last mark then Ok (with_mark read mark) else Err 0
 
--- A slot behind others: one whose gate isn't `+` is closed. An open one behind a closed one breaks the
+-- A slot after others: one whose gate isn't `+` is closed. An open one after a closed one breaks the
 -- form at its gate.
 abbrev pub one_slot : ℕ → JournalRead → List ℕ → Result JournalRead ℕ
 one_slot last read slot =
     if slice_index slot 0 == 43
-    then (if read.free == 0 then open_slot last read (mark_in slot) (right_front slot) else Err 0)
+    then (if read.free == 0 then open_slot last read (mark_in slot) (right_prefix slot) else Err 0)
     else Ok (with_free read)
 
 -- what was read so far and one slot more, by its mark, if it is open
@@ -98,17 +98,17 @@ abbrev pub with_slot : JournalRead → Option Mark → JournalRead
 with_slot read (Some mark) = with_mark read mark
 with_slot read None = with_free read
 
--- what comes behind a slot, or the offset of its fault
+-- what comes after a slot, or the offset of its fault
 abbrev pub go_on : ℕ → (JournalRead → Result JournalRead ℕ) → Result JournalRead ℕ → Result JournalRead ℕ
 go_on offset later (Ok read) = later read
 go_on offset later (Err place) = Err (offset + place)
 
--- the slots from an offset on, behind others, up to the first fault
+-- the slots from an offset on, after others, up to the first fault
 abbrev pub all_slots : ℕ → ℕ → JournalRead → List (List ℕ) → Result JournalRead ℕ
 all_slots last offset read [] = Ok read
 all_slots last offset read (slot ∷ later) = go_on offset (λ more. all_slots last (offset + 32) more later) (one_slot last read slot)
 
--- behind all slots, a rest of fewer than 32 bytes is a fault
+-- after all slots, a rest of fewer than 32 bytes is a fault
 abbrev pub whole_journal : List ℕ → Result JournalRead ℕ → Result JournalRead Damage
 whole_journal bytes (Ok read) = if length bytes % 32 == 0 then Ok read else Err (damage_at journal_file bytes (length bytes / 32 * 32))
 whole_journal bytes (Err offset) = Err (damage_at journal_file bytes offset)

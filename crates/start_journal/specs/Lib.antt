@@ -9,5 +9,5 @@ pub mod Marks
 pub mod SlotBytes
 pub mod Slots
 pub mod Stages
-pub mod Wear
+pub mod Compaction
 pub mod inside

@@ -63,7 +63,7 @@ is_decided number marks = list_any (decides number) marks
 abbrev pub is_forgotten : ℕ → List Mark → Bool
 is_forgotten number marks = list_any (forgets number) marks
 
--- The mark is legal behind those before it.
+-- The mark is legal after those before it.
 abbrev pub IsLegalAfter : List Mark → Mark → Type 0
 IsLegalAfter before (Removed number) = is_named number before ≡ false
 IsLegalAfter before (Started number queue second) = is_named number before ≡ false
@@ -72,12 +72,12 @@ IsLegalAfter before (Interrupted number) = (is_started number before ≡ true) �
 IsLegalAfter before (Forgotten number) = (is_decided number before ≡ true) × (is_forgotten number before ≡ false)
 IsLegalAfter before (Batch second) = Unit {0}
 
--- the marks are legal, one after the other, behind those before them
+-- the marks are legal, one after the other, after those before them
 abbrev pub AreLegalAfter : List Mark → List Mark → Type 0
 AreLegalAfter before [] = Unit {0}
 AreLegalAfter before (mark ∷ later) = IsLegalAfter before mark × AreLegalAfter (before ++ mark ∷ []) later
 
--- each mark is legal behind those before it
+-- each mark is legal after those before it
 abbrev pub AreLegal : List Mark → Type 0
 AreLegal marks = AreLegalAfter [] marks
 

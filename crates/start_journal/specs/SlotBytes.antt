@@ -57,14 +57,14 @@ abbrev pub is_kind : ℕ → Bool
 is_kind byte = byte == 82 || byte == 83 || byte == 69 || byte == 73 || byte == 70 || byte == 66
 
 -- digits that the number of a slot of this kind begins with: zeros for `B`, else not all of the eight are zeros
-abbrev pub begins_number : ℕ → List ℕ → Bool
-begins_number kind digits =
+abbrev pub is_number_prefix : ℕ → List ℕ → Bool
+is_number_prefix kind digits =
     if kind == 66 then are_zeros digits
     else (are_digits digits && (nat_lt (length digits) 8 || nat_le 1 (value_of digits)))
 
 -- digits that the second of such a slot begins with: up to the last second for `S` and `B`, else zeros
-abbrev pub begins_second : ℕ → List ℕ → Bool
-begins_second kind digits =
+abbrev pub is_second_prefix : ℕ → List ℕ → Bool
+is_second_prefix kind digits =
     if kind == 83 || kind == 66
     then (are_digits digits && nat_le (value_of digits) (unsigned_abs LAST_SECOND / 16 ^ (16 - length digits)))
     else are_zeros digits
@@ -81,16 +81,16 @@ is_ending_of kind byte = if kind == 69 then (byte == 120 || byte == 115 || byte 
 abbrev pub is_status_of : ℕ → ℕ → Bool
 is_status_of ending byte = if ending == 120 || ending == 115 then is_digit byte else byte == 48
 
--- Behind those before it the byte at this place is one of some mark's slot.
+-- After those before it the byte at this place is one of some mark's slot.
 unfoldable pub may_stand : List ℕ → ℕ → Bool
 may_stand slot place =
     if place == 0 then slice_index slot 0 == 43
     else if place == 1 then is_kind (slice_index slot 1)
-    else if nat_lt place 10 then begins_number (slice_index slot 1) (slice_range slot 2 (place + 1))
+    else if nat_lt place 10 then is_number_prefix (slice_index slot 1) (slice_range slot 2 (place + 1))
     else if place == 10 then is_queue_of (slice_index slot 1) (slice_index slot 10)
     else if place == 11 then is_ending_of (slice_index slot 1) (slice_index slot 11)
     else if nat_lt place 14 then is_status_of (slice_index slot 11) (slice_index slot place)
-    else if nat_lt place 30 then begins_second (slice_index slot 1) (slice_range slot 14 (place + 1))
+    else if nat_lt place 30 then is_second_prefix (slice_index slot 1) (slice_range slot 14 (place + 1))
     else if place == 30 then slice_index slot 30 == 46 else (place == 31 && slice_index slot 31 == 10)
 
 -- how many of the bytes may stand, from a place on, if those before it do
@@ -99,13 +99,13 @@ standing_from slot place [] = place
 standing_from slot place (byte ∷ later) = if may_stand slot place then standing_from slot (suc place) later else place
 
 -- how many of the first bytes of a slot some mark's slot has too
-unfoldable pub right_front : List ℕ → ℕ
-right_front slot = standing_from slot 0 slot
+unfoldable pub right_prefix : List ℕ → ℕ
+right_prefix slot = standing_from slot 0 slot
 
 -- some mark's slot, its gate open, has the first bytes too
-pub record HasRightFront (slot : List ℕ) (count : ℕ) : Type 0 where
+pub record HasRightPrefix (slot : List ℕ) (count : ℕ) : Type 0 where
   pub mark : Mark
   pub right : List ℕ
   pub spelled : SpellsMark right mark
   pub inside : count ≤ length slot
-  pub front : take count right ≡ take count slot
+  pub prefix : take count right ≡ take count slot

@@ -20,18 +20,18 @@ allows _ (Batch second) = true
 allows _ _ = false
 
 -- the stage to which the mark brings its number
-abbrev pub stage_behind : Stage → Mark → Stage
-stage_behind stage (Removed number) = Closed
-stage_behind stage (Started number queue second) = Open
-stage_behind stage (Ended number ending) = Closed
-stage_behind stage (Interrupted number) = Closed
-stage_behind stage (Forgotten number) = Gone
-stage_behind stage (Batch second) = stage
+abbrev pub stage_after : Stage → Mark → Stage
+stage_after stage (Removed number) = Closed
+stage_after stage (Started number queue second) = Open
+stage_after stage (Ended number ending) = Closed
+stage_after stage (Interrupted number) = Closed
+stage_after stage (Forgotten number) = Gone
+stage_after stage (Batch second) = stage
 
 -- the marks go through the stages of one number, from this one on
 abbrev pub GoThrough : Stage → List Mark → Type 0
 GoThrough stage [] = Unit {0}
-GoThrough stage (mark ∷ later) = IsTrue (allows stage mark) × GoThrough (stage_behind stage mark) later
+GoThrough stage (mark ∷ later) = IsTrue (allows stage mark) × GoThrough (stage_after stage mark) later
 
 -- what a stage says of the marks of its number
 abbrev pub was_named : Stage → Bool

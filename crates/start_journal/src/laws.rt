@@ -1,6 +1,6 @@
 //! What holds of every legal list of marks and of every slot, each law as the contract of a function.
 ghost use Rattle.start_journal.specs.DamageLaws.{JournalsAreDamaged, JournalsAreGiven, WholeJournalsAreGiven};
-ghost use Rattle.start_journal.specs.JournalLaws.{JournalsReadBack, RightFrontsAreLongest, SlotsGiveTheirMarks};
+ghost use Rattle.start_journal.specs.JournalLaws.{JournalsReadBack, RightPrefixesAreLongest, SlotsGiveTheirMarks};
 ghost use Rattle.start_journal.specs.Laws.{KeptMarksAreLegal, KeptMarksKeepWhatCounts, MarksHaveOneSlot, NumbersLiveOnce, SlotsSpellOneMark};
 
 /// A slot spells one mark, and a mark has one slot.
@@ -34,9 +34,9 @@ pub fn journals_read_back()
     ensures { JournalsReadBack }
 {}
 
-/// The right front of a slot is its longest front that some mark's slot has too.
-pub fn right_fronts_are_longest()
-    ensures { RightFrontsAreLongest }
+/// The right prefix of a slot is its longest prefix that some mark's slot has too.
+pub fn right_prefixes_are_longest()
+    ensures { RightPrefixesAreLongest }
 {}
 
 /// A journal is damaged at its first fault, and gives its marks exactly where it has none.

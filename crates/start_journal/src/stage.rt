@@ -1,6 +1,6 @@
 //! How far a number has come.
 ghost use Rattle.std.specs.Prelude.{◌≡◌};
-ghost use Rattle.start_journal.specs.Stages.{allows, stage_behind};
+ghost use Rattle.start_journal.specs.Stages.{allows, stage_after};
 
 use crate::Mark;
 
@@ -31,8 +31,8 @@ impl Stage {
     }
 
     // The stage to which the mark brings its number.
-    pub(crate) fn behind(self, mark: Mark) -> Stage
-        ensures { result ≡ stage_behind self mark }
+    pub(crate) fn after(self, mark: Mark) -> Stage
+        ensures { result ≡ stage_after self mark }
     {
         match mark {
             Mark::Started { .. } => Stage::Open,

@@ -25,7 +25,7 @@ impl Stages {
         }
     }
 
-    // Whether the mark may stand behind those that brought their numbers to these stages.
+    // Whether the mark may stand after those that brought their numbers to these stages.
     pub(crate) fn allow(&self, mark: Mark) -> bool
         ensures { (marks : List Mark) → TellStages marks self.now → result ≡ is_legal_after marks mark }
     {
@@ -41,7 +41,7 @@ impl Stages {
             → IsLegalAfter marks mark → TellStages (marks ++ mark ∷ []) self.new) }
     {
         if let Some(number) = mark.number() {
-            let stage = self.of(number).behind(mark);
+            let stage = self.of(number).after(mark);
             self.by_number.insert(number, stage)?;
         }
         Ok(())

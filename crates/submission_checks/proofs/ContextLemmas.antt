@@ -8,9 +8,9 @@ use Rattle.job_script.specs.declared.fault.ScriptFault.TheVariants as script
 use Rattle.listing_text.specs.declared.cause.Cause.TheVariants.{Refused}
 use Rattle.listing_text.specs.declared.refusal.Refusal.{Refusal}
 use Rattle.listing_text.specs.declared.refusal.Refusal.TheVariants.{BadDirectory, BadUser, EnvironmentTooLarge}
-use Rattle.command_answers.specs.Causes.{cause_of_script}
-use Rattle.command_answers.specs.Checks.{check_of, is_before, of_input, of_lock, of_variables, of_zone}
-use Rattle.command_answers.specs.Verdict.{directory_check, first_refusal, user_check, variables_check}
+use Rattle.command_rules.specs.Causes.{cause_of_script}
+use Rattle.command_rules.specs.Checks.{check_of, is_before, of_input, of_lock, of_variables, of_zone}
+use Rattle.command_rules.specs.Verdict.{directory_check, first_refusal, user_check, variables_check}
 
 -- a check that passes leaves the decision to the later ones
 pub pass : (check : Option Refusal) (later : List (Option Refusal)) → check ≡ None → first_refusal (check ∷ later) ≡ first_refusal later

@@ -18,14 +18,14 @@ use Rattle.listing_text.specs.declared.cause.Cause.{Cause}
 use Rattle.listing_text.specs.declared.cause.Cause.TheVariants.{Done, Refused, FileFault, InputFault, OutputFault, Busy, Memory, Damaged, StillRunning}
 use Rattle.listing_text.specs.declared.refusal.Refusal.{Refusal}
 use Rattle.listing_text.specs.declared.refusal.Refusal.TheVariants.{BadClock, BadZone, TooLong}
-use Rattle.command_answers.specs.declared.caller.Caller.{Caller}
-use Rattle.command_answers.specs.Causes.{cause_of_script, stopped_by}
-use Rattle.command_answers.specs.Checks.{Check, check_of, is_before, of_clock, of_input, of_length, of_lock, of_variables, of_zone}
-use Rattle.command_answers.specs.Ends.{KeepsOrder}
-use Rattle.command_answers.specs.Found.{AreRead, FindsInput, Found, found_of}
-use Rattle.command_answers.specs.Times.{IsMeant, IsTimeOf}
-use Rattle.command_answers.specs.Verdict.{clock_check, directory_check, first_refusal, is_unreadable, length_check, submission_checks, time_check, user_check, variables_check, zone_check}
-use Rattle.command_answers.proofs.CheckLemmas.{allowed_up_to, refused_up_to}
+use Rattle.command_rules.specs.declared.caller.Caller.{Caller}
+use Rattle.command_rules.specs.Causes.{cause_of_script, error_of}
+use Rattle.command_rules.specs.Checks.{Check, check_of, is_before, of_clock, of_input, of_length, of_lock, of_variables, of_zone}
+use Rattle.command_rules.specs.Ends.{KeepsOrder}
+use Rattle.command_rules.specs.Found.{AreRead, FindsInput, Found, found_of}
+use Rattle.command_rules.specs.Times.{IsMeant, IsTimeOf}
+use Rattle.command_rules.specs.Verdict.{clock_check, directory_check, first_refusal, is_unreadable, length_check, submission_checks, time_check, user_check, variables_check, zone_check}
+use Rattle.command_rules.proofs.CheckLemmas.{allowed_up_to, refused_up_to}
 use Rattle.submission_checks.specs.Preparing.{Prepares}
 use Rattle.submission_checks.specs.Reading.{IsOfInput}
 use Rattle.submission_checks.specs.Timing.{MeansNone}
@@ -59,12 +59,12 @@ module _ (readings_tell inputs_tell : Bool) (caller : Caller) (mail : Bool) (fil
       FindsInput inputs_tell file when caller.zone contents reached found
   finds_none found reached zone input = record {
     time = λ beyond. absurd (no_true (sym zone ∙ beyond));
-    commands = λ told beyond. absurd (no_true (sym input ∙ beyond));
+    commands = λ known beyond. absurd (no_true (sym input ∙ beyond));
   }
 
   -- what the caller has was refused
   pub context_stops : (fault : ScriptFault) → first_fault caller.context ≡ Some fault → after ≡ before →
-      Prepares readings_tell inputs_tell caller mail file when before after contents (Err (stopped_by (cause_of_script fault)))
+      Prepares readings_tell inputs_tell caller mail file when before after contents (Err (error_of (cause_of_script fault)))
   context_stops fault some same =
       let is : IsContextRefused fault caller.context = context_refused caller.context fault some in
       let found : Found = found_of (pos 0) (Ok 0) [] None None in
@@ -73,7 +73,7 @@ module _ (readings_tell inputs_tell : Bool) (caller : Caller) (mail : Bool) (fil
         time = Ok 0;
         commands = [];
         reached = check_of is.refusal;
-        clock = λ told. same ∙ sym (ap (λ b. cond b (with_now (pos 0) before) before) is.before_clock);
+        clock = λ known. same ∙ sym (ap (λ b. cond b (with_now (pos 0) before) before) is.before_clock);
         finds = finds_none found (check_of is.refusal) is.before_zone is.before_input;
         ends = rw is.is (record {
           order = refused (first_refusal (submission_checks caller found)) is.refusal (is.verdict _);
@@ -84,7 +84,7 @@ module _ (readings_tell inputs_tell : Bool) (caller : Caller) (mail : Bool) (fil
         });
       }
 
-  module _ (passed : HasPassed caller.context) (now : ℤ) (told : readings_tell ≡ true → after ≡ with_now now before) where
+  module _ (passed : HasPassed caller.context) (now : ℤ) (known : readings_tell ≡ true → after ≡ with_now now before) where
     -- the verdict from the clock on
     from_clock : (found : Found) → first_refusal (submission_checks caller found)
         ≡ first_refusal (clock_check found ∷ zone_check caller.zone ∷ time_check found ∷ length_check found ∷ [])
@@ -94,7 +94,7 @@ module _ (readings_tell inputs_tell : Bool) (caller : Caller) (mail : Bool) (fil
 
     -- the clock was out of range
     pub clock_stops : is_clock_second now ≡ false →
-        Prepares readings_tell inputs_tell caller mail file when before after contents (Err (stopped_by (Refused BadClock)))
+        Prepares readings_tell inputs_tell caller mail file when before after contents (Err (error_of (Refused BadClock)))
     clock_stops out =
         let found : Found = found_of now (Ok 0) [] None None in
         record {
@@ -102,7 +102,7 @@ module _ (readings_tell inputs_tell : Bool) (caller : Caller) (mail : Bool) (fil
           time = Ok 0;
           commands = [];
           reached = of_clock;
-          clock = told;
+          clock = known;
           finds = finds_none found of_clock refl refl;
           ends = record {
             order = refused (first_refusal (submission_checks caller found)) BadClock
@@ -122,7 +122,7 @@ module _ (readings_tell inputs_tell : Bool) (caller : Caller) (mail : Bool) (fil
 
       -- the zone could not be read
       pub zone_stops : is_unreadable caller.zone ≡ true →
-          Prepares readings_tell inputs_tell caller mail file when before after contents (Err (stopped_by (Refused BadZone)))
+          Prepares readings_tell inputs_tell caller mail file when before after contents (Err (error_of (Refused BadZone)))
       zone_stops unreadable =
           let found : Found = found_of now (Ok 0) [] None None in
           record {
@@ -130,7 +130,7 @@ module _ (readings_tell inputs_tell : Bool) (caller : Caller) (mail : Bool) (fil
             time = Ok 0;
             commands = [];
             reached = of_zone;
-            clock = told;
+            clock = known;
             finds = finds_none found of_zone refl refl;
             ends = record {
               order = refused (first_refusal (submission_checks caller found)) BadZone
@@ -149,7 +149,7 @@ module _ (readings_tell inputs_tell : Bool) (caller : Caller) (mail : Bool) (fil
         from_time found same = from_zone found same ∙ pass (zone_check caller.zone) _ (rw readable refl)
 
         -- there was no memory
-        pub memory_stops : Prepares readings_tell inputs_tell caller mail file when before after contents (Err (stopped_by Memory))
+        pub memory_stops : Prepares readings_tell inputs_tell caller mail file when before after contents (Err (error_of Memory))
         memory_stops =
             let found : Found = found_of now (Ok 0) [] None None in
             record {
@@ -157,7 +157,7 @@ module _ (readings_tell inputs_tell : Bool) (caller : Caller) (mail : Bool) (fil
               time = Ok 0;
               commands = [];
               reached = of_zone;
-              clock = told;
+              clock = known;
               finds = finds_none found of_zone refl refl;
               ends = record {
                 order = no_memory _;
@@ -171,15 +171,15 @@ module _ (readings_tell inputs_tell : Bool) (caller : Caller) (mail : Bool) (fil
         -- the time means no minute
         time_stops : (refusal : Refusal) → IsMeant when now caller.zone (Err refusal) → is_before of_variables (check_of refusal) ≡ true →
             is_before of_input (check_of refusal) ≡ false → is_before (check_of refusal) of_lock ≡ true →
-            Prepares readings_tell inputs_tell caller mail file when before after contents (Err (stopped_by (Refused refusal)))
-        time_stops refusal meant behind_clock before_input early =
+            Prepares readings_tell inputs_tell caller mail file when before after contents (Err (error_of (Refused refusal)))
+        time_stops refusal meant after_clock before_input early =
             let found : Found = found_of now (Err refusal) [] None None in
             record {
               now = now;
               time = Err refusal;
               commands = [];
               reached = check_of refusal;
-              clock = λ tells. told tells ∙ sym (ap (λ b. cond b (with_now now before) before) behind_clock);
+              clock = λ tells. known tells ∙ sym (ap (λ b. cond b (with_now now before) before) after_clock);
               finds = record { time = λ beyond. meant; commands = λ tells beyond. absurd (no_true (sym before_input ∙ beyond)) };
               ends = record {
                 order = refused (first_refusal (submission_checks caller found)) refusal (from_time found refl);
@@ -191,7 +191,7 @@ module _ (readings_tell inputs_tell : Bool) (caller : Caller) (mail : Bool) (fil
             }
 
         pub meant_stops : (cause : Cause) → MeansNone (IsTimeOf when now caller.zone) cause →
-            Prepares readings_tell inputs_tell caller mail file when before after contents (Err (stopped_by cause))
+            Prepares readings_tell inputs_tell caller mail file when before after contents (Err (error_of cause))
         meant_stops Memory none = memory_stops
         meant_stops (Refused refusal) none = elim none.comes [
           | inl is ↦ time_stops refusal none.time (ap (λ check. is_before of_variables check) is) (ap (λ check. is_before of_input check) is) (ap (λ check. is_before check of_lock) is)
@@ -207,7 +207,7 @@ module _ (readings_tell inputs_tell : Bool) (caller : Caller) (mail : Bool) (fil
 
         -- at the second now as the call had it
         pub meant_stops_at : (given : ℤ) (cause : Cause) → given ≡ now → MeansNone (IsTimeOf when given caller.zone) cause →
-            Prepares readings_tell inputs_tell caller mail file when before after contents (Err (stopped_by cause))
+            Prepares readings_tell inputs_tell caller mail file when before after contents (Err (error_of cause))
         meant_stops_at given cause same none = meant_stops cause (subst (λ (of : ℤ). MeansNone (IsTimeOf when of caller.zone) cause) same none)
 
         module _ (minute : ℕ) (meant : IsMeant when now caller.zone (Ok minute)) where
@@ -217,7 +217,7 @@ module _ (readings_tell inputs_tell : Bool) (caller : Caller) (mail : Bool) (fil
 
           -- the commands could not be read
           pub input_stops : (cause : Cause) → IsOfInput cause →
-              Prepares readings_tell inputs_tell caller mail file when before after contents (Err (stopped_by cause))
+              Prepares readings_tell inputs_tell caller mail file when before after contents (Err (error_of cause))
           input_stops InputFault of_input_fault =
               let found : Found = found_of now (Ok minute) [] None None in
               record {
@@ -225,7 +225,7 @@ module _ (readings_tell inputs_tell : Bool) (caller : Caller) (mail : Bool) (fil
                 time = Ok minute;
                 commands = [];
                 reached = of_input;
-                clock = told;
+                clock = known;
                 finds = record { time = λ beyond. meant; commands = λ tells beyond. absurd (no_true beyond) };
                 ends = record {
                   order = rw (from_length found refl refl) tt;
@@ -247,7 +247,7 @@ module _ (readings_tell inputs_tell : Bool) (caller : Caller) (mail : Bool) (fil
           module _ (commands : List ℕ) (read : inputs_tell ≡ true → AreRead file contents commands) where
             -- there are too many bytes of commands
             long_stops : MAX_COMMANDS < length commands →
-                Prepares readings_tell inputs_tell caller mail file when before after contents (Err (stopped_by (Refused TooLong)))
+                Prepares readings_tell inputs_tell caller mail file when before after contents (Err (error_of (Refused TooLong)))
             long_stops long =
                 let found : Found = found_of now (Ok minute) commands None None in
                 record {
@@ -255,7 +255,7 @@ module _ (readings_tell inputs_tell : Bool) (caller : Caller) (mail : Bool) (fil
                   time = Ok minute;
                   commands = commands;
                   reached = of_length;
-                  clock = told;
+                  clock = known;
                   finds = record { time = λ beyond. meant; commands = λ tells beyond. read tells };
                   ends = record {
                     order = refused (first_refusal (submission_checks caller found)) TooLong
@@ -270,7 +270,7 @@ module _ (readings_tell inputs_tell : Bool) (caller : Caller) (mail : Bool) (fil
 
             -- no job text was made
             script_stops : (T : Type 0) (fault : ScriptFault) → IsFit caller.context → Written {T = T} caller.context commands (Err fault) →
-                Prepares readings_tell inputs_tell caller mail file when before after contents (Err (stopped_by (cause_of_script fault)))
+                Prepares readings_tell inputs_tell caller mail file when before after contents (Err (error_of (cause_of_script fault)))
             script_stops T script.BadUser fit written = absurd (written fit.user)
             script_stops T script.BadDirectory fit written = absurd (written.1 fit.directory)
             script_stops T script.EnvironmentTooLarge fit written =
@@ -281,7 +281,7 @@ module _ (readings_tell inputs_tell : Bool) (caller : Caller) (mail : Bool) (fil
 
             pub script_stops_at : (T : Type 0) (shown : List ℕ) (fault : ScriptFault) → shown ≡ commands → IsFit caller.context →
                 Written {T = T} caller.context shown (Err fault) →
-                Prepares readings_tell inputs_tell caller mail file when before after contents (Err (stopped_by (cause_of_script fault)))
+                Prepares readings_tell inputs_tell caller mail file when before after contents (Err (error_of (cause_of_script fault)))
             script_stops_at T shown fault same fit written =
                 script_stops T fault fit (subst (λ (of : List ℕ). Written {T = T} caller.context of (Err fault)) same written)
 
@@ -296,7 +296,7 @@ module _ (readings_tell inputs_tell : Bool) (caller : Caller) (mail : Bool) (fil
                   time = Ok minute;
                   commands = commands;
                   reached = of_lock;
-                  clock = told;
+                  clock = known;
                   finds = record { time = λ beyond. meant; commands = λ tells beyond. read tells };
                   ends = record {
                     none = from_length found refl refl ∙ pass (length_check found) _ (rw (le-ltb MAX_COMMANDS (length commands) few) refl);

@@ -11,39 +11,39 @@ use Rattle.listing_text.specs.declared.refusal.Refusal.TheVariants.{BadTimeArg, 
 use Rattle.timespec_grammar.specs.declared.timespec.Timespec.{Timespec as Spelled}
 use Rattle.timespec_grammar.specs.Grammar.{Spells, tokens_of}
 use Rattle.timespec_grammar.specs.Viable.{StopsAt}
-use Rattle.timespec_grammar.proofs.ParseLemmas.{spelled_front}
+use Rattle.timespec_grammar.proofs.ParseLemmas.{spelled_prefix}
 use Rattle.timespec_lexer.specs.declared.placed.Placed.{Placed}
 use Rattle.timespec_lexer.specs.declared.token.Token.{Token}
 use Rattle.timespec_lexer.specs.Tokens.{IsOnlyReading, IsOnlyRefusal, RefusedAt, Tokenizes}
 use Rattle.touch_time.specs.declared.touch.TouchTime.{TouchTime}
 use Rattle.touch_time.specs.Touch.{SpellsTouch}
-use Rattle.command_answers.specs.declared.stopped.Stopped.{Stopped}
-use Rattle.command_answers.specs.Times.{IsDated, IsOnly, IsSpecTime, IsTouchTime, no_timespec, no_tokens, no_touch, place_in, timespec, touch_time}
+use Rattle.command_rules.specs.declared.command_error.CommandError.{CommandError}
+use Rattle.command_rules.specs.Times.{IsDated, IsOnly, IsSpecTime, IsTouchTime, no_timespec, no_tokens, no_touch, place_in, timespec, touch_time}
 use Rattle.submission_checks.specs.Timing.{IsDatedAs, Means}
 
 -- tokens that stop spell nothing
 stops_spell_nothing : (tokens : List Token) (fault : ℕ) (spec : Spelled) → StopsAt tokens fault → Spells tokens spec → ⊥
 stops_spell_nothing tokens fault spec stops spells = elim stops.stops [
-  | inl inside ↦ inside.1 (spelled_front tokens (fault + 1) spec spells)
+  | inl inside ↦ inside.1 (spelled_prefix tokens (fault + 1) spec spells)
   | inr end ↦ end.1 spec spells
 ]
 
 -- they stop at one token
 stops_first : (tokens : List Token) (first second : ℕ) → StopsAt tokens first → StopsAt tokens second → first < second → ⊥
-stops_first tokens first second before behind less = elim before.stops [
-  | inl inside ↦ inside.1 (behind.fronts (first + 1) (omega arith))
-  | inr end ↦ elim behind.stops [
+stops_first tokens first second before after less = elim before.stops [
+  | inl inside ↦ inside.1 (after.prefixes (first + 1) (omega arith))
+  | inr end ↦ elim after.stops [
     | inl inside ↦ absurd (let high : second < length tokens = inside.0 in let is : first ≡ length tokens = end.0 in omega arith)
     | inr other ↦ absurd (let high : second ≡ length tokens = other.0 in let is : first ≡ length tokens = end.0 in omega arith)
   ]
 ]
 
 pub one_stop : (tokens : List Token) (first second : ℕ) → StopsAt tokens first → StopsAt tokens second → first ≡ second
-one_stop tokens first second before behind = elim (cases_order first second) [
+one_stop tokens first second before after = elim (cases_order first second) [
   | inl same ↦ same
   | inr rest ↦ elim rest [
-    | inl less ↦ absurd (stops_first tokens first second before behind less)
-    | inr more ↦ absurd (stops_first tokens second first behind before more)
+    | inl less ↦ absurd (stops_first tokens first second before after less)
+    | inr more ↦ absurd (stops_first tokens second first after before more)
   ]
 ]
 
@@ -118,7 +118,7 @@ module _ (text : List ℕ) (now : ℤ) (zone : Zone) where
             one_date result other time (subst (λ (of : Result ℕ DateFault). IsDated of other) same_answer date) dated
 
 -- a date's answer is the one time of a command
-pub means_dated : (IsTime : Result ℕ Refusal → Type 0) (result : Result ℕ DateFault) (answer : Result ℕ Stopped) →
+pub means_dated : (IsTime : Result ℕ Refusal → Type 0) (result : Result ℕ DateFault) (answer : Result ℕ CommandError) →
     ((time : Result ℕ Refusal) → IsDated result time → IsOnly IsTime time) → IsDatedAs result answer → Means IsTime answer
 means_dated IsTime (Ok minute) answer only is = rw is (only (Ok minute) refl)
 means_dated IsTime (Err date.NoSuchDay) answer only is = rw is (record { time = only (Err NoSuchDay) refl; comes = inr refl })
@@ -128,7 +128,7 @@ means_dated IsTime (Err date.Memory) answer only is = rw is tt
 
 -- the minute of a timespec
 pub spec_dated : (text : List ℕ) (now given : ℤ) (zone : Zone) (placed others : List Placed) (spec : Spelled) (result : Result ℕ DateFault)
-    (answer : Result ℕ Stopped) → placed ≡ others → Tokenizes text others → IsOnlyReading text others → Spells (tokens_of placed) spec →
+    (answer : Result ℕ CommandError) → placed ≡ others → Tokenizes text others → IsOnlyReading text others → Spells (tokens_of placed) spec →
     ((other : Spelled) → Spells (tokens_of placed) other → other ≡ spec) → given ≡ now → TimespecMeans spec given zone result →
     IsOnlyMeaning spec given zone result → IsDatedAs result answer → Means (IsSpecTime text now zone) answer
 spec_dated text now given zone placed others spec result answer same_tokens tokenizes sole spells one same means only dated =
@@ -154,7 +154,7 @@ one_touch answer touch other is also = cc
 
 -- the minute of a time of -t
 pub touch_dated : (text : List ℕ) (now given : ℤ) (zone : Zone) (touch : TouchTime) (read : Option TouchTime) (result : Result ℕ DateFault)
-    (answer : Result ℕ Stopped) → read ≡ Some touch → SpellsTouch text touch → ((time : TouchTime) → SpellsTouch text time → read ≡ Some time) →
+    (answer : Result ℕ CommandError) → read ≡ Some touch → SpellsTouch text touch → ((time : TouchTime) → SpellsTouch text time → read ≡ Some time) →
     given ≡ now → TouchMeans touch given zone result → IsOnlyTouchMeaning touch given zone result → IsDatedAs result answer →
     Means (IsTouchTime text now zone) answer
 touch_dated text now given zone touch read result answer is spells only_read same means only dated =

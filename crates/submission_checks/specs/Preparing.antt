@@ -7,13 +7,13 @@ use Rattle.job_script.specs.JobText.{text_for}
 use Rattle.listing_text.specs.declared.cause.Cause.{Cause}
 use Rattle.listing_text.specs.declared.cause.Cause.TheVariants.{Done, Refused, FileFault, InputFault, OutputFault, Busy, Memory, Damaged, StillRunning}
 use Rattle.listing_text.specs.declared.refusal.Refusal.{Refusal}
-use Rattle.command_answers.specs.declared.caller.Caller.{Caller}
-use Rattle.command_answers.specs.declared.stopped.Stopped.{Stopped}
-use Rattle.command_answers.specs.Checks.{Check, ComesUpTo, is_before, of_variables, of_lock}
-use Rattle.command_answers.specs.Ends.{KeepsOrder, Reaches}
-use Rattle.command_answers.specs.Found.{FindsInput, Found, found_of}
-use Rattle.command_answers.specs.Times.{minute_in}
-use Rattle.command_answers.specs.Verdict.{first_refusal, submission_checks}
+use Rattle.command_rules.specs.declared.caller.Caller.{Caller}
+use Rattle.command_rules.specs.declared.command_error.CommandError.{CommandError}
+use Rattle.command_rules.specs.Checks.{Check, ComesUpTo, is_before, of_variables, of_lock}
+use Rattle.command_rules.specs.Ends.{KeepsOrder, Reaches}
+use Rattle.command_rules.specs.Found.{FindsInput, Found, found_of}
+use Rattle.command_rules.specs.Times.{minute_in}
+use Rattle.command_rules.specs.Verdict.{first_refusal, submission_checks}
 use Rattle.submission_checks.specs.declared.submission.Submission.{Submission}
 
 -- the outside was not touched but for the clock and the commands
@@ -44,13 +44,13 @@ pub record IsStoppedEarly (caller : Caller) (found : Found) (reached : Check) (c
   pub comes : IsOfPreparing cause
 
 -- how the checks end
-abbrev pub PreparingEnds : Caller → Bool → Found → Check → Result Submission Stopped → Type 0
+abbrev pub PreparingEnds : Caller → Bool → Found → Check → Result Submission CommandError → Type 0
 PreparingEnds caller mail found reached (Ok submission) = IsPrepared caller mail found reached submission
 PreparingEnds caller mail found reached (Err stopped) = IsStoppedEarly caller found reached stopped.cause
 
 -- The checks of a submission, over what the clock answered and the inputs hold, where those are told.
 pub record Prepares (readings_tell inputs_tell : Bool) (caller : Caller) (mail : Bool) (file : Option (List ℕ)) (when : When)
-    (before after : Answers) (contents : Contents) (result : Result Submission Stopped) : Type 0 where
+    (before after : Answers) (contents : Contents) (result : Result Submission CommandError) : Type 0 where
   pub now : ℤ
   pub time : Result ℕ Refusal
   pub commands : List ℕ

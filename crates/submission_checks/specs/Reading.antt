@@ -1,7 +1,7 @@
 -- Why the commands of a submission could not be read (own).
 use Rattle.listing_text.specs.declared.cause.Cause.{Cause}
 use Rattle.listing_text.specs.declared.cause.Cause.TheVariants.{Done, Refused, FileFault, InputFault, OutputFault, Busy, Memory, Damaged, StillRunning}
-use Rattle.command_answers.specs.declared.stopped.Stopped.{Stopped}
+use Rattle.command_rules.specs.declared.command_error.CommandError.{CommandError}
 
 -- the inputs failed, or there was no memory
 abbrev pub IsOfInput : Cause → Type 0
@@ -16,5 +16,5 @@ IsOfInput (Damaged damage) = ⊥
 IsOfInput StillRunning = ⊥
 
 -- the command was stopped by one of these
-abbrev pub ComesOfReading : Stopped → Type 0
+abbrev pub ComesOfReading : CommandError → Type 0
 ComesOfReading stopped = IsOfInput stopped.cause

@@ -6,10 +6,10 @@ use Rattle.listing_text.specs.declared.cause.Cause.{Cause}
 use Rattle.listing_text.specs.declared.cause.Cause.TheVariants.{Done, Refused, FileFault, InputFault, OutputFault, Busy, Memory, Damaged, StillRunning}
 use Rattle.listing_text.specs.declared.refusal.Refusal.{Refusal}
 use Rattle.listing_text.specs.declared.refusal.Refusal.TheVariants.{NoSuchDay, OutOfRange, Past}
-use Rattle.command_answers.specs.declared.stopped.Stopped.{Stopped}
-use Rattle.command_answers.specs.Causes.{stopped_by}
-use Rattle.command_answers.specs.Checks.{check_of, of_date, of_spelling}
-use Rattle.command_answers.specs.Times.{IsOnly}
+use Rattle.command_rules.specs.declared.command_error.CommandError.{CommandError}
+use Rattle.command_rules.specs.Causes.{error_of}
+use Rattle.command_rules.specs.Checks.{check_of, of_date, of_spelling}
+use Rattle.command_rules.specs.Times.{IsOnly}
 
 -- the one time is this refusal, which comes of its spelling or of its date
 pub record IsRefusedTime (IsTime : Result ℕ Refusal → Type 0) (refusal : Refusal) : Type 0 where
@@ -29,14 +29,14 @@ MeansNone IsTime (Damaged damage) = ⊥
 MeansNone IsTime StillRunning = ⊥
 
 -- the answer is the one time
-abbrev pub Means : (Result ℕ Refusal → Type 0) → Result ℕ Stopped → Type 0
+abbrev pub Means : (Result ℕ Refusal → Type 0) → Result ℕ CommandError → Type 0
 Means IsTime (Ok minute) = IsOnly IsTime (Ok minute)
 Means IsTime (Err stopped) = MeansNone IsTime stopped.cause
 
 -- a date's answer, as that of a command
-abbrev pub IsDatedAs : Result ℕ DateFault → Result ℕ Stopped → Type 0
+abbrev pub IsDatedAs : Result ℕ DateFault → Result ℕ CommandError → Type 0
 IsDatedAs (Ok minute) answer = answer ≡ Ok minute
-IsDatedAs (Err date.NoSuchDay) answer = answer ≡ Err (stopped_by (Refused NoSuchDay))
-IsDatedAs (Err date.OutOfRange) answer = answer ≡ Err (stopped_by (Refused OutOfRange))
-IsDatedAs (Err date.Past) answer = answer ≡ Err (stopped_by (Refused Past))
-IsDatedAs (Err date.Memory) answer = answer ≡ Err (stopped_by Memory)
+IsDatedAs (Err date.NoSuchDay) answer = answer ≡ Err (error_of (Refused NoSuchDay))
+IsDatedAs (Err date.OutOfRange) answer = answer ≡ Err (error_of (Refused OutOfRange))
+IsDatedAs (Err date.Past) answer = answer ≡ Err (error_of (Refused Past))
+IsDatedAs (Err date.Memory) answer = answer ≡ Err (error_of Memory)

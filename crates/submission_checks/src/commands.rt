@@ -2,11 +2,11 @@
 ghost use Rattle.std.specs.Prelude.{◌≡◌, IfErr, IfOk, IsTrue, option_copied, option_map};
 ghost use Rattle.host_calls.specs.Causes.{HasCause};
 ghost use Rattle.listing_text.specs.declared.cause.Cause.TheVariants as cause;
-ghost use Rattle.command_answers.specs.Causes.{stopped_by};
-ghost use Rattle.command_answers.specs.Found.{AreRead};
+ghost use Rattle.command_rules.specs.Causes.{error_of};
+ghost use Rattle.command_rules.specs.Found.{AreRead};
 ghost use Rattle.submission_checks.specs.Reading.{ComesOfReading};
 
-use command_answers::Stopped;
+use command_rules::CommandError;
 use host_calls::{Bytes, Inputs};
 use job_script::MAX_COMMANDS;
 use std::alloc::Global;
@@ -16,10 +16,10 @@ pub(crate) fn read_commands<I: Inputs>(
     alloc: Global,
     file: Option<&str>,
     inputs: &mut I,
-) -> Result<Bytes, Stopped>
+) -> Result<Bytes, CommandError>
     ensures contents { I.contents inputs.new ≡ I.contents inputs.old }
     ensures made_as { (I.sources inputs.new).made_as ≡ (I.sources inputs.old).made_as }
-    ensures cause { HasCause (stopped_by cause.InputFault)
+    ensures cause { HasCause (error_of cause.InputFault)
         (I.sources inputs.old).input_faults (I.sources inputs.new).input_faults result }
     ensures comes { IfErr result ComesOfReading }
     ensures read { IsTrue I.tells → IfOk result (AreRead (option_copied file.entry) (I.contents inputs.old)) }

@@ -3,9 +3,9 @@
 #![tactic(auto)]
 
 mod commands;
-mod preparing;
+mod prepare_job;
 mod submission;
 mod times;
 
-pub use preparing::prepare;
+pub use prepare_job::prepare;
 pub use submission::Submission;

@@ -2,15 +2,15 @@
 ghost use Rattle.std.specs.Prelude.{◌≡◌, IfOk};
 ghost use Rattle.civil_minute.specs.Zone.{IsReadable};
 ghost use Rattle.clock_range.specs.ClockRange.{IsClockMinute, IsClockSecond};
-ghost use Rattle.command_answers.specs.Causes.{stopped_by};
+ghost use Rattle.command_rules.specs.Causes.{error_of};
 ghost use Rattle.listing_text.specs.declared.cause.Cause.TheVariants as cause;
 ghost use Rattle.listing_text.specs.declared.refusal.Refusal.TheVariants as refusal;
-ghost use Rattle.command_answers.specs.Times.{IsSpecTime, IsTimeOf, IsTouchTime, place_in};
+ghost use Rattle.command_rules.specs.Times.{IsSpecTime, IsTimeOf, IsTouchTime, place_in};
 ghost use Rattle.submission_checks.specs.Timing.{IsDatedAs, Means};
 
 use at_words::When;
 use civil_minute::{DateFault, Zone, minute_of, minute_of_touch};
-use command_answers::Stopped;
+use command_rules::CommandError;
 use listing_text::{Cause, Refusal};
 use std::alloc::Global;
 use timespec_grammar::parse;
@@ -23,7 +23,7 @@ pub(crate) fn minute_meant(
     when: &When,
     now: i64,
     zone: &Zone,
-) -> Result<u32, Stopped>
+) -> Result<u32, CommandError>
     requires now { IsClockSecond now }
     requires zone { IsReadable zone.now }
     ensures meant { Means (IsTimeOf when.now now zone.now) result }
@@ -36,7 +36,7 @@ pub(crate) fn minute_meant(
 }
 
 // The minute of a timespec.
-fn minute_of_spec(alloc: Global, text: &[u8], now: i64, zone: &Zone) -> Result<u32, Stopped>
+fn minute_of_spec(alloc: Global, text: &[u8], now: i64, zone: &Zone) -> Result<u32, CommandError>
     requires now { IsClockSecond now }
     requires zone { IsReadable zone.now }
     ensures meant { Means (IsSpecTime text.now now zone.now) result }
@@ -55,25 +55,25 @@ fn minute_of_spec(alloc: Global, text: &[u8], now: i64, zone: &Zone) -> Result<u
 }
 
 // The minute of a time of `-t`.
-fn minute_of_touched(alloc: Global, text: &[u8], now: i64, zone: &Zone) -> Result<u32, Stopped>
+fn minute_of_touched(alloc: Global, text: &[u8], now: i64, zone: &Zone) -> Result<u32, CommandError>
     requires now { IsClockSecond now }
     requires zone { IsReadable zone.now }
     ensures meant { Means (IsTouchTime text.now now zone.now) result }
     ensures in_range { IfOk result IsClockMinute }
 {
     let Some(touch) = read_touch(text) else {
-        return Err(Stopped::refused(Refusal::BadTimeArg));
+        return Err(CommandError::refused(Refusal::BadTimeArg));
     };
     dated(minute_of_touch(alloc, &touch, now, zone))
 }
 
-fn misspelled(place: u64) -> Stopped
-    ensures { result ≡ stopped_by (cause.Refused (refusal.Timespec place)) }
+fn misspelled(place: u64) -> CommandError
+    ensures { result ≡ error_of (cause.Refused (refusal.Timespec place)) }
 {
-    Stopped::refused(Refusal::Timespec { place })
+    CommandError::refused(Refusal::Timespec { place })
 }
 
-// The place of a token, or the length of the text behind the last one.
+// The place of a token, or the length of the text after the last one.
 fn place_of(text: &[u8], placed: &[Placed], token: usize) -> u64
     ensures { result ≡ place_in text.now placed.now token }
 {
@@ -84,16 +84,16 @@ fn place_of(text: &[u8], placed: &[Placed], token: usize) -> u64
 }
 
 // The minute, or the refusal of a time that means none.
-fn dated(answer: Result<u32, DateFault>) -> Result<u32, Stopped>
+fn dated(answer: Result<u32, DateFault>) -> Result<u32, CommandError>
     ensures dated { IsDatedAs answer result }
     ensures in_range { IfOk answer IsClockMinute → IfOk result IsClockMinute }
 {
     match answer {
         Ok(minute) => Ok(minute),
-        Err(DateFault::NoSuchDay) => Err(Stopped::refused(Refusal::NoSuchDay)),
-        Err(DateFault::OutOfRange) => Err(Stopped::refused(Refusal::OutOfRange)),
-        Err(DateFault::Past) => Err(Stopped::refused(Refusal::Past)),
-        Err(DateFault::Memory) => Err(Stopped {
+        Err(DateFault::NoSuchDay) => Err(CommandError::refused(Refusal::NoSuchDay)),
+        Err(DateFault::OutOfRange) => Err(CommandError::refused(Refusal::OutOfRange)),
+        Err(DateFault::Past) => Err(CommandError::refused(Refusal::Past)),
+        Err(DateFault::Memory) => Err(CommandError {
             cause: Cause::Memory,
         }),
     }

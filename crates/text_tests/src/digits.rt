@@ -18,7 +18,7 @@ fn numbers_and_their_digits(rt: HostRuntime) {
 }
 
 #[test]
-fn digits_are_written_with_zeros_in_front(rt: HostRuntime) {
+fn digits_are_written_with_leading_zeros(rt: HostRuntime) {
     let mut out = *b"........";
     write(&mut out, 28_928_160);
     assert_eq!(rt; out, *b"01b968a0");

@@ -3,12 +3,12 @@ use job_name::JobName;
 
 #[test]
 fn first_submission(rt: HostRuntime) {
-    for (name, wide) in [("a0000000101b968a0", true), ("a0000101b968a0", false)] {
+    for (name, new_form) in [("a0000000101b968a0", true), ("a0000101b968a0", false)] {
         let job = JobName::read(name.as_bytes()).expect(&rt, "a job");
         assert_eq!(rt; job.queue, b'a');
         assert_eq!(rt; job.number, 1);
         assert_eq!(rt; job.minute, 28_928_160);
-        assert_eq!(rt; job.wide, wide);
+        assert_eq!(rt; job.new_form, new_form);
         assert_eq!(rt; job.text().as_slice(), name.as_bytes());
         assert_eq!(rt; job.name().as_bytes(), name.as_bytes());
     }

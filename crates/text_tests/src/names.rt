@@ -2,7 +2,7 @@
 use host_calls::Name;
 
 #[test]
-fn names_are_told_from_other_bytes(rt: HostRuntime) {
+fn names_are_distinguished_from_other_bytes(rt: HostRuntime) {
     for good in [
         ".SEQ",
         ".TMP",

@@ -38,7 +38,7 @@ unless : (test : Bool) (onward : Read) (other : Option Read) (tokens : List Toke
 unless true onward other tokens fails = cc
 unless false onward other tokens fails = refl
 
--- an increment, behind all that may stand before one
+-- an increment, after all that may stand before one
 increment_accepted : (at : Clock) (day : DatePart) (later : List Token) (by : Increment) → IsIncrement later by
     → accepts (read.Dated at day) later ≡ Some (timespec_of at day (Some by))
 increment_accepted at day _ _ (grammar.plus digits count period fits) =
@@ -55,14 +55,14 @@ end_accepted : (at : Clock) (day : DatePart) (tokens : List Token) (by : Option 
 end_accepted at day _ _ alone = refl
 end_accepted at day _ _ (later tokens by is) = increment_accepted at day tokens by is
 
--- behind a month and a day as behind a date
+-- after a month and a day as after a date
 day_ends : (at : Clock) (month day : ℕ) (tokens : List Token) (by : Option Increment) → IsEnd tokens by
     → accepts (read.DayNamed at month day) tokens ≡ accepts (read.Dated at (date.MonthDay month day None)) tokens
 day_ends at month day _ _ alone = refl
 day_ends at month day _ _ (later _ _ (grammar.plus digits count period fits)) = refl
 day_ends at month day _ _ (later _ _ (grammar.next period)) = refl
 
--- behind a time as behind an absent date
+-- after a time as after an absent date
 time_ends : (at : Clock) (tokens : List Token) (by : Option Increment) → IsEnd tokens by
     → accepts (read.Timed at) tokens ≡ accepts (read.Dated at date.Absent) tokens
 time_ends at _ _ alone = refl
@@ -79,7 +79,7 @@ month_begins digits value fits = grind (arith, nat_tests)
 year_begins : (digits value : ℕ) → is_year digits value ≡ true → is_date_number digits value ≡ true
 year_begins digits value four = grind (arith, nat_tests)
 
--- a date and its end, behind a time
+-- a date and its end, after a time
 date_accepted : (at : Clock) (dates rest : List Token) (day : DatePart) (by : Option Increment) → IsDate dates day
     → IsEnd rest by → accepts (read.Timed at) (dates ++ rest) ≡ Some (timespec_of at day by)
 date_accepted at _ rest _ by (grammar.month_day month digits value fits known) end =
@@ -126,7 +126,7 @@ date_accepted at _ rest _ by (grammar.weekday value fits) end =
 date_accepted at _ rest _ by grammar.today end = end_accepted at date.Today rest by end
 date_accepted at _ rest _ by grammar.tomorrow end = end_accepted at date.Tomorrow rest by end
 
--- what stands behind a time
+-- what stands after a time
 data IsTail : List Token → DatePart → Option Increment → Type 0 where
   undated : (rest : List Token) (by : Option Increment) → IsEnd rest by → IsTail rest date.Absent by
   dated : (dates rest : List Token) (day : DatePart) (by : Option Increment) → IsDate dates day → IsEnd rest by
@@ -234,7 +234,7 @@ clock_read _ _ _ (grammar.hour_colon digits value count number fits small) = rec
       ∙ when (is_minute count number) (read.HourMinute value number) None rest small;
 }
 
--- a time and what stands behind it
+-- a time and what stands after it
 time_accepted : (times tail : List Token) (at : Clock) (day : DatePart) (by : Option Increment) → IsTime times at
     → IsTail tail day by → accepts read.Nothing (times ++ tail) ≡ Some (timespec_of at day by)
 time_accepted _ tail _ day by (grammar.clock24 tokens hour minute is) ends =

@@ -9,7 +9,7 @@ use Rattle.timespec_grammar.specs.declared.timespec.Timespec.{Timespec}
 use Rattle.timespec_grammar.specs.declared.read.Read.{Read}
 use Rattle.timespec_grammar.specs.declared.read.Read.TheVariants as read
 use Rattle.timespec_grammar.specs.Grammar.{Spells, tokens_of}
-use Rattle.timespec_grammar.specs.Viable.{FrontsAreViable, GoesOn, IsViable, StopsAt}
+use Rattle.timespec_grammar.specs.Viable.{PrefixesAreViable, GoesOn, IsViable, StopsAt}
 use Rattle.timespec_grammar.specs.inside.Steps.{step, timespec_read}
 use Rattle.timespec_grammar.proofs.ReadLemmas.{Reads, nothing_read, run, run_goes}
 use Rattle.timespec_grammar.proofs.ViableLemmas.{ends_spell, reads_viable, viable_goes_on}
@@ -33,10 +33,10 @@ reads_of : (tokens : List Token) (so_far : Read) → run read.Nothing tokens ≡
 reads_of tokens so_far ran = subst (λ (read : Option Read). IfSome read (Reads tokens)) ran (run_goes [] tokens read.Nothing nothing_read)
 
 -- one token more is read
-one_more : (front : List Token) (next : Token) (so_far : Read) → run read.Nothing front ≡ Some so_far
-    → run read.Nothing (front ++ next ∷ []) ≡ run so_far (next ∷ [])
-one_more front next so_far ran =
-    run-append read.Nothing front (next ∷ []) ∙ ap (λ (read : Option Read). option_and_then (λ onward. run onward (next ∷ [])) read) ran
+one_more : (prefix : List Token) (next : Token) (so_far : Read) → run read.Nothing prefix ≡ Some so_far
+    → run read.Nothing (prefix ++ next ∷ []) ≡ run so_far (next ∷ [])
+one_more prefix next so_far ran =
+    run-append read.Nothing prefix (next ∷ []) ∙ ap (λ (read : Option Read). option_and_then (λ onward. run onward (next ∷ [])) read) ran
 
 -- what can't be read begins no timespec
 unread : (tokens : List Token) → run read.Nothing tokens ≡ None → GoesOn tokens → ⊥
@@ -54,31 +54,31 @@ viable_of tokens (Some so_far) ran onward = reads_viable tokens so_far (reads_of
 begins_viable : (tokens : List Token) → GoesOn tokens → IsViable tokens
 begins_viable tokens onward = viable_of tokens (run read.Nothing tokens) refl onward
 
-pub fronts_are_viable : FrontsAreViable
-fronts_are_viable tokens rest whole spelled = begins_viable tokens (record { rest = rest; whole = whole; spelled = spelled })
+pub prefixes_are_viable : PrefixesAreViable
+prefixes_are_viable tokens rest whole spelled = begins_viable tokens (record { rest = rest; whole = whole; spelled = spelled })
 
--- what spells a timespec begins one with each of its fronts
-pub spelled_front : (tokens : List Token) (count : ℕ) (spec : Timespec) → Spells tokens spec → IsViable (take count tokens)
-spelled_front tokens count spec spelled =
-    fronts_are_viable (take count tokens) (drop count tokens) spec
+-- what spells a timespec begins one with each of its prefixes
+pub spelled_prefix : (tokens : List Token) (count : ℕ) (spec : Timespec) → Spells tokens spec → IsViable (take count tokens)
+spelled_prefix tokens count spec spelled =
+    prefixes_are_viable (take count tokens) (drop count tokens) spec
     (subst (λ (all : List Token). Spells all spec) (sym (take-append-drop count tokens)) spelled)
 
--- the fronts of what is viable are viable
-front_viable : (tokens : List Token) (fault count : ℕ) → count ≤ fault → IsViable (take fault tokens)
+-- the prefixes of what is viable are viable
+prefix_viable : (tokens : List Token) (fault count : ℕ) → count ≤ fault → IsViable (take fault tokens)
     → IsViable (take count tokens)
-front_viable tokens fault count below viable =
+prefix_viable tokens fault count below viable =
     let onward : GoesOn (take fault tokens) = viable_goes_on (take fault tokens) viable in
     let parts : take count tokens ++ drop count (take fault tokens) ≡ take fault tokens
-    = ap (λ (front : List Token). front ++ drop count (take fault tokens)) (sym (take-take count fault tokens below))
+    = ap (λ (prefix : List Token). prefix ++ drop count (take fault tokens)) (sym (take-take count fault tokens below))
     ∙ take-append-drop count (take fault tokens) in
-    fronts_are_viable (take count tokens) (drop count (take fault tokens) ++ onward.rest) onward.whole
+    prefixes_are_viable (take count tokens) (drop count (take fault tokens) ++ onward.rest) onward.whole
     (subst (λ (all : List Token). Spells all onward.whole)
-    (ap (λ (front : List Token). front ++ onward.rest) (sym parts) ∙ append_assoc (take count tokens) (drop count (take fault tokens)) onward.rest) onward.spelled)
+    (ap (λ (prefix : List Token). prefix ++ onward.rest) (sym parts) ∙ append_assoc (take count tokens) (drop count (take fault tokens)) onward.rest) onward.spelled)
 
--- the front that one token more makes
-front_more : (placed : List Placed) (index : ℕ) (or : Placed) → index < length placed
+-- the prefix that one token more makes
+prefix_more : (placed : List Placed) (index : ℕ) (or : Placed) → index < length placed
     → take (index + 1) (tokens_of placed) ≡ tokens_of (take index placed) ++ (get_or placed index or).token ∷ []
-front_more placed index or inside =
+prefix_more placed index or inside =
     take-map (λ one. one.token) (index + 1) placed ∙ ap tokens_of (take_more placed index or inside)
     ∙ map-append (λ one. one.token) (take index placed) (get_or placed index or ∷ [])
 
@@ -88,7 +88,7 @@ pub read_more : (placed : List Placed) (index : ℕ) (or : Placed) (so_far onwar
     → step so_far (get_or placed index or).token ≡ Some onward
     → run read.Nothing (tokens_of (take (index + 1) placed)) ≡ Some onward
 read_more placed index or so_far onward inside ran steps =
-    ap (run read.Nothing) (sym (take-map (λ one. one.token) (index + 1) placed) ∙ front_more placed index or inside)
+    ap (run read.Nothing) (sym (take-map (λ one. one.token) (index + 1) placed) ∙ prefix_more placed index or inside)
     ∙ one_more (tokens_of (take index placed)) (get_or placed index or).token so_far ran
     ∙ ap (λ (read : Option Read). option_and_then (λ more. run more []) read) steps
 
@@ -99,7 +99,7 @@ not_viable : (placed : List Placed) (index : ℕ) (or : Placed) (so_far : Read) 
     → IsViable (take (index + 1) (tokens_of placed)) → ⊥
 not_viable placed index or so_far inside ran stops viable =
     unread (take (index + 1) (tokens_of placed))
-    (ap (run read.Nothing) (front_more placed index or inside)
+    (ap (run read.Nothing) (prefix_more placed index or inside)
     ∙ one_more (tokens_of (take index placed)) (get_or placed index or).token so_far ran
     ∙ ap (λ (read : Option Read). option_and_then (λ more. run more []) read) stops)
     (viable_goes_on (take (index + 1) (tokens_of placed)) viable)
@@ -110,7 +110,7 @@ pub fault_within : (placed : List Placed) (index : ℕ) (or : Placed) (so_far : 
     → step so_far (get_or placed index or).token ≡ None
     → StopsAt (tokens_of placed) index
 fault_within placed index or so_far inside ran stops = record {
-  fronts = λ count below. front_viable (tokens_of placed) index count below
+  prefixes = λ count below. prefix_viable (tokens_of placed) index count below
       (subst IsViable (sym (take-map (λ one. one.token) index placed))
       (reads_viable (tokens_of (take index placed)) so_far (reads_of (tokens_of (take index placed)) so_far ran)));
   stops = inl (rw length-map inside, not_viable placed index or so_far inside ran stops);
@@ -121,7 +121,7 @@ pub refused_within : (placed : List Placed) (index : ℕ) (or : Placed) (so_far 
     → step so_far (get_or placed index or).token ≡ None
     → (spec : Timespec) → ¬ Spells (tokens_of placed) spec
 refused_within placed index or so_far inside ran stops spec spelled =
-    not_viable placed index or so_far inside ran stops (spelled_front (tokens_of placed) (index + 1) spec spelled)
+    not_viable placed index or so_far inside ran stops (spelled_prefix (tokens_of placed) (index + 1) spec spelled)
 
 -- all the tokens are read
 pub all_read : (placed : List Placed) (index : ℕ) (so_far : Read) → length placed ≤ index
@@ -142,7 +142,7 @@ pub fault_at_end : (placed : List Placed) (so_far : Read) → run read.Nothing (
 fault_at_end placed so_far ran stops =
     let same : length (tokens_of placed) ≡ length placed = length-map placed _ in
     record {
-      fronts = λ count below. front_viable (tokens_of placed) (length placed) count below
+      prefixes = λ count below. prefix_viable (tokens_of placed) (length placed) count below
           (subst IsViable (sym (take_all (length placed) (tokens_of placed) (omega arith)))
           (reads_viable (tokens_of placed) so_far (reads_of (tokens_of placed) so_far ran)));
       stops = inr (sym same, refused_at_end placed so_far ran stops);

@@ -43,7 +43,7 @@ ends_spell _ _ (counted_read tokens at day digits count opens fits) = tt
 ends_spell _ _ (following_read tokens at day opens) = tt
 ends_spell _ _ (whole_read tokens spec spelled) = spelled
 
--- the front of a date up to its year begins a date
+-- the prefix of a date up to its year begins a date
 year_begins : (tokens dates : List Token) (at : Clock) (month day : ℕ) → IsTime tokens at → BeforeYear dates month day
     → IsViable (tokens ++ dates)
 year_begins tokens _ at _ _ is (comma month digits day fits known) =

@@ -1,5 +1,5 @@
--- Which tokens a timespec may begin with, by cases (POSIX.1-2017, XCU, at: timespec; Debian's at(1)): behind a time a number
--- may be a month, a day or a year until the token behind it decides. And where tokens stop that are none.
+-- Which tokens a timespec may begin with, by cases (POSIX.1-2017, XCU, at: timespec; Debian's at(1)): after a time a number
+-- may be a month, a day or a year until the token after it decides. And where tokens stop that are none.
 use Rattle.std.specs.Prelude.{◌≡◌, ℕ, ◌+◌, ◌<◌, ◌≤◌, ◌⊎◌, List, [], ◌∷◌, ◌++◌, length, take, IsTrue, None}
 use Rattle.timespec_lexer.specs.declared.token.Token.{Token}
 use Rattle.timespec_lexer.specs.declared.token.Token.TheVariants as token
@@ -52,7 +52,7 @@ pub data IsViable : List Token → Type 0 where
       → BeginsIncrement later → IsViable (before ++ later)
   whole : (tokens : List Token) (spec : Timespec) → Spells tokens spec → IsViable tokens
 
--- some tokens behind these make a timespec of them
+-- some tokens after these make a timespec of them
 pub record GoesOn (tokens : List Token) : Type 0 where
   pub rest : List Token
   pub whole : Timespec
@@ -63,12 +63,12 @@ abbrev pub ViableTokensGoOn : Type 0
 ViableTokensGoOn = (tokens : List Token) → IsViable tokens → GoesOn tokens
 
 -- the first tokens of each timespec are viable
-abbrev pub FrontsAreViable : Type 0
-FrontsAreViable = (tokens rest : List Token) (whole : Timespec) → Spells (tokens ++ rest) whole → IsViable tokens
+abbrev pub PrefixesAreViable : Type 0
+PrefixesAreViable = (tokens rest : List Token) (whole : Timespec) → Spells (tokens ++ rest) whole → IsViable tokens
 
--- The first token that no timespec has there, or the number of tokens that end too early: up to it each front is viable, and
+-- The first token that no timespec has there, or the number of tokens that end too early: up to it each prefix is viable, and
 -- with it none is, or it is the end and the tokens spell nothing.
 pub record StopsAt (tokens : List Token) (fault : ℕ) : Type 0 where
-  pub fronts : (count : ℕ) → count ≤ fault → IsViable (take count tokens)
+  pub prefixes : (count : ℕ) → count ≤ fault → IsViable (take count tokens)
   pub stops : ((fault < length tokens) × ¬ IsViable (take (fault + 1) tokens))
       ⊎ ((fault ≡ length tokens) × ((whole : Timespec) → ¬ Spells tokens whole))

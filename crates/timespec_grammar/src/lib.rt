@@ -17,6 +17,6 @@ pub use clock::Clock;
 pub use date::DatePart;
 pub use fault::GrammarFault;
 pub use increment::Increment;
-pub use laws::viable_tokens_are_fronts;
+pub use laws::viable_tokens_are_prefixes;
 pub use parser::parse;
 pub use timespec::Timespec;

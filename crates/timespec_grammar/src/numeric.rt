@@ -1,4 +1,4 @@
-//! Dates in numbers: `12/25/2025`, `25.12.2025` and `2025-12-25`, and the year behind a month's name and a day.
+//! Dates in numbers: `12/25/2025`, `25.12.2025` and `2025-12-25`, and the year after a month's name and a day.
 ghost use Rattle.std.specs.Prelude.{◌≡◌};
 ghost use Rattle.timespec_grammar.specs.inside.Steps.{after_dash, after_dot, after_number, after_slash, day_due, second_dash, second_dot, second_slash, year_due};
 
@@ -8,7 +8,7 @@ use crate::read::Read;
 use crate::steps::month_day;
 use timespec_lexer::Token;
 
-/// The year behind a month and a day.
+/// The year after a month and a day.
 pub fn year_due(clock: Clock, month: u8, day: u8, token: Token) -> Option<Read>
     ensures { result ≡ year_due clock month day token }
 {
@@ -21,7 +21,7 @@ pub fn year_due(clock: Clock, month: u8, day: u8, token: Token) -> Option<Read>
     }
 }
 
-/// The mark behind a number that begins a date. It says whether that was a month, a day or a year.
+/// The mark after a number that begins a date. It says whether that was a month, a day or a year.
 pub fn after_number(clock: Clock, digits: u8, value: u32, token: Token) -> Option<Read>
     ensures { result ≡ after_number clock digits value token }
 {
@@ -36,7 +36,7 @@ pub fn after_number(clock: Clock, digits: u8, value: u32, token: Token) -> Optio
     }
 }
 
-/// The day behind a month and a slash.
+/// The day after a month and a slash.
 pub fn after_slash(clock: Clock, month: u8, token: Token) -> Option<Read>
     ensures { result ≡ after_slash clock month token }
 {
@@ -58,7 +58,7 @@ pub fn second_slash(clock: Clock, month: u8, day: u8, token: Token) -> Option<Re
     }
 }
 
-/// The month behind a day and a dot.
+/// The month after a day and a dot.
 pub fn after_dot(clock: Clock, day: u8, token: Token) -> Option<Read>
     ensures { result ≡ after_dot clock day token }
 {
@@ -80,7 +80,7 @@ pub fn second_dot(clock: Clock, month: u8, day: u8, token: Token) -> Option<Read
     }
 }
 
-/// The month behind a year and a dash.
+/// The month after a year and a dash.
 pub fn after_dash(clock: Clock, year: u16, token: Token) -> Option<Read>
     ensures { result ≡ after_dash clock year token }
 {
@@ -102,7 +102,7 @@ pub fn second_dash(clock: Clock, month: u8, year: u16, token: Token) -> Option<R
     }
 }
 
-/// The day behind a year and a month.
+/// The day after a year and a month.
 pub fn day_due(clock: Clock, month: u8, year: u16, token: Token) -> Option<Read>
     ensures { result ≡ day_due clock month year token }
 {

@@ -103,7 +103,7 @@ fn begin(token: Token) -> Option<Read>
     }
 }
 
-// The minute behind an hour and a colon.
+// The minute after an hour and a colon.
 fn after_colon(hour: u8, token: Token) -> Option<Read>
     ensures { result ≡ after_colon hour token }
 {
@@ -162,7 +162,7 @@ fn after_time(clock: Clock, token: Token) -> Option<Read>
     }
 }
 
-// The day behind a month.
+// The day after a month.
 fn after_month(clock: Clock, month: u8, token: Token) -> Option<Read>
     ensures { result ≡ after_month clock month token }
 {
@@ -195,7 +195,7 @@ fn after_date(clock: Clock, date: DatePart, token: Token) -> Option<Read>
     }
 }
 
-// The count behind a plus.
+// The count after a plus.
 fn after_plus(clock: Clock, date: DatePart, token: Token) -> Option<Read>
     ensures { result ≡ after_plus clock date token }
 {

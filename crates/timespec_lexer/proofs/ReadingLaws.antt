@@ -9,7 +9,7 @@ use Rattle.timespec_lexer.specs.declared.token.Token.{Token}
 use Rattle.timespec_lexer.specs.declared.placed.Placed.{Placed}
 use Rattle.timespec_lexer.proofs.StandLaws.{stands_solid, stands_inside, stands_once, none_stands}
 
--- two places behind the same separators where no separator stands are one
+-- two places after the same separators where no separator stands are one
 one_place : (text : List ℕ) (from a b : ℕ) → AreSeparators text from a → AreSeparators text from b
     → is_separator (slice_index text a) ≡ false → is_separator (slice_index text b) ≡ false → a ≡ b
 one_place text from a b short long here there =
@@ -29,7 +29,7 @@ placed_at token place = record { token = token; place = place }
 same_placed : (x y : Placed) → x.token ≡ y.token → x.place ≡ y.place → x ≡ y
 same_placed x y token place = ap (λ (it : Token). placed_at it x.place) token ∙ ap (placed_at y.token) place
 
--- one token more than those before, behind separators
+-- one token more than those before, after separators
 record GoesOn (text : List ℕ) (before after : List Placed) (end : ℕ) : Type 0 where
   next : Placed
   others : List Placed
@@ -38,7 +38,7 @@ record GoesOn (text : List ℕ) (before after : List Placed) (end : ℕ) : Type 
   to : ℕ
   stands : Stands text next.place to next.token
 
--- of two walks from one place, one is the other, or goes on behind it
+-- of two walks from one place, one is the other, or goes on after it
 compare_walks : (text : List ℕ) (from : ℕ) (a b : List Placed) (end end' : ℕ)
     → Walks text from a end → Walks text from b end'
     → ((a ≡ b) × (end ≡ end')) ⊎ (GoesOn text a b end ⊎ GoesOn text b a end')
@@ -88,7 +88,7 @@ compare_walks text from (x ∷ xs) (y ∷ ys) end end' first second =
       }))
     ]
 
--- behind the last token of a whole text none goes on
+-- after the last token of a whole text none goes on
 ends_there : (text : List ℕ) (a b : List Placed) (end : ℕ) → AreSeparators text end (length text) → GoesOn text a b end → ⊥
 ends_there text a b end separators more =
     cc (
@@ -96,7 +96,7 @@ ends_there text a b end separators more =
       stands_solid text more.next.place more.to more.next.token more.stands,
     )
 
--- behind the tokens before a refusal none goes on
+-- after the tokens before a refusal none goes on
 stops_there : (text : List ℕ) (place : ℕ) (refused : RefusedAt text place) (b : List Placed) → length b ≤ MAX_TOKENS
     → GoesOn text refused.before b refused.end → ⊥
 stops_there text place refused b few more =

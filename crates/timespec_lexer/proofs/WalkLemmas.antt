@@ -3,7 +3,7 @@ use Rattle.std.proofs.Common.{ℕ, List, [], ◌∷◌, ◌++◌, refl, sym, sub
 use Rattle.timespec_lexer.specs.Tokens.{AreSeparators, Stands, Walks}
 use Rattle.timespec_lexer.specs.declared.placed.Placed.{Placed}
 
--- one token more goes on behind those before it
+-- one token more goes on after those before it
 pub walks_on : (text : List ℕ) (from : ℕ) (placed : List Placed) (end : ℕ) (next : Placed) (to : ℕ)
     → Walks text from placed end → AreSeparators text end next.place → Stands text next.place to next.token
     → Walks text from (placed ++ next ∷ []) to

@@ -81,7 +81,7 @@ keyword_some word token listed =
     ltb-true _ _ (All-contains (λ row. nat_lt 0 (length row.0) ≡ true) keywords (word, token)
     (AllPass-from_list_all (λ row. nat_lt 0 (length row.0)) keywords refl) listed)
 
--- a keyword that was found ends behind its place
+-- a keyword that was found ends after its place
 pub best_forward : (text : List ℕ) (place : ℕ) (best : Option Found) → IsBest text place keywords best
     → IfSome best (λ found. place < found.end)
 best_forward text place None kept = tt

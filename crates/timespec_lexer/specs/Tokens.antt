@@ -113,7 +113,7 @@ pub data BeginsNoToken (text : List ℕ) (place : ℕ) : Type 0 where
       → HasNoWord text place keywords → BeginsNoToken text place
   long_run : ((k : ℕ) → k ≤ MAX_DIGITS → IsDigitAt text (place + k)) → BeginsNoToken text place
 
--- the text is refused at a place: behind the tokens before it none begins, or one too many
+-- the text is refused at a place: after the tokens before it none begins, or one too many
 pub record RefusedAt (text : List ℕ) (place : ℕ) : Type 0 where
   pub before : List Placed
   pub few : length before ≤ MAX_TOKENS

@@ -37,7 +37,7 @@ unfolding is_seconds
 is_seconds_complete text no_seconds = refl
 is_seconds_complete text (some_seconds second few) = rw (read_number_complete 0 60 second [] (omega arith, few) (lit≤ tt))
 
--- two digits and nothing behind them
+-- two digits and nothing after them
 last_sound : (text : List ℕ) → is_last (read_number 0 60 text) ≡ true → (second : ℕ) × (second ≤ 60) × (text ≡ two_digits second)
 last_sound text e = go (read_number 0 60 text) refl e
   where

@@ -15,7 +15,7 @@ pub data SpellsYear : List ℕ → Option ℕ → Type 0 where
   full_year : (year : ℕ) → year ≤ 9999
       → SpellsYear (two_digits (year / 100) ++ two_digits (year % 100)) (Some year)
 
--- seconds may be spelled behind a point; they are 60 at most, and count for nothing (own)
+-- seconds may be spelled after a point; they are 60 at most, and count for nothing (own)
 pub data SpellsSeconds : List ℕ → Type 0 where
   no_seconds : SpellsSeconds []
   some_seconds : (second : ℕ) → second ≤ 60 → SpellsSeconds (codes "." ++ two_digits second)

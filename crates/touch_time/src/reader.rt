@@ -1,11 +1,11 @@
-//! The parts of a time, one after another. Each function reads the front of a slice, and gives the
+//! The parts of a time, one after another. Each function reads the prefix of a slice, and gives the
 //! value and the rest.
 ghost use Rattle.std.specs.Prelude.{◌≡◌, ◌≤◌, IfSome};
 ghost use Rattle.touch_time.specs.inside.Reader as Reader;
 
 use crate::TouchTime;
 
-/// A time and nothing behind it.
+/// A time and nothing after it.
 #[tactic(auto, unfolding(crate::specs::inside::Reader::read_touch))]
 pub(crate) fn read_touch(text: &[u8]) -> Option<TouchTime>
     ensures { result ≡ Reader.read_touch text.now }

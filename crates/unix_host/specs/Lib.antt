@@ -5,4 +5,4 @@ pub mod Endings
 pub mod Listings
 pub mod UnixHost
 pub mod Unsynced
-pub mod Untold
+pub mod Unknown

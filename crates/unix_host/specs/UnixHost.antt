@@ -40,8 +40,8 @@ abbrev pub torn_file : {R A B C D E F G : Type 0} → UnixHost R A B C D E F G �
 torn_file host = option_and_then (λ folder. torn_alone folder.changes.torn) host.folder
 
 -- within a session, what the byte of the lock says of it
-abbrev pub told_of : {R A B C D E F G : Type 0} → UnixHost R A B C D E F G → Option Unsynced
-told_of host = option_map (λ folder. folder.lock.told) host.folder
+abbrev pub known_of : {R A B C D E F G : Type 0} → UnixHost R A B C D E F G → Option Unsynced
+known_of host = option_map (λ folder. folder.lock.known) host.folder
 
 -- within a session, the names of the kept listing
 abbrev pub listed_names : {R A B C D E F G : Type 0} → UnixHost R A B C D E F G → Option (List (List ℕ))

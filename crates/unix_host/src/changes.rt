@@ -8,7 +8,7 @@ use crate::torn::Torn;
 use crate::unsynced::Unsynced;
 use host_calls::Name;
 
-/// What of the folder may be unsynced at one moment of a session. Each method answers what may be behind a call.
+/// What of the folder may be unsynced at one moment of a session. Each method answers what may be after a call.
 #[derive(Clone, Copy)]
 pub struct Changes {
     names: bool,
@@ -18,17 +18,17 @@ pub struct Changes {
 
 impl Changes {
     /// What a session begins with, by what the byte of the lock tells.
-    pub fn after(told: Unsynced) -> Changes
-        ensures told { unsynced_by result ≡ told }
-        ensures names { told ≢ Unsynced.Nothing → result.names ≡ true }
+    pub fn after(known: Unsynced) -> Changes
+        ensures known { unsynced_by result ≡ known }
+        ensures names { known ≢ Unsynced.Nothing → result.names ≡ true }
         ensures failed { result.has_failed ≡ false }
     {
-        let torn = match told {
+        let torn = match known {
             Unsynced::Anything => Torn::Each,
             Unsynced::Nothing | Unsynced::Names => Torn::Nobody,
         };
         Changes {
-            names: told != Unsynced::Nothing,
+            names: known != Unsynced::Nothing,
             torn,
             has_failed: false,
         }

@@ -2,9 +2,9 @@
 ghost use Rattle.std.specs.Prelude.{◌≡◌, ◌≢◌, ◌≤◌, IfOk, vec_len};
 ghost use Rattle.std.specs.IoError.{error_kind};
 
-use crate::front::{FileFrom, fill};
 use crate::listing::{Listed, Listing};
 use crate::paths::Paths;
+use crate::prefix::{FileFrom, fill};
 use host_calls::{EnterFault, HostFault, Name};
 use std::alloc::{Alloc, AllocError, Global};
 use std::fs::{DirBuilder, File, Files, OpenFile, OpenOptions, Permissions};
@@ -154,8 +154,8 @@ pub fn read<R: Files<File = File>>(
 ) -> Result<Vec<u8>, HostFault>
     ensures few { IfOk result (λ bytes. vec_len bytes ≤ most) }
 {
-    let behind = length.saturating_sub(offset);
-    let count = usize::try_from(behind).unwrap_or(usize::MAX).min(most);
+    let after = length.saturating_sub(offset);
+    let count = usize::try_from(after).unwrap_or(usize::MAX).min(most);
     let mut bytes = vec![in alloc; 0; count]?;
     let Ok(file) = File::open(rt, path) else {
         return Err(HostFault::Failed);

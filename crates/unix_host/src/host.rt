@@ -5,14 +5,14 @@ ghost use Rattle.host_calls.specs.Folder.{name_cmp};
 ghost use Rattle.host_calls.specs.Session.{IsInside, IsLeft, IsOutside, CallsInside, Enters, Starts, StaysInside};
 ghost use Rattle.unix_host.specs.Counted.{CountsEnters, CountsFiles, CountsNothing, CountsStarts};
 ghost use Rattle.unix_host.specs.declared.unsynced.Unsynced.{Unsynced};
-ghost use Rattle.unix_host.specs.UnixHost.{ending_in, listed_names, starts_of, session_of, told_of, torn_file, unsynced_of};
-ghost use Rattle.unix_host.specs.Untold.{untold_world};
+ghost use Rattle.unix_host.specs.UnixHost.{ending_in, listed_names, starts_of, session_of, known_of, torn_file, unsynced_of};
+ghost use Rattle.unix_host.specs.Unknown.{unknown_world};
 
 use crate::counts::Counts;
 use crate::finish::finish;
-use crate::job::{JobStart, Kid, ending_of};
+use crate::job::{ChildProcess, JobStart, ending_of};
 use crate::locked::LockedFolder;
-use crate::{job, reading};
+use crate::{job, read_file};
 use host_calls::{Child, Ending, EnterFault, Host, HostFault, Name, StartFault, Text};
 use std::alloc::{AllocError, Global};
 use std::fs::File;
@@ -25,7 +25,7 @@ pub struct UnixHost<R: Runtime<File = File> + Processes> {
     rt: R,
     spool: Text,
     folder: Option<LockedFolder>,
-    kids: Vec<Kid<R>>,
+    kids: Vec<ChildProcess<R>>,
     pub(crate) counts: Counts,
 }
 
@@ -58,7 +58,7 @@ impl<R: Runtime<File = File> + Processes> Host for UnixHost<R> {
 
     ghost session = { session_of };
 
-    ghost world = { λ _. untold_world };
+    ghost world = { λ _. unknown_world };
 
     fn enter(&mut self, alloc: Global) -> Result<(), EnterFault>
         requires { IsOutside (session_of self.old) }
@@ -68,7 +68,7 @@ impl<R: Runtime<File = File> + Processes> Host for UnixHost<R> {
         ensures failed { IsErrOf result EnterFault.Failed
             → Rose (session_of self.old).file_faults (session_of self.new).file_faults }
         ensures counts { CountsEnters (session_of self.old) (session_of self.new) result }
-        ensures told { OnOk result (unsynced_of self.new ≡ told_of self.new) }
+        ensures known { OnOk result (unsynced_of self.new ≡ known_of self.new) }
         ensures unlisted { OnOk result (listed_names self.new ≡ None) }
     {
         match LockedFolder::enter(&self.rt, alloc, self.spool.as_str()) {
@@ -116,7 +116,7 @@ impl<R: Runtime<File = File> + Processes> Host for UnixHost<R> {
         let Some(folder) = &mut self.folder else {
             unreachable!()
         };
-        let answer = reading::length(folder, &self.rt, alloc, name);
+        let answer = read_file::length(folder, &self.rt, alloc, name);
         finish(folder, &mut self.counts, answer)
     }
 
@@ -135,7 +135,7 @@ impl<R: Runtime<File = File> + Processes> Host for UnixHost<R> {
         let Some(folder) = &mut self.folder else {
             unreachable!()
         };
-        let answer = reading::read(folder, &self.rt, alloc, name, offset, most);
+        let answer = read_file::read(folder, &self.rt, alloc, name, offset, most);
         finish(folder, &mut self.counts, answer)
     }
 
@@ -286,7 +286,7 @@ impl<R: Runtime<File = File> + Processes> Host for UnixHost<R> {
         ensures inside { StaysInside (session_of self.old) (session_of self.new) }
         ensures counts { CountsNothing (session_of self.old) (session_of self.new) }
         ensures was_started { result ≢ Ok (Some Ending.NotStarted) }
-        ensures told { IfOk result (λ told. IsSome told → told ≡ ending_in self.new child.now.id) }
+        ensures known { IfOk result (λ known. IsSome known → known ≡ ending_in self.new child.now.id) }
         ensures again { IfSome (ending_in self.old child.now.id) (λ ending. result ≡ Ok (Some ending)) }
     {
         let _ = alloc;

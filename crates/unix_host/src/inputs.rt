@@ -1,9 +1,9 @@
 //! Standard input, and files by their paths.
 ghost use Rattle.std.specs.Prelude.{◌≡◌, ◌≤◌, [], false, IfOk, IsErrOf, length};
 ghost use Rattle.host_calls.specs.Causes.{HasCause};
-ghost use Rattle.unix_host.specs.Untold.{untold_contents};
+ghost use Rattle.unix_host.specs.Unknown.{unknown_contents};
 
-use crate::front::front;
+use crate::prefix::prefix;
 use host_calls::{Bytes, InputFault, Inputs};
 use std::alloc::Global;
 use std::fs::{File, Files};
@@ -30,7 +30,7 @@ impl<R: Files<File = File> + Input + Drop> UnixInputs<R> {
 impl<R: Files<File = File> + Input + Drop> Inputs for UnixInputs<R> {
     ghost tells = { false };
 
-    ghost contents = { λ _. untold_contents };
+    ghost contents = { λ _. unknown_contents };
 
     ghost sources = { λ own. record { made_as = []; input_faults = own.input_faults } };
 
@@ -39,7 +39,7 @@ impl<R: Files<File = File> + Input + Drop> Inputs for UnixInputs<R> {
         ensures cause { HasCause InputFault.Failed self.old.input_faults self.new.input_faults result }
         ensures counts { ¬ (IsErrOf result InputFault.Failed) → self.new.input_faults ≡ self.old.input_faults }
     {
-        let answer = front(alloc, &mut self.rt.reader(), most);
+        let answer = prefix(alloc, &mut self.rt.reader(), most);
         counted(&mut self.input_faults, answer)
     }
 
@@ -49,7 +49,7 @@ impl<R: Files<File = File> + Input + Drop> Inputs for UnixInputs<R> {
         ensures counts { ¬ (IsErrOf result InputFault.Failed) → self.new.input_faults ≡ self.old.input_faults }
     {
         let answer = match File::open(&self.rt, path) {
-            Ok(mut file) => front(alloc, &mut file, most),
+            Ok(mut file) => prefix(alloc, &mut file, most),
             Err(_) => Err(InputFault::Failed),
         };
         counted(&mut self.input_faults, answer)

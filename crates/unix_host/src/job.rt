@@ -27,7 +27,7 @@ pub struct JobStart {
 
 /// A child, and what it was started as.
 #[derive(Drop)]
-pub struct Kid<R: Processes> {
+pub struct ChildProcess<R: Processes> {
     pub process: process::Child<R::Started>,
     pub started_as: JobStart,
 }
@@ -38,7 +38,7 @@ pub fn start<R: Processes>(
     alloc: Global,
     paths: &Paths,
     start: JobStart,
-) -> Result<Kid<R>, StartFault>
+) -> Result<ChildProcess<R>, StartFault>
     ensures started_as { IfOk result (λ kid. kid.started_as ≡ start) }
 {
     let script = paths.file(alloc, &start.name)?;
@@ -53,7 +53,7 @@ fn spawned<R: Processes>(
     mut command: Command,
     paths: &Paths,
     start: JobStart,
-) -> Result<Kid<R>, StartFault>
+) -> Result<ChildProcess<R>, StartFault>
     requires { IsJobCommand start.nice (file_in (string_bytes paths.now.folder) start.name)
         (file_in (string_bytes paths.now.outputs) start.name) command }
     ensures started_as { IfOk result (λ kid. kid.started_as ≡ start) }
@@ -62,7 +62,7 @@ fn spawned<R: Processes>(
     let spawned = command.spawn(rt);
     drop(command);
     match spawned {
-        Ok(process) => Ok(Kid {
+        Ok(process) => Ok(ChildProcess {
             process,
             started_as: start,
         }),

@@ -4,11 +4,10 @@
 
 mod changes;
 mod counts;
-mod doing;
 mod err;
+mod file_calls;
 mod files;
 mod finish;
-mod front;
 mod host;
 mod inputs;
 mod job;
@@ -17,7 +16,8 @@ mod lock;
 mod locked;
 mod out;
 mod paths;
-mod reading;
+mod prefix;
+mod read_file;
 mod readings;
 mod torn;
 mod unsynced;

@@ -18,7 +18,7 @@ pub struct Listed {
 pub struct Listing {
     names: Vec<Name>,
     files: Vec<Listed>,
-    // The place behind that of the file that was asked for last: most are asked for in order.
+    // The place after that of the file that was asked for last: most are asked for in order.
     next: Cell<usize>,
     ghost ordered: { IsSorted name_cmp names.items },
 }
@@ -77,14 +77,14 @@ impl Listing {
     }
 }
 
-// The files in the order of their names. A file is long, and lies anywhere: what is sorted are references, by the fronts of
+// The files in the order of their names. A file is long, and lies anywhere: what is sorted are references, by the prefixes of
 // the names, which stand beside them.
 fn in_order<'a>(alloc: Global, files: &'a [Listed]) -> Result<Vec<(u64, &'a Listed)>, AllocError>
     ensures { IfOk result (λ order. IsPermutation files.now (map (λ one. one.1.now) order.items)) }
 {
     let mut order = Vec::with_capacity(alloc, files.len())?;
     for file in files {
-        order.push((front_of(&file.name), file))?;
+        order.push((prefix_of(&file.name), file))?;
     }
     order.sort_unstable_by_key(|one| (one.0, &one.1.name));
     Ok(order)
@@ -103,10 +103,10 @@ fn names_of(alloc: Global, files: &[Listed]) -> Result<Vec<Name>, AllocError>
 }
 
 // The first eight bytes of a name, as a number that is less where they come before.
-fn front_of(name: &Name) -> u64 {
-    let mut front = [0; 8];
-    for (place, byte) in front.iter_mut().zip(name.as_bytes()) {
+fn prefix_of(name: &Name) -> u64 {
+    let mut prefix = [0; 8];
+    for (place, byte) in prefix.iter_mut().zip(name.as_bytes()) {
         *place = *byte;
     }
-    u64::from_be_bytes(front)
+    u64::from_be_bytes(prefix)
 }

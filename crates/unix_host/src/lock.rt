@@ -42,7 +42,7 @@ const TRIES: u32 = 10;
 #[derive(Drop)]
 pub struct Lock {
     file: File,
-    told: Unsynced,
+    known: Unsynced,
 }
 
 impl Lock {
@@ -59,24 +59,24 @@ impl Lock {
             // It is new, and the umask may have taken the rights of the owner too.
             let _ = file.set_permissions(Permissions::from_mode(0o600));
         }
-        let told = Unsynced::told_by(byte);
-        Ok(Lock { file, told })
+        let known = Unsynced::known_by(byte);
+        Ok(Lock { file, known })
     }
 
     /// What the byte says.
-    pub fn told(&self) -> Unsynced
-        ensures { result ≡ self.now.told }
+    pub fn known(&self) -> Unsynced
+        ensures { result ≡ self.now.known }
     {
-        self.told
+        self.known
     }
 
     /// Makes the byte say at least what may be unsynced.
     pub fn raise(&mut self, changes: &Changes) -> Result<(), HostFault>
-        ensures covers { OnOk result (amount_of (left_by changes.now) ≤ amount_of self.new.told) }
-        ensures never_less { amount_of self.old.told ≤ amount_of self.new.told }
+        ensures covers { OnOk result (amount_of (left_by changes.now) ≤ amount_of self.new.known) }
+        ensures never_less { amount_of self.old.known ≤ amount_of self.new.known }
     {
         let left = changes.left();
-        if !self.told.covers(left) {
+        if !self.known.covers(left) {
             self.tell(left, changes)?;
         }
         Ok(())
@@ -85,7 +85,7 @@ impl Lock {
     /// Makes the byte say what may be unsynced, and lets the lock go.
     pub fn release(mut self, changes: &Changes) {
         let left = changes.left();
-        if self.told != left {
+        if self.known != left {
             // A byte that can't be written still says what it said, and that is enough for each change that was
             // made. It is too little where another call of this session failed, whose mark is lost then.
             let _ = self.tell(left, changes);
@@ -94,13 +94,13 @@ impl Lock {
         let _ = self.file.unlock();
     }
 
-    fn tell(&mut self, told: Unsynced, changes: &Changes) -> Result<(), HostFault>
-        requires { amount_of (left_by changes.now) ≤ amount_of told }
-        ensures ok { OnOk result (self.new.told ≡ told) }
-        ensures err { OnErr result (self.new.told ≡ self.old.told) }
+    fn tell(&mut self, known: Unsynced, changes: &Changes) -> Result<(), HostFault>
+        requires { amount_of (left_by changes.now) ≤ amount_of known }
+        ensures ok { OnOk result (self.new.known ≡ known) }
+        ensures err { OnErr result (self.new.known ≡ self.old.known) }
     {
-        write_byte(&self.file, told.byte(), changes)?;
-        self.told = told;
+        write_byte(&self.file, known.byte(), changes)?;
+        self.known = known;
         Ok(())
     }
 }

@@ -1,7 +1,7 @@
 //! A spool folder under its lock. Whatever changes the folder stands here, and so does all that makes it certain.
 //!
-//! A change is made only once the byte of the lock says at least what may be unsynced behind it, since its
-//! program may be killed at any moment. What may be unsynced is forgotten behind the sync of it alone.
+//! A change is made only once the byte of the lock says at least what may be unsynced after it, since its
+//! program may be killed at any moment. What may be unsynced is forgotten after the sync of it alone.
 ghost use Rattle.std.specs.Prelude.{◌≡◌, ◌≢◌, ◌≤◌, Contains, IsSorted, IsTrue, IfOk, IfSome, OnOk, OnErr, None, Some, true, false, option_map, string_bytes, vec_len};
 ghost use Rattle.host_calls.specs.Folder.{name_cmp};
 ghost use Rattle.unix_host.specs.Listings.{names_in};
@@ -17,7 +17,7 @@ use crate::lock::Lock;
 use crate::paths::Paths;
 use crate::torn::Torn;
 use crate::unsynced::Unsynced;
-use crate::{doing, files};
+use crate::{file_calls, files};
 use host_calls::{EnterFault, HostFault, Name};
 use std::alloc::Global;
 use std::fs::{File, Files};
@@ -31,7 +31,7 @@ pub struct LockedFolder {
     lock: Lock,
     changes: Changes,
     listing: Option<Listing>,
-    ghost told: { amount_of (unsynced_by changes) ≤ amount_of lock.told },
+    ghost known: { amount_of (unsynced_by changes) ≤ amount_of lock.known },
 }
 
 impl LockedFolder {
@@ -41,13 +41,13 @@ impl LockedFolder {
         alloc: Global,
         spool: &str,
     ) -> Result<LockedFolder, EnterFault>
-        ensures told { IfOk result (λ folder. unsynced_by folder.changes ≡ folder.lock.told) }
-        ensures left { IfOk result (λ folder. left_by folder.changes ≡ folder.lock.told) }
+        ensures known { IfOk result (λ folder. unsynced_by folder.changes ≡ folder.lock.known) }
+        ensures left { IfOk result (λ folder. left_by folder.changes ≡ folder.lock.known) }
         ensures unlisted { IfOk result (λ folder. folder.listing ≡ None) }
     {
         let paths = files::make_folders(rt, alloc, spool)?;
         let lock = Lock::take(rt, paths.lock())?;
-        let changes = Changes::after(lock.told());
+        let changes = Changes::after(lock.known());
         Ok(LockedFolder {
             paths,
             lock,
@@ -126,7 +126,7 @@ impl LockedFolder {
         let path = self.paths.file(alloc, name)?;
         let next = self.changes.made(name);
         self.prepare(next)?;
-        doing::make_file(self, rt, path.as_str(), name, bytes)
+        file_calls::make_file(self, rt, path.as_str(), name, bytes)
     }
 
     /// Writes over a range of a file.
@@ -146,7 +146,7 @@ impl LockedFolder {
         let path = self.paths.file(alloc, name)?;
         let next = self.changes.written(name);
         self.prepare(next)?;
-        doing::write_range(self, rt, path.as_str(), name, offset, bytes)
+        file_calls::write_range(self, rt, path.as_str(), name, offset, bytes)
     }
 
     /// Moves a file to another name, and replaces what stands there.
@@ -166,7 +166,7 @@ impl LockedFolder {
         let target = self.paths.file(alloc, to)?;
         let next = self.changes.moved(from);
         self.prepare(next)?;
-        doing::move_name(self, rt, source.as_str(), target.as_str(), from, to)
+        file_calls::move_name(self, rt, source.as_str(), target.as_str(), from, to)
     }
 
     /// Removes a file.
@@ -179,7 +179,7 @@ impl LockedFolder {
         let path = self.paths.file(alloc, name)?;
         let next = self.changes.removed();
         self.prepare(next)?;
-        doing::remove_name(self, rt, path.as_str(), name)
+        file_calls::remove_name(self, rt, path.as_str(), name)
     }
 
     /// Makes the bytes of a file certain.
@@ -253,13 +253,13 @@ impl LockedFolder {
         Ok(())
     }
 
-    // Before a change: what was listed holds no longer, and a program that is killed behind it leaves a byte that says
+    // Before a change: what was listed holds no longer, and a program that is killed after it leaves a byte that says
     // enough.
     fn prepare(&mut self, next: Changes) -> Result<(), HostFault>
         ensures paths { self.new.paths ≡ self.old.paths }
         ensures ok { OnOk result (self.new.changes ≡ next) }
         ensures err { OnErr result (self.new.changes ≡ self.old.changes) }
-        ensures told { OnOk result (amount_of (left_by self.new.changes) ≤ amount_of self.new.lock.told) }
+        ensures known { OnOk result (amount_of (left_by self.new.changes) ≤ amount_of self.new.lock.known) }
         ensures unlisted { self.new.listing ≡ None }
     {
         self.listing = None;

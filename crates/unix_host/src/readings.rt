@@ -3,9 +3,9 @@ ghost use Rattle.std.specs.Prelude.{◌≡◌, ◌≤◌, [], false, IsSome, Non
 ghost use Rattle.std.specs.Result.{result_ok};
 ghost use Rattle.host_calls.specs.Causes.{Rose};
 ghost use Rattle.unix_host.specs.inside.Seconds.{second_in};
-ghost use Rattle.unix_host.specs.Untold.{untold_answers};
+ghost use Rattle.unix_host.specs.Unknown.{unknown_answers};
 
-use crate::front::fill;
+use crate::prefix::fill;
 use host_calls::Readings;
 use load_reading::hundredths;
 use std::fs::{File, Files};
@@ -31,7 +31,7 @@ impl<R: Files<File = File> + Clock + Drop> UnixReadings<R> {
 impl<R: Files<File = File> + Clock + Drop> Readings for UnixReadings<R> {
     ghost tells = { false };
 
-    ghost answers = { λ _. untold_answers };
+    ghost answers = { λ _. unknown_answers };
 
     ghost readers = { λ own. record { made_as = []; load_faults = own.load_faults } };
 
@@ -56,7 +56,7 @@ impl<R: Files<File = File> + Clock + Drop> Readings for UnixReadings<R> {
     }
 }
 
-// The second of this time, and -1 where it can't be read or lies behind each second that can be told.
+// The second of this time, and -1 where it can't be read or lies after each second that can be told.
 fn second_of(time: io::Result<Duration>) -> i64
     ensures { result ≡ second_in (result_ok time) }
 {

@@ -1,6 +1,6 @@
 //! How much of the folder may be unsynced.
 ghost use Rattle.std.specs.Prelude.{◌≡◌, ◌↔◌, ◌≤◌, IsTrue};
-ghost use Rattle.unix_host.specs.inside.LockByte.{told_by, meaning_of, amount_of};
+ghost use Rattle.unix_host.specs.inside.LockByte.{known_by, meaning_of, amount_of};
 
 /// What of the folder may be unsynced, the least first.
 #[derive(Clone, Copy, Debug, PartialEq, Eq)]
@@ -14,8 +14,8 @@ pub enum Unsynced {
 
 impl Unsynced {
     /// What the byte of a lock file says. All bytes but two say the worst, and so does none.
-    pub fn told_by(byte: Option<u8>) -> Unsynced
-        ensures { result ≡ told_by byte }
+    pub fn known_by(byte: Option<u8>) -> Unsynced
+        ensures { result ≡ known_by byte }
     {
         match byte {
             Some(b'c') => Unsynced::Nothing,

@@ -3,18 +3,18 @@
 #![tactic(auto)]
 
 #[cfg(test)]
-mod folder_tests;
+mod folders;
 #[cfg(test)]
-mod job_tests;
+mod jobs;
 #[cfg(test)]
-mod lock_tests;
+mod locks;
 #[cfg(test)]
 mod outside;
 #[cfg(test)]
 mod refusing;
 #[cfg(test)]
-mod stream_tests;
+mod streams;
 #[cfg(test)]
-mod sync_tests;
+mod syncs;
 #[cfg(test)]
 mod words;

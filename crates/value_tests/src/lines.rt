@@ -60,7 +60,7 @@ fn months_and_weekdays_by_name(rt: HostRuntime) {
 }
 
 #[test]
-fn an_accepted_job_is_told_with_its_date(rt: HostRuntime) -> Result<(), Fail> {
+fn an_accepted_job_is_said_with_its_date(rt: HostRuntime) -> Result<(), Fail> {
     let line = accepted_line(rt.alloc(), 1, &date_text(&NEW_YEAR))?;
     assert_eq!(rt;
         line.as_slice(),

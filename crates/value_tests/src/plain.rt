@@ -1,4 +1,4 @@
-//! The job table as a list that is searched from its front: slow and plain, to compare with.
+//! The job table as a list that is searched from its start: slow and plain, to compare with.
 use spool_model::{Entry, Fate, State, Step, Table};
 use std::alloc::{AllocError, Global};
 

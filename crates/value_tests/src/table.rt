@@ -85,28 +85,35 @@ fn starts(alloc: Global, user: UserName) -> Result<Vec<(Step, bool, Option<i64>)
 #[test]
 fn batch_starts_are_remembered(rt: HostRuntime) -> Result<(), Fail> {
     let user = UserName::of(b"ann").ok_or("ann")?;
-    let rows = starts(rt.alloc(), user)?;
     let mut table = Table::new(rt.alloc());
-    for (step, is_legal, last_batch) in &rows {
+    for (step, is_legal, last_batch) in &starts(rt.alloc(), user)? {
         assert_eq!(rt; table.is_legal(step), *is_legal);
-        if table.is_legal(step) {
+        if *is_legal {
             table.take(rt.alloc(), step)?;
         }
         assert_eq!(rt; table.last_batch(), *last_batch);
-    }
-    match table.entry(2) {
-        Some(Entry::Live(job, state)) => {
-            assert_eq!(rt; job.script.as_slice(), b"echo hi\n".as_slice());
-            assert_eq!(rt; job.user.as_bytes(), b"ann".as_slice());
-            assert_eq!(rt; *state, State::Running(120));
-        }
-        _ => assert!(rt; false, "job 2 is live"),
     }
     Ok(())
 }
 
 #[test]
-fn user_names_are_told_from_other_bytes(rt: HostRuntime) {
+fn a_job_that_runs_keeps_its_text_and_its_second(rt: HostRuntime) -> Result<(), Fail> {
+    let user = UserName::of(b"ann").ok_or("ann")?;
+    let mut table = Table::new(rt.alloc());
+    table.take(rt.alloc(), &Step::Draw)?;
+    table.take(rt.alloc(), &Step::Accept(1, job(rt.alloc(), b'b', user)?))?;
+    table.take(rt.alloc(), &Step::Start(1, 120))?;
+    let Some(Entry::Live(job, state)) = table.entry(1) else {
+        panic!(rt; "job 1 is live");
+    };
+    assert_eq!(rt; job.script.as_slice(), b"echo hi\n".as_slice());
+    assert_eq!(rt; job.user.as_bytes(), b"ann".as_slice());
+    assert_eq!(rt; *state, State::Running(120));
+    Ok(())
+}
+
+#[test]
+fn user_names_are_distinguished_from_other_bytes(rt: HostRuntime) {
     for good in ["ann", "a", "_apt", "x.y-z", "web$", "a+b@c", "7"] {
         assert!(rt; UserName::of(good.as_bytes()).is_some(), "{good}");
     }

@@ -78,7 +78,7 @@ fn line_shown(alloc: Global, line: &str) -> Result<String, AllocError> {
     }
 }
 
-static ASKED: [(&str, &str); 31] = [
+static ASKED: [(&str, &str); 33] = [
     ("at|now", "submit 97 mail false file none spec now"),
     (
         "at|-m|-f|x|-q|c|noon|jan 24",
@@ -110,6 +110,11 @@ static ASKED: [(&str, &str); 31] = [
     ("atrm|4|4", "remove [4]"),
     ("atd", "daemon 150 60 false 4611686018427387904"),
     ("atd|-l|2|-b|0|-s", "daemon 200 0 true 4611686018427387904"),
+    (
+        "atd|-b|999999999",
+        "daemon 150 999999999 false 4611686018427387904",
+    ),
+    ("atd|-b|1000000000", "usage"),
     ("atd|-l|1.5", "daemon 150 60 false 4611686018427387904"),
     (
         "atd|-l|999999.09",

@@ -1,12 +1,12 @@
 //! Files that are replaced, read and removed whole, over any host.
 #![tactic(auto)]
 
-mod removing;
-mod replacing;
+mod clear_file;
+mod place_file;
 mod temporary;
 mod whole_content;
 
-pub use removing::clear;
-pub use replacing::place;
+pub use clear_file::clear;
+pub use place_file::place;
 pub use temporary::temporary_name;
 pub use whole_content::content;

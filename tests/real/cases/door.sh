@@ -248,7 +248,7 @@ case_door_hints_for_each_cause() {
   while read -r text; do
     # shellcheck disable=SC2016
     sh -c '_door_tool=at _door_status=1 _door_said="at: $2" _door_spool=/none/jobs _door_beside=/none/jobs; . "$1/hints"' _ "$libexec" "$text" 2>said
-    [ "$(head -n 1 said)" = "at: $text" ] && [ "$(wc -l <said)" = 2 ] && tail -n 1 said | grep -qE '^at: .{10,150}$' || fail "behind $text stands $(cat said)"
+    [ "$(head -n 1 said)" = "at: $text" ] && [ "$(wc -l <said)" = 2 ] && tail -n 1 said | grep -qE '^at: .{10,150}$' || fail "after $text stands $(cat said)"
   done <<'END'
 usage
 not allowed
@@ -331,7 +331,7 @@ case_door_hostile_callers() {
   done
 }
 
-# Programs that take their folder as first word have the spool in front where there is no word or the first begins with -.
+# Programs that take their folder as first word have the spool first where there is no word or the first begins with -.
 case_door_folders_of_programs() {
   doored; opened
   printf '#!/bin/sh\nprintf "<%%s>" "$@"\n' >"$libexec/atother"; chmod 755 "$libexec/atother"; ln -sf at "$door/atother"

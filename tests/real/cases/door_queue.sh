@@ -64,7 +64,7 @@ case_door_pipes_that_wait() {
   [ "$(cat said slow slow_too | grep -c '^job ')" = 5 ] || fail "the jobs are $(cat said slow slow_too)"
 }
 
-# A caller waits for its turn in the queue of the folder, whatever that is called, and at its front for whoever holds the spool:
+# A caller waits for its turn in the queue of the folder, whatever that is called, and at its head for whoever holds the spool:
 # ten seconds are not all it has.
 case_door_a_long_turn() {
   doored; filled 1
@@ -95,7 +95,7 @@ case_door_one_atd() {
   done
   kill -9 $first; wait $first 2>/dev/null
   # the job runs on, and has not the lock
-  "$door/atd" -s >out 2>err </dev/null || fail "behind it: $(cat err)"
+  "$door/atd" -s >out 2>err </dev/null || fail "after it: $(cat err)"
   [ "$(cat out)" = 'job 1 interrupted' ] || fail "it says $(cat out)"
   touch go; awaits ended
 }

@@ -1,4 +1,4 @@
--- A session of a command, from entering to leaving, behind the checks before it (own).
+-- A session of a command, from entering to leaving, after the checks before it (own).
 use Rattle.std.specs.Prelude.{◌≡◌, ℕ, Bool, true, false, List, Option, None, Result, Ok}
 use Rattle.at_words.specs.declared.tool_request.ToolRequest.{ToolRequest}
 use Rattle.host_calls.specs.declared.damage.Damage.{Damage}
@@ -6,13 +6,13 @@ use Rattle.host_calls.specs.World.{World, reading}
 use Rattle.listing_text.specs.declared.cause.Cause.{Cause}
 use Rattle.spool_model.specs.declared.step.Step.{Step}
 use Rattle.spool_model.specs.JobTable.{JobTable}
-use Rattle.command_answers.specs.declared.caller.Caller.{Caller}
-use Rattle.command_answers.specs.Checks.{Check, ComesUpTo, is_before, of_lock, of_folder}
-use Rattle.command_answers.specs.Ends.{KeepsOrder, Reaches}
-use Rattle.command_answers.specs.Found.{AreInFolder, Found}
-use Rattle.command_answers.specs.Requested.{Prints, Says, next_number, steps_of}
-use Rattle.command_answers.specs.Spool.{SpoolEnds}
-use Rattle.command_answers.specs.Verdict.{spool_verdict, table_verdict}
+use Rattle.command_rules.specs.declared.caller.Caller.{Caller}
+use Rattle.command_rules.specs.Checks.{Check, ComesUpTo, is_before, of_lock, of_folder}
+use Rattle.command_rules.specs.Ends.{KeepsOrder, Reaches}
+use Rattle.command_rules.specs.Found.{AreInFolder, Found}
+use Rattle.command_rules.specs.Requested.{Prints, Says, next_number, steps_of}
+use Rattle.command_rules.specs.Spool.{SpoolEnds}
+use Rattle.command_rules.specs.Verdict.{spool_verdict, table_verdict}
 
 -- what is found with the texts of at.allow and at.deny
 abbrev pub Finding : Type 0
@@ -38,7 +38,7 @@ abbrev pub IsSessionLine : ToolRequest → Caller → Found → Result JobTable 
 IsSessionLine asked caller found shown line =
     (spool_verdict asked caller found shown ≡ None) × Says asked caller.zone found (next_number shown) line
 
--- Behind the checks before it, a session was entered for the request and left, or could not be entered.
+-- After the checks before it, a session was entered for the request and left, or could not be entered.
 pub record Carries (tells alone : Bool) (asked : ToolRequest) (caller : Caller) (finding : Finding) (old new : World)
     (cause : Cause) : Type 0 where
   pub allow : Option (List ℕ)

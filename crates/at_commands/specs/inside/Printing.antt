@@ -2,9 +2,9 @@
 use Rattle.std.specs.Prelude.{◌≡◌, ℕ, Bool, true, List}
 use Rattle.listing_text.specs.declared.cause.Cause.{Cause}
 use Rattle.listing_text.specs.declared.cause.Cause.TheVariants.{Done, Refused, FileFault, InputFault, OutputFault, Busy, Memory, Damaged, StillRunning}
-use Rattle.command_answers.specs.Sinks.{IsPut, IsPutInPart, IsSilent, SinkAt}
+use Rattle.command_rules.specs.Sinks.{IsPut, IsPutInPart, IsSilent, SinkAt}
 
--- all of it was put, a front of it, or nothing for want of memory
+-- all of it was put, a prefix of it, or nothing for want of memory
 abbrev pub PutsWhole : Bool → List ℕ → SinkAt → SinkAt → Cause → Type 0
 PutsWhole tells text old new Done = tells ≡ true → IsPut text old new
 PutsWhole tells text old new OutputFault = tells ≡ true → IsPutInPart text old new

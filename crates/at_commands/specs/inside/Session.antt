@@ -1,7 +1,7 @@
 -- Why the session of a command ended without being done (own).
 use Rattle.listing_text.specs.declared.cause.Cause.{Cause}
 use Rattle.listing_text.specs.declared.cause.Cause.TheVariants.{Done, Refused, FileFault, InputFault, OutputFault, Busy, Memory, Damaged, StillRunning}
-use Rattle.command_answers.specs.declared.stopped.Stopped.{Stopped}
+use Rattle.command_rules.specs.declared.command_error.CommandError.{CommandError}
 
 -- the output did not fail, nor did the inputs
 abbrev pub IsOfSpool : Cause → Type 0
@@ -16,5 +16,5 @@ IsOfSpool InputFault = ⊥
 IsOfSpool StillRunning = ⊥
 
 -- the command was stopped by one of these
-abbrev pub IsNoOutput : Stopped → Type 0
+abbrev pub IsNoOutput : CommandError → Type 0
 IsNoOutput stopped = IsOfSpool stopped.cause

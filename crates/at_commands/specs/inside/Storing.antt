@@ -8,14 +8,14 @@ use Rattle.job_script.specs.JobText.{text_for}
 use Rattle.listing_text.specs.declared.cause.Cause.{Cause}
 use Rattle.listing_text.specs.declared.refusal.Refusal.{Refusal}
 use Rattle.spool_model.specs.Users.{IsUserName}
-use Rattle.command_answers.specs.declared.caller.Caller.{Caller}
-use Rattle.command_answers.specs.declared.stopped.Stopped.{Stopped}
-use Rattle.command_answers.specs.Causes.{cause_in}
-use Rattle.command_answers.specs.Found.{found_of}
+use Rattle.command_rules.specs.declared.caller.Caller.{Caller}
+use Rattle.command_rules.specs.declared.command_error.CommandError.{CommandError}
+use Rattle.command_rules.specs.Causes.{cause_in}
+use Rattle.command_rules.specs.Found.{found_of}
 use Rattle.at_commands.specs.inside.Carrying.{Carries, Finding, IsSessionLine}
-use Rattle.command_answers.specs.Requested.{next_number}
-use Rattle.command_answers.specs.Sinks.{NotesBy, SinkAt}
-use Rattle.command_answers.specs.Times.{minute_in}
+use Rattle.command_rules.specs.Requested.{next_number}
+use Rattle.command_rules.specs.Sinks.{NotesBy, SinkAt}
+use Rattle.command_rules.specs.Times.{minute_in}
 
 -- the script does these commands as the caller would, whose name a job can have
 pub record IsJobOf (caller : Caller) (mail : Bool) (commands script : List ℕ) : Type 0 where
@@ -24,12 +24,12 @@ pub record IsJobOf (caller : Caller) (mail : Bool) (commands script : List ℕ) 
 
 -- The job was to be stored in a session. Where it was, this is the number that it drew.
 pub record Stores (tells alone : Bool) (asked : ToolRequest) (caller : Caller) (finding : Finding) (old new : World)
-    (result : Result ℕ Stopped) : Type 0 where
+    (result : Result ℕ CommandError) : Type 0 where
   pub carries : Carries tells alone asked caller finding old new (cause_in result)
   pub number : IfOk result (λ number. number ≡ next_number carries.shown)
 
 -- and so for each submission of which it is the job
-abbrev pub StoresJob : Bool → Bool → Caller → ℕ → ℕ → List ℕ → World → World → Result ℕ Stopped → Type 0
+abbrev pub StoresJob : Bool → Bool → Caller → ℕ → ℕ → List ℕ → World → World → Result ℕ CommandError → Type 0
 StoresJob tells alone caller queue minute script old new result =
     (mail : Bool) (file : Option (List ℕ)) (when : When) (now : ℤ) (time : Result ℕ Refusal) (commands : List ℕ) →
     IsJobOf caller mail commands script → minute ≡ minute_in time →

@@ -2,11 +2,9 @@
 use Rattle.std.specs.Prelude.{◌≡◌, ◌≤◌, ℕ, Bool, Result, Ok, Err, List}
 use Rattle.at_words.specs.declared.tool_request.ToolRequest.{ToolRequest}
 use Rattle.at_words.specs.declared.tool_request.ToolRequest.TheVariants as request
-use Rattle.command_answers.specs.Sinks.{SinkAt}
+use Rattle.command_rules.specs.Causes.{cause_of_put}
+use Rattle.command_rules.specs.Sinks.{SinkAt}
 use Rattle.host_calls.specs.declared.fault.SinkFault.{SinkFault}
-use Rattle.host_calls.specs.declared.fault.SinkFault.TheVariants.{Failed, Memory}
-use Rattle.listing_text.specs.declared.cause.Cause.{Cause}
-use Rattle.listing_text.specs.declared.cause.Cause.TheVariants as cause
 use Rattle.at_words.specs.declared.atday.TheConstants.{MAX_EVENTS}
 use Rattle.spool_store.specs.declared.fault.StoreFault.{StoreFault}
 use Rattle.spool_store.specs.declared.fault.StoreFault.TheVariants as fault
@@ -38,12 +36,6 @@ pub record AreLinesOfDay (count : ℕ) (lines : List (List ℕ)) : Type 0 where
   pub counts : Counts
   pub comes : ComesTo count counts
   pub lines_are : lines ≡ day_lines count counts
-
--- the cause by what a put answered
-abbrev pub cause_of_put : Result (Unit {0}) SinkFault → Cause
-cause_of_put (Ok done) = cause.Done
-cause_of_put (Err Failed) = cause.OutputFault
-cause_of_put (Err Memory) = cause.Memory
 
 -- how the puts of a day end, as its cause says it
 abbrev pub PutsDay : Bool → ℕ → SinkAt → SinkAt → Result (Unit {0}) SinkFault → Type 0

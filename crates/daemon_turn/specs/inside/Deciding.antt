@@ -4,13 +4,13 @@ use Rattle.host_calls.specs.declared.child.Ending.{Ending}
 use Rattle.host_calls.specs.Session.{Session}
 use Rattle.host_calls.specs.World.{World}
 use Rattle.spool_model.specs.JobTable.{JobTable}
-use Rattle.job_runs.specs.Current.{Kept}
+use Rattle.step_runs.specs.Current.{Kept}
 use Rattle.spool_store.specs.declared.fault.StoreFault.{StoreFault}
 use Rattle.daemon_turn.specs.declared.kid.Kid.{Kid}
 use Rattle.daemon_turn.specs.declared.step.TurnStep.{TurnStep}
 use Rattle.daemon_turn.specs.Decisions.{ends, interrupts, questions, runs_in}
 use Rattle.daemon_turn.specs.Kids.{AreByNumber, AreChildren}
-use Rattle.daemon_turn.specs.Turning.{IsFrontOf}
+use Rattle.daemon_turn.specs.Turning.{IsPrefixOf}
 use Rattle.daemon_turn.specs.inside.Ended.{without_ended}
 use Rattle.daemon_turn.specs.inside.Going.{Goes, MayGo, Part}
 
@@ -19,7 +19,7 @@ use Rattle.daemon_turn.specs.inside.Going.{Goes, MayGo, Part}
 pub record AreDecided (table : JobTable) (kids : List Kid) (part : Part) (result : Result Kept StoreFault) : Type 0 where
   pub answers : List (Option Ending)
   pub few : length answers ≤ length kids
-  pub front : IsFrontOf (part.steps ++ part.next) (interrupts table kids ++ ends kids answers)
+  pub prefix : IsPrefixOf (part.steps ++ part.next) (interrupts table kids ++ ends kids answers)
   pub all : IfOk result (λ store.
       (length answers ≡ length kids) × (part.steps ≡ interrupts table kids ++ ends kids answers))
   pub asked : part.questions ≡ questions kids answers

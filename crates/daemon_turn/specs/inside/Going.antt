@@ -7,8 +7,8 @@ use Rattle.host_calls.specs.Session.{IsInside, KeepsCounts, Session}
 use Rattle.host_calls.specs.World.{World}
 use Rattle.spool_model.specs.JobTable.{JobTable}
 use Rattle.spool_model.specs.Steps.{after_steps}
-use Rattle.job_runs.specs.Current.{IsCurrent, Kept}
-use Rattle.job_runs.specs.Made.{AreMade, AreStopped, flags_of}
+use Rattle.step_runs.specs.Current.{IsCurrent, Kept}
+use Rattle.step_runs.specs.Made.{AreMade, AreStopped, flags_of}
 use Rattle.spool_store.specs.declared.fault.StoreFault.{StoreFault}
 use Rattle.spool_store.specs.declared.fault.StoreFault.TheVariants.{FileFault}
 use Rattle.spool_store.specs.Faults.{IsOfStep}
@@ -26,7 +26,7 @@ pub record Part : Type 0 where
   pub flags : List Bool
   pub added : List Kid
 
--- one part behind another
+-- one part after another
 abbrev pub joined : Part → Part → Part
 joined first later = record {
   steps = first.steps ++ later.steps;

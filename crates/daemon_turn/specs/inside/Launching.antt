@@ -1,17 +1,17 @@
--- Jobs are started one behind another (own).
+-- Jobs are started one after another (own).
 use Rattle.std.specs.Prelude.{◌≡◌, ◌≤◌, ◌++◌, [], ◌∷◌, ℕ, ℤ, Bool, List, Result, Ok, Err, IfOk, length, map}
 use Rattle.host_calls.specs.declared.child.Ending.TheVariants.{NotStarted}
 use Rattle.host_calls.specs.Session.{Session}
 use Rattle.host_calls.specs.World.{World}
 use Rattle.spool_model.specs.declared.step.Step.TheVariants.{End}
-use Rattle.job_runs.specs.Current.{Kept}
+use Rattle.step_runs.specs.Current.{Kept}
 use Rattle.spool_store.specs.declared.fault.StoreFault.{StoreFault}
 use Rattle.spool_store.specs.Stepping.{MakesStep}
 use Rattle.daemon_turn.specs.declared.kid.Kid.{Kid}
 use Rattle.daemon_turn.specs.declared.step.TurnStep.{TurnStep}
 use Rattle.daemon_turn.specs.declared.step.TurnStep.TheVariants.{Ended}
 use Rattle.daemon_turn.specs.Starting.{starts}
-use Rattle.daemon_turn.specs.Turning.{IsFrontOf}
+use Rattle.daemon_turn.specs.Turning.{IsPrefixOf}
 use Rattle.daemon_turn.specs.inside.Going.{Goes, Part}
 use Rattle.daemon_turn.specs.inside.Waiting.{started_of}
 
@@ -23,7 +23,7 @@ written_by step (Err fault) = []
 -- The jobs of the numbers were started, or the first of them.
 pub record AreStarted (numbers : List ℕ) (second : ℤ) (part : Part) (result : Result Kept StoreFault) : Type 0 where
   pub few : length part.flags ≤ length numbers
-  pub front : IsFrontOf (part.steps ++ part.next) (starts numbers second part.flags)
+  pub prefix : IsPrefixOf (part.steps ++ part.next) (starts numbers second part.flags)
   pub all : IfOk result (λ store. (length part.flags ≡ length numbers) × (part.steps ≡ starts numbers second part.flags))
   pub numbered : map (λ kid. kid.number) part.added ≡ started_of numbers part.flags
   pub asked : part.questions ≡ []

@@ -1,12 +1,12 @@
--- Steps that hand nothing over are made one behind another (own).
+-- Steps that hand nothing over are made one after another (own).
 use Rattle.std.specs.Prelude.{◌≡◌, ◌≤◌, ◌++◌, [], ℕ, Bool, true, List, Result, Ok, Err, IfOk, IfErr, drop, length, take}
 use Rattle.host_calls.specs.Session.{CallsInside, IsInside, Session}
 use Rattle.host_calls.specs.World.{World}
 use Rattle.spool_model.specs.JobTable.{JobTable}
 use Rattle.spool_model.specs.Steps.{AreLegal, after_steps}
-use Rattle.job_runs.specs.Current.{IsCurrent, Kept}
-use Rattle.job_runs.specs.Hands.{StartNothing}
-use Rattle.job_runs.specs.Made.{AreMade, AreStopped}
+use Rattle.step_runs.specs.Current.{IsCurrent, Kept}
+use Rattle.step_runs.specs.Hands.{StartNothing}
+use Rattle.step_runs.specs.Made.{AreMade, AreStopped}
 use Rattle.spool_store.specs.declared.fault.StoreFault.{StoreFault}
 use Rattle.spool_store.specs.declared.fault.StoreFault.TheVariants.{FileFault}
 use Rattle.spool_store.specs.Faults.{IsOfStep}

@@ -1,10 +1,10 @@
--- The steps of a turn behind its recovery (own).
+-- The steps of a turn after its recovery (own).
 use Rattle.std.specs.Prelude.{◌≡◌, ◌++◌, Bool, List, Option, Result, Ok, Err, map}
 use Rattle.host_calls.specs.declared.child.Ending.{Ending}
 use Rattle.host_calls.specs.Session.{Session}
 use Rattle.host_calls.specs.World.{World}
 use Rattle.spool_model.specs.JobTable.{JobTable}
-use Rattle.job_runs.specs.Current.{Kept}
+use Rattle.step_runs.specs.Current.{Kept}
 use Rattle.queue_rules.specs.Order.{Differ}
 use Rattle.spool_store.specs.declared.fault.StoreFault.{StoreFault}
 use Rattle.daemon_turn.specs.declared.kid.Kid.{Kid}

@@ -7,7 +7,7 @@ use Rattle.host_calls.specs.declared.fault.EnterFault.TheVariants as entry
 use Rattle.host_calls.specs.Damages.{IfDamaged}
 use Rattle.host_calls.specs.Session.{IsInside, KeepsCounts, Session}
 use Rattle.host_calls.specs.World.{World}
-use Rattle.job_runs.specs.Current.{Kept}
+use Rattle.step_runs.specs.Current.{Kept}
 use Rattle.spool_store.specs.declared.fault.StoreFault.{StoreFault}
 use Rattle.spool_store.specs.declared.fault.StoreFault.TheVariants as fault
 use Rattle.spool_store.specs.Faults.{IsOfReading}
@@ -27,7 +27,7 @@ abbrev pub unit_of : Result Kept StoreFault → Result (Unit {0}) StoreFault
 unit_of (Ok kept) = Ok tt
 unit_of (Err fault) = Err fault
 
--- The steps of the turn were made on what is kept, or the first of them. The kids are those behind them, by number.
+-- The steps of the turn were made on what is kept, or the first of them. The kids are those after them, by number.
 pub record TurnsOn (tells : Bool) (before after : Session) (old new : World) (kept : Kept) (turn : Turn) (left : List Kid)
     (report : List TurnStep) (result : Result (Unit {0}) StoreFault) : Type 0 where
   pub outcome : Result Kept StoreFault
@@ -69,7 +69,7 @@ pub record Works (tells : Bool) (turn : Turn) (old new : DaemonAt) (steps : List
   pub kept : KeepsChildren old.session.children new.session.children
   pub cause : HasCause fault.FileFault old.session.file_faults new.session.file_faults result
   pub faults : IfErr result IsOfReading
-  pub children : AreChildren new.session.children new.watch.kids
-  pub ordered : AreByNumber new.watch.kids
-  pub unread : IfDamaged fault.Damaged (λ damage. IsNone steps old.watch new.watch) result
+  pub children : AreChildren new.session.children new.daemon.kids
+  pub ordered : AreByNumber new.daemon.kids
+  pub unread : IfDamaged fault.Damaged (λ damage. IsNone steps old.daemon new.daemon) result
   pub leaves : tells ≡ true → TurnLeaves turn steps old new (end_after result)

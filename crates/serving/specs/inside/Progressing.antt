@@ -1,12 +1,12 @@
 -- How far serving has come, and one turn more (own).
 use Rattle.std.specs.Prelude.{◌≡◌, ◌<◌, ◌≤◌, ◌++◌, [], ◌∷◌, ℕ, Bool, true, false, List, Option, Some, None, length, if◌then◌else◌}
 use Rattle.host_calls.specs.Clock.{Answers, Readers, with_rest}
-use Rattle.command_answers.specs.Sinks.{SinkAt}
+use Rattle.command_rules.specs.Sinks.{SinkAt}
 use Rattle.daemon_turn.specs.declared.kid.Kid.{Kid}
 use Rattle.daemon_turn.specs.declared.mode.Mode.{Mode}
 use Rattle.daemon_turn.specs.declared.mode.Mode.TheVariants.{Full, EndsOnly}
 use Rattle.daemon_turn.specs.declared.report.TurnEnd.{TurnEnd}
-use Rattle.serving.specs.Items.{Item, ends_behind, first_end, is_last, last_item, rest_behind}
+use Rattle.serving.specs.Items.{Item, ends_after, first_end, is_last, last_item, next_rest}
 use Rattle.serving.specs.Lines.{SaysEnds, turn_lines}
 use Rattle.serving.specs.Outcomes.{Stop, StopsBy, at_a_line, at_the_end, damage_outcome, outcome_by, turns_outcome}
 use Rattle.serving.specs.Serves.{ServeAt, Serves, ServeTelling}
@@ -25,10 +25,10 @@ abbrev pub first_or : Option TurnEnd → TurnEnd → Option TurnEnd
 first_or None end = Some end
 first_or (Some first) end = Some first
 
--- what serving comes to behind a turn that ended so, if no further one is made
+-- what serving comes to after a turn that ended so, if no further one is made
 abbrev pub outcome_if : Bool → TurnEnd → Option TurnEnd → List Kid → Bool → Option Outcome
-outcome_if once end first kids cut =
-    if is_last once end kids then Some (damage_outcome end (turns_outcome once first kids cut)) else None
+outcome_if once end first kids output_failed =
+    if is_last once end kids then Some (damage_outcome end (turns_outcome once first kids output_failed)) else None
 
 -- a rest before the next turn, if it is not the first
 abbrev pub RestsBefore : Bool → Option TurnEnd → ℕ → Answers → Answers → Readers → Readers → Type 0
@@ -37,17 +37,17 @@ RestsBefore tells None seconds answers_old answers_new readers_old readers_new =
 RestsBefore tells (Some end) seconds answers_old answers_new readers_old readers_new =
     (tells ≡ true → answers_new ≡ with_rest seconds answers_old) × (readers_new ≡ readers_old)
 
--- these are the seconds of the rest behind the last turn
+-- these are the seconds of the rest after the last turn
 abbrev pub IsRest : Bool → Option Item → ℕ → Type 0
 IsRest once None seconds = Unit {0}
-IsRest once (Some item) seconds = seconds ≡ rest_behind once item.end item.now
+IsRest once (Some item) seconds = seconds ≡ next_rest once item.end item.now
 
 -- where a line found no memory, serving stops at it
 abbrev pub stop_where : Bool → Stop
 stop_where true = at_the_end
 stop_where false = at_a_line
 
--- More was printed behind what was printed before, unless a put had failed: all of it, or up to a put that failed, or up to
+-- More was printed after what was printed before, unless a put had failed: all of it, or up to a put that failed, or up to
 -- a line that found no memory.
 abbrev pub PrintsMore : Bool → List ℕ → Bool → Bool → SinkAt → SinkAt → Bool → Type 0
 PrintsMore tells text cut_old cut_new old new found =
@@ -58,10 +58,10 @@ PrintsMore tells text cut_old cut_new old new found =
 pub record HasServed (tells : ServeTelling) (once : Bool) (items : List Item) (made : Progress) (first now : ServeAt)
     (out_first out_now err_first err_now : SinkAt) : Type 0 where
   pub serves : Serves tells once first items now
-  pub goes_on : ends_behind once (last_item items) now.spool.watch.kids ≡ false
+  pub goes_on : ends_after once (last_item items) now.spool.daemon.kids ≡ false
   pub begun : made.first ≡ first_end items
   pub rest : IsRest once (last_item items) made.rest
-  pub prints : Prints tells.output at_the_end made.cut (turn_lines items) out_first out_now
+  pub prints : Prints tells.output at_the_end made.output_failed (turn_lines items) out_first out_now
   pub says : tells.errors ≡ true → SaysEnds items err_first err_now
 
 -- Serving ended, and came to this.
@@ -70,13 +70,13 @@ pub record HasEnded (tells : ServeTelling) (once : Bool) (turns : ℕ) (first no
   pub items : List Item
   pub last : ServeAt
   pub stop : Stop
-  pub cut : Bool
+  pub output_failed : Bool
   pub few : length items ≤ turns
   pub serves : Serves tells once first items last
   pub stops : StopsBy stop tells.clock once turns items last now
-  pub prints : Prints tells.output stop cut (turn_lines items) out_first out_now
+  pub prints : Prints tells.output stop output_failed (turn_lines items) out_first out_now
   pub says : tells.errors ≡ true → SaysEnds (said_of stop items) err_first err_now
-  pub comes : outcome ≡ outcome_by stop once items last.spool.watch.kids cut
+  pub comes : outcome ≡ outcome_by stop once items last.spool.daemon.kids output_failed
 
 -- One turn more was made, or serving ended.
 abbrev pub Proceeds : ServeTelling → Bool → List Item → Progress → ServeAt → ServeAt

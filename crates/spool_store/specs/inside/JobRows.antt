@@ -1,4 +1,4 @@
--- What a look at the files of jobs finds, file by file, and the rows that it makes (own).
+-- What a survey of the files of jobs finds, file by file, and the rows that it makes (own).
 use Rattle.std.specs.Prelude.{◌≡◌, ◌==◌, [], ◌∷◌, ℕ, List, Some, None, Result, Ok, Err, drop, is_some, option_map, take}
 use Rattle.std.specs.BTreeMap.{BTreeMap, get}
 use Rattle.std.specs.List.{list_any}
@@ -28,10 +28,10 @@ RowMap = BTreeMap ℕ Row
 abbrev pub AreRowsOf : List Mark → List JobFile → RowMap → Type 0
 AreRowsOf marks files rows = (number : ℕ) → get nat_cmp rows number ≡ option_map (row_of marks) (file_of number files)
 
--- the numbers of files that were looked at, the last one first, before these
-abbrev pub numbers_behind : List ℕ → List JobFile → List ℕ
-numbers_behind before [] = before
-numbers_behind before (file ∷ later) = numbers_behind (file.job.number ∷ before) later
+-- the numbers of files that were surveyed, the last one first, before these
+abbrev pub numbers_after : List ℕ → List JobFile → List ℕ
+numbers_after before [] = before
+numbers_after before (file ∷ later) = numbers_after (file.job.number ∷ before) later
 
 -- the rows have these numbers
 abbrev pub HaveNumbers : List ℕ → RowMap → Type 0
@@ -42,8 +42,8 @@ abbrev pub IsRowOrDamage : ℕ → List ℕ → List Mark → JobFile → Result
 IsRowOrDamage last before marks file (Ok row) = (file_place last before file ≡ None) × (row ≡ row_of marks file)
 IsRowOrDamage last before marks file (Err damage) = damage_of file (file_place last before file) ≡ Some damage
 
--- Of these files so many were looked at: the damage of all is that of the others behind them, and the
+-- Of these files so many were surveyed: the damage of all is that of the others after them, and the
 -- rows are theirs.
-pub record HasLooked (last : ℕ) (marks : List Mark) (files : List JobFile) (place : ℕ) (rows : RowMap) : Type 0 where
-  pub damage : files_damage last [] files ≡ files_damage last (numbers_behind [] (take place files)) (drop place files)
+pub record IsSurveyedSoFar (last : ℕ) (marks : List Mark) (files : List JobFile) (place : ℕ) (rows : RowMap) : Type 0 where
+  pub damage : files_damage last [] files ≡ files_damage last (numbers_after [] (take place files)) (drop place files)
   pub rows_are : AreRowsOf marks (take place files) rows

@@ -45,12 +45,12 @@ lifecycle_with number mark life = record {
 }
 
 -- a life of which nothing is told
-abbrev pub untold : Lifecycle
-untold = record { started = None; fate = None; forgotten = false }
+abbrev pub unknown : Lifecycle
+unknown = record { started = None; fate = None; forgotten = false }
 
 -- what is kept of the number
 abbrev pub lifecycle_in : Lifecycles → ℕ → Lifecycle
-lifecycle_in lives number = unwrap_or (get nat_cmp lives.by_number number) untold
+lifecycle_in lives number = unwrap_or (get nat_cmp lives.by_number number) unknown
 
 -- for each number, what is kept is what the marks tell
 abbrev pub TellLifecycles : List Mark → Lifecycles → Type 0

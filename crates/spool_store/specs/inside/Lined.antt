@@ -14,10 +14,10 @@ running row second = record { number = row.number; queue = row.queue; minute = r
 
 -- the new rows are the old ones, with these in the place of one row
 pub record IsRowPut (old : List Row) (row : Row) (put new : List Row) : Type 0 where
-  pub front : List Row
+  pub prefix : List Row
   pub back : List Row
-  pub was : old ≡ front ++ row ∷ back
-  pub is : new ≡ front ++ (put ++ back)
+  pub was : old ≡ prefix ++ row ∷ back
+  pub is : new ≡ prefix ++ (put ++ back)
 
 -- The rows and the decided numbers are listed, and the lines are those of the rows.
 pub record AreKept (last : ℕ) (rows : List Row) (decided : List Decided) (lines : Lines) : Type 0 where

@@ -12,34 +12,34 @@ use Rattle.start_journal.specs.declared.mark.Mark.{Mark}
 use Rattle.start_journal.specs.Changing.{HoldsJournal}
 use Rattle.start_journal.specs.Journals.{JournalRead, journal_file}
 use Rattle.start_journal.specs.Marks.{decides, kept_marks}
-use Rattle.start_journal.specs.Wear.{is_worn}
+use Rattle.start_journal.specs.Compaction.{wants_compaction}
 use Rattle.whole_file.specs.Others.{IsEither}
-use Rattle.job_runs.specs.Bare.{bare}
-use Rattle.job_runs.specs.Current.{EachShows, HasNoDecidedFile, IsCurrent, Kept}
+use Rattle.step_runs.specs.WithoutScripts.{without_scripts}
+use Rattle.step_runs.specs.Current.{EachShows, HasNoDecidedFile, IsCurrent, Kept}
 use Rattle.spool_store.specs.Scripts.{IsFileOf}
 
--- what is kept of a table: the table without scripts, the journal, and the numbers of narrow names
+-- what is kept of a table: the table without scripts, the journal, and the numbers of names in the old form
 abbrev pub kept_with : List ℕ → JournalRead → JobTable → Kept
-kept_with narrow journal table = record { table = bare table; journal = journal; narrow = narrow }
+kept_with old_form journal table = record { table = without_scripts table; journal = journal; old_form = old_form }
 
--- no slot is free, or the journal is worn: then it is compacted before a mark is added
+-- no slot is free, or the journal wants compaction: then it is compacted before a mark is added
 abbrev pub needs_room : JournalRead → Bool
-needs_room journal = journal.free == 0 || is_worn journal.marks
+needs_room journal = journal.free == 0 || wants_compaction journal.marks
 
 -- the mark is that of a legal step on the table that the folder shows
-pub record IsMarkOf (narrow : List ℕ) (journal : JournalRead) (folder : Folder) (table : JobTable) (step : Step)
+pub record IsMarkOf (old_form : List ℕ) (journal : JournalRead) (folder : Folder) (table : JobTable) (step : Step)
     (mark : Mark) : Type 0 where
-  pub current : IsCurrent (kept_with narrow journal table) folder table
+  pub current : IsCurrent (kept_with old_form journal table) folder table
   pub legal : IsLegal table step
   pub adds : AddsMark table step mark
 
 -- The mark decides a job, whose file has this name.
-pub record IsDecisionOf (narrow : List ℕ) (journal : JournalRead) (folder : Folder) (table : JobTable) (step : Step)
+pub record IsDecisionOf (old_form : List ℕ) (journal : JournalRead) (folder : Folder) (table : JobTable) (step : Step)
     (mark : Mark) (name : List ℕ) : Type 0 where
-  pub is_mark : IsMarkOf narrow journal folder table step mark
+  pub is_mark : IsMarkOf old_form journal folder table step mark
   pub number : ℕ
   pub decided : decides number mark ≡ true
-  pub file : IsFileOf table narrow number name
+  pub file : IsFileOf table old_form number name
 
 -- the same marks, or what a compaction keeps of them
 abbrev pub AreSameOrKept : List Mark → List Mark → Type 0

@@ -1,4 +1,4 @@
--- What a look at a folder finds (own): the names, the files that count by their first bytes, and the files
+-- What a survey of a folder finds (own): the names, the files that count by their first bytes, and the files
 -- that count no more.
 use Rattle.std.specs.Prelude.{◌≡◌, ◌||◌, ℕ, Bool, true, false, List, Some, None, Option, Ok, nat_eq, take, map}
 use Rattle.std.specs.Cmp.Lexicographic.{pointwise}
@@ -11,15 +11,15 @@ use Rattle.start_journal.specs.declared.mark.Mark.{Mark}
 use Rattle.start_journal.specs.Journals.{journal_file, journal_in}
 use Rattle.start_journal.specs.Marks.{is_decided}
 use Rattle.job_script.specs.declared.headers.TheConstants.{MAX_HEADER}
-use Rattle.job_runs.specs.Bare.{bare}
+use Rattle.step_runs.specs.WithoutScripts.{without_scripts}
 use Rattle.spool_shows.specs.JobFiles.{counts, job_files}
 use Rattle.job_name.specs.JobName.{NamedJob, job_named}
 use Rattle.spool_shows.specs.Shown.{Shows}
-use Rattle.spool_store.specs.declared.findings.Findings.{Findings}
-use Rattle.spool_store.specs.declared.findings.Kind.{Kind}
-use Rattle.spool_store.specs.declared.findings.Kind.TheVariants.{Counts, LeftOver, Other}
+use Rattle.spool_store.specs.declared.surveyed_files.SurveyedFiles.{SurveyedFiles}
+use Rattle.spool_store.specs.declared.surveyed_files.Kind.{Kind}
+use Rattle.spool_store.specs.declared.surveyed_files.Kind.TheVariants.{Counts, LeftOver, Other}
 use Rattle.spool_store.specs.declared.survey.Survey.{Survey}
-use Rattle.spool_store.specs.inside.FoundJobs.{files_found, job_of_name, narrow_numbers}
+use Rattle.spool_store.specs.inside.SurveyedJobs.{files_surveyed, job_of_name, old_form_numbers}
 
 -- a mark decides the number of the job, if there is one
 abbrev pub is_decided_job : List Mark → Option NamedJob → Bool
@@ -39,20 +39,20 @@ IsKind marks name LeftOver = (counts marks name ≡ false) × (is_left_over mark
 IsKind marks name Other = (counts marks name ≡ false) × (is_left_over marks name ≡ false)
 
 -- a name and the first bytes of its file, as many as a header can have
-abbrev pub front_of : List ℕ × List ℕ → List ℕ × List ℕ
-front_of file = (file.0, take MAX_HEADER file.1)
+abbrev pub prefix_of : List ℕ × List ℕ → List ℕ × List ℕ
+prefix_of file = (file.0, take MAX_HEADER file.1)
 
--- These were found among the files: the findings of those that count, and the names of those that count no more.
-pub record AreFindings (marks : List Mark) (files : List (List ℕ × List ℕ)) (findings : Findings) : Type 0 where
-  pub seen : files_found findings.seen.items ≡ job_files marks (map front_of files)
-  pub leftover : findings.leftover.items ≡ filter (is_left_over marks) (map (λ file. file.0) files)
+-- These were found among the files: those that count, and the names of those that count no more.
+pub record AreSurveyedFiles (marks : List Mark) (files : List (List ℕ × List ℕ)) (surveyed_files : SurveyedFiles) : Type 0 where
+  pub surveyed : files_surveyed surveyed_files.surveyed.items ≡ job_files marks (map prefix_of files)
+  pub leftover : surveyed_files.leftover.items ≡ filter (is_left_over marks) (map (λ file. file.0) files)
 
 -- The folder shows a table. These are its jobs without scripts, its journal, the numbers of the files with narrow
 -- names, and the names of the files that count no more, each once.
-pub record IsSurvey (files : Files) (look : Survey) : Type 0 where
+pub record IsSurvey (files : Files) (survey : Survey) : Type 0 where
   pub table : JobTable
   pub shows : Shows files table
-  pub jobs : look.jobs ≡ bare table
-  pub journal : journal_in table.last (finite.get files journal_file) ≡ Ok look.journal
-  pub narrow : look.narrow.items ≡ narrow_numbers (job_files look.journal.marks (finite.entries files))
-  pub leftover : look.leftover.items ≡ filter (is_left_over look.journal.marks) (finite.keys files)
+  pub jobs : survey.jobs ≡ without_scripts table
+  pub journal : journal_in table.last (finite.get files journal_file) ≡ Ok survey.journal
+  pub old_form : survey.old_form.items ≡ old_form_numbers (job_files survey.journal.marks (finite.entries files))
+  pub leftover : survey.leftover.items ≡ filter (is_left_over survey.journal.marks) (finite.keys files)

@@ -7,7 +7,7 @@ use Rattle.start_journal.specs.declared.mark.Mark.{Mark}
 use Rattle.start_journal.specs.Marks.{is_decided, last_batch}
 use Rattle.spool_shows.specs.JobFiles.{JobFile}
 use Rattle.spool_shows.specs.Shown.{damage_of_jobs, table_shown}
-use Rattle.job_runs.specs.Bare.{bare}
+use Rattle.step_runs.specs.WithoutScripts.{without_scripts}
 use Rattle.spool_store.specs.inside.Lifecycles.{Rise}
 use Rattle.spool_store.specs.Rows.{listed_table}
 
@@ -23,7 +23,7 @@ AreUndecided marks files = (file : JobFile) → Contains files file → is_decid
 -- that is shown, without scripts.
 pub record ListsTable (last : ℕ) (marks : List Mark) (files : List JobFile) (rows : List Row) (decided : List Decided) : Type 0 where
   pub whole : damage_of_jobs last marks files ≡ None
-  pub table : listed_table last rows decided (last_batch marks) ≡ bare (table_shown last marks files)
+  pub table : listed_table last rows decided (last_batch marks) ≡ without_scripts (table_shown last marks files)
   pub rows_rise : Rise (map (λ row. row.number) rows)
   pub decided_rise : Rise (map (λ one. one.number) decided)
 
@@ -35,4 +35,4 @@ pub record ListsDrawn (last : ℕ) (rows : List Row) (decided : List Decided) : 
 
 -- there is no damage, and this is the table that is shown, without scripts
 abbrev pub IsTableShown : ℕ → List Mark → List JobFile → JobTable → Type 0
-IsTableShown last marks files table = (damage_of_jobs last marks files ≡ None) × (table ≡ bare (table_shown last marks files))
+IsTableShown last marks files table = (damage_of_jobs last marks files ≡ None) × (table ≡ without_scripts (table_shown last marks files))

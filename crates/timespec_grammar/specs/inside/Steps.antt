@@ -24,7 +24,7 @@ begin token.Midnight = Some (read.Timed (clock.At 0 0 false))
 begin token.Teatime = Some (read.Timed (clock.At 16 0 false))
 begin _ = None
 
--- the minute behind an hour and a colon
+-- the minute after an hour and a colon
 abbrev pub after_colon : ℕ → Token → Option Read
 after_colon hour (token.Number digits value) =
     if is_minute digits value then Some (read.HourMinute hour value) else None
@@ -61,7 +61,7 @@ abbrev pub after_hour : ℕ → Token → Option Read
 after_hour hour token.Colon = Some (read.HourColon hour)
 after_hour hour other = after_minute hour 0 other
 
--- the day behind a month
+-- the day after a month
 abbrev pub after_month : Clock → ℕ → Token → Option Read
 after_month at month (token.Number digits value) =
     if is_day digits value then Some (read.DayNamed at month value) else None
@@ -72,20 +72,20 @@ abbrev pub after_day : Clock → ℕ → ℕ → Token → Option Read
 after_day at month day token.Comma = Some (read.YearDue at month day)
 after_day at month day other = after_date at (date.MonthDay month day None) other
 
--- the year behind a month and a day
+-- the year after a month and a day
 abbrev pub year_due : Clock → ℕ → ℕ → Token → Option Read
 year_due at month day (token.Number digits value) =
     if is_year digits value then Some (read.Dated at (date.MonthDay month day (Some value))) else None
 year_due at month day _ = None
 
--- the mark behind a number that begins a date: it says whether that was a month, a day or a year
+-- the mark after a number that begins a date: it says whether that was a month, a day or a year
 abbrev pub after_number : Clock → ℕ → ℕ → Token → Option Read
 after_number at digits value token.Slash = if is_month_number digits value then Some (read.MonthSlash at value) else None
 after_number at digits value token.Dot = if is_day digits value then Some (read.DayDot at value) else None
 after_number at digits value token.Dash = if is_year digits value then Some (read.YearDash at value) else None
 after_number at digits value _ = None
 
--- the day behind a month and a slash
+-- the day after a month and a slash
 abbrev pub after_slash : Clock → ℕ → Token → Option Read
 after_slash at month (token.Number digits value) =
     if is_day digits value then Some (read.SlashDay at month value) else None
@@ -96,7 +96,7 @@ abbrev pub second_slash : Clock → ℕ → ℕ → Token → Option Read
 second_slash at month day token.Slash = Some (read.YearDue at month day)
 second_slash at month day _ = None
 
--- the month behind a day and a dot
+-- the month after a day and a dot
 abbrev pub after_dot : Clock → ℕ → Token → Option Read
 after_dot at day (token.Number digits value) =
     if is_month_number digits value then Some (read.DotMonth at value day) else None
@@ -107,7 +107,7 @@ abbrev pub second_dot : Clock → ℕ → ℕ → Token → Option Read
 second_dot at month day token.Dot = Some (read.YearDue at month day)
 second_dot at month day _ = None
 
--- the month behind a year and a dash
+-- the month after a year and a dash
 abbrev pub after_dash : Clock → ℕ → Token → Option Read
 after_dash at year (token.Number digits value) =
     if is_month_number digits value then Some (read.DashMonth at value year) else None
@@ -118,13 +118,13 @@ abbrev pub second_dash : Clock → ℕ → ℕ → Token → Option Read
 second_dash at month year token.Dash = Some (read.DayDue at month year)
 second_dash at month year _ = None
 
--- the day behind a year and a month
+-- the day after a year and a month
 abbrev pub day_due : Clock → ℕ → ℕ → Token → Option Read
 day_due at month year (token.Number digits value) =
     if is_day digits value then Some (read.Dated at (date.MonthDay month value (Some year))) else None
 day_due at month year _ = None
 
--- the count behind a plus
+-- the count after a plus
 abbrev pub after_plus : Clock → DatePart → Token → Option Read
 after_plus at day (token.Number digits value) =
     if is_count digits value then Some (read.Counted at day value) else None

@@ -8,7 +8,7 @@ use Rattle.touch_time.specs.declared.touch.TouchTime.{TouchTime}
 abbrev pub Read : Type 0 → Type 0
 Read A = Option (A × List ℕ)
 
--- what a function read, with the text behind the reference
+-- what a function read, with the text after the reference
 abbrev pub read_view : {A : Type 0} → Option (A × Bor (List ℕ)) → Read A
 read_view r = option_map (λ p. (p.0, p.1.now)) r
 
@@ -56,7 +56,7 @@ unfoldable pub is_seconds : List ℕ → Bool
 is_seconds [] = true
 is_seconds (point ∷ rest) = (point == 46) && is_last (read_number 0 60 rest)
 
--- a time and nothing behind it
+-- a time and nothing after it
 unfoldable pub read_touch : List ℕ → Option TouchTime
 read_touch text = do
   year ← read_year text

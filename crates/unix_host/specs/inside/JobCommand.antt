@@ -8,7 +8,7 @@ use Rattle.std.specs.declared.process.Command.{Command}
 abbrev pub job_line : List ℕ
 job_line = codes "exec nice -n \"$1\" env -i /bin/sh \"$2\" >\"$3\" 2>&1 </dev/null"
 
--- the words behind the shell's name: its line, the name by which it calls itself, and the three words
+-- the words after the shell's name: its line, the name by which it calls itself, and the three words
 abbrev pub job_words : ℕ → List ℕ → List ℕ → List (List ℕ)
 job_words nice script output =
     codes "-c" ∷ job_line ∷ codes "atjob" ∷ decimal nice ∷ script ∷ output ∷ []

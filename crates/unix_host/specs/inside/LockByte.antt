@@ -8,9 +8,9 @@ abbrev pub meaning_of : ℕ → Unsynced
 meaning_of byte = if byte == 99 then Nothing else if byte == 110 then Names else Anything
 
 -- what may be unsynced by what was read of the file: where nothing was, anything
-abbrev pub told_by : Option ℕ → Unsynced
-told_by None = Anything
-told_by (Some byte) = meaning_of byte
+abbrev pub known_by : Option ℕ → Unsynced
+known_by None = Anything
+known_by (Some byte) = meaning_of byte
 
 -- how much may be unsynced, as a number
 abbrev pub amount_of : Unsynced → ℕ

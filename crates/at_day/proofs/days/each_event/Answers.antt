@@ -1,9 +1,9 @@
 use Rattle.std.proofs.Common.{◌≡◌, ◌++◌, [], ◌∷◌, arith}
 use Rattle.std.proofs.lemmas.List.{take_all}
-use Rattle.day_runs.proofs.HeadlineLemmas.{events_hand_once}
+use Rattle.headline.proofs.HeadlineLemmas.{events_hand_once}
 use Rattle.at_day.specs.Days.{first_machine}
 use Rattle.at_day.specs.Machines.{machine}
-use Rattle.at_day.proofs.DeedLemmas.{cut_at, cut_behind, day_event_at, day_of, on_err, outside_after, so_far_at_first, so_far_more, unchanged_same}
+use Rattle.at_day.proofs.OutcomeLemmas.{cut_at, cut_after, day_event_at, day_of, on_err, outside_after, so_far_at_first, so_far_more, unchanged_same}
 use Rattle.at_day.proofs.days.each_event.Goals as goal
 
 pub loop-event-init : goal.loop-event-init
@@ -16,7 +16,7 @@ returns-in_err-reserve-clause-outside c = c.loop-event.invariant.ready.outside
 pub returns-in_err-reserve-clause-cut : goal.returns-in_err-reserve-clause-cut
 returns-in_err-reserve-clause-cut c =
     on_err c.from_residual.result
-    (cut_behind events_hand_once c.args.events.now c.loop-event.event-index c.loop-event.reports.items (first_machine c.args.host.now)
+    (cut_after events_hand_once c.args.events.now c.loop-event.event-index c.loop-event.reports.items (first_machine c.args.host.now)
     (machine c.loop-event.host c.loop-event.daemon) c.loop-event.invariant c.loop-event.host (unchanged_same c.loop-event.host))
 
 pub one_event-requires-clause-of_day : goal.one_event-requires-clause-of_day

@@ -1,26 +1,21 @@
+use Rattle.std.proofs.Common.{ap, subst, sym, drop, length, map, take, string_bytes, ◌∙◌, ◌-◌, ◌≡◌, List, String, ℕ}
+use Rattle.std.proofs.Math.Seq.{take-length}
+use Rattle.std.proofs.lemmas.List.{drop-map, length-drop}
+use Rattle.at_words.proofs.LetterLemmas.{answers_by_letter}
+use Rattle.at_words.specs.Answers.{Answers}
 use Rattle.at_words.specs.Requests.{request_to}
 use Rattle.at_words.proofs.words.request_by.Goals as goal
 
-pub returns-in-At : goal.returns-in-At
-unfolding request_to
-returns-in-At c = rw c.in-At.is c.request.ensures
+-- the bytes of the words from a place on
+words_from : {W : Type 0} (bytes_of : W → List ℕ) (words : List W) (place : ℕ) →
+    map bytes_of (take (length words - place) (drop place words)) ≡ drop place (map bytes_of words)
+words_from {W} bytes_of words place =
+    ap (map bytes_of) (ap (λ (count : ℕ). take count (drop place words)) (sym (length-drop place words)) ∙ take-length (drop place words))
+    ∙ sym (drop-map bytes_of place words)
 
-pub returns-in-Batch : goal.returns-in-Batch
-unfolding request_to
-returns-in-Batch c = rw c.in-Batch.is c.request-in-Batch.ensures
+pub returns-in-Some-clause-asked : goal.returns-in-Some-clause-asked
+returns-in-Some-clause-asked c = rw c.in-Some.is (subst (λ (words : List (List ℕ)). Answers (request_to c.in-Some.tool words) c.request_to.result)
+    (words_from _ c.args.words.now (c.in-Some.start - 1)) c.request_to.ensures)
 
-pub returns-in-Atq : goal.returns-in-Atq
-unfolding request_to
-returns-in-Atq c = rw c.in-Atq.is c.request-in-Atq.ensures
-
-pub returns-in-Atrm : goal.returns-in-Atrm
-unfolding request_to
-returns-in-Atrm c = rw c.in-Atrm.is c.request-in-Atrm.ensures
-
-pub returns-in-Atd : goal.returns-in-Atd
-unfolding request_to
-returns-in-Atd c = rw c.in-Atd.is c.request-in-Atd.ensures
-
-pub returns-in-Atday : goal.returns-in-Atday
-unfolding request_to
-returns-in-Atday c = rw c.in-Atday.is c.request-in-Atday.ensures
+pub returns-in-Some-clause-letter : goal.returns-in-Some-clause-letter
+returns-in-Some-clause-letter c = answers_by_letter c.in-Some.tool _ c.request_to.result c.request_to.ensures

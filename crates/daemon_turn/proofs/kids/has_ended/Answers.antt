@@ -5,7 +5,7 @@ use Rattle.daemon_turn.specs.declared.step.TurnStep.TheVariants.{HandedOver, End
 use Rattle.daemon_turn.specs.Kids.{tells_end_of}
 use Rattle.daemon_turn.specs.StepsOf.{number_of}
 use Rattle.daemon_turn.specs.inside.Ended.{is_end}
-use Rattle.job_runs.proofs.ApartLemmas.{all_each, any_alike, found_by}
+use Rattle.step_runs.proofs.ApartLemmas.{all_each, any_alike, found_by}
 use Rattle.daemon_turn.proofs.kids.has_ended.Goals as goal
 
 -- of an end, the number alone says whose it is

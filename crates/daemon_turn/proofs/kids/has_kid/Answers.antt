@@ -1,7 +1,7 @@
 use Rattle.std.proofs.Common.{◌∙◌, rules}
 use Rattle.std.proofs.lemmas.List.Sorted.{answers_always}
 use Rattle.daemon_turn.specs.declared.kid.Kid.{Kid}
-use Rattle.job_runs.proofs.ApartLemmas.{found_by}
+use Rattle.step_runs.proofs.ApartLemmas.{found_by}
 use Rattle.daemon_turn.proofs.kids.has_kid.Goals as goal
 
 pub returns : goal.returns

@@ -1,7 +1,7 @@
 use Rattle.std.proofs.Common.{rules}
 use Rattle.std.proofs.lemmas.List.Sorted.{IsNonDecreasingBy-from_sort_by_key}
 use Rattle.daemon_turn.specs.declared.kid.Kid.{Kid}
-use Rattle.job_runs.proofs.ApartLemmas.{sorted_rise}
+use Rattle.step_runs.proofs.ApartLemmas.{sorted_rise}
 use Rattle.daemon_turn.proofs.kids.sort_kids.Goals as goal
 
 pub returns-clause-ordered : goal.returns-clause-ordered

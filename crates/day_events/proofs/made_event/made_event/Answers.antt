@@ -21,7 +21,7 @@ returns-then-number-eq3 c = c.turn.ensures ∙ sym (made_turn c.args.number c.if
 
 pub returns-then-number-eq4 : goal.returns-then-number-eq4
 returns-then-number-eq4 c = as_made _ _ _
-    (command_is c.args.number _ _ _ _ c.in_ok-one_word-2.ensures c.no_input.ensures ∙ sym (made_listing c.args.number c.if-number-eq4.true))
+    (command_is c.args.number _ _ _ _ c.in_ok-one_word-2.ensures c.empty_input.ensures ∙ sym (made_listing c.args.number c.if-number-eq4.true))
     c.command.ensures
 
 pub returns-then-number-eq5 : goal.returns-then-number-eq5
@@ -29,7 +29,7 @@ returns-then-number-eq5 c = c.turn-then-number-eq5.ensures ∙ sym (made_loaded 
 
 pub returns-then-number-eq6 : goal.returns-then-number-eq6
 returns-then-number-eq6 c = as_made _ _ _
-    (command_is c.args.number _ _ _ _ c.in_ok-removal.ensures c.no_input-then-number-eq6.ensures
+    (command_is c.args.number _ _ _ _ c.in_ok-removal.ensures c.empty_input-then-number-eq6.ensures
     ∙ sym (made_removal c.args.number c.if-number-eq6.true))
     c.command-then-number-eq6.ensures
 

@@ -1,5 +1,5 @@
 use Rattle.std.proofs.Common.{◌↔◌, length}
-use Rattle.job_script.specs.inside.Fronts.{HasLines}
+use Rattle.job_script.specs.inside.Prefixes.{HasLines}
 use Rattle.job_script.proofs.form.has_lines.Given as goal
 
 abbrev pub invariant-loop-more : goal.invariant-loop-more

@@ -6,6 +6,6 @@ returns c = record {
   header = header_in-some c.args.bytes.now;
   none = header_in-none c.args.bytes.now;
   place = header_place-fault c.args.bytes.now;
-  header_in_front = header_in-take c.args.bytes.now;
-  place_in_front = header_place-take c.args.bytes.now;
+  header_in_prefix = header_in-take c.args.bytes.now;
+  place_in_prefix = header_place-take c.args.bytes.now;
 }

@@ -1,5 +1,5 @@
 use Rattle.std.proofs.Common.{◌++◌, List, ℕ, ap, ◌∙◌}
-use Rattle.job_script.specs.Header.{before_user, behind_user}
+use Rattle.job_script.specs.Header.{before_user, after_user}
 use Rattle.job_script.specs.JobText.{quoted, umask_line, variable_lines}
 use Rattle.job_script.specs.Variables.{kept}
 use Rattle.job_script.proofs.WordLemmas.{put_together}
@@ -7,7 +7,7 @@ use Rattle.job_script.proofs.writer.text_of.Goals as goal
 
 pub returns : goal.returns
 returns c =
-    put_together c.args.context.now.user (behind_user c.args.mail) (umask_line c.args.context.now.umask)
+    put_together c.args.context.now.user (after_user c.args.mail) (umask_line c.args.context.now.umask)
     (variable_lines (kept c.args.context.now.environment)) (quoted c.args.context.now.directory) c.args.commands.now
     c.extend_from_slice.new.self.items c.extend_from_slice-2.new.self.items c.put_umask.new.text.items
     c.put_variables.new.text.items c.extend_from_slice-3.new.self.items c.put_quoted.new.text.items

@@ -3,7 +3,7 @@ use Rattle.std.proofs.lemmas.List.{take-append-drop}
 use Rattle.std.proofs.lemmas.List.Sums.{prefix_len-le-length}
 use Rattle.std.specs.List.{prefix_len}
 use Rattle.std.specs.Char.{is_ascii_digit}
-use Rattle.load_reading.proofs.LoadLemmas.{list_all-front, count-load, fraction-load}
+use Rattle.load_reading.proofs.LoadLemmas.{list_all-prefix, count-load, fraction-load}
 use Rattle.load_reading.proofs.load.hundredths.Goals as goal
 
 pub returns-then-count-eq0-clause-none : goal.returns-then-count-eq0-clause-none
@@ -20,14 +20,14 @@ split_at-requires c =
 pub returns-in_err-hundredths-clause-none : goal.returns-in_err-hundredths-clause-none
 returns-in_err-hundredths-clause-none c =
     let text = c.args.text.now in
-    let behind : c.split_at.result.1.now ≡ drop (prefix_len is_ascii_digit text) text =
+    let after : c.split_at.result.1.now ≡ drop (prefix_len is_ascii_digit text) text =
     c.split_at.ensures.back ∙ ap (λ (n : ℕ). drop n text) c.digit_count-count.ensures in
     rw c.from_residual.ensures
-    (λ load spelled. c.in_err-hundredths.ensures.none spelled.hundredths (rw behind (fraction-load text load spelled)))
+    (λ load spelled. c.in_err-hundredths.ensures.none spelled.hundredths (rw after (fraction-load text load spelled)))
 
 pub number-requires-clause-each : goal.number-requires-clause-each
 number-requires-clause-each c =
-    rw (c.split_at.ensures.front, c.digit_count-count.ensures) (list_all-front is_ascii_digit c.args.text.now)
+    rw (c.split_at.ensures.front, c.digit_count-count.ensures) (list_all-prefix is_ascii_digit c.args.text.now)
 
 pub returns-clause-some : goal.returns-clause-some
 returns-clause-some c =
@@ -40,7 +40,7 @@ returns-clause-some c =
       spelled = rw (parts.front, parts.back) (sym (take-append-drop _ _));
       some = omega (arith, counted);
       few = omega (arith, counted);
-      digits = rw (parts.front, c.digit_count-count.ensures) (list_all-front is_ascii_digit c.args.text.now);
+      digits = rw (parts.front, c.digit_count-count.ensures) (list_all-prefix is_ascii_digit c.args.text.now);
       fraction = c.in_ok-hundredths.ensures.some;
       value = rw c.number.ensures.value refl;
     }

@@ -4,4 +4,4 @@ use Rattle.sequence_file.specs.Places.{fits_at}
 use Rattle.sequence_file.proofs.text.fitting.Given as goal
 
 abbrev pub invariant-loop-place : goal.invariant-loop-place
-invariant-loop-place l = (place : ℕ) → place < l.place → fits_at l.wide place (slice_index l.bytes place) ≡ true
+invariant-loop-place l = (place : ℕ) → place < l.place → fits_at l.new_form place (slice_index l.bytes place) ≡ true

@@ -1,5 +1,5 @@
 use Rattle.std.proofs.Common.{◌≡◌, drop}
-use Rattle.command_answers.specs.Verdict.{jobs_check}
+use Rattle.command_rules.specs.Verdict.{jobs_check}
 use Rattle.spool_session.proofs.jobs.refusal_of_jobs.Given as goal
 
 -- the numbers from here on decide

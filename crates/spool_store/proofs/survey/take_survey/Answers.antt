@@ -9,13 +9,13 @@ use Rattle.start_journal.specs.Journals.{journal_file, journal_in}
 use Rattle.spool_shows.specs.Shown.{damage_of_jobs, shown_by}
 use Rattle.sequence_file.proofs.LastNumbers.{last_damage, last_given}
 use Rattle.spool_store.specs.inside.Lifecycles.{TellLifecycles}
-use Rattle.spool_store.specs.inside.Survey.{AreFindings}
-use Rattle.spool_store.specs.inside.FoundJobs.{files_found, narrow_numbers}
+use Rattle.spool_store.specs.inside.Survey.{AreSurveyedFiles}
+use Rattle.spool_store.specs.inside.SurveyedJobs.{files_surveyed, old_form_numbers}
 use Rattle.spool_store.specs.inside.Tables.{AreUndecided, IsTableShown}
 use Rattle.spool_store.proofs.ShownLemmas.{found_damage, is_survey, jobs_damage, journal_damage, number_damage, recalled_damage, sequence_damage}
-use Rattle.spool_store.specs.Stored.{AreNarrow}
-use Rattle.spool_store.proofs.RecoveryForms.{are_narrow}
-use Rattle.spool_store.proofs.RecoveryEntries.{is_stored, seen_named}
+use Rattle.spool_store.specs.Stored.{AreInOldForm}
+use Rattle.spool_store.proofs.RecoveryForms.{are_old_form}
+use Rattle.spool_store.proofs.RecoveryEntries.{is_stored, surveyed_named}
 use Rattle.spool_store.proofs.survey.take_survey.Goals as goal
 
 pub returns-in_err-number-clause-damaged : goal.returns-in_err-number-clause-damaged
@@ -33,8 +33,8 @@ returns-in_err-journal-clause-damaged g c = λ tells.
 
 pub jobs_shown-requires-clause-undecided : goal.jobs_shown-requires-clause-undecided
 jobs_shown-requires-clause-undecided g c =
-    subst (λ marks. AreUndecided marks (files_found c.as_slice.result.now)) (c.marks.ensures.marks ∙ sym c.marks-2.ensures.marks)
-    (subst (λ seen. AreUndecided c.marks.result.now (files_found seen)) (sym c.as_slice.ensures.value) (c.in_ok-seen.ensures.undecided c.marks.result.now c.in_ok-lives.ensures))
+    subst (λ marks. AreUndecided marks (files_surveyed c.as_slice.result.now)) (c.marks.ensures.marks ∙ sym c.marks-2.ensures.marks)
+    (subst (λ surveyed. AreUndecided c.marks.result.now (files_surveyed surveyed)) (sym c.as_slice.ensures.value) (c.in_ok-surveyed.ensures.undecided c.marks.result.now c.in_ok-lives.ensures))
 
 pub returns-in_err-jobs-clause-damaged : goal.returns-in_err-jobs-clause-damaged
 returns-in_err-jobs-clause-damaged g c = λ tells.
@@ -42,11 +42,11 @@ returns-in_err-jobs-clause-damaged g c = λ tells.
     let last = c.in_ok-number.number in
     let journal = c.in_ok-journal.journal in
     let read : journal_in last (finite.get files journal_file) ≡ Ok journal = ap (λ w. journal_in last (finite.get (reading w) journal_file)) (sym (c.in_ok-number.ensures.looks tells)) ∙ c.in_ok-journal.ensures.journal tells in
-    let are : AreFindings journal.marks (entries files) c.in_ok-seen.field-0 =
-    subst (λ w. AreFindings journal.marks (entries (reading w)) c.in_ok-seen.field-0) (c.in_ok-journal.ensures.looks tells ∙ c.in_ok-number.ensures.looks tells)
-    (c.in_ok-seen.ensures.findings tells journal.marks (subst (λ marks. TellLifecycles marks c.in_ok-lives.lives) c.marks.ensures.marks c.in_ok-lives.ensures)) in
-    found_damage (λ damage. shown_by files ≡ Err damage) (damage_of_jobs last c.marks-2.result.now (files_found c.as_slice.result.now)) c.in_err-jobs.field-0.0 c.from_residual-in_err-jobs.result c.from_residual-in_err-jobs.ensures.1 c.in_err-jobs.ensures
-    (jobs_damage files last journal c.in_ok-seen.field-0 c.marks-2.result.now c.as_slice.result.now (last_given _ _ (c.in_ok-number.ensures.number tells)) read are c.marks-2.ensures.marks c.as_slice.ensures.value)
+    let are : AreSurveyedFiles journal.marks (entries files) c.in_ok-surveyed.field-0 =
+    subst (λ w. AreSurveyedFiles journal.marks (entries (reading w)) c.in_ok-surveyed.field-0) (c.in_ok-journal.ensures.looks tells ∙ c.in_ok-number.ensures.looks tells)
+    (c.in_ok-surveyed.ensures.surveyed_files tells journal.marks (subst (λ marks. TellLifecycles marks c.in_ok-lives.lives) c.marks.ensures.marks c.in_ok-lives.ensures)) in
+    found_damage (λ damage. shown_by files ≡ Err damage) (damage_of_jobs last c.marks-2.result.now (files_surveyed c.as_slice.result.now)) c.in_err-jobs.field-0.0 c.from_residual-in_err-jobs.result c.from_residual-in_err-jobs.ensures.1 c.in_err-jobs.ensures
+    (jobs_damage files last journal c.in_ok-surveyed.field-0 c.marks-2.result.now c.as_slice.result.now (last_given _ _ (c.in_ok-number.ensures.number tells)) read are c.marks-2.ensures.marks c.as_slice.ensures.value)
 
 pub returns-clause-shown : goal.returns-clause-shown
 returns-clause-shown g c = λ tells.
@@ -54,27 +54,27 @@ returns-clause-shown g c = λ tells.
     let last = c.in_ok-number.number in
     let journal = c.in_ok-journal.journal in
     let read : journal_in last (finite.get files journal_file) ≡ Ok journal = ap (λ w. journal_in last (finite.get (reading w) journal_file)) (sym (c.in_ok-number.ensures.looks tells)) ∙ c.in_ok-journal.ensures.journal tells in
-    let are : AreFindings journal.marks (entries files) c.in_ok-seen.field-0 =
-    subst (λ w. AreFindings journal.marks (entries (reading w)) c.in_ok-seen.field-0) (c.in_ok-journal.ensures.looks tells ∙ c.in_ok-number.ensures.looks tells)
-    (c.in_ok-seen.ensures.findings tells journal.marks (subst (λ marks. TellLifecycles marks c.in_ok-lives.lives) c.marks.ensures.marks c.in_ok-lives.ensures)) in
-    is_survey files last journal c.in_ok-seen.field-0 c.marks-2.result.now c.as_slice.result.now (last_given _ _ (c.in_ok-number.ensures.number tells)) read are c.marks-2.ensures.marks c.as_slice.ensures.value _ refl
-    (c.in_ok-narrow.ensures ∙ ap (λ seen. narrow_numbers (files_found seen)) (c.as_slice-2.ensures.value ∙ sym c.as_slice.ensures.value))
+    let are : AreSurveyedFiles journal.marks (entries files) c.in_ok-surveyed.field-0 =
+    subst (λ w. AreSurveyedFiles journal.marks (entries (reading w)) c.in_ok-surveyed.field-0) (c.in_ok-journal.ensures.looks tells ∙ c.in_ok-number.ensures.looks tells)
+    (c.in_ok-surveyed.ensures.surveyed_files tells journal.marks (subst (λ marks. TellLifecycles marks c.in_ok-lives.lives) c.marks.ensures.marks c.in_ok-lives.ensures)) in
+    is_survey files last journal c.in_ok-surveyed.field-0 c.marks-2.result.now c.as_slice.result.now (last_given _ _ (c.in_ok-number.ensures.number tells)) read are c.marks-2.ensures.marks c.as_slice.ensures.value _ refl
+    (c.in_ok-old_form.ensures ∙ ap (λ surveyed. old_form_numbers (files_surveyed surveyed)) (c.as_slice-2.ensures.value ∙ sym c.as_slice.ensures.value))
     refl c.in_ok-jobs.ensures
 
 pub returns-clause-stored : goal.returns-clause-stored
 returns-clause-stored g c =
     let last = c.in_ok-number.number in
     let journal = c.in_ok-journal.journal in
-    let seen = c.as_slice.result.now in
-    let shown = subst (λ marks. IsTableShown last marks (files_found seen) c.in_ok-jobs.jobs) c.marks-2.ensures.marks c.in_ok-jobs.ensures in
-    is_stored last journal.marks (files_found seen) (record {
+    let surveyed = c.as_slice.result.now in
+    let shown = subst (λ marks. IsTableShown last marks (files_surveyed surveyed) c.in_ok-jobs.jobs) c.marks-2.ensures.marks c.in_ok-jobs.ensures in
+    is_stored last journal.marks (files_surveyed surveyed) (record {
       few = c.in_ok-number.ensures.few;
       legal = c.marks-2.ensures.legal;
       writable = c.marks-2.ensures.writable;
       drawn = c.in_ok-journal.ensures.drawn;
-      undecided = subst (λ list. AreUndecided journal.marks (files_found list)) (sym c.as_slice.ensures.value)
-          (c.in_ok-seen.ensures.undecided journal.marks (subst (λ marks. TellLifecycles marks c.in_ok-lives.lives) c.marks.ensures.marks c.in_ok-lives.ensures));
-      named = seen_named seen;
+      undecided = subst (λ list. AreUndecided journal.marks (files_surveyed list)) (sym c.as_slice.ensures.value)
+          (c.in_ok-surveyed.ensures.undecided journal.marks (subst (λ marks. TellLifecycles marks c.in_ok-lives.lives) c.marks.ensures.marks c.in_ok-lives.ensures));
+      named = surveyed_named surveyed;
       whole = shown.0;
-    }) c.in_ok-jobs.jobs shown journal.free c.in_ok-narrow.narrow.items
-    (subst AreNarrow (sym c.in_ok-narrow.ensures) (are_narrow c.as_slice-2.result.now))
+    }) c.in_ok-jobs.jobs shown journal.free c.in_ok-old_form.old_form.items
+    (subst AreInOldForm (sym c.in_ok-old_form.ensures) (are_old_form c.as_slice-2.result.now))

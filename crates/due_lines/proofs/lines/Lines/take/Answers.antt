@@ -10,10 +10,10 @@ take-requires-then-is_waiting_job c =
     in_jobs c.args.row.now c.args.self.now c.of-then-is_waiting_job.result (sym c.is_waiting_job.ensures ∙ c.if-is_waiting_job.true) c.of-then-is_waiting_job.ensures c.requires
 
 pub returns-then-is_waiting_batch : goal.returns-then-is_waiting_batch
-returns-then-is_waiting_batch c front back =
-    batch_less front back c.args.row.now c.args.self.now c.of.result c.take.new.self (sym c.is_waiting_batch.ensures ∙ c.if-is_waiting_batch.true) c.of.ensures c.take.ensures.taken c.take.ensures.in_line
+returns-then-is_waiting_batch c prefix suffix =
+    batch_less prefix suffix c.args.row.now c.args.self.now c.of.result c.take.new.self (sym c.is_waiting_batch.ensures ∙ c.if-is_waiting_batch.true) c.of.ensures c.take.ensures.taken c.take.ensures.in_line
 
 pub returns-then-is_waiting_job : goal.returns-then-is_waiting_job
-returns-then-is_waiting_job c front back =
-    job_less front back c.args.row.now c.args.self.now c.of-then-is_waiting_job.result c.take-then-is_waiting_job.new.self
+returns-then-is_waiting_job c prefix suffix =
+    job_less prefix suffix c.args.row.now c.args.self.now c.of-then-is_waiting_job.result c.take-then-is_waiting_job.new.self
     (sym c.is_waiting_job.ensures ∙ c.if-is_waiting_job.true) c.of-then-is_waiting_job.ensures c.take-then-is_waiting_job.ensures.taken c.take-then-is_waiting_job.ensures.in_line

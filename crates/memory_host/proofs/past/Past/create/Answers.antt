@@ -1,21 +1,21 @@
 use Rattle.std.proofs.Common.{sym, subst}
 use Rattle.memory_host.specs.Past.{Story, with_new_file}
 use Rattle.memory_host.specs.inside.Story.{state_of}
-use Rattle.memory_host.specs.inside.Told.{IsTold}
-use Rattle.memory_host.proofs.PastLemmas.{told_kept, told_next}
+use Rattle.memory_host.specs.inside.Known.{IsKnown}
+use Rattle.memory_host.proofs.PastLemmas.{known_kept, known_next}
 use Rattle.memory_host.proofs.past.Past.create.Goals as goal
 
 pub invariant_of-self-in_err-make_file : goal.invariant_of-self-in_err-make_file
 invariant_of-self-in_err-make_file c =
     let s = c.self.inside in
     let story : Story = record { opening = s.opening.entries; calls = s.calls.items } in
-    told_kept story c.reserve.new.self.items c.make_file.new.names c.make_file.new.bodies s.handed.items c.reserve.ensures.items
+    known_kept story c.reserve.new.self.items c.make_file.new.names c.make_file.new.bodies s.handed.items c.reserve.ensures.items
     (c.in_err-make_file.ensures (state_of story) s.handed.items c.self.invariant)
 
 pub invariant_of-self-2 : goal.invariant_of-self-2
 invariant_of-self-2 c =
     let s = c.self.inside in
     let story : Story = record { opening = s.opening.entries; calls = s.calls.items } in
-    told_next _ story _ _ c.make_file.new.names c.make_file.new.bodies s.handed.items c.push_reserved.ensures.items c.reserve.ensures.items
-    (subst (λ bytes. IsTold (with_new_file c.args.name.now bytes (state_of story)) c.make_file.new.names c.make_file.new.bodies s.handed.items) (sym c.in_ok-copy.ensures)
+    known_next _ story _ _ c.make_file.new.names c.make_file.new.bodies s.handed.items c.push_reserved.ensures.items c.reserve.ensures.items
+    (subst (λ bytes. IsKnown (with_new_file c.args.name.now bytes (state_of story)) c.make_file.new.names c.make_file.new.bodies s.handed.items) (sym c.in_ok-copy.ensures)
     (c.in_ok-make_file.ensures (state_of story) s.handed.items c.self.invariant))

@@ -4,19 +4,19 @@ use Rattle.spool_model.specs.declared.step.Step.TheVariants.{End}
 use Rattle.spool_model.specs.JobTable.{JobTable}
 use Rattle.spool_model.specs.Steps.{IsLegal}
 use Rattle.start_journal.specs.declared.mark.Mark.TheVariants.{Ended}
-use Rattle.job_runs.specs.Current.{Kept}
+use Rattle.step_runs.specs.Current.{Kept}
 use Rattle.spool_shows.proofs.ShownEntries.{passes_same}
 use Rattle.spool_store.specs.Scripts.{IsFileOf}
 use Rattle.spool_store.proofs.StepCalls.{IsDecidingStep, current_call, decision_of_step, failed_call, of_some, running_legal, stored_step}
 use Rattle.spool_store.proofs.store.Store.end.Goals as goal
 
 -- the step that the store makes, its mark, and the file of its job
-ends : (inside seen : Kept) (number : ℕ) (ending : Ending) (found : Option (List ℕ)) (name : List ℕ) → inside ≡ seen → IsLegal seen.table (End number ending) → found ≡ Some name → IfSome found (IsFileOf seen.table seen.narrow number) → IsDecidingStep inside seen (End number ending) (Ended number ending) name
-ends inside seen number ending found name view legal is file = record {
-  step_of = record { view = view; legal = legal; adds = refl; bare = refl };
+ends : (inside surveyed : Kept) (number : ℕ) (ending : Ending) (found : Option (List ℕ)) (name : List ℕ) → inside ≡ surveyed → IsLegal surveyed.table (End number ending) → found ≡ Some name → IfSome found (IsFileOf surveyed.table surveyed.old_form number) → IsDecidingStep inside surveyed (End number ending) (Ended number ending) name
+ends inside surveyed number ending found name view legal is file = record {
+  step_of = record { view = view; legal = legal; adds = refl; without_scripts = refl };
   number = number;
   decided = passes_same number number refl;
-  file = of_some (IsFileOf seen.table seen.narrow number) found name is file;
+  file = of_some (IsFileOf surveyed.table surveyed.old_form number) found name is file;
 }
 
 pub decide-requires-clause-legal : goal.decide-requires-clause-legal

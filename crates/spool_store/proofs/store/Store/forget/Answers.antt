@@ -3,13 +3,13 @@ use Rattle.spool_model.specs.declared.step.Step.TheVariants.{Forget}
 use Rattle.spool_model.specs.JobTable.{JobTable}
 use Rattle.spool_model.specs.Steps.{IsLegal}
 use Rattle.start_journal.specs.declared.mark.Mark.TheVariants.{Forgotten}
-use Rattle.job_runs.specs.Current.{Kept}
+use Rattle.step_runs.specs.Current.{Kept}
 use Rattle.spool_store.proofs.StepCalls.{IsStepOf, failed_call, mark_of_step, marked_call, stored_step}
 use Rattle.spool_store.proofs.store.Store.forget.Goals as goal
 
 -- the step that the store makes, and its mark
-forgets : (inside seen : Kept) (number : ℕ) → inside ≡ seen → IsLegal seen.table (Forget number) → IsStepOf inside seen (Forget number) (Forgotten number)
-forgets inside seen number view legal = record { view = view; legal = legal; adds = refl; bare = refl }
+forgets : (inside surveyed : Kept) (number : ℕ) → inside ≡ surveyed → IsLegal surveyed.table (Forget number) → IsStepOf inside surveyed (Forget number) (Forgotten number)
+forgets inside surveyed number view legal = record { view = view; legal = legal; adds = refl; without_scripts = refl }
 
 pub add_mark-requires-clause-current : goal.add_mark-requires-clause-current
 add_mark-requires-clause-current g c = λ tells.

@@ -1,5 +1,5 @@
 use Rattle.std.proofs.Common.{ap}
-use Rattle.spool_store.proofs.RecoveryLemmas.{can_clear, clearing, has_settled, narrow_recovered, only_settled, recovered, settled_damage, settled_untouched, settling, uncleared, unsettled}
+use Rattle.spool_store.proofs.RecoveryLemmas.{can_clear, clearing, has_settled, old_form_recovered, only_settled, recovered, settled_damage, settled_untouched, settling, uncleared, unsettled}
 use Rattle.whole_file.proofs.ChangesJoined.{clears_alone}
 use Rattle.spool_store.proofs.store.Store.recover.Goals as goal
 
@@ -48,5 +48,5 @@ returns-in_err-clear-clause-recovered g c = λ tells.
     uncleared _ _ c.in_ok-jobs.field-0 (has_settled _ _ _ _ _ (c.in_ok-settle.ensures.files tells) (c.in_ok-jobs.ensures.looks tells) (c.in_ok-jobs.ensures.shown tells)) _ c.as_slice.ensures.value
     _ c.in_err-clear.field-0.0 c.from_residual-in_err-clear.result (clears_alone _ _ _ _ (c.clear.ensures.files tells)) c.from_residual-in_err-clear.ensures.1
 
-pub returns-clause-narrow : goal.returns-clause-narrow
-returns-clause-narrow g c = λ tells. narrow_recovered _ _ _ (returns-clause-recovered g c tells)
+pub returns-clause-old_form : goal.returns-clause-old_form
+returns-clause-old_form g c = λ tells. old_form_recovered _ _ _ (returns-clause-recovered g c tells)

@@ -8,7 +8,7 @@ use Rattle.spool_model.specs.declared.step.Step.TheVariants.{Start}
 use Rattle.spool_model.specs.JobTable.{JobEntry, JobState, JobTable, entry_at}
 use Rattle.spool_model.specs.Steps.{IsLegal, after_step}
 use Rattle.start_journal.specs.declared.mark.Mark.TheVariants.{Started}
-use Rattle.job_runs.specs.Current.{Kept}
+use Rattle.step_runs.specs.Current.{Kept}
 use Rattle.spool_store.specs.Listed.{row_job}
 use Rattle.spool_store.specs.Rows.{row_entry}
 use Rattle.spool_store.proofs.StepCalls.{IsStepOf, failed_call, mark_of_step, marked_call, of_some, stored_step}
@@ -21,15 +21,15 @@ same_queue job other state since same =
     ap (λ (of : Job). of.queue) (sym jobs)
 
 -- the step that the store makes, and its mark
-starts : (inside seen : Kept) (number : ℕ) (second written : ℤ) (row : Row) → inside ≡ seen → IsLegal seen.table (Start number second) → entry_at inside.table number ≡ Some (row_entry row).1 → written ≡ second → IsStepOf inside seen (Start number second) (Started number row.queue written)
-starts inside seen number second written row view legal held same =
+starts : (inside surveyed : Kept) (number : ℕ) (second written : ℤ) (row : Row) → inside ≡ surveyed → IsLegal surveyed.table (Start number second) → entry_at inside.table number ≡ Some (row_entry row).1 → written ≡ second → IsStepOf inside surveyed (Start number second) (Started number row.queue written)
+starts inside surveyed number second written row view legal held same =
     let pending : IsLegal inside.table (Start number second) = subst (λ (kept : Kept). IsLegal kept.table (Start number second)) (sym view) legal in
     let queue : row.queue ≡ pending.0.queue = same_queue pending.0 (row_job row) Pending row.state (sym pending.1 ∙ held) in
     record {
       view = view;
       legal = legal;
       adds = (pending.0, pending.1, ap (λ q. Started number q written) queue ∙ ap (Started number pending.0.queue) same);
-      bare = refl;
+      without_scripts = refl;
     }
 
 pub add_mark-requires-clause-current : goal.add_mark-requires-clause-current

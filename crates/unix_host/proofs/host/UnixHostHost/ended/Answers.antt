@@ -8,8 +8,8 @@ use Rattle.unix_host.proofs.host.UnixHostHost.ended.Goals as goal
 pub index_mut-kid-requires : goal.index_mut-kid-requires
 index_mut-kid-requires g c = below_count (vec_len c.args.self.now.kids) c.args.child.now c.requires.started
 
-pub returns-in-Ok-Some-clause-told : goal.returns-in-Ok-Some-clause-told
-returns-in-Ok-Some-clause-told g c = λ _.
+pub returns-in-Ok-Some-clause-known : goal.returns-in-Ok-Some-clause-known
+returns-in-Ok-Some-clause-known g c = λ _.
     let kids = c.args.self.now.kids in
     let id = c.args.child.now.id in
     let below : id < vec_len kids = below_count (vec_len kids) c.args.child.now c.requires.started in

@@ -1,0 +1,34 @@
+-- The cause of a put, by what its sink answers.
+use Rattle.std.proofs.Common.{◌≡◌, ◌∙◌, refl, sym, Bool, List, ℕ, Result, Ok, Err, true}
+use Rattle.command_rules.specs.Causes.{cause_of_put}
+use Rattle.command_rules.specs.Sinks.{SinkAt, sink_at}
+use Rattle.host_calls.specs.Causes.{HasCause, Rose}
+use Rattle.host_calls.specs.declared.fault.SinkFault.{SinkFault}
+use Rattle.host_calls.specs.declared.fault.SinkFault.TheVariants.{Failed, Memory as NoMemory}
+use Rattle.host_calls.specs.Sink.{Outlet, Puts}
+use Rattle.listing_text.specs.declared.cause.Cause.{Cause}
+use Rattle.listing_text.specs.declared.cause.Cause.TheVariants.{Done, Memory, OutputFault}
+use Rattle.at_commands.specs.inside.Printing.{PutsWhole}
+use Rattle.at_commands.specs.inside.Saying.{Accepts, SaysAccepted}
+
+-- an output fault comes only of a sink that failed
+pub put_failed : (put : Result (Unit {0}) SinkFault) (was is : ℕ) (cause : Cause) → HasCause Failed was is put → cause ≡ cause_of_put put →
+    cause ≡ OutputFault → Rose was is
+put_failed (Ok value) was is cause has of same = let impossible : Done ≡ OutputFault = sym of ∙ same in cc
+put_failed (Err Failed) was is cause has of same = has.rose refl
+put_failed (Err NoMemory) was is cause has of same = let impossible : Memory ≡ OutputFault = sym of ∙ same in cc
+
+pub whole_put : (tells : Bool) (text old new : List ℕ) (was is : Outlet) (put : Result (Unit {0}) SinkFault) →
+    (tells ≡ true → Puts text old new put) → HasCause Failed was.sink_faults is.sink_faults put →
+    PutsWhole tells text (sink_at old was) (sink_at new is) (cause_of_put put)
+whole_put tells text old new was is (Ok value) puts has = λ known. record { content = puts known; later = has.later }
+whole_put tells text old new was is (Err Failed) puts has = λ known.
+    let part = puts known in
+    record { count = part.0; content = part.1; later = has.later }
+whole_put tells text old new was is (Err NoMemory) puts has = λ known. record { content = puts known; later = has.later }
+
+pub accepted_put : (tells : Bool) (IsLine : List ℕ → Type 0) (old new : SinkAt) (put : Result (Unit {0}) SinkFault) →
+    (tells ≡ true → SaysAccepted IsLine old new put) → Accepts tells IsLine old new (cause_of_put put)
+accepted_put tells IsLine old new (Ok value) says = says
+accepted_put tells IsLine old new (Err Failed) says = says
+accepted_put tells IsLine old new (Err NoMemory) says = says

@@ -1,0 +1,9 @@
+use Rattle.at_commands.proofs.PutLemmas.{put_failed, whole_put}
+use Rattle.at_commands.proofs.list.put_whole.Goals as goal
+
+pub returns-clause-output_fault : goal.returns-clause-output_fault
+returns-clause-output_fault g c = put_failed c.put.result _ _ c.cause_of_put.result c.put.ensures.cause c.cause_of_put.ensures
+
+pub returns-clause-puts : goal.returns-clause-puts
+returns-clause-puts g c = rw c.cause_of_put.ensures (whole_put g.O.Sink.tells c.args.text.now (g.O.Sink.content c.args.out.now) (g.O.Sink.content c.put.new.self)
+    (g.O.Sink.outlet c.args.out.now) (g.O.Sink.outlet c.put.new.self) c.put.result c.put.ensures.put c.put.ensures.cause)

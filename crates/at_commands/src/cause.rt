@@ -1,0 +1,16 @@
+//! The cause of an end.
+ghost use Rattle.std.specs.Prelude.{◌≡◌};
+ghost use Rattle.command_rules.specs.Causes.{cause_in};
+
+use command_rules::CommandError;
+use listing_text::Cause;
+
+// The cause of what was done, or stopped.
+pub(crate) fn cause_of(done: Result<(), CommandError>) -> Cause
+    ensures { result ≡ cause_in done }
+{
+    match done {
+        Ok(()) => Cause::Done,
+        Err(stopped) => stopped.cause,
+    }
+}

@@ -1,5 +1,0 @@
-use Rattle.at_day.proofs.ProgramLemmas as law
-use Rattle.at_day.proofs.laws.made_days_are_told.Goals as goal
-
-pub returns : goal.returns
-returns c = law.made_days_are_told

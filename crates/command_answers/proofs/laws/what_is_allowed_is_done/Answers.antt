@@ -1,6 +1,0 @@
-use Rattle.command_answers.specs.Sinks.{SaysBy}
-use Rattle.command_answers.proofs.LawLemmas as law
-use Rattle.command_answers.proofs.laws.what_is_allowed_is_done.Goals as goal
-
-pub returns : goal.returns
-returns c = law.allowed_is_done (SaysBy c.args.tool.now)

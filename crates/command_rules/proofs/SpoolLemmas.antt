@@ -1,0 +1,92 @@
+-- What is left in the spool, put together from its parts.
+use Rattle.std.proofs.Common.{◌≡◌, ◌⊎◌, Bool, true, false, List, [], sym, ap, subst, ◌∙◌, inl, inr}
+use Rattle.std.specs.Prelude.{MatchBool}
+use Rattle.host_calls.specs.Folder.{Files}
+use Rattle.host_calls.specs.World.{GoesOn, World, reading}
+use Rattle.host_calls.proofs.FolderLemmas.{reading_is_image}
+use Rattle.host_calls.proofs.WorldLemmas.{leaves_none, leaves_then, leaves_weaker}
+use Rattle.whole_file.specs.Others.{ChangesFiles}
+use Rattle.whole_file.proofs.OthersLemmas.{changes_none}
+use Rattle.spool_model.specs.declared.step.Step.{Step}
+use Rattle.spool_model.specs.JobTable.{JobTable}
+use Rattle.spool_shows.specs.Shown.{shown_by}
+use Rattle.step_runs.specs.Attempts.{Achieves, Attempts, IsAchieved, IsUnbegun}
+use Rattle.step_runs.specs.Calls.{ShowsAsBefore}
+use Rattle.step_runs.proofs.AttemptLemmas.{recoveries_begin_nothing}
+use Rattle.listing_text.specs.declared.cause.Cause.{Cause}
+use Rattle.listing_text.specs.declared.cause.Cause.TheVariants.{Done, Refused, FileFault, InputFault, OutputFault, Busy, Memory, Damaged, StillRunning}
+use Rattle.listing_text.specs.declared.refusal.Refusal.{Refusal}
+use Rattle.command_rules.specs.Checks.{check_of, is_before, of_folder}
+use Rattle.command_rules.specs.Requested.{AreNoSteps, OrNone}
+use Rattle.command_rules.specs.Spool.{RefusalLeaves, SpoolEnds}
+
+-- nothing is handed over
+pub goes_on_none : (old new : World) → new ≡ old → GoesOn old new
+goes_on_none old new same = record {
+  asked = ap (λ (world : World). world.asked) same;
+  handed = ap (λ (world : World). world.now.handed) same;
+  leaves = leaves_none (λ image handed. handed ≡ old.now.handed) old new same;
+}
+
+pub goes_on_then : (first second third : World) → GoesOn first second → GoesOn second third → GoesOn first third
+goes_on_then first second third before after = record {
+  asked = after.asked ∙ before.asked;
+  handed = after.handed ∙ before.handed;
+  leaves = leaves_then (λ image handed. handed ≡ first.now.handed) first second third before.leaves
+      (leaves_weaker (λ image handed. handed ≡ second.now.handed) (λ image handed. handed ≡ first.now.handed) second third (λ image handed is. is ∙ before.handed) after.leaves);
+}
+
+pub changes_go_on : (P : Files → Type 0) (old new : World) → ChangesFiles P old new → GoesOn old new
+changes_go_on P old new changes = record {
+  asked = changes.asked;
+  handed = changes.handed;
+  leaves = leaves_weaker (λ image handed. P image × (handed ≡ old.now.handed)) (λ image handed. handed ≡ old.now.handed) old new (λ image handed is. is.1) changes.leaves;
+}
+
+-- where the spool is as it was, no step was begun
+pub unbegun_same : (old new : World) → new ≡ old → IsUnbegun old new
+unbegun_same old new same =
+    subst (IsUnbegun old) (sym same) (recoveries_begin_nothing old old (changes_none (ShowsAsBefore old.now.folder) old))
+
+-- what is achieved was begun
+attempt_achieved : (AreSteps : JobTable → List Step → Type 0) (old new : World) → Achieves AreSteps old new → Attempts (OrNone AreSteps) old new
+attempt_achieved AreSteps old new achieved = inr (achieved.0, achieved.1, inl achieved.2, achieved.3.begun)
+
+-- also without a step
+pub without_steps : (AreSteps : JobTable → List Step → Type 0) (old new : World) → Achieves AreNoSteps old new → Attempts (OrNone AreSteps) old new
+without_steps AreSteps old new achieved = inr (achieved.0, achieved.1, inr achieved.2, achieved.3.begun)
+
+-- after a refusal the spool is as it was, or shows the table without a step
+refusal_cases : (later : Bool) (old new : World) → MatchBool later (Achieves AreNoSteps old new) (new ≡ old) →
+    Achieves AreNoSteps old new ⊎ (new ≡ old)
+refusal_cases true old new leaves = inl leaves
+refusal_cases false old new leaves = inr leaves
+
+pub refusal_left : (refusal : Refusal) (old new : World) → RefusalLeaves refusal old new → Achieves AreNoSteps old new ⊎ (new ≡ old)
+refusal_left refusal old new leaves = refusal_cases (is_before of_folder (check_of refusal)) old new leaves
+
+-- after no steps the folder shows what it showed
+pub shown_as_before : (old new : World) → Achieves AreNoSteps old new → shown_by (reading new) ≡ shown_by (reading old)
+shown_as_before old new achieved =
+    let whole : IsAchieved achieved.0 [] old new = subst (λ (steps : List Step). IsAchieved achieved.0 steps old new) achieved.2 achieved.3 in
+    whole.whole (reading new) (reading_is_image new.now.folder) ∙ sym whole.begun.shown
+
+attempt_refused : (AreSteps : JobTable → List Step → Type 0) (refusal : Refusal) (old new : World) → RefusalLeaves refusal old new →
+    Attempts (OrNone AreSteps) old new
+attempt_refused AreSteps refusal old new leaves = elim (refusal_left refusal old new leaves) [
+  | inl achieved ↦ without_steps AreSteps old new achieved
+  | inr same ↦ inl (unbegun_same old new same)
+]
+
+-- however a command ends, it is an attempt at its steps, or at none
+pub attempt_of : (AreSteps : JobTable → List Step → Type 0) (old new : World) (cause : Cause) → SpoolEnds AreSteps old new cause →
+    Attempts (OrNone AreSteps) old new
+attempt_of AreSteps old new Done ends = attempt_achieved AreSteps old new ends
+attempt_of AreSteps old new OutputFault ends = attempt_achieved AreSteps old new ends
+attempt_of AreSteps old new FileFault ends = ends
+attempt_of AreSteps old new Memory ends = ends
+attempt_of AreSteps old new (Refused refusal) ends = attempt_refused AreSteps refusal old new ends
+attempt_of AreSteps old new (Damaged damage) ends = inl ends.unbegun
+attempt_of AreSteps old new InputFault ends = inl (unbegun_same old new ends)
+attempt_of AreSteps old new Busy ends = inl (unbegun_same old new ends)
+attempt_of AreSteps old new StillRunning ends = absurd ends

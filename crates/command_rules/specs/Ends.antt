@@ -1,0 +1,115 @@
+-- How a command ends: one record for all requests.
+use Rattle.std.specs.Prelude.{◌≡◌, ◌⊎◌, Bool, true, false, List, Option, Some, None, Result, Ok, ℕ}
+use Rattle.at_words.specs.declared.tool_request.ToolRequest.TheVariants as request
+use Rattle.host_calls.specs.declared.damage.Damage.{Damage}
+use Rattle.host_calls.specs.Causes.{Rose}
+use Rattle.host_calls.specs.Clock.{Answers}
+use Rattle.host_calls.specs.Inputs.{Contents}
+use Rattle.host_calls.specs.Sink.{Outlet}
+use Rattle.host_calls.specs.World.{World, reading}
+use Rattle.listing_text.specs.declared.cause.Cause.{Cause}
+use Rattle.listing_text.specs.declared.cause.Cause.TheVariants.{Done, Refused, FileFault, InputFault, OutputFault, Busy, Memory, Damaged, StillRunning}
+use Rattle.listing_text.specs.declared.refusal.Refusal.{Refusal}
+use Rattle.spool_model.specs.JobTable.{JobTable}
+use Rattle.command_rules.specs.declared.caller.Caller.{Caller}
+use Rattle.command_rules.specs.Checks.{Check, ComesUpTo, check_of, is_before, of_input, of_lock, of_folder, of_output}
+use Rattle.command_rules.specs.Found.{AreInFolder, Asked, Finds, Found, answers_read}
+use Rattle.command_rules.specs.Requested.{AreAskedSteps, IsAskedLine, IsAskedText}
+use Rattle.command_rules.specs.Sinks.{PrintsBy, SinkAt}
+use Rattle.command_rules.specs.Spool.{SpoolEnds}
+use Rattle.command_rules.specs.Verdict.{verdict_of}
+
+-- the fault comes before this check
+abbrev pub ComesBefore : Cause → Check → Type 0
+ComesBefore InputFault check = is_before of_input check ≡ true
+ComesBefore Busy check = is_before of_lock check ≡ true
+ComesBefore FileFault check = is_before of_lock check ≡ true
+ComesBefore (Damaged damage) check = is_before of_folder check ≡ true
+ComesBefore OutputFault check = ⊥
+ComesBefore Done check = ⊥
+ComesBefore (Refused refusal) check = ⊥
+ComesBefore Memory check = ⊥
+ComesBefore StillRunning check = ⊥
+
+-- the cause is no refusal
+abbrev pub IsNoRefusal : Cause → Type 0
+IsNoRefusal (Refused refusal) = ⊥
+IsNoRefusal StillRunning = ⊥
+IsNoRefusal Done = Unit {0}
+IsNoRefusal FileFault = Unit {0}
+IsNoRefusal InputFault = Unit {0}
+IsNoRefusal OutputFault = Unit {0}
+IsNoRefusal Busy = Unit {0}
+IsNoRefusal Memory = Unit {0}
+IsNoRefusal (Damaged damage) = Unit {0}
+
+-- The cause keeps to the order of checks: it is the verdict's refusal, or none where the verdict is none.
+-- Want of memory may stand in its place, or a fault of the outside that comes before its check.
+abbrev pub KeepsOrder : Option Refusal → Cause → Type 0
+KeepsOrder None cause = IsNoRefusal cause
+KeepsOrder (Some refusal) cause = (cause ≡ Refused refusal) ⊎ ((cause ≡ Memory) ⊎ ComesBefore cause (check_of refusal))
+
+-- a fault of the spool comes at the lock, at the lists, at the folder, or at the steps
+abbrev pub IsOfSpool : Check → Type 0
+IsOfSpool check = (is_before check of_lock ≡ false) × (is_before check of_output ≡ true)
+
+-- how far in the order of checks a command came that ends so
+abbrev pub Reaches : Cause → Check → Type 0
+Reaches Done check = check ≡ of_output
+Reaches OutputFault check = check ≡ of_output
+Reaches (Refused refusal) check = check ≡ check_of refusal
+Reaches InputFault check = check ≡ of_input
+Reaches Busy check = check ≡ of_lock
+Reaches FileFault check = IsOfSpool check
+Reaches (Damaged damage) check = check ≡ of_folder
+Reaches Memory check = Unit {0}
+Reaches StillRunning check = ⊥
+
+-- which of the objects that a command is handed tell what they hold
+pub record Telling : Type 0 where
+  pub files : Bool
+  pub alone : Bool
+  pub clock : Bool
+  pub input : Bool
+  pub output : Bool
+  pub errors : Bool
+
+abbrev pub telling : Bool → Bool → Bool → Bool → Bool → Bool → Telling
+telling files alone clock input output errors =
+    record { files = files; alone = alone; clock = clock; input = input; output = output; errors = errors }
+
+-- what those objects hold at a moment
+pub record Holding : Type 0 where
+  pub spool : World
+  pub answers : Answers
+  pub contents : Contents
+  pub output : SinkAt
+  pub errors : SinkAt
+
+abbrev pub holding : World → Answers → Contents → SinkAt → SinkAt → Holding
+holding spool answers contents output errors =
+    record { spool = spool; answers = answers; contents = contents; output = output; errors = errors }
+
+-- How a command ends that was asked for so: over what it found outside, which is what was told, and over how far it came.
+-- What is said to the caller is a parameter: before the line of the cause, or with it.
+pub record Ends (Notes : Cause → (List ℕ → Type 0) → SinkAt → SinkAt → Type 0) (asked : Asked) (caller : Caller)
+    (tells : Telling) (before after : Holding) (cause : Cause) : Type 0 where
+  pub found : Found
+  pub shown : Result JobTable Damage
+  pub reached : Check
+  pub reach : Reaches cause reached
+  pub order : KeepsOrder (verdict_of asked caller found shown) cause
+  pub up_to : ComesUpTo (verdict_of asked caller found shown) reached
+  pub clock : tells.clock ≡ true → after.answers ≡ answers_read asked reached found.now before.answers
+  pub finds : Finds tells.input asked caller.zone before.contents reached found
+  pub folder : tells.files ≡ true → tells.alone ≡ true → AreInFolder (reading before.spool) found shown
+  pub apart : tells.files ≡ true → tells.alone ≡ true → is_before reached of_folder ≡ true → after.spool ≡ before.spool
+  pub spool : tells.files ≡ true → tells.alone ≡ true → SpoolEnds (AreAskedSteps asked caller found) before.spool after.spool cause
+  pub prints : tells.files ≡ true → tells.alone ≡ true → tells.output ≡ true →
+      PrintsBy cause (IsAskedText asked caller found shown) before.output after.output
+  pub notes : tells.errors ≡ true → Notes cause (IsAskedLine asked caller found shown) before.errors after.errors
+
+-- the output of a command fails where the sink does that it goes to: that for errors of a submission, else the other
+abbrev pub FailsToPrint : Asked → Outlet → Outlet → Outlet → Outlet → Type 0
+FailsToPrint (Ok (request.Submit queue mail file when)) out_old out_new err_old err_new = Rose err_old.sink_faults err_new.sink_faults
+FailsToPrint _ out_old out_new err_old err_new = Rose out_old.sink_faults out_new.sink_faults

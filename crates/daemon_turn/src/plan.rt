@@ -1,0 +1,142 @@
+//! What a turn will do is known before its first step.
+ghost use Rattle.clock_range.specs.ClockRange.{IsClockSecond};
+ghost use Rattle.due_lines.specs.declared.due.Due.{Due};
+ghost use Rattle.std.specs.Prelude.{◌≡◌, ◌∷◌, [], List, IfOk, IfSome, IfNone, filter, map, option_to_list};
+ghost use Rattle.daemon_turn.specs.Decisions.{interrupts, is_without_kid};
+ghost use Rattle.daemon_turn.specs.Kids.{AreByNumber};
+ghost use Rattle.daemon_turn.specs.Starting.{IsBatchOrderWhere, IsFullOrder, IsOrder, turn_of};
+ghost use Rattle.daemon_turn.specs.declared.kid.Kid.{Kid};
+ghost use Rattle.daemon_turn.specs.declared.step.TurnStep.TheVariants.{Interrupted};
+ghost use Rattle.daemon_turn.specs.inside.Planning.{IsPlan};
+ghost use Rattle.queue_rules.specs.Queues.{may_start_batch};
+
+use crate::kids::has_kid;
+use crate::{Kid, Mode, TurnInput, TurnStep};
+use queue_rules::may_start_batch;
+use spool_model::{Row, State};
+use spool_store::{Due, Store};
+use std::alloc::{AllocError, Global};
+
+// What a turn will do on a store.
+#[derive(Drop)]
+pub(crate) struct Plan {
+    // The steps that give up the jobs that run and have no kid.
+    pub(crate) interrupted: Vec<TurnStep>,
+    // The numbers of the jobs that start, in order.
+    pub(crate) order: Vec<u32>,
+}
+
+// The plan of a turn with these kids on the store.
+pub(crate) fn make_plan(
+    alloc: Global,
+    store: &Store,
+    kids: &[Kid],
+    limit: u32,
+    interval: u32,
+    at: TurnInput,
+) -> Result<Plan, AllocError>
+    requires ordered { AreByNumber kids.now }
+    requires second { IsClockSecond at.now }
+    ensures { IfOk result
+        (IsPlan (record { kids = kids.now; limit = limit; interval = interval }) at store.now.table) }
+{
+    let interrupted = interrupted(alloc, store, kids)?;
+    let order = order(alloc, store, limit, interval, at)?;
+    Ok(Plan { interrupted, order })
+}
+
+// The steps that give up the jobs that run and have no kid.
+fn interrupted(alloc: Global, store: &Store, kids: &[Kid]) -> Result<Vec<TurnStep>, AllocError>
+    requires { AreByNumber kids.now }
+    ensures { IfOk result (λ steps. steps.items ≡ interrupts store.now.table kids.now) }
+{
+    interrupts(alloc, store.rows(), kids)
+}
+
+fn interrupts(alloc: Global, rows: &[Row], kids: &[Kid]) -> Result<Vec<TurnStep>, AllocError>
+    requires { AreByNumber kids.now }
+    ensures { IfOk result
+        (λ steps. steps.items ≡ map (λ row. Interrupted row.number) (filter (is_without_kid kids.now) rows.now)) }
+{
+    rows.iter()
+        .filter(|row| is_without_kid(row, kids))
+        .map(|row| TurnStep::Interrupted(row.number))
+        .collect(alloc)
+}
+
+// Whether the job runs and has no kid.
+fn is_without_kid(row: &Row, kids: &[Kid]) -> bool
+    requires { AreByNumber kids.now }
+    ensures { result ≡ is_without_kid kids.now row.now }
+{
+    matches!(row.state, State::Running(_)) && !has_kid(kids, row.number)
+}
+
+// The numbers of the jobs that start, in order.
+fn order(
+    alloc: Global,
+    store: &Store,
+    limit: u32,
+    interval: u32,
+    at: TurnInput,
+) -> Result<Vec<u32>, AllocError>
+    requires { IsClockSecond at.now }
+    ensures { IfOk result (λ numbers. (kids : List Kid)
+        → IsOrder (turn_of (record { kids = kids; limit = limit; interval = interval }) at)
+        store.now.table numbers.items) }
+{
+    match at.mode {
+        Mode::Full => full_order(alloc, store, limit, interval, at),
+        Mode::EndsOnly => Ok(Vec::new(alloc)),
+    }
+}
+
+// All jobs that are due, and after them the first batch job, where one may start.
+fn full_order(
+    alloc: Global,
+    store: &Store,
+    limit: u32,
+    interval: u32,
+    at: TurnInput,
+) -> Result<Vec<u32>, AllocError>
+    requires { IsClockSecond at.now }
+    ensures { IfOk result (λ numbers. (kids : List Kid)
+        → IsFullOrder (turn_of (record { kids = kids; limit = limit; interval = interval }) at)
+        store.now.table numbers.items) }
+{
+    let mut numbers = numbers_of(alloc, store.due(at.now))?;
+    if let Some(number) = batch_job(store, limit, interval, at) {
+        numbers.push(number)?;
+    }
+    Ok(numbers)
+}
+
+// The numbers of jobs in line.
+fn numbers_of(alloc: Global, dues: &[Due]) -> Result<Vec<u32>, AllocError>
+    ensures { IfOk result (λ numbers. numbers.items ≡ map (λ due. due.number) dues.now) }
+{
+    dues.iter().map(|due| due.number).collect(alloc)
+}
+
+// The number of the first job in line.
+fn first_of(dues: &[Due]) -> Option<u32>
+    ensures some { IfSome result (λ number. (due : Due) × (later : List Due)
+        × (dues.now ≡ due ∷ later) × (number ≡ due.number)) }
+    ensures none { IfNone result (dues.now ≡ []) }
+{
+    let due = dues.first()?;
+    Some(due.number)
+}
+
+// The first batch job, where one may start.
+fn batch_job(store: &Store, limit: u32, interval: u32, at: TurnInput) -> Option<u32>
+    requires { IsClockSecond at.now }
+    ensures { IsBatchOrderWhere (may_start_batch at.load limit store.now.table.last_batch at.now interval)
+        store.now.table at.now (option_to_list result) }
+{
+    if may_start_batch(at.load, limit, store.last_batch(), at.now, interval) {
+        first_of(store.due_batch(at.now))
+    } else {
+        None
+    }
+}

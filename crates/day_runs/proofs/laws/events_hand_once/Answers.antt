@@ -1,5 +1,0 @@
-use Rattle.day_runs.proofs.HeadlineLemmas.{events_hand_once}
-use Rattle.day_runs.proofs.laws.events_hand_once.Goals as goal
-
-pub returns : goal.returns
-returns c = events_hand_once

@@ -1,4 +1,0 @@
-pub mod Moves
-pub mod Standings
-pub mod Headline
-pub mod Laws

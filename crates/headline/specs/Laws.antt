@@ -1,0 +1,66 @@
+-- What holds of all events, whatever they are of.
+use Rattle.std.specs.Prelude.{◌≡◌, ◌↔◌, ◌++◌, [], ◌∷◌, Bool, List, true}
+use Rattle.host_calls.specs.Folder.{Folder}
+use Rattle.host_calls.specs.World.{World, reading}
+use Rattle.spool_model.specs.declared.step.Step.{Step}
+use Rattle.spool_model.specs.JobTable.{JobTable}
+use Rattle.spool_model.specs.Steps.{after_steps}
+use Rattle.spool_shows.specs.Shown.{Shows}
+use Rattle.step_runs.specs.Attempts.{IsUnbegun}
+use Rattle.step_runs.specs.Current.{EachShows}
+use Rattle.headline.specs.Headline.{Headline}
+use Rattle.headline.specs.Effects.{Effect, IsEffectOf, Whole, TakesEffect, PassFrom, Passed, world_after}
+use Rattle.headline.specs.Standings.{Standing, StandsAt, StandsThrough, settled_at}
+
+-- the headline, of any events that pass from a world on whose folder shows one table in each image
+abbrev pub EventsHandOnce : Type 0
+EventsHandOnce = (opening : JobTable) (events : List Passed) (old : World) →
+    EachShows old.now.folder opening → PassFrom old events → Headline opening events old
+
+-- the reading shows a table before each of the events
+abbrev pub EachReadsATable : World → List Passed → Type 0
+EachReadsATable old [] = Unit {0}
+EachReadsATable old (event ∷ later) = ((table : JobTable) × Shows (reading old) table) × EachReadsATable event.left later
+
+-- where the host stands through the events, none of them finds damage
+abbrev pub StandingHostsReadTables : Type 0
+StandingHostsReadTables = (old : World) (at : Standing) (events : List Passed) → StandsThrough old at events →
+    EachReadsATable old events
+
+-- a folder that stands at a table without steps shows it in each image, and the other way round
+abbrev pub SettledFoldersShowTheirTable : Type 0
+SettledFoldersShowTheirTable = (folder : Folder) (table : JobTable) →
+    StandsAt folder (settled_at table) ↔ EachShows folder table
+
+-- where an event made all its steps, each image shows the table after them
+abbrev pub AchievedStepsStand : Type 0
+AchievedStepsStand = (table : JobTable) (steps : List Step) (old new : World) → TakesEffect (Whole table steps) old new →
+    EachShows new.now.folder (after_steps table steps)
+
+-- All steps of an event were made: they are its steps, by this test, on the table that the reading showed, and each image
+-- shows the table after them.
+pub record IsWhole (are_steps : JobTable → List Step → Bool) (old new : World) : Type 0 where
+  pub table : JobTable
+  pub steps : List Step
+  pub are : are_steps table steps ≡ true
+  pub shown : Shows (reading old) table
+  pub stand : EachShows new.now.folder (after_steps table steps)
+
+-- an event that was acknowledged made all of its steps
+abbrev pub AcknowledgedEventsAreWhole : Type 0
+AcknowledgedEventsAreWhole = (are_steps : JobTable → List Step → Bool) (effect : Effect) (old new : World) →
+    IsEffectOf true (λ table steps. are_steps table steps ≡ true) effect → TakesEffect effect old new → IsWhole are_steps old new
+
+-- events pass after others
+abbrev pub EventsPassOn : Type 0
+EventsPassOn = (old : World) (first later : List Passed) → PassFrom old first → PassFrom (world_after old first) later →
+    PassFrom old (first ++ later)
+
+-- they leave what the later ones leave
+abbrev pub LaterEventsLeave : Type 0
+LaterEventsLeave = (old : World) (first later : List Passed) →
+    world_after old (first ++ later) ≡ world_after (world_after old first) later
+
+-- where nothing has changed, no step was begun
+abbrev pub StillWorldsAreUnbegun : Type 0
+StillWorldsAreUnbegun = (old new : World) → new ≡ old → IsUnbegun old new

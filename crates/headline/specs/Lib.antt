@@ -1,0 +1,4 @@
+pub mod Effects
+pub mod Standings
+pub mod Headline
+pub mod Laws

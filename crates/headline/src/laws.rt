@@ -1,0 +1,27 @@
+//! What holds of all events, each law as the contract of a function.
+ghost use Rattle.headline.specs.Laws.{AchievedStepsStand, AcknowledgedEventsAreWhole, EventsHandOnce, EventsPassOn, LaterEventsLeave, SettledFoldersShowTheirTable, StandingHostsReadTables, StillWorldsAreUnbegun};
+
+/// Over all events no script is handed over twice, or before its start survives every crash, and the host stands where
+/// the events leave it.
+pub fn events_hand_once()
+    ensures { EventsHandOnce }
+{}
+
+/// What was acknowledged made all of its steps.
+pub fn acknowledged_events_are_whole()
+    ensures { AcknowledgedEventsAreWhole }
+{}
+
+/// A host that stands at a table finds no damage.
+pub fn standing_hosts_read_tables()
+    ensures tables { StandingHostsReadTables }
+    ensures settled { SettledFoldersShowTheirTable }
+    ensures achieved { AchievedStepsStand }
+{}
+
+/// Events pass one after another, and what leaves the world as it was has begun no step.
+pub fn events_pass_on()
+    ensures pass { EventsPassOn }
+    ensures left { LaterEventsLeave }
+    ensures still { StillWorldsAreUnbegun }
+{}

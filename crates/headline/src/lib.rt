@@ -1,0 +1,16 @@
+//! The headline: what the events of a host come to, whatever they are of: commands, turns of the daemon, crashes. Each
+//! image shows the table after their steps, no script is handed over twice, and none before its start survives every
+//! crash.
+//!
+//! Its definitions are what a reader of the promise believes, and not what runs. In the order in which to read them:
+//! 1. `Effects`: what one event does to a host (`Effect`, `TakesEffect`, `IsEffectOf`), one after another (`PassFrom`)
+//! 2. `Standings`: where the host stands between them (`StandsAt`, `ArrivesAt`)
+//! 3. `Headline`: what holds of all of them
+//! 4. `Laws`: that it does (`EventsHandOnce`)
+#![tactic(auto)]
+
+mod laws;
+
+pub use laws::{
+    acknowledged_events_are_whole, events_hand_once, events_pass_on, standing_hosts_read_tables,
+};

@@ -1,5 +1,0 @@
-use Rattle.job_runs.proofs.MadeLemmas.{questions_make_no_step}
-use Rattle.job_runs.proofs.made.questions_make_no_step.Goals as goal
-
-pub returns : goal.returns
-returns c = questions_make_no_step

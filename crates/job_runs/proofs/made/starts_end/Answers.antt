@@ -1,5 +1,0 @@
-use Rattle.job_runs.proofs.StartedLemmas.{starts_end}
-use Rattle.job_runs.proofs.made.starts_end.Goals as goal
-
-pub returns : goal.returns
-returns c = starts_end

@@ -1,0 +1,26 @@
+//! The last line of serving.
+ghost use Rattle.std.specs.Prelude.{◌≡◌};
+ghost use Rattle.command_rules.specs.Sinks.{sink_at};
+ghost use Rattle.serving.specs.Lines.{daemon_name};
+ghost use Rattle.serving.specs.Serving.{SaysOutcome};
+
+use crate::Outcome;
+use cause_output::say_cause;
+use host_calls::Sink;
+use listing_text::Cause;
+use std::alloc::Global;
+
+// The name of the daemon, as it begins its lines.
+pub(crate) const DAEMON_NAME: &str = "atd";
+
+// Says the last line, and answers the cause. The line of a turn was said after it.
+pub(crate) fn say_outcome<E: Sink>(alloc: Global, outcome: Outcome, err: &mut E) -> Cause
+    ensures made_as { (E.outlet err.new).made_as ≡ (E.outlet err.old).made_as }
+    ensures says { SaysOutcome E.tells outcome
+        (sink_at (E.content err.old) (E.outlet err.old)) (sink_at (E.content err.new) (E.outlet err.new)) result }
+{
+    match outcome {
+        Outcome::OfTurn(cause) => cause,
+        Outcome::Own(cause) => say_cause(alloc, DAEMON_NAME, cause, err),
+    }
+}

@@ -1,0 +1,18 @@
+use Rattle.std.proofs.Common.{◌≡◌, IsTrue, List, take}
+use Rattle.std.specs.FinMap.{entries}
+use Rattle.host_calls.specs.Session.{StaysInside}
+use Rattle.host_calls.specs.World.{reading}
+use Rattle.start_journal.specs.declared.mark.Mark.{Mark}
+use Rattle.spool_store.specs.inside.Lifecycles.{TellLifecycles}
+use Rattle.spool_store.specs.inside.Survey.{AreSurveyedFiles}
+use Rattle.spool_store.specs.inside.SurveyedJobs.{files_surveyed}
+use Rattle.spool_store.specs.inside.Tables.{AreUndecided}
+use Rattle.spool_store.proofs.surveyed_files.survey_files.Given as goal
+
+abbrev pub invariant-loop-name : goal.invariant-loop-name
+invariant-loop-name g l = record {
+  inside : StaysInside (g.H.Host.session l.fn.host) (g.H.Host.session l.host);
+  looks : IsTrue g.H.Host.tells → g.H.Host.world l.host ≡ g.H.Host.world l.fn.host;
+  undecided : (marks : List Mark) → TellLifecycles marks l.lives → AreUndecided marks (files_surveyed l.surveyed_files.surveyed.items);
+  surveyed_files : IsTrue g.H.Host.tells → (marks : List Mark) → TellLifecycles marks l.lives → AreSurveyedFiles marks (take l.name-index (entries (reading (g.H.Host.world l.fn.host)))) l.surveyed_files;
+}

@@ -1,0 +1,121 @@
+//! One mark more in the journal, and the file of a job that it decides.
+ghost use Rattle.std.specs.Prelude.{◌≡◌, ◌≤◌, [], ◌∷◌, ℕ, List, true, false, IfOk, IsTrue, OnOk};
+ghost use Rattle.host_calls.specs.Session.{CallsInside, IsInside};
+ghost use Rattle.spool_model.specs.declared.step.Step.{Step};
+ghost use Rattle.spool_model.specs.JobTable.{JobTable};
+ghost use Rattle.spool_model.specs.Steps.{after_step};
+ghost use Rattle.start_journal.specs.Changing.{added, compacted};
+ghost use Rattle.start_journal.specs.Marks.{AreLegal, IsLegalAfter};
+ghost use Rattle.start_journal.specs.Slots.{IsWritable};
+ghost use Rattle.whole_file.specs.Others.{ChangesFiles};
+ghost use Rattle.step_runs.specs.Calls.{IsSteppingOn, KeepsOthers};
+ghost use Rattle.step_runs.specs.Current.{IsCurrent};
+ghost use Rattle.spool_store.specs.inside.Marking.{AreSameOrKept, HaveOneMore, IsDecisionOf, IsMarkOf, IsMarked, KeepsFiles, kept_with, needs_room};
+
+use host_calls::{Host, HostFault, Name};
+use start_journal::{Journal, Mark};
+use std::alloc::{AllocError, Global};
+use whole_file::clear;
+
+// Adds the mark. Where no slot is free, or the journal wants compaction, it syncs the names and compacts the journal first.
+pub(crate) fn add_mark<H: Host>(
+    alloc: Global,
+    host: &mut H,
+    journal: Journal,
+    mark: Mark,
+) -> Result<Journal, HostFault>
+    requires inside { IsInside (H.session host.old) }
+    requires writable { IsWritable mark }
+    requires legal { IsLegalAfter journal.marks mark }
+    requires current { IsTrue H.tells → (old_form : List ℕ) × (table : JobTable)
+        × (step : Step) × IsMarkOf old_form journal (H.world host.old).now.folder table step mark }
+    ensures inside { CallsInside HostFault.Failed (H.session host.old) (H.session host.new) result }
+    ensures legal { AreLegal journal.marks }
+    ensures marks { IfOk result (λ new. HaveOneMore journal.marks mark new.marks) }
+    ensures free { needs_room journal ≡ false → IfOk result (λ new. new ≡ added journal mark) }
+    ensures compacted { needs_room journal ≡ true → IfOk result (λ new. new ≡ added (compacted journal) mark) }
+    ensures files { IsTrue H.tells → (old_form : List ℕ) (table : JobTable) (step : Step)
+        → IsMarkOf old_form journal (H.world host.old).now.folder table step mark
+        → ChangesFiles (IsSteppingOn table (step ∷ []) (H.world host.old).now.folder)
+        (H.world host.old) (H.world host.new) }
+    ensures marked { IsTrue H.tells → (old_form : List ℕ) (table : JobTable) (step : Step)
+        → IsMarkOf old_form journal (H.world host.old).now.folder table step mark
+        → IfOk result (λ new. IsMarked journal.marks new (H.world host.new).now.folder (after_step table step)) }
+    ensures others { IsTrue H.tells
+        → OnOk result (KeepsFiles (H.world host.old).now.folder (H.world host.new).now.folder) }
+{
+    let journal = make_room(alloc, host, journal)?;
+    journal.add(alloc, host, mark)
+}
+
+// Whether the journal is compacted before a mark is added.
+fn needs_room(alloc: Global, journal: &Journal) -> Result<bool, AllocError>
+    ensures { IfOk result (λ needs. needs ≡ needs_room journal.now) }
+{
+    if journal.free() == 0 {
+        return Ok(true);
+    }
+    journal.wants_compaction(alloc)
+}
+
+// A journal with a free slot, of which what counts is not less than half.
+fn make_room<H: Host>(alloc: Global, host: &mut H, journal: Journal) -> Result<Journal, HostFault>
+    requires inside { IsInside (H.session host.old) }
+    requires current { IsTrue H.tells → (old_form : List ℕ) × (table : JobTable)
+        × IsCurrent (kept_with old_form journal table) (H.world host.old).now.folder table }
+    ensures inside { CallsInside HostFault.Failed (H.session host.old) (H.session host.new) result }
+    ensures room { IfOk result (λ new. 1 ≤ new.free) }
+    ensures free { needs_room journal ≡ false → IfOk result (λ new. new ≡ journal) }
+    ensures untouched { needs_room journal ≡ false → host.new ≡ host.old }
+    ensures compacted { needs_room journal ≡ true → IfOk result (λ new. new ≡ compacted journal) }
+    ensures legal { AreLegal journal.marks }
+    ensures marks { IfOk result (λ new. AreSameOrKept journal.marks new.marks) }
+    ensures files { IsTrue H.tells → (old_form : List ℕ) (table : JobTable)
+        → IsCurrent (kept_with old_form journal table) (H.world host.old).now.folder table
+        → ChangesFiles (IsSteppingOn table [] (H.world host.old).now.folder) (H.world host.old) (H.world host.new) }
+    ensures current { IsTrue H.tells → (old_form : List ℕ) (table : JobTable)
+        → IsCurrent (kept_with old_form journal table) (H.world host.old).now.folder table
+        → IfOk result (λ new. IsCurrent (kept_with old_form new table) (H.world host.new).now.folder table) }
+    ensures others { IsTrue H.tells
+        → OnOk result (KeepsFiles (H.world host.old).now.folder (H.world host.new).now.folder) }
+{
+    if !needs_room(alloc, &journal)? {
+        return Ok(journal);
+    }
+    // A compaction forgets which numbers are done with. So no crash may bring a file of theirs back.
+    host.sync_names(alloc)?;
+    journal.compact(alloc, host)
+}
+
+// Adds the mark that decides a job, and then removes the job's file.
+pub(crate) fn decide<H: Host>(
+    alloc: Global,
+    host: &mut H,
+    journal: Journal,
+    mark: Mark,
+    file: &Name,
+) -> Result<Journal, HostFault>
+    requires inside { IsInside (H.session host.old) }
+    requires writable { IsWritable mark }
+    requires legal { IsLegalAfter journal.marks mark }
+    requires current { IsTrue H.tells → (old_form : List ℕ) × (table : JobTable)
+        × (step : Step) × IsDecisionOf old_form journal (H.world host.old).now.folder table step mark file.now }
+    ensures inside { CallsInside HostFault.Failed (H.session host.old) (H.session host.new) result }
+    ensures legal { AreLegal journal.marks }
+    ensures marks { IfOk result (λ new. HaveOneMore journal.marks mark new.marks) }
+    ensures files { IsTrue H.tells → (old_form : List ℕ) (table : JobTable) (step : Step)
+        → IsDecisionOf old_form journal (H.world host.old).now.folder table step mark file.now
+        → ChangesFiles (IsSteppingOn table (step ∷ []) (H.world host.old).now.folder)
+        (H.world host.old) (H.world host.new) }
+    ensures current { IsTrue H.tells → (old_form : List ℕ) (table : JobTable) (step : Step)
+        → IsDecisionOf old_form journal (H.world host.old).now.folder table step mark file.now
+        → IfOk result (λ new. IsCurrent (kept_with old_form new (after_step table step))
+        (H.world host.new).now.folder (after_step table step)) }
+    ensures others { IsTrue H.tells → (old_form : List ℕ) (table : JobTable) (step : Step)
+        → IsDecisionOf old_form journal (H.world host.old).now.folder table step mark file.now
+        → OnOk result (KeepsOthers (H.world host.old).now.folder (H.world host.new).now.folder) }
+{
+    let journal = add_mark(alloc, host, journal, mark)?;
+    clear(alloc, host, &[*file])?;
+    Ok(journal)
+}

@@ -1,5 +1,0 @@
-use Rattle.start_journal.proofs.RightLemmas as law
-use Rattle.start_journal.proofs.laws.right_fronts_are_longest.Goals as goal
-
-pub returns : goal.returns
-returns c = law.right_fronts_are_longest

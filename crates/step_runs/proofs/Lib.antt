@@ -1,0 +1,10 @@
+pub mod ApartLemmas
+pub mod AttemptLemmas
+pub mod WithoutScriptsLemmas
+pub mod HandsLemmas
+pub mod MadeLemmas
+pub mod RunLemmas
+pub mod StartedLemmas
+pub mod TurnLemmas
+pub mod ListLemmas
+pub mod RowLemmas

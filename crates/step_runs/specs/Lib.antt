@@ -1,0 +1,10 @@
+pub mod Attempts
+pub mod WithoutScripts
+pub mod Calls
+pub mod Codes
+pub mod Current
+pub mod Hands
+pub mod Laws
+pub mod Made
+pub mod MadeLaws
+pub mod Runs

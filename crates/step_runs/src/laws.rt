@@ -1,0 +1,33 @@
+//! What holds of every table without its scripts and of every run of steps, each law as the contract of a
+//! function.
+ghost use Rattle.step_runs.specs.Laws.{CallsAreRuns, EntriesAreWithoutScripts, PrefixesRunAsTheSteps, LegalAsOnTheTable, ListsAsOnTheTable, ListsLegalAsOnTheTable, ListsStepAsOnTheTable, OneStepIsARun, RecoveriesBeginNothing, RunsAfterRecoveries, RunsGoOn, RunsGoThrough, ScriptsAreGone, StepsAsOnTheTable};
+
+/// A step on a table without its scripts is that step on the table.
+pub fn tables_without_scripts_step_alike()
+    ensures entries { EntriesAreWithoutScripts }
+    ensures scripts { ScriptsAreGone }
+    ensures legal { LegalAsOnTheTable }
+    ensures steps { StepsAsOnTheTable }
+    ensures legal_lists { ListsLegalAsOnTheTable }
+    ensures step_lists { ListsStepAsOnTheTable }
+    ensures lists { ListsAsOnTheTable }
+{}
+
+/// Runs go on after runs that were made to their end, and a run of a prefix of steps is a run of the steps.
+pub fn runs_go_on()
+    ensures on { RunsGoOn }
+    ensures through { RunsGoThrough }
+    ensures prefixes { PrefixesRunAsTheSteps }
+{}
+
+/// A call of the store is a run of its steps.
+pub fn calls_are_runs()
+    ensures quiet { CallsAreRuns }
+    ensures one_step { OneStepIsARun }
+{}
+
+/// A recovery begins no step; a run after it is an attempt at its steps.
+pub fn runs_stand_after_recoveries()
+    ensures alone { RecoveriesBeginNothing }
+    ensures begun { RunsAfterRecoveries }
+{}
