@@ -1,9 +1,16 @@
 //! What a session and those before it may have left unsynced.
-ghost use Rattle.std.specs.Prelude.{◌≡◌, ◌≢◌, [], true, false};
+ghost use Rattle.std.specs.Prelude.{◌≡◌, ◌≢◌, Some, length, option_map, string_bytes, true, false};
+ghost use Rattle.unix_host.specs.Listings.{names_in};
 ghost use Rattle.unix_host.specs.Unsynced.{unsynced_by};
 ghost use Rattle.unix_host.specs.inside.Changes.{left_by};
+ghost use Rattle.unix_host.specs.inside.Paths.{file_in};
 ghost use Rattle.unix_host.specs.inside.Torn.{HasTorn, HasWhole, HasMoved};
 
+use crate::files_left::FilesLeft;
+use crate::listing::Listing;
+use crate::lock::Lock;
+use crate::paths::Paths;
+use crate::synced::Synced;
 use crate::torn::Torn;
 use crate::unsynced::Unsynced;
 use host_calls::Name;
@@ -18,11 +25,12 @@ pub struct Changes {
 
 impl Changes {
     /// What a session begins with, by what the byte of the lock tells.
-    pub fn after(known: Unsynced) -> Changes
-        ensures known { unsynced_by result ≡ known }
-        ensures names { known ≢ Unsynced.Nothing → result.names ≡ true }
+    pub fn after(lock: &Lock) -> Changes
+        ensures known { unsynced_by result ≡ lock.now.known }
+        ensures names { lock.now.known ≢ Unsynced.Nothing → result.names ≡ true }
         ensures failed { result.has_failed ≡ false }
     {
+        let known = lock.known();
         let torn = match known {
             Unsynced::Anything => Torn::Each,
             Unsynced::Nothing | Unsynced::Names => Torn::Nobody,
@@ -96,23 +104,35 @@ impl Changes {
     }
 
     /// The bytes of a file were synced.
-    pub fn synced(&self, name: &Name) -> Changes
+    pub fn synced(&self, paths: &Paths, name: &Name, file: Synced<'_>) -> Changes
+        requires { file.path.now ≡ file_in (string_bytes paths.now.folder) name.now }
         ensures names { result.names ≡ self.now.names }
         ensures torn { HasWhole name.now self.now.torn result.torn }
         ensures failed { result.has_failed ≡ self.now.has_failed }
     {
+        let _ = paths;
+        drop(file);
         Changes {
             torn: self.torn.without(name),
             ..*self
         }
     }
 
-    /// The bytes of all files were synced: none is left that were not.
-    pub fn files_synced(&self, left: &[Name]) -> Changes
-        requires { left.now ≡ [] }
+    /// The bytes of each listed file were synced, and the name of the folder itself.
+    pub fn all_synced(
+        &self,
+        listing: &Option<Listing>,
+        files: FilesLeft<'_>,
+        parent: Synced<'_>,
+    ) -> Changes
+        requires listed { option_map names_in listing.now ≡ Some files.listed.now }
+        requires each { length files.left.now ≡ 0 }
+        requires parent { parent.path.now ≡ string_bytes files.paths.now.parent }
         ensures { result ≡ record self.now { torn = Torn.Nobody } }
     {
-        let _ = left;
+        let _ = listing;
+        drop(files);
+        drop(parent);
         Changes {
             torn: Torn::Nobody,
             ..*self
@@ -120,9 +140,12 @@ impl Changes {
     }
 
     /// The names were synced.
-    pub fn names_synced(&self) -> Changes
+    pub fn names_synced(&self, paths: &Paths, folder: Synced<'_>) -> Changes
+        requires { folder.path.now ≡ string_bytes paths.now.folder }
         ensures { result ≡ record self.now { names = false } }
     {
+        let _ = paths;
+        drop(folder);
         Changes {
             names: false,
             ..*self

@@ -1,15 +1,15 @@
 //! What a folder holds. Only plain files are opened, so that a FIFO blocks nobody and a link leads nowhere.
-ghost use Rattle.std.specs.Prelude.{◌≡◌, ◌≢◌, ◌≤◌, IfOk, vec_len};
+ghost use Rattle.std.specs.Prelude.{◌≡◌, ◌≢◌, ◌-◌, IfOk, min, vec_len};
 ghost use Rattle.std.specs.IoError.{error_kind};
 
 use crate::listing::{Listed, Listing};
 use crate::paths::Paths;
-use crate::prefix::{FileFrom, fill};
+use crate::synced::sync_path;
 use host_calls::{EnterFault, HostFault, Name};
 use std::alloc::{Alloc, AllocError, Global};
-use std::fs::{DirBuilder, File, Files, OpenFile, OpenOptions, Permissions};
+use std::fs::{DirBuilder, File, Files, OpenOptions, Permissions};
 use std::io::{ErrorKind, Read};
-use std::os::unix::fs::{DirBuilderExt, PermissionsExt};
+use std::os::unix::fs::{DirBuilderExt, FileExt, PermissionsExt};
 use std::{fs, io};
 
 // How many bytes of names are read at a time. The longest name has 255, and none is cut.
@@ -143,7 +143,8 @@ pub fn opened<R: Files<File = File>>(
     options.open(rt, path).map_err(|_| HostFault::Failed)
 }
 
-/// At most `most` bytes from an offset on of a plain file of this length, fewer only at its end.
+/// What a plain file of this length has from an offset on, or `most` bytes of it. One that ends before its length is no
+/// whole file, and that is a fault.
 pub fn read<R: Files<File = File>>(
     rt: &R,
     alloc: Global,
@@ -152,7 +153,7 @@ pub fn read<R: Files<File = File>>(
     offset: u64,
     most: usize,
 ) -> Result<Vec<u8>, HostFault>
-    ensures few { IfOk result (λ bytes. vec_len bytes ≤ most) }
+    ensures whole { IfOk result (λ bytes. vec_len bytes ≡ min most (length - offset)) }
 {
     let after = length.saturating_sub(offset);
     let count = usize::try_from(after).unwrap_or(usize::MAX).min(most);
@@ -160,21 +161,7 @@ pub fn read<R: Files<File = File>>(
     let Ok(file) = File::open(rt, path) else {
         return Err(HostFault::Failed);
     };
-    let mut from = FileFrom {
-        file: &file,
-        offset,
-    };
-    let Ok(filled) = fill(&mut from, &mut bytes) else {
-        return Err(HostFault::Failed);
-    };
-    bytes.truncate(filled);
+    file.read_exact_at(&mut bytes, offset)
+        .map_err(|_| HostFault::Failed)?;
     Ok(bytes)
-}
-
-/// Makes a file's bytes certain, or a folder's names.
-pub fn sync_path<R: Files<File = File>>(rt: &R, path: &str) -> Result<(), HostFault> {
-    let Ok(file) = File::open(rt, path) else {
-        return Err(HostFault::Failed);
-    };
-    file.sync_all().map_err(|_| HostFault::Failed)
 }

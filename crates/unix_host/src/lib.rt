@@ -6,7 +6,9 @@ mod changes;
 mod counts;
 mod err;
 mod file_calls;
+mod file_syncs;
 mod files;
+mod files_left;
 mod finish;
 mod host;
 mod inputs;
@@ -19,6 +21,7 @@ mod paths;
 mod prefix;
 mod read_file;
 mod readings;
+mod synced;
 mod torn;
 mod unsynced;
 

@@ -15,9 +15,10 @@ use crate::changes::Changes;
 use crate::listing::Listing;
 use crate::lock::Lock;
 use crate::paths::Paths;
+use crate::synced::sync_path;
 use crate::torn::Torn;
 use crate::unsynced::Unsynced;
-use crate::{file_calls, files};
+use crate::{file_calls, file_syncs, files};
 use host_calls::{EnterFault, HostFault, Name};
 use std::alloc::Global;
 use std::fs::{File, Files};
@@ -47,7 +48,7 @@ impl LockedFolder {
     {
         let paths = files::make_folders(rt, alloc, spool)?;
         let lock = Lock::take(rt, paths.lock())?;
-        let changes = Changes::after(lock.known());
+        let changes = Changes::after(&lock);
         Ok(LockedFolder {
             paths,
             lock,
@@ -195,9 +196,8 @@ impl LockedFolder {
         ensures failed { self.new.changes.has_failed ≡ self.old.changes.has_failed }
     {
         let path = self.paths.file(alloc, name)?;
-        files::length(rt, path.as_str())?;
-        files::sync_path(rt, path.as_str())?;
-        self.changes = self.changes.synced(name);
+        let file = file_syncs::sync_file(rt, path.as_str())?;
+        self.changes = self.changes.synced(&self.paths, name, file);
         Ok(())
     }
 
@@ -207,8 +207,8 @@ impl LockedFolder {
         ensures synced { OnOk result (unsynced_by self.new.changes ≢ Unsynced.Names) }
         ensures err { OnErr result (self.new.changes ≡ self.old.changes) }
     {
-        files::sync_path(rt, self.paths.folder())?;
-        self.changes = self.changes.names_synced();
+        let folder = sync_path(rt, self.paths.folder())?;
+        self.changes = self.changes.names_synced(&self.paths, folder);
         Ok(())
     }
 
@@ -226,14 +226,12 @@ impl LockedFolder {
             Unsynced::Names => self.sync_names(rt),
             Unsynced::Anything => {
                 self.sync_files(rt, alloc)?;
-                // The folder itself may be as new as a lock file that says nothing.
-                files::sync_path(rt, self.paths.parent())?;
                 self.sync_names(rt)
             }
         }
     }
 
-    // Makes the bytes of each file certain.
+    // Makes the bytes of each file certain, and the name of the folder itself.
     fn sync_files<R: Runtime<File = File>>(
         &mut self,
         rt: &R,
@@ -242,14 +240,11 @@ impl LockedFolder {
         ensures torn { OnOk result (self.new.changes.torn ≡ Torn.Nobody) }
         ensures failed { self.new.changes.has_failed ≡ self.old.changes.has_failed }
     {
-        let mut left = self.names(rt, alloc)?;
-        while let Some(name) = left.pop() {
-            // Files before it may be synced, so want of memory is a failure here.
-            if self.sync(rt, alloc, &name).is_err() {
-                return Err(HostFault::Failed);
-            }
-        }
-        self.changes = self.changes.files_synced(&left);
+        let names = self.names(rt, alloc)?;
+        let files = file_syncs::sync_each(rt, alloc, &self.paths, &names)?;
+        // The folder may be as new as a lock file that says nothing.
+        let parent = sync_path(rt, self.paths.parent())?;
+        self.changes = self.changes.all_synced(&self.listing, files, parent);
         Ok(())
     }
 

@@ -4,28 +4,11 @@ ghost use Rattle.std.specs.Io.KnownBytes.{Consumes, IsAtEnd};
 
 use host_calls::{Bytes, InputFault};
 use std::alloc::Global;
-use std::fs::File;
 use std::io;
 use std::io::{ErrorKind, Read};
-use std::os::unix::fs::FileExt;
 
 // How many bytes are read at a time.
 const CHUNK: usize = 4096;
-
-/// A file, read from an offset on.
-#[derive(Drop)]
-pub struct FileFrom<'a> {
-    pub file: &'a File,
-    pub offset: u64,
-}
-
-impl Read for FileFrom<'_> {
-    fn read(&mut self, buffer: &mut [u8]) -> io::Result<usize> {
-        let count = self.file.read_at(buffer, self.offset)?;
-        self.offset = self.offset.saturating_add(count as u64);
-        Ok(count)
-    }
-}
 
 /// Fills the buffer, and tells how much of it is filled: less only where the reader ends.
 pub fn fill<R: Read>(reader: &mut R, buffer: &mut [u8]) -> io::Result<usize>

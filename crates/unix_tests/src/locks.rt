@@ -206,7 +206,7 @@ fn byte_after<H: Host>(
 // Each row's session leaves what it does only where the byte before it says so: none and `a` the worst, which the sync of
 // a new file does not end; `n` names alone, which a sync of the names ends; `c` nothing, so that a move raises it.
 #[test]
-fn the_byte_says_what_is_unsynced(rt: HostRuntime) -> Result<(), Fail> {
+fn the_byte_says_no_less_without_a_settle(rt: HostRuntime) -> Result<(), Fail> {
     let path = fresh_spool(&rt, "told")?;
     let other = named(&rt, "other");
     for (byte, doing, job, left) in [

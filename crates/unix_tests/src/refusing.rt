@@ -1,4 +1,4 @@
-//! The system, but for what it refuses: to sync what lies at one path, and to start a child.
+//! The system, but for what it refuses: to sync or to read what lies at one path, and to start a child.
 use std::alloc::{Allocator, Global};
 use std::env::FillError;
 use std::fmt::Display;
@@ -10,7 +10,7 @@ use std::process::{Child, Command, Processes, Stdio};
 use std::rt::{Env, Runtime};
 use std::time::{Clock, Duration};
 
-// This device keeps nothing, and the system refuses to sync it.
+// This device keeps nothing and gives nothing, and the system refuses to sync it.
 const DEVICE: &str = "/dev/null";
 
 /// A path with the end `device` is opened as that of a device.

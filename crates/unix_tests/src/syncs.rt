@@ -1,4 +1,4 @@
-//! What the system refuses: to sync a device, and to start a child.
+//! What the system refuses: to sync a device, to read a file as far as its length, and to start a child.
 ghost use Rattle.std.specs.Prelude.{◌≡◌, false};
 ghost use Rattle.host_calls.specs.Session.{IsOutside};
 
@@ -79,6 +79,46 @@ fn a_new_folder_that_cannot_be_made_certain_is_a_fault(rt: HostRuntime) -> Resul
     drop(host);
     clear(&rt, place.as_str())?;
     assert_eq!(rt; answer, Err(HostFault::Failed));
+    Ok(())
+}
+
+// What is read of a file from its start on, and after its length.
+fn read_short<H: Host>(
+    alloc: Global,
+    host: &mut H,
+    job: &Name,
+) -> Result<(Result<Vec<u8>, HostFault>, Vec<u8>), HostFault>
+    requires unknown { H.tells ≡ false }
+    requires outside { IsOutside (H.session host.old) }
+{
+    begin(alloc, host)?;
+    let from_start = host.read(alloc, job, 0, 100);
+    let after = host.read(alloc, job, 7, 100)?;
+    host.leave();
+    Ok((from_start, after))
+}
+
+// A file of seven bytes that has none when it is read.
+#[test]
+fn a_file_that_ends_early_is_a_fault(rt: HostRuntime) -> Result<(), Fail> {
+    let place = fresh_spool(&rt, "short")?;
+    line(
+        &rt,
+        "mkdir -p \"$1/spool\"; echo exit 0 >\"$1/spool/job\"",
+        place.as_str(),
+    )?;
+    let path = format!(in rt.alloc(); "{place}/spool")?;
+    let outside = Refusing {
+        rt: rt.clone()?,
+        device: "/spool/job",
+    };
+    let mut host = host_over(outside, rt.alloc(), path.as_str())?;
+    let seen = read_short(rt.alloc(), &mut host, &named(&rt, "job"));
+    drop(host);
+    clear(&rt, place.as_str())?;
+    let (from_start, after) = seen?;
+    assert!(rt; matches!(from_start, Err(HostFault::Failed)));
+    assert!(rt; after.is_empty());
     Ok(())
 }
 
