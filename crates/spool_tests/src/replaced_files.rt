@@ -44,15 +44,25 @@ fn replace<H: Host>(alloc: Global, host: &mut H, bytes: &[u8]) -> Result<bool, H
 // that was being made is left.
 fn replaced(alloc: Global, fuse: u64, pick: u64) -> Result<(bool, bool, bool), Fail> {
     let mut host = spool(alloc, fuse)?;
+    let is_done = over_a_reboot(alloc, pick, &mut host)?;
+    left(&host, is_done)
+}
+
+fn over_a_reboot(alloc: Global, pick: u64, host: &mut MemoryHost) -> Result<bool, Fail>
+    requires { IsOutside (memory_session host.old) }
+{
     host.enter(alloc)?;
-    let is_done = replace(alloc, &mut host, b"00002\n").is_ok();
+    let is_done = replace(alloc, host, b"00002\n").is_ok();
     host.reboot(alloc, pick, None)?;
+    Ok(is_done)
+}
+
+fn left(host: &MemoryHost, is_done: bool) -> Result<(bool, bool, bool), Fail> {
     let bytes = host.reading(&sequence_name()).ok_or("a sequence file")?;
     let is_new = bytes == b"00002\n".as_slice();
     let is_old = bytes == b"00001\n".as_slice();
-    let is_left = host.reading(&temporary_name()).is_some();
-    (is_new || is_old).then_some(()).ok_or("no other bytes")?;
-    Ok((is_done, is_new, is_left))
+    (is_new || is_old).then_some(()).ok_or("other bytes")?;
+    Ok((is_done, is_new, host.reading(&temporary_name()).is_some()))
 }
 
 // The new file's name is the first change of names, its renaming the second, which does nothing without the first.

@@ -107,17 +107,29 @@ fn running_jobs(rt: HostRuntime) -> Result<(), Fail> {
     Ok(())
 }
 
-#[test]
-fn numbers_in_their_order(rt: HostRuntime) -> Result<(), Fail> {
+// A store of two jobs that wait and two that are done, whose files and marks are in other orders.
+fn numbered(alloc: Global) -> Result<Store, Fail> {
     let jobs = [("a0000401b968a0", TEXT), ("b0000201b968a0", TEXT)];
     let marks = "+R00000003--000000000000000000.\n+S00000001a-000000000067748580.\n\
         +E00000001-x030000000000000000.\n+R00000005--000000000000000000.\n\
         +F00000005--000000000000000000.\n";
-    let store = recovered(rt.alloc(), "00005\n", marks, &jobs)??;
-    let (rows, decided) = (store.rows(), store.decided());
+    Ok(recovered(alloc, "00005\n", marks, &jobs)??)
+}
+
+#[test]
+fn live_numbers_in_their_order(rt: HostRuntime) -> Result<(), Fail> {
+    let store = numbered(rt.alloc())?;
+    let rows = store.rows();
     assert_eq!(rt; rows.len(), 2);
     assert_eq!(rt; rows[0].number, 2);
     assert_eq!(rt; rows[1].number, 4);
+    Ok(())
+}
+
+#[test]
+fn done_numbers_in_their_order(rt: HostRuntime) -> Result<(), Fail> {
+    let store = numbered(rt.alloc())?;
+    let decided = store.decided();
     assert_eq!(rt; decided.len(), 2);
     assert_eq!(rt; decided[0].number, 1);
     assert_eq!(rt; decided[0].fate, Fate::Finished(Ending::Exit(3)));
