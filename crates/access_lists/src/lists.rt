@@ -21,6 +21,7 @@ pub fn permits(user: &UserName, allow: Option<&[u8]>, deny: Option<&[u8]>) -> bo
 }
 
 // Whether some line of the list tells the user's name.
+// A carriage return at the end of a line is a part of the name: only spaces and tabs are left out.
 fn is_listed(list: &[u8], user: &[u8]) -> bool
     ensures { result ≡ is_listed list.now user.now }
 {

@@ -20,6 +20,7 @@ pub(crate) const MAX_INSTANT: i64 = 400_000_000_000;
 /// No increment adds more seconds.
 pub(crate) const MAX_ADDED: i64 = 20_000_000_000_000;
 
+// It reckons by `jiff_core`, whose contracts are exact on day numbers; the spans of `jiff` bring limits of their own.
 /// The date after the days, weeks, months and years of an increment.
 pub(crate) fn later_date(date: Date, later: Option<Increment>) -> Result<Date, DateFault>
     ensures ok { IfOk result (λ day. epoch_day day ≡ meant.later_day later date) }

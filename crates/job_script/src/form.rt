@@ -110,6 +110,7 @@ fn has_directory(bytes: &[u8]) -> bool
 }
 
 // What stands after a value between single quotes.
+// It ends at the first quote that no `\''` follows. A job text has `;` or a space next: no other reading.
 fn after_quoted(bytes: &[u8]) -> Option<&[u8]>
     ensures { MatchOption result ((rest : List ℕ) → ¬ IsQuotedPrefix bytes.now rest)
         (λ rest. IsQuotedPrefix bytes.now rest.now) }

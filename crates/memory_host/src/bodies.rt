@@ -80,6 +80,7 @@ impl Bodies {
         self.list[number].sync();
     }
 
+    // A number may stand in the list twice: to make a body certain twice is to do it once.
     /// Makes all bodies certain.
     pub fn settle(&mut self)
         ensures list { self.new.list.items ≡ with_each kept_synced self.old.unsettled.items self.old.list.items }

@@ -6,6 +6,7 @@ use crate::{is_batch, is_due};
 use spool_model::{Row, State};
 use std::alloc::{AllocError, Global};
 
+// No program calls it: it is the definition as a plain program, with which tests compare the lines of a store.
 /// The numbers of all ready jobs outside the batch queues, by minute, then number.
 pub fn due_order(alloc: Global, rows: &[Row], now: i64) -> Result<Vec<u32>, AllocError>
     ensures { IfOk result (λ numbers. AreInDueOrder rows.now now numbers.items) }
@@ -32,6 +33,7 @@ fn ready_places(alloc: Global, rows: &[Row], now: i64) -> Result<Vec<(u32, u32)>
         .collect(alloc)
 }
 
+// No program calls it either.
 /// The number of the first ready job of the batch queues, by minute, then number.
 pub fn first_batch(rows: &[Row], now: i64) -> Option<u32>
     ensures some { IfSome result (IsFirstBatch rows.now now) }

@@ -20,6 +20,8 @@ use listing_text::{Cause, Refusal};
 use std::alloc::Global;
 
 // Rests, and makes one turn more. Answers what serving comes to, where no further one is to be made.
+// The rest comes before a turn, since only then it is known that there is one more. Where the clock is out of range no
+// load is read, for no turn is made with it.
 pub(crate) fn next_turn<H: Host, R: Readings, O: Sink, E: Sink>(
     alloc: Global,
     daemon: &mut Daemon,

@@ -150,6 +150,7 @@ impl Jobs {
 
     // Accepts a pending job under the number that was drawn. Where memory is wanting nothing
     // changes.
+    // Room for the row comes first and the row last, so that a step that fails leaves the jobs as they were.
     pub(crate) fn accept(&mut self, row: Row) -> Result<(), AllocError>
         requires free { IsLegal self.old (Accept row.number (row_job row)) }
         requires pending { row.state ≡ Pending }

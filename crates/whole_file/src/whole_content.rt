@@ -7,6 +7,7 @@ ghost use Rattle.host_calls.specs.World.{reading};
 use host_calls::{Bytes, Host, HostFault, Name};
 use std::alloc::Global;
 
+// The names come first: a host is asked for the length and the bytes of files that are there alone.
 /// All bytes of the named file, if there is such a file.
 pub fn content<H: Host>(
     alloc: Global,
