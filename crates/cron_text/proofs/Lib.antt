@@ -1,0 +1,9 @@
+pub mod BitLemmas
+pub mod ElementLemmas
+pub mod EntryLemmas
+pub mod FieldLemmas
+pub mod FirstLemmas
+pub mod LengthLemmas
+pub mod LineLemmas
+pub mod OptionLemmas
+pub mod SpanLemmas

@@ -1,0 +1,41 @@
+-- The text of a crontab (POSIX.1-2017, XCU crontab, Input Files: a text file of lines). That the last line may lack its
+-- newline, and that one bad line makes the whole text bad, is this project's own.
+use Rattle.std.specs.Prelude.{◌≡◌, ◌+◌, ◌==◌, ℕ, IsTrue, List, [], ◌∷◌, ◌++◌, length}
+use Rattle.std.specs.List.{slice_split}
+use Rattle.cron_text.specs.Entry.{IsBadLine, SpellsEntry, is_ignored}
+use Rattle.cron_text.specs.declared.crontab.CronFault.{CronFault}
+use Rattle.cron_text.specs.declared.crontab.CronFault.TheVariants.{Bad, Memory}
+use Rattle.cron_text.specs.declared.entry.CronEntry.{CronEntry}
+
+-- what stands between the newlines, or the ends of the text; the last of these is empty where the last line has its
+-- newline, and so is ignored
+abbrev pub lines_of : List ℕ → List (List ℕ)
+lines_of text = slice_split (λ byte. byte == 10) text
+
+-- the lines that aren't ignored spell the entries, one each, in order
+pub data AreLines : List (List ℕ) → List CronEntry → Type 0 where
+  no_line : AreLines [] []
+  ignored : {lines : List (List ℕ)} {entries : List CronEntry} → (line : List ℕ) → IsTrue (is_ignored line)
+      → AreLines lines entries → AreLines (line ∷ lines) entries
+  an_entry : {lines : List (List ℕ)} {entries : List CronEntry} → (line : List ℕ) (entry : CronEntry)
+      → SpellsEntry line entry → AreLines lines entries → AreLines (line ∷ lines) (entry ∷ entries)
+
+-- the text spells the entries
+abbrev pub SpellsCrontab : List ℕ → List CronEntry → Type 0
+SpellsCrontab text entries = AreLines (lines_of text) entries
+
+-- this line of the text, counted from 1, is bad, and none before it is
+pub record IsFirstBad (text : List ℕ) (number : ℕ) : Type 0 where
+  pub before : List (List ℕ)
+  pub bad : List ℕ
+  pub after : List (List ℕ)
+  pub entries : List CronEntry
+  pub lines : lines_of text ≡ before ++ bad ∷ after
+  pub good : AreLines before entries
+  pub is_bad : IsBadLine bad
+  pub counted : number ≡ length before + 1
+
+-- the fault is the first bad line of the text; want of memory alone is free
+abbrev pub IsCause : List ℕ → CronFault → Type 0
+IsCause text (Bad line) = IsFirstBad text line
+IsCause text Memory = Unit {0}

@@ -1,0 +1,4 @@
+pub mod Crontab
+pub mod Entry
+pub mod Field
+pub mod inside
