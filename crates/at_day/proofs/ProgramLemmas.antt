@@ -1,5 +1,5 @@
 -- How words of atday end, put together from the day that was made and the line of the cause.
-use Rattle.std.proofs.Common.{◌≡◌, ◌⊎◌, ◌≤◌, ◌++◌, [], ◌∷◌, ℕ, Bool, true, List, length, sym, ap, subst, ◌∙◌, refl, inl, inr, arith, append-nil}
+use Rattle.std.proofs.Common.{◌≡◌, ◌⊎◌, ◌++◌, ℕ, Bool, true, List, length, sym, ap, subst, ◌∙◌, refl, inl, inr, arith, append-nil}
 use Rattle.std.specs.Prelude.{Result, Ok, Err}
 use Rattle.std.proofs.Math.Seq.{take-length}
 use Rattle.std.specs.List.{concat}
@@ -12,7 +12,6 @@ use Rattle.command_rules.specs.Causes.{words_cause}
 use Rattle.command_rules.specs.Ends.{FailsToPrint}
 use Rattle.command_rules.specs.Found.{Asked}
 use Rattle.command_rules.specs.Sinks.{EndsLine, IsCut, IsPut, IsPutInPart, IsPutOrCut, IsSilent, SinkAt, sink_at}
-use Rattle.host_calls.specs.Causes.{Rose}
 use Rattle.host_calls.specs.Sink.{Outlet}
 use Rattle.host_calls.specs.declared.fault.SinkFault.{SinkFault}
 use Rattle.host_calls.specs.declared.fault.SinkFault.TheVariants as sink
@@ -25,8 +24,8 @@ use Rattle.at_day.specs.declared.counts.Counts.{Counts}
 use Rattle.at_day.specs.Laws.{MadeDaysAreReported}
 use Rattle.at_day.specs.Lines.{day_lines}
 use Rattle.at_day.specs.MadeDays.{ComesTo}
-use Rattle.at_day.specs.Programs.{EndsDay, EndsMade, EndsRefused, TellsDay}
-use Rattle.at_day.specs.inside.Making.{IsDayRequest, PutsDay}
+use Rattle.at_day.specs.Programs.{EndsDay, EndsMade, EndsRefused}
+use Rattle.at_day.specs.inside.Making.{PutsDay}
 use Rattle.at_day.proofs.RequestLemmas.{IsDayAsked}
 
 silent : (at : SinkAt) → IsSilent at at

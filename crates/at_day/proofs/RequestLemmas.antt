@@ -1,12 +1,12 @@
 -- What words of atday ask for: a day of at most so many events, or they are refused.
-use Rattle.std.proofs.Common.{◌≡◌, ◌≤◌, ℕ, Bool, true, false, List, sym, subst, refl, arith, codes, drop, if◌then◌else◌}
+use Rattle.std.proofs.Common.{◌≡◌, ◌≤◌, ℕ, Bool, true, false, List, refl, arith, codes, drop, if◌then◌else◌}
 use Rattle.std.proofs.lemmas.Bool.Decides.{nat_tests}
-use Rattle.std.specs.Prelude.{◌-◌, ◌&&◌, [], ◌∷◌, Option, Some, None, Result, Ok, Err, nat_le, option_map}
+use Rattle.std.specs.Prelude.{◌-◌, ◌&&◌, [], ◌∷◌, Option, Some, None, Ok, Err, nat_le, option_map}
 use Rattle.clap.specs.Kinds.{Kinds}
 use Rattle.clap.specs.Simple.{matches_of}
 use Rattle.clap.specs.Faults.{fault_of}
 use Rattle.clap.specs.Walk.{Row, Text, first_of}
-use Rattle.at_commands.specs.Served.{IsNotServed, WhereServed}
+use Rattle.at_commands.specs.Served.{WhereServed}
 use Rattle.at_words.specs.Answers.{if_taken, or_usage}
 use Rattle.at_words.specs.Commands.{atday_app}
 use Rattle.at_words.specs.Daemons.{atday_asked, make_asked}

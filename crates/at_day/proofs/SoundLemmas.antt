@@ -1,9 +1,9 @@
 -- The host of a made day: none of its calls fails, and its folder is never damaged.
-use Rattle.std.proofs.Common.{◌≡◌, ◌+◌, ◌≤◌, ◌++◌, [], ◌∷◌, ℕ, Bool, true, List, sym, ap, subst, ◌∙◌, refl, inl, inr, arith, length, append-nil}
-use Rattle.std.specs.Prelude.{Option, Some, None, Result, Ok, Err, false, option_to_list}
+use Rattle.std.proofs.Common.{◌≡◌, ◌++◌, [], ◌∷◌, ℕ, List, sym, ap, subst, ◌∙◌, refl, inl, inr, arith, length, append-nil}
+use Rattle.std.specs.Prelude.{Option, Result, Ok, Err, false, option_to_list}
 use Rattle.std.specs.List.{list_any}
 use Rattle.std.specs.Cmp.Lexicographic.{nat_list_cmp_total}
-use Rattle.std.specs.FinMap.{empty, entries, entries-insert, from_entries, insert, len-empty, len-entries}
+use Rattle.std.specs.FinMap.{empty, entries, entries-insert, len-empty, len-entries}
 use Rattle.command_rules.specs.Found.{deny_file}
 use Rattle.day_events.specs.declared.event.Event.{Event}
 use Rattle.day_events.specs.declared.event.Event.TheVariants.{Command, Turn, Reboot}
@@ -35,7 +35,7 @@ use Rattle.at_day.specs.Counting.{CountsBy, IsCounted}
 use Rattle.at_day.specs.Days.{IsDay, IsDayOf, first_machine}
 use Rattle.at_day.specs.EventOutcomes.{AreDoneOn, EventOutcome, events_of, machine_after, passed_of}
 use Rattle.at_day.specs.Happening.{Happens}
-use Rattle.at_day.specs.Machines.{Machine, machine, session_of, spool_of}
+use Rattle.at_day.specs.Machines.{Machine, session_of, spool_of}
 use Rattle.at_day.specs.MadeDays.{ComesTo, deny_alone, lacks_memory}
 use Rattle.at_day.specs.inside.Making.{IsSound}
 use Rattle.at_day.proofs.MadeLemmas.{LightNoFuse, LightsNoFuse, made_events_light_none}

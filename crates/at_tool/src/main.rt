@@ -29,17 +29,23 @@ fn main(rt: HostRuntime) -> ExitCode {
     }
 }
 
-// Does what the words of this process ask for over the real things, and gives the exit status. A day is handed a host
-// in memory in place of the real one, which it would leave alone.
+// Does what the words of this process ask for over the real things, and gives the exit status.
 fn run(rt: &HostRuntime) -> Result<u8, StartupError> {
     let words = words_of(rt)?;
     let caller = caller_of(rt)?;
     if asks_for_day(&words) {
-        let mut host = no_spool(rt.alloc())?;
-        return Ok(answer(rt, &words, &caller, &mut host)?);
+        return Ok(answer_in_memory(rt, &words, &caller)?);
     }
     let mut host = UnixHost::make(rt.clone()?, rt.alloc(), text_of(rt, "ATSPOOL", SPOOL)?)?;
     Ok(answer(rt, &words, &caller, &mut host)?)
+}
+
+// A day is handed a host in memory in place of the real one, which it would leave alone.
+fn answer_in_memory(rt: &HostRuntime, words: &[String], caller: &Caller) -> Result<u8, AllocError>
+    requires umask { caller.now.context.umask < 512 }
+{
+    let mut host = no_spool(rt.alloc())?;
+    answer(rt, words, caller, &mut host)
 }
 
 // Does what the words ask for over the host and the real things beside it, and gives the exit status.

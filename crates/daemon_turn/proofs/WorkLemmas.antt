@@ -30,7 +30,6 @@ use Rattle.spool_store.specs.Faults.{IsOfReading, IsOfStep}
 use Rattle.spool_store.specs.Recovering.{IsRecovered, Recovered, ShowsTheSame}
 use Rattle.daemon_turn.specs.declared.kid.Kid.{Kid}
 use Rattle.daemon_turn.specs.declared.step.TurnStep.{TurnStep}
-use Rattle.spool_model.specs.Lists.{is_running}
 use Rattle.daemon_turn.specs.Decisions.{asked_kids, is_running_entry, questions, runs_in}
 use Rattle.daemon_turn.specs.Kids.{AreByNumber, AreChildren, AreKidsAfter, KeepsChildren, kept_kids, tells_end_of}
 use Rattle.daemon_turn.specs.Leaving.{Gave, IsIdle, IsStopped, IsWhole, DaemonAt, TurnLeaves}

@@ -1,5 +1,5 @@
 -- What a turn decides of running jobs (own): one that nobody watches is given up, and one whose child has ended is done.
-use Rattle.std.specs.Prelude.{◌==◌, ◌&&◌, ◌++◌, [], ◌∷◌, ℕ, Bool, true, false, not, List, Option, Some, None, filter, map}
+use Rattle.std.specs.Prelude.{◌==◌, ◌&&◌, ◌++◌, [], ◌∷◌, ℕ, Bool, false, not, List, Option, Some, None, filter, map}
 use Rattle.std.specs.List.{list_any}
 use Rattle.host_calls.specs.declared.child.Asked.{Asked}
 use Rattle.host_calls.specs.declared.child.Ending.{Ending}

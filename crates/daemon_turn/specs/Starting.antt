@@ -1,5 +1,5 @@
 -- Which jobs a turn starts, and in which order (own).
-use Rattle.std.specs.Prelude.{◌≡◌, ◌⊎◌, ◌-◌, ◌++◌, [], ◌∷◌, ℕ, ℤ, Bool, true, false, List, Option, length, map, take}
+use Rattle.std.specs.Prelude.{◌≡◌, ◌⊎◌, ◌++◌, [], ◌∷◌, ℕ, ℤ, Bool, true, false, List, Option, map}
 use Rattle.host_calls.specs.declared.child.Ending.TheVariants.{NotStarted}
 use Rattle.queue_rules.specs.Order.{AreInDueOrder, IsFirstBatch, is_ready_batch, places_of}
 use Rattle.queue_rules.specs.Queues.{may_start_batch}

@@ -1,5 +1,5 @@
 -- The plan of a made day (own): nothing fails, and how each child ends.
-use Rattle.std.specs.Prelude.{◌+◌, ◌%◌, ◌++◌, [], ◌∷◌, ℕ, zero, suc, List}
+use Rattle.std.specs.Prelude.{◌%◌, ◌++◌, [], ◌∷◌, ℕ, zero, suc, List}
 use Rattle.host_calls.specs.declared.child.Ending.TheVariants.{Exit}
 use Rattle.memory_host.specs.declared.child_plans.ChildPlan.{ChildPlan}
 use Rattle.memory_host.specs.Plan.{quiet_plan}

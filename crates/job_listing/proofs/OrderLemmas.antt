@@ -1,6 +1,6 @@
 -- Rows of different numbers, in order by minute, then number.
-use Rattle.std.proofs.Common.{◌≡◌, ◌≢◌, ◌⊎◌, ◌<◌, ◌==◌, ℕ, nat_eq, Bool, true, false, List, [], ◌∷◌, length, map, filter, All, AllPairs, IsPermutation, get_or, inl, inr, sym, ap, subst, ◌∙◌, refl, arith}
-use Rattle.std.specs.Prelude.{IsTrue, T}
+use Rattle.std.proofs.Common.{◌≡◌, ◌≢◌, ◌<◌, ◌==◌, ℕ, nat_eq, Bool, false, List, [], ◌∷◌, length, map, filter, All, AllPairs, IsPermutation, inl, inr, sym, subst, ◌∙◌, refl, arith}
+use Rattle.std.specs.Prelude.{T}
 use Rattle.std.specs.Bool.{Decides}
 use Rattle.std.specs.Cmp.{IsStrictWeakOrder, ranked, ranks}
 use Rattle.std.specs.FinMap.Entries.{below_all, is_sorted}
@@ -21,7 +21,6 @@ use Rattle.listing_text.specs.Listing.{IsListedBefore}
 use Rattle.queue_rules.specs.Order.{Differ, row_numbers}
 use Rattle.spool_model.specs.declared.row.Row.{Row}
 use Rattle.spool_shows.proofs.EntryLists.{below, left, right}
-use Rattle.spool_store.specs.Listed.{ListsLive}
 use Rattle.spool_store.specs.Rows.{row_entry}
 
 -- the rows have different numbers

@@ -1,7 +1,6 @@
 -- Scripts put one after another.
-use Rattle.std.proofs.Common.{◌≡◌, ℕ, ◌+◌, ◌<◌, ◌≤◌, Bool, true, List, [], ◌∷◌, ◌++◌, length, take, drop, get_or, map, refl, sym, ap, subst, ◌∙◌, append-nil, append_assoc, arith}
+use Rattle.std.proofs.Common.{◌≡◌, ℕ, ◌+◌, ◌<◌, ◌≤◌, Bool, true, List, [], ◌∷◌, ◌++◌, length, take, drop, get_or, refl, sym, ap, subst, ◌∙◌, append-nil, append_assoc, arith}
 use Rattle.std.specs.Prelude.{Err, IsErrAnd, Ok, Result}
-use Rattle.std.specs.List.{concat}
 use Rattle.std.proofs.Math.Seq.{take-append_seam}
 use Rattle.std.proofs.lemmas.List.{take-append-drop, take_all, take_more}
 use Rattle.host_calls.specs.World.{World}
@@ -10,7 +9,7 @@ use Rattle.spool_model.specs.JobTable.{JobTable, entry_at}
 use Rattle.command_rules.specs.declared.command_error.CommandError.{CommandError}
 use Rattle.command_rules.specs.Requested.{script_in, scripts_of}
 use Rattle.command_rules.specs.Sinks.{IsPut, IsPutInPart, SinkAt}
-use Rattle.job_listing.specs.Scripts.{PutsBy, PutsScripts}
+use Rattle.job_listing.specs.Scripts.{PutsScripts}
 
 -- scripts of two lists of numbers
 scripts_join : (table : JobTable) (prefix later : List ℕ) → scripts_of table (prefix ++ later) ≡ scripts_of table prefix ++ scripts_of table later

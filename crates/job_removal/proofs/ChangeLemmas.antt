@@ -121,11 +121,11 @@ module _ (tells : Bool) (what : StepKind) (was now : Kept) (numbers : List ℕ) 
       )
 
 -- such a step hands nothing over
-pub deed_goes_on : (tells : Bool) (what : StepKind) (was now : Kept) (numbers : List ℕ) (count : ℕ) (old middle new : World) (step : Step)
+pub kind_goes_on : (tells : Bool) (what : StepKind) (was now : Kept) (numbers : List ℕ) (count : ℕ) (old middle new : World) (step : Step)
     (result : Result Kept StoreFault) → HasDone tells what was now numbers count old middle → (tells ≡ true → (table : JobTable) × IsCurrent was old.now.folder table) →
     (tells ≡ true → (table : JobTable) → IsCurrent now middle.now.folder table → StoreCall table (step ∷ []) middle new result) →
     (tells ≡ true → GoesOn old middle) → tells ≡ true → GoesOn old new
-deed_goes_on tells what was now numbers count old middle new step result has shows call before known =
+kind_goes_on tells what was now numbers count old middle new step result has shows call before known =
     let table : JobTable = (shows known).0 in
     let made : AreMade table (steps_for what (take count numbers)) [] [] now old middle = has.made known table (shows known).1 in
     goes_on_then old middle new (before known)

@@ -1,5 +1,5 @@
 -- What a session comes to, by its work.
-use Rattle.std.proofs.Common.{◌≡◌, ◌≤◌, true, ℕ, ◌∙◌, ap, refl, subst, arith}
+use Rattle.std.proofs.Common.{◌≡◌, ◌≤◌, ℕ, ◌∙◌, ap, refl, subst, arith}
 use Rattle.std.specs.Prelude.{Result, Ok, Err, IfErr, IsErrOf}
 use Rattle.host_calls.specs.Causes.{Rose}
 use Rattle.host_calls.specs.declared.fault.EnterFault.{EnterFault}
@@ -8,7 +8,7 @@ use Rattle.host_calls.specs.declared.host.Host.{Ghosts}
 use Rattle.host_calls.specs.Session.{KeepsCounts, Session}
 use Rattle.host_session.specs.Work.{Calls, IsDoneInside, IsUndone}
 use Rattle.listing_text.specs.declared.cause.Cause.{Cause}
-use Rattle.listing_text.specs.declared.cause.Cause.TheVariants.{Busy, Done, FileFault, Memory}
+use Rattle.listing_text.specs.declared.cause.Cause.TheVariants.{Busy, Done, FileFault}
 use Rattle.command_rules.specs.Causes.{cause_in, cause_of_entry, error_of}
 use Rattle.command_rules.specs.declared.command_error.CommandError.{CommandError}
 use Rattle.command_rules.proofs.SpoolLemmas.{goes_on_then}

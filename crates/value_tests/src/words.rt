@@ -1,6 +1,7 @@
 //! Lines of words, and what they ask for.
 use at_words::{Filter, Numbers, Tool, ToolRequest, When, WordsFault, request, tool_of};
 use std::alloc::{AllocError, Global};
+use std::process::Abort;
 use std::test::Fail;
 
 // The words of a line, which bars part.
@@ -78,7 +79,29 @@ fn line_shown(alloc: Global, line: &str) -> Result<String, AllocError> {
     }
 }
 
-static ASKED: [(&str, &str); 33] = [
+static DAEMONS: [(&str, &str); 10] = [
+    ("atd", "daemon 150 60 false 4611686018427387904"),
+    ("atd|-l|2|-b|0|-s", "daemon 200 0 true 4611686018427387904"),
+    (
+        "atd|-b|999999999",
+        "daemon 150 999999999 false 4611686018427387904",
+    ),
+    ("atd|-b|1000000000", "usage"),
+    ("atd|-l|1.5", "daemon 150 60 false 4611686018427387904"),
+    (
+        "atd|-l|999999.09",
+        "daemon 99999909 60 false 4611686018427387904",
+    ),
+    ("atd|--turns|1", "daemon 150 60 false 1"),
+    (
+        "atd|--turns=4611686018427387904",
+        "daemon 150 60 false 4611686018427387904",
+    ),
+    ("atday|--make|1", "make 1"),
+    ("atday|--make|2000", "make 2000"),
+];
+
+static ASKED: [(&str, &str); 23] = [
     ("at|now", "submit 97 mail false file none spec now"),
     (
         "at|-m|-f|x|-q|c|noon|jan 24",
@@ -108,25 +131,6 @@ static ASKED: [(&str, &str); 33] = [
     ("atq", "list all"),
     ("atq|-q|=", "list letter 61"),
     ("atrm|4|4", "remove [4]"),
-    ("atd", "daemon 150 60 false 4611686018427387904"),
-    ("atd|-l|2|-b|0|-s", "daemon 200 0 true 4611686018427387904"),
-    (
-        "atd|-b|999999999",
-        "daemon 150 999999999 false 4611686018427387904",
-    ),
-    ("atd|-b|1000000000", "usage"),
-    ("atd|-l|1.5", "daemon 150 60 false 4611686018427387904"),
-    (
-        "atd|-l|999999.09",
-        "daemon 99999909 60 false 4611686018427387904",
-    ),
-    ("atd|--turns|1", "daemon 150 60 false 1"),
-    (
-        "atd|--turns=4611686018427387904",
-        "daemon 150 60 false 4611686018427387904",
-    ),
-    ("atday|--make|1", "make 1"),
-    ("atday|--make|2000", "make 2000"),
     ("/usr/bin/atrm|7", "remove [7]"),
     ("at_tool|atq|-qb", "list letter 98"),
     ("at|-q|ab|now", "bad queue"),
@@ -135,13 +139,23 @@ static ASKED: [(&str, &str); 33] = [
     ("atq|-q|ab", "bad queue"),
 ];
 
-#[test]
-fn lines_ask_for_what_the_tools_say(rt: HostRuntime) -> Result<(), Fail> {
-    for (line, asked) in ASKED {
-        let shown = line_shown(rt.alloc(), line)?;
-        assert_eq!(rt; shown.as_str(), asked, "{line}");
+// Whether each line asks for what stands beside it.
+fn assert_asked(rt: &impl Abort, alloc: Global, lines: &[(&str, &str)]) -> Result<(), Fail> {
+    for (line, asked) in lines {
+        let shown = line_shown(alloc, line)?;
+        assert_eq!(rt; shown.as_str(), *asked, "{line}");
     }
     Ok(())
+}
+
+#[test]
+fn lines_ask_for_what_the_tools_say(rt: HostRuntime) -> Result<(), Fail> {
+    assert_asked(&rt, rt.alloc(), &ASKED)
+}
+
+#[test]
+fn lines_of_the_daemon_and_of_days_ask_for_what_they_say(rt: HostRuntime) -> Result<(), Fail> {
+    assert_asked(&rt, rt.alloc(), &DAEMONS)
 }
 
 static REFUSED: [&str; 37] = [

@@ -1,7 +1,6 @@
 use Rattle.std.proofs.Common.{inl, inr, refl, rules}
 use Rattle.host_calls.specs.Session.{StaysInside}
-use Rattle.step_runs.specs.Attempts.{IsUnbegun}
-use Rattle.memory_host.specs.Host.{memory_session, memory_world}
+use Rattle.memory_host.specs.Host.{memory_session}
 use Rattle.at_day.proofs.CountedLemmas.{counted_in_session, not_entered}
 use Rattle.at_day.proofs.count_jobs.counts.Goals as goal
 

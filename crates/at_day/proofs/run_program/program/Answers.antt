@@ -1,5 +1,5 @@
 use Rattle.std.proofs.Common.{◌≡◌, ◌∙◌, [], true, false, map, refl, string_bytes, sym, append-nil, arith}
-use Rattle.std.specs.Prelude.{Bool, ℕ}
+use Rattle.std.specs.Prelude.{Bool}
 use Rattle.at_words.specs.Requests.{request_of}
 use Rattle.command_rules.proofs.SpoolLemmas.{goes_on_none}
 use Rattle.command_rules.specs.Sinks.{sink_at}

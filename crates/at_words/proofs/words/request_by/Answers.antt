@@ -1,4 +1,4 @@
-use Rattle.std.proofs.Common.{ap, subst, sym, drop, length, map, take, string_bytes, ◌∙◌, ◌-◌, ◌≡◌, List, String, ℕ}
+use Rattle.std.proofs.Common.{ap, subst, sym, drop, length, map, take, ◌∙◌, ◌-◌, ◌≡◌, List, ℕ}
 use Rattle.std.proofs.Math.Seq.{take-length}
 use Rattle.std.proofs.lemmas.List.{drop-map, length-drop}
 use Rattle.at_words.proofs.LetterLemmas.{answers_by_letter}

@@ -1,5 +1,5 @@
 use Rattle.at_day.specs.Machines.{machine}
-use Rattle.at_day.proofs.DeedLemmas.{ready_after}
+use Rattle.at_day.proofs.OutcomeLemmas.{ready_after}
 use Rattle.day_tests.proofs.tried_days.next_event.Goals as goal
 
 pub returns : goal.returns

@@ -1,5 +1,5 @@
 use Rattle.std.proofs.Common.{[], refl}
-use Rattle.at_day.proofs.DeedLemmas.{so_far_at_first}
+use Rattle.at_day.proofs.OutcomeLemmas.{so_far_at_first}
 use Rattle.day_tests.proofs.tried_days.open_day.Goals as goal
 
 pub returns : goal.returns

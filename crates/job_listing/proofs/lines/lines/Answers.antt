@@ -2,7 +2,7 @@ use Rattle.std.proofs.Common.{ap, subst, sym, ◌∙◌, ◌++◌, List, ℕ}
 use Rattle.clock_range.specs.ClockRange.{IsClockMinute}
 use Rattle.listing_text.specs.Listing.{ShowsRow}
 use Rattle.spool_model.specs.declared.row.Row.{Row}
-use Rattle.job_listing.proofs.LineLemmas.{no_rows, one_more}
+use Rattle.job_listing.proofs.LineLemmas.{one_more}
 use Rattle.job_listing.proofs.lines.lines.Goals as goal
 
 pub line-requires-clause-minute : goal.line-requires-clause-minute

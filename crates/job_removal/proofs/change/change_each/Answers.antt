@@ -2,7 +2,7 @@ use Rattle.std.proofs.Common.{refl, rules}
 use Rattle.std.specs.Prelude.{Ok, Err}
 use Rattle.std.proofs.lemmas.Result.{err_from_is_err_and}
 use Rattle.command_rules.proofs.SpoolLemmas.{goes_on_none}
-use Rattle.job_removal.proofs.ChangeLemmas.{deed_goes_on, legal_one, none_done, one_done, one_stopped}
+use Rattle.job_removal.proofs.ChangeLemmas.{kind_goes_on, legal_one, none_done, one_done, one_stopped}
 use Rattle.job_removal.proofs.change.change_each.Goals as goal
 
 pub loop-number-init : goal.loop-number-init
@@ -24,7 +24,7 @@ change-requires g c = record {
 
 pub returns-in_err-store-clause-goes_on : goal.returns-in_err-store-clause-goes_on
 returns-in_err-store-clause-goes_on g c =
-    deed_goes_on g.H.Host.tells c.args.kind c.args.store c.loop-number.store c.args.numbers.now c.loop-number.number-index
+    kind_goes_on g.H.Host.tells c.args.kind c.args.store c.loop-number.store c.args.numbers.now c.loop-number.number-index
     (g.H.Host.world c.args.host.now) (g.H.Host.world c.loop-number.host) (g.H.Host.world c.change.new.host) _ (Err c.in_err-store.field-0.0)
     c.loop-number.invariant.has c.requires.current c.in_err-store.ensures.makes.files c.loop-number.invariant.goes_on
 
@@ -42,7 +42,7 @@ loop-number-preserved g c = record {
   has = one_done g.H.Host.tells c.args.kind c.args.store c.loop-number.store c.args.numbers.now c.loop-number.number-index
       (g.H.Host.world c.args.host.now) (g.H.Host.world c.loop-number.host) c.loop-number-test.true c.loop-number.invariant.has
       c.in_ok-store.store (g.H.Host.world c.change.new.host) c.in_ok-store.ensures.makes.table_is c.in_ok-store.ensures.makes.files;
-  goes_on = deed_goes_on g.H.Host.tells c.args.kind c.args.store c.loop-number.store c.args.numbers.now c.loop-number.number-index
+  goes_on = kind_goes_on g.H.Host.tells c.args.kind c.args.store c.loop-number.store c.args.numbers.now c.loop-number.number-index
       (g.H.Host.world c.args.host.now) (g.H.Host.world c.loop-number.host) (g.H.Host.world c.change.new.host) _ (Ok c.in_ok-store.store)
       c.loop-number.invariant.has c.requires.current c.in_ok-store.ensures.makes.files c.loop-number.invariant.goes_on;
 }

@@ -1,6 +1,6 @@
 use Rattle.std.proofs.Common.{◌∙◌, refl, rules, subst, sym}
 use Rattle.daemon_turn.specs.Daemons.{DaemonState}
-use Rattle.daemon_turn.specs.Kids.{AreByNumber, AreChildren}
+use Rattle.daemon_turn.specs.Kids.{AreChildren}
 use Rattle.daemon_turn.specs.Leaving.{TurnsTo}
 use Rattle.daemon_turn.specs.declared.turn_input.TurnInput.{TurnInput}
 use Rattle.daemon_turn.specs.declared.report.TurnEnd.{TurnEnd}
