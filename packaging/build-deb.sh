@@ -1,6 +1,6 @@
 #!/bin/sh
 # Makes a Debian package of the proved program: packaging/build-deb.sh FOLDER puts coefhird_VERSION_amd64.deb into FOLDER.
-# BINARY, and --cpu NAME after FOLDER, are as for install.sh. It needs dpkg-deb and no other tool of packages.
+# BINARY, BINARIES, and --cpu NAME after FOLDER, are as for install.sh. It needs dpkg-deb and no other tool of packages.
 set -eu
 here=$(cd "$(dirname "$0")/.." && pwd)
 into=${1:?a folder for the package}
@@ -21,7 +21,10 @@ rmdir "$root/usr/share/zsh/site-functions"
 
 # What a package of Debian's has besides.
 doc=$root/usr/share/doc/coefhird
-strip --remove-section=.comment --remove-section=.note "$root/usr/libexec/coefhird/program" 2>/dev/null || true
+for program in $(awk '$1 == "command" && $4 != "script" && !seen[$4]++ { print $4 == "at_tool" ? "program" : $4 }' \
+    "$here/packaging/programs"); do
+    strip --remove-section=.comment --remove-section=.note "$root/usr/libexec/coefhird/$program" 2>/dev/null || true
+done
 mkdir -p "$doc" "$root/etc/default"
 cp "$here/packaging/debian/copyright" "$doc/copyright"
 gzip -9nc "$here/packaging/debian/changelog" >"$doc/changelog.gz"
@@ -37,6 +40,9 @@ install -D -m 644 "$root/usr/lib/systemd/system/atd.service" "$root/usr/share/co
 for script in preinst postinst prerm postrm; do
     install -m 755 "$here/packaging/debian/$script" "$root/DEBIAN/$script"
 done
+# The files of a spool that are no jobs, as tests of find.
+kept=$(awk '$1 == "kept" { for (i = 2; i <= NF; i++) printf " ! -name \047%s\047", $i }' "$here/packaging/programs")
+sed -i "s|@NO_JOBS@|${kept# }|" "$root/DEBIAN/postrm"
 size=$(du -sk "$root" | cut -f 1)
 sed -e "s/@VERSION@/$version/" -e "s/@SIZE@/$size/" "$here/packaging/debian/control" >"$root/DEBIAN/control"
 (cd "$root" && find . -type f ! -path './DEBIAN/*' -printf '%P\0' | sort -z | xargs -0 md5sum) >"$root/DEBIAN/md5sums"

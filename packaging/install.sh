@@ -1,17 +1,18 @@
 #!/bin/sh
-# Installs at, batch, atq, atrm, atd, atday, atout and atwhen, with their man pages, completions and units: the proved
-# program in PREFIX/libexec/coefhird, and before it, in PREFIX/bin, a script that sets what it takes from its surroundings.
+# Installs the commands of packaging/programs, with their man pages, completions and units: the proved programs in
+# PREFIX/libexec/coefhird, and before them, in PREFIX/bin, a script that sets what they take from their surroundings.
 #
 #   packaging/install.sh                             for the machine, below /usr/local
 #   PREFIX="$HOME/.local" packaging/install.sh       for one user, without root
 #
 # PREFIX       where to install
 # DESTDIR      a folder in the place of the root, for whoever makes a package
-# BINARY       a program that these sources were built to before
+# BINARY       a program that at_tool of these sources was built to before
+# BINARIES     a folder of such programs, by the names of their crates
 # --cpu NAME   x86-64 for each processor of that kind; without it those since 2009 or so, which x86-64-v2 means
 #
-# Without BINARY it installs the program that the toolchain left here, where no source is newer and no --cpu is given, and
-# else the toolchain proves and builds it. So only a proved program is installed.
+# Without these it installs the programs that the toolchain left here, where no source is newer and no --cpu is given, and
+# else the toolchain proves and builds them. So only proved programs are installed.
 set -eu
 here=$(cd "$(dirname "$0")/.." && pwd)
 PREFIX=${PREFIX:-/usr/local}
@@ -25,22 +26,34 @@ case $PREFIX in
     *) stops 'PREFIX is to begin with /' ;;
 esac
 case $#,${1:-} in 0, | 2,--cpu) ;; *) stops 'usage: install.sh [--cpu NAME]' ;; esac
-[ $# = 0 ] || [ -z "${BINARY:-}" ] || stops 'a BINARY is built already: give no --cpu'
+[ $# = 0 ] || [ -z "${BINARY:-}${BINARIES:-}" ] || stops 'a BINARY is built already: give no --cpu'
+
+# The commands of the list: `commands EXPRESSION` gives the names of those for whose fields, where, what and page, it holds.
+commands() { awk '$1 == "command" { name = $2; where = $3; what = $4; page = $5; if ('"$1"') print name }' "$here/packaging/programs"; }
+crates=$(awk '$1 == "command" && $4 != "script" && !seen[$4]++ { print $4 }' "$here/packaging/programs")
 
 is_stale() {
     [ ! -x "$1" ] || [ -n "$(find "$here/crates" "$here/crates.txt" -name out -prune -o -type f -newer "$1" -print)" ]
 }
-if [ -z "${BINARY:-}" ]; then
-    BINARY=$here/crates/at_tool/out/at_tool
-    if [ $# = 2 ] || is_stale "$BINARY"; then
+# The program of a crate. A first run with words that touch no folder has the toolchain prove and build it.
+binary_of() { # crate, and --cpu NAME
+    crate=$1
+    shift
+    binary=$here/crates/$crate/out/$crate
+    if [ "$crate" = at_tool ] && [ -n "${BINARY:-}" ]; then
+        binary=$BINARY
+    elif [ -n "${BINARIES:-}" ]; then
+        binary=$BINARIES/$crate
+    elif [ $# = 2 ] || is_stale "$binary"; then
         command -v rt >/dev/null || stops 'the toolchain is not here: give a BINARY'
-        [ -w "$here/crates/at_tool" ] || stops "you may not write in $here: clone it, or give a BINARY"
+        [ -w "$here/crates/$crate" ] || stops "you may not write in $here: clone it, or give a BINARY"
         echo 'install.sh: proving and building the tools: about an hour, and few words, where nothing is proved yet' >&2
-        # (a day is made in memory, which touches no folder)
-        (cd "$here/crates/at_tool" && rt run "$@" -- atday --make 8 >/dev/null)
+        # (at_tool makes a day in memory, and the others say their usage)
+        case $crate in at_tool) set -- "$@" -- atday --make 8 ;; *) set -- "$@" -- "$crate" ;; esac
+        (cd "$here/crates/$crate" && rt run "$@" >/dev/null 2>&1) || [ "$crate" != at_tool ] || stops "$crate could not be built"
     fi
-fi
-[ -x "$BINARY" ] || stops "$BINARY is no program"
+    [ -x "$binary" ] || stops "$binary is no program"
+}
 
 file() { install -D -m 644 "$1" "$2"; }
 
@@ -57,27 +70,33 @@ filled() { # mode, file, where
     chmod "$1" "$3.new"
     mv -f "$3.new" "$3"
 }
-install -D -m 755 "$BINARY" "$to/libexec/coefhird/program"
-for tool in at batch atq atrm atd atday; do ln -sf program "$to/libexec/coefhird/$tool"; done
-for script in atout atwhen from-debian-at; do filled 755 "$here/packaging/doorstep/$script" "$to/libexec/coefhird/$script"; done
+for crate in $crates; do
+    binary_of "$crate" "$@"
+    # (at_tool is many commands by one name)
+    case $crate in at_tool) program=program ;; *) program=$crate ;; esac
+    install -D -m 755 "$binary" "$to/libexec/coefhird/$program"
+    for tool in $(commands "what == \"$crate\""); do ln -sf "$program" "$to/libexec/coefhird/$tool"; done
+done
+for script in $(commands 'what == "script"'); do filled 755 "$here/packaging/doorstep/$script" "$to/libexec/coefhird/$script"; done
 for words in help hints; do filled 644 "$here/packaging/doorstep/$words" "$to/libexec/coefhird/$words"; done
 # (the program stood here before)
 rm -f "$to/bin/at"
 filled 755 "$here/packaging/doorstep/at" "$to/bin/at"
-for tool in batch atq atrm atd atday atout atwhen; do ln -sf at "$to/bin/$tool"; done
+called=$(commands 'where != "libexec" && name != "at"')
+for tool in $called; do ln -sf at "$to/bin/$tool"; done
 mkdir -p "$to/sbin"
-ln -sf ../bin/at "$to/sbin/atd"
+for tool in $(commands 'where == "sbin"'); do ln -sf ../bin/at "$to/sbin/$tool"; done
 
 for page in "$here"/man/*.[158]; do
     file "$page" "$to/share/man/man${page##*.}/$(basename "$page")"
 done
-for name in batch atq atrm atout atwhen; do ln -sf at.1 "$to/share/man/man1/$name.1"; done
+for name in $(commands 'page == "at.1" && name != "at"'); do ln -sf at.1 "$to/share/man/man1/$name.1"; done
 ln -sf at.allow.5 "$to/share/man/man5/at.deny.5"
 
 file "$here/packaging/completions/at.bash" "$to/share/bash-completion/completions/at"
-for tool in batch atq atrm atd atday atout atwhen; do ln -sf at "$to/share/bash-completion/completions/$tool"; done
+for tool in $called; do ln -sf at "$to/share/bash-completion/completions/$tool"; done
 file "$here/packaging/completions/_at" "$to/share/zsh/site-functions/_at"
-for tool in at batch atq atrm atd atday atout atwhen; do
+for tool in at $called; do
     file "$here/packaging/completions/at.fish" "$to/share/fish/vendor_completions.d/$tool.fish"
 done
 

@@ -2,26 +2,29 @@
 # Removes what install.sh put below PREFIX. Spools stay, and what lies beside them. End atd before: that is
 # `systemctl disable --now atd`, with --user for a unit of one user, and `systemctl --global disable atd` for those of all.
 set -eu
+here=$(cd "$(dirname "$0")/.." && pwd)
 PREFIX=${PREFIX:-/usr/local}
 to=${DESTDIR:-}$PREFIX
-rm -f "$to/sbin/atd" \
-    "$to/share/zsh/site-functions/_at" \
+rm -f "$to/share/zsh/site-functions/_at" \
     "$to/share/systemd/user/atd.service" \
     "$to/lib/systemd/user/atd.service" \
     "$to/lib/systemd/system/atd.service" \
     "$to/lib/tmpfiles.d/coefhird.conf" \
     "$to/share/user-tmpfiles.d/coefhird.conf" \
     "$to/share/doc/coefhird/hardening.conf"
-for tool in at batch atq atrm atd atday atout atwhen; do
-    rm -f "$to/bin/$tool" \
-        "$to/libexec/coefhird/$tool" \
+# Its commands, and the programs that they are.
+while read -r kind tool where what page; do
+    [ "$kind" = command ] || continue
+    rm -f "$to/libexec/coefhird/$tool" "$to/libexec/coefhird/$what"
+    [ "$where" != libexec ] || continue
+    rm -f "$to/bin/$tool" "$to/sbin/$tool" \
         "$to/share/bash-completion/completions/$tool" \
-        "$to/share/fish/vendor_completions.d/$tool.fish"
-done
-for name in program help hints from-debian-at; do rm -f "$to/libexec/coefhird/$name"; done
-for page in at batch atq atrm atout atwhen atday; do rm -f "$to/share/man/man1/$page.1"; done
-for page in at.allow.5 at.deny.5 atjobs.5; do rm -f "$to/share/man/man5/$page"; done
-rm -f "$to/share/man/man8/atd.8"
+        "$to/share/fish/vendor_completions.d/$tool.fish" \
+        "$to/share/man/man${page##*.}/$tool.${page##*.}"
+done <"$here/packaging/programs"
+for name in program help hints; do rm -f "$to/libexec/coefhird/$name"; done
+for page in "$here"/man/*.[158]; do rm -f "$to/share/man/man${page##*.}/${page##*/}"; done
+rm -f "$to/share/man/man5/at.deny.5"
 for folder in libexec/coefhird share/doc/coefhird; do rmdir "$to/$folder" 2>/dev/null || true; done
 
 # What is left: the jobs, their lock and their outputs.

@@ -11,7 +11,7 @@ use Rattle.job_listing.specs.Scripts.{ComesOfShowing, PutsBy}
 use Rattle.step_runs.specs.Attempts.{Achieves}
 use Rattle.step_runs.specs.Current.{IsCurrent, Kept}
 use Rattle.listing_text.specs.declared.cause.Cause.{Cause}
-use Rattle.listing_text.specs.declared.cause.Cause.TheVariants.{Done, Refused, FileFault, InputFault, OutputFault, Busy, Memory, Damaged, StillRunning}
+use Rattle.listing_text.specs.declared.cause.Cause.TheVariants.{Done, Refused, FileFault, InputFault, OutputFault, Busy, Memory, Damaged, StillRunning, Faulty}
 use Rattle.listing_text.specs.declared.refusal.Refusal.{Refusal}
 use Rattle.listing_text.specs.declared.refusal.Refusal.TheVariants.{BadUser, BadZone}
 use Rattle.listing_text.specs.Listing.{IsListing}
@@ -21,12 +21,12 @@ use Rattle.command_rules.specs.declared.caller.Caller.{Caller}
 use Rattle.command_rules.specs.declared.command_error.CommandError.{CommandError}
 use Rattle.command_rules.specs.Causes.{cause_in, error_of}
 use Rattle.command_rules.specs.Checks.{Check, check_of, is_before, of_lock}
-use Rattle.command_rules.specs.Ends.{Ends, Holding, KeepsOrder, Telling, holding, telling}
+use Rattle.command_rules.specs.Ends.{Ends, Holding, KeepsOrder, Telling, holding, telling, StopsBeforeLock}
 use Rattle.command_rules.specs.Found.{Finds, Found, answers_read}
 use Rattle.at_commands.specs.inside.Carrying.{AreSessionSteps, Carries, Finding, IsSessionLine, IsSessionText}
 use Rattle.command_rules.specs.Requested.{Prints, Says, next_number, passes_of, scripts_of}
 use Rattle.command_rules.specs.Sessions.{IsNotOpened, IsOpened}
-use Rattle.command_rules.specs.Sinks.{IsPut, NotesBy, PrintsBy, SinkAt}
+use Rattle.command_rules.specs.Sinks.{IsPut, NotesBy, PrintsBy, SinkAt, HasBytes}
 use Rattle.command_rules.specs.Verdict.{early_verdict, filter_check, first_refusal, is_unreadable, jobs_check, spool_verdict, user_check, zone_check}
 use Rattle.at_commands.proofs.EntryLemmas.{IsOfEntry}
 use Rattle.at_commands.specs.inside.Answering.{EndsPrinting, EndsRemoving}
@@ -38,7 +38,7 @@ use Rattle.at_commands.proofs.CarryLemmas.{carries_no_memory, carries_unsaid, do
 use Rattle.at_commands.proofs.EndsLemmas.{ends_carried, ends_early}
 use Rattle.at_commands.proofs.UnreadLemmas.{silent}
 use Rattle.at_commands.proofs.ForLemmas.{carries_unentered, carries_unopened, keeps_lists, listing_lacks, listing_made, showing_done, showing_stopped}
-use Rattle.at_commands.proofs.SessionLemmas.{entry_of_spool, not_opened_of_spool}
+use Rattle.at_commands.proofs.SessionLemmas.{entry_of_spool, not_opened_of_spool, no_output_of_spool}
 use Rattle.at_commands.proofs.UserLemmas.{alone_is, user_fails, user_passes, zone_fails, zone_passes}
 
 -- The bytes of a user's name.
@@ -65,6 +65,7 @@ spool_prints Busy IsText at is = silent at
 spool_prints Memory IsText at is = inl (silent at)
 spool_prints (Damaged damage) IsText at is = silent at
 spool_prints StillRunning IsText at is = absurd is
+spool_prints Faulty IsText at is = absurd is
 
 pub spool_notes : (cause : Cause) (IsLine : List ℕ → Type 0) (at : SinkAt) → IsOfSpool cause → NotesBy cause IsLine at at
 spool_notes Done IsLine at is = absurd is
@@ -76,6 +77,7 @@ spool_notes Busy IsLine at is = silent at
 spool_notes Memory IsLine at is = inl (silent at)
 spool_notes (Damaged damage) IsLine at is = silent at
 spool_notes StillRunning IsLine at is = absurd is
+spool_notes Faulty IsLine at is = absurd is
 
 -- by requests that print nothing, and by those that say nothing
 module _ (tells alone : Bool) (asked : ToolRequest) (caller : Caller) (finding : Finding) (old new : World) where
@@ -100,6 +102,7 @@ module _ (tells alone : Bool) (asked : ToolRequest) (caller : Caller) (finding :
   prints_nothing Memory carries none at known is_alone = inl (silent at)
   prints_nothing (Damaged damage) carries none at known is_alone = silent at
   prints_nothing StillRunning carries none at known is_alone = absurd carries.reach
+  prints_nothing Faulty carries none at known is_alone = absurd carries.reach
 
   notes_nothing : (cause : Cause) (carries : Carries tells alone asked caller finding old new cause) → ((zone : Zone) (found : Found) (number : ℕ) → Says asked zone found number []) →
       (at : SinkAt) → NotesBy cause (IsSessionLine asked caller (finding carries.allow carries.deny) carries.shown) at at
@@ -119,6 +122,7 @@ module _ (tells alone : Bool) (asked : ToolRequest) (caller : Caller) (finding :
   notes_nothing Memory carries none at = inl (silent at)
   notes_nothing (Damaged damage) carries none at = silent at
   notes_nothing StillRunning carries none at = absurd carries.reach
+  notes_nothing Faulty carries none at = absurd carries.reach
 
 -- Sessions of requests that were not opened.
 
@@ -181,6 +185,22 @@ puts_no_busy tells text old new cause puts same = subst (λ (of : Cause). PutsWh
 pub puts_no_input_fault : (tells : Bool) (text : List ℕ) (old new : SinkAt) (cause : Cause) → PutsWhole tells text old new cause → cause ≢ InputFault
 puts_no_input_fault tells text old new cause puts same = subst (λ (of : Cause). PutsWhole tells text old new of) same puts
 
+pub puts_after_lock : (tells : Bool) (text : List ℕ) (old new : SinkAt) (cause : Cause) → PutsWhole tells text old new cause → StopsBeforeLock cause → ⊥
+puts_after_lock tells text old new Done puts stops = stops
+puts_after_lock tells text old new OutputFault puts stops = stops
+puts_after_lock tells text old new Memory puts stops = stops
+puts_after_lock tells text old new (Refused refusal) puts stops = puts
+puts_after_lock tells text old new FileFault puts stops = puts
+puts_after_lock tells text old new InputFault puts stops = puts
+puts_after_lock tells text old new Busy puts stops = puts
+puts_after_lock tells text old new (Damaged damage) puts stops = puts
+puts_after_lock tells text old new StillRunning puts stops = puts
+puts_after_lock tells text old new Faulty puts stops = puts
+
+-- no listing is asked for
+no_listing : (asks : Bool) → asks ≡ false → asks ≡ true → ⊥
+no_listing asks none is = let no : false ≡ true = sym none ∙ is in cc
+
 -- Requests that a check refuses of what the caller has.
 
 -- a request that is no submission finds nothing but the lists
@@ -240,6 +260,7 @@ removal_ends files alone numbers caller old new cause named carries = λ output 
     (alone_is (user_check caller.context) ∙ user_passes caller.context named) (λ known. refl) tt
     (λ known is_alone tells_output.
     prints_nothing files alone (request.Remove numbers) caller lists_alone old new cause carries (λ table. refl) printed known is_alone)
+    (λ known is_alone is same. absurd (no_listing false refl is))
     (λ known. notes_nothing files alone (request.Remove numbers) caller lists_alone old new cause carries (λ zone found number. refl) said)
 
 -- Showings.
@@ -252,6 +273,7 @@ showing_ends files alone output numbers caller old new was is result named shows
     (holding new answers contents is said) lists_alone (cause_in result) shows.carries
     (alone_is (user_check caller.context) ∙ user_passes caller.context named) (λ known. refl) tt
     shows.prints
+    (λ known is_alone is same. absurd (no_listing false refl is))
     (λ known. notes_nothing files alone (request.Show numbers) caller lists_alone old new (cause_in result) shows.carries (λ zone found number. refl) said)
 
 -- Listings.
@@ -271,31 +293,39 @@ module _ (files alone output : Bool) (which : Filter) (caller : Caller) (old new
       (holding new answers contents at said) lists_alone stopped.cause lists.carries passed (λ known. refl) tt
       (λ known is_alone tells_output.
       spool_prints stopped.cause (IsSessionText (request.List which) caller (lists_alone lists.carries.allow lists.carries.deny) lists.carries.shown) at of_spool)
+      (λ known is_alone is same. absurd (no_output_of_spool stopped of_spool same))
       (λ known. spool_notes stopped.cause (IsSessionLine (request.List which) caller (lists_alone lists.carries.allow lists.carries.deny) lists.carries.shown) said of_spool)
 
   -- the text was put, or not
   listing_by : (cause : Cause) (carries : Carries files alone (request.List which) caller lists_alone old new cause) (was is : SinkAt) →
       (files ≡ true → alone ≡ true → output ≡ true →
       PrintsBy cause (IsSessionText (request.List which) caller (lists_alone carries.allow carries.deny) carries.shown) was is) →
+      (files ≡ true → alone ≡ true → cause ≡ OutputFault →
+      HasBytes (IsSessionText (request.List which) caller (lists_alone carries.allow carries.deny) carries.shown)) →
       EndsPrinting files alone output (request.List which) caller old new was is cause
-  listing_by cause carries was is prints = λ clock input errors answers contents said.
+  listing_by cause carries was is prints listed = λ clock input errors answers contents said.
       ends_carried (request.List which) caller (telling files alone clock input output errors) (holding old answers contents was said)
       (holding new answers contents is said) lists_alone cause carries passed (λ known. refl) tt prints
+      (λ known is_alone asks same. listed known is_alone same)
       (λ known. notes_nothing files alone (request.List which) caller lists_alone old new cause carries (λ zone found number. refl) said)
 
   pub listing_put : (cause : Cause) (text : List ℕ) (was is : SinkAt) → Lists files alone (request.List which) caller old new (Ok text) →
       PutsWhole output text was is cause → EndsPrinting files alone output (request.List which) caller old new was is cause
   listing_put Done text was is lists puts =
       listing_by Done lists.carries was is (λ known is_alone tells_output. (text, lists.text, puts tells_output))
+      (λ known is_alone same. (cc))
   listing_put OutputFault text was is lists puts =
       listing_by OutputFault (carries_unsaid files alone (request.List which) caller lists_alone old new lists.carries) was is
-      (λ known is_alone tells_output. inr (text, lists.text, puts tells_output))
+      (λ known is_alone tells_output. inr (text, lists.text, puts.1 tells_output))
+      (λ known is_alone same. (text, lists.text, puts.0))
   listing_put Memory text was is lists puts =
       listing_by Memory (carries_no_memory files alone (request.List which) caller lists_alone old new lists.carries) was is
       (λ known is_alone tells_output. inl (puts tells_output))
+      (λ known is_alone same. (cc))
   listing_put (Refused refusal) text was is lists puts = absurd puts
   listing_put FileFault text was is lists puts = absurd puts
   listing_put InputFault text was is lists puts = absurd puts
   listing_put Busy text was is lists puts = absurd puts
   listing_put (Damaged damage) text was is lists puts = absurd puts
   listing_put StillRunning text was is lists puts = absurd puts
+  listing_put Faulty text was is lists puts = absurd puts

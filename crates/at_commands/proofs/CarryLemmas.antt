@@ -9,7 +9,7 @@ use Rattle.at_words.specs.declared.tool_request.ToolRequest.{ToolRequest}
 use Rattle.host_calls.specs.World.{World, reading}
 use Rattle.step_runs.specs.Current.{Kept}
 use Rattle.listing_text.specs.declared.cause.Cause.{Cause}
-use Rattle.listing_text.specs.declared.cause.Cause.TheVariants.{Done, Refused, FileFault, InputFault, OutputFault, Busy, Memory, Damaged, StillRunning}
+use Rattle.listing_text.specs.declared.cause.Cause.TheVariants.{Done, Refused, FileFault, InputFault, OutputFault, Busy, Memory, Damaged, StillRunning, Faulty}
 use Rattle.listing_text.specs.declared.refusal.Refusal.{Refusal}
 use Rattle.listing_text.specs.declared.refusal.Refusal.TheVariants.{NotAllowed}
 use Rattle.spool_model.specs.declared.step.Step.{Step}
@@ -51,6 +51,7 @@ ends_map A B all old new (Damaged damage) ends = ends
 ends_map A B all old new InputFault ends = ends
 ends_map A B all old new Busy ends = ends
 ends_map A B all old new StillRunning ends = ends
+ends_map A B all old new Faulty ends = ends
 
 module _ (tells alone : Bool) (asked : ToolRequest) (caller : Caller) (finding : Finding) (old new : World) where
   -- what the folder holds
@@ -106,6 +107,7 @@ module _ (tells alone : Bool) (asked : ToolRequest) (caller : Caller) (finding :
   not_entered OutputFault entry same = absurd entry
   not_entered (Damaged damage) entry same = absurd entry
   not_entered StillRunning entry same = absurd entry
+  not_entered Faulty entry same = absurd entry
 
   -- the lists could not be read: a file fault or want of memory
   stopped_at_lists : (cause : Cause) → Reaches cause of_lists →

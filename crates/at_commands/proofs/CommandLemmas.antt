@@ -10,10 +10,10 @@ use Rattle.host_calls.specs.Causes.{Rose}
 use Rattle.host_calls.specs.Session.{IsLeft, IsOutside, Session}
 use Rattle.host_calls.specs.Sink.{Outlet}
 use Rattle.listing_text.specs.declared.cause.Cause.{Cause}
-use Rattle.listing_text.specs.declared.cause.Cause.TheVariants.{Done, Refused, FileFault, InputFault, OutputFault, Busy, Memory, Damaged, StillRunning}
+use Rattle.listing_text.specs.declared.cause.Cause.TheVariants.{Done, Refused, FileFault, InputFault, OutputFault, Busy, Memory, Damaged, StillRunning, Faulty}
 use Rattle.listing_text.specs.declared.refusal.Refusal.TheVariants.{BadQueue, Usage}
 use Rattle.command_rules.specs.declared.caller.Caller.{Caller}
-use Rattle.command_rules.specs.Ends.{Ends, FailsToPrint, Holding, KeepsOrder, Reaches, Telling}
+use Rattle.command_rules.specs.Ends.{Ends, FailsToPrint, Holding, KeepsOrder, Reaches, Telling, StopsBeforeLock}
 use Rattle.command_rules.specs.Found.{Asked}
 use Rattle.command_rules.specs.Sinks.{NotesBy, SinkAt}
 use Rattle.command_rules.specs.Verdict.{verdict_of}
@@ -22,6 +22,7 @@ use Rattle.at_commands.specs.Outside.{HasRisen, OutsideAt}
 use Rattle.command_rules.specs.Causes.{words_cause}
 use Rattle.at_commands.proofs.UnreadLemmas.{ends_at_words}
 use Rattle.at_commands.proofs.LateLemmas.{any_memory}
+use Rattle.host_calls.specs.Inputs.{AreReadAtMostOnce, Sources}
 
 -- words are refused, or there is no memory to read them
 abbrev pub IsOfWords : Cause → Type 0
@@ -34,6 +35,7 @@ IsOfWords Busy = ⊥
 IsOfWords Memory = Unit {0}
 IsOfWords (Damaged damage) = ⊥
 IsOfWords StillRunning = ⊥
+IsOfWords Faulty = ⊥
 
 pub words_come : (fault : WordsFault) → IsOfWords (words_cause fault)
 words_come words.Usage = tt
@@ -140,3 +142,12 @@ words_risen fault final either asked old new = record {
 
 pub words_not_running : (fault : WordsFault) (final : Cause) → (final ≡ words_cause fault) ⊎ (final ≡ Memory) → final ≢ StillRunning
 words_not_running fault final either same = subst (λ (of : Cause). IsOfWords of) same (words_final fault final either)
+
+-- a cause that stops before the lock was there before its line was said
+pub stops_had : (final cause : Cause) → (final ≡ cause) ⊎ (final ≡ Memory) → StopsBeforeLock final → StopsBeforeLock cause
+stops_had final cause (inl same) stops = subst StopsBeforeLock same stops
+stops_had final cause (inr lacks) stops = absurd (subst StopsBeforeLock lacks stops)
+
+-- inputs that nobody asked were read once at most
+pub read_never : (at : Sources) → AreReadAtMostOnce at at
+read_never at = record { made_as = refl; reads = inl refl }

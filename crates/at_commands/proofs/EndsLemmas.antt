@@ -9,7 +9,7 @@ use Rattle.at_words.specs.declared.tool_request.ToolRequest.{ToolRequest}
 use Rattle.host_calls.specs.declared.damage.Damage.{Damage}
 use Rattle.host_calls.specs.World.{World, reading}
 use Rattle.listing_text.specs.declared.cause.Cause.{Cause}
-use Rattle.listing_text.specs.declared.cause.Cause.TheVariants.{Done, Refused, FileFault, InputFault, OutputFault, Busy, Memory, Damaged, StillRunning}
+use Rattle.listing_text.specs.declared.cause.Cause.TheVariants.{Done, Refused, FileFault, InputFault, OutputFault, Busy, Memory, Damaged, StillRunning, Faulty}
 use Rattle.listing_text.specs.declared.refusal.Refusal.{Refusal}
 use Rattle.listing_text.specs.Cause.{cause_line_of}
 use Rattle.spool_model.specs.declared.step.Step.{Step}
@@ -19,10 +19,10 @@ use Rattle.step_runs.specs.Attempts.{Achieves}
 use Rattle.command_rules.specs.declared.caller.Caller.{Caller}
 use Rattle.command_rules.specs.Checks.{Check, ComesUpTo, check_of, is_before, of_lock, place_of}
 use Rattle.command_rules.specs.Ends.{Ends, Holding, IsNoRefusal, KeepsOrder, Reaches, Telling}
-use Rattle.command_rules.specs.Found.{Asked, Finds, Found, allow_file, answers_read, deny_file}
+use Rattle.command_rules.specs.Found.{Asked, Finds, Found, allow_file, answers_read, deny_file, is_listing}
 use Rattle.at_commands.specs.inside.Carrying.{AreSessionSteps, Carries, Finding, IsSessionLine, IsSessionText}
 use Rattle.command_rules.specs.Requested.{AreAskedSteps, AreNoSteps, IsAskedLine, IsAskedText}
-use Rattle.command_rules.specs.Sinks.{EndsLine, IsPutInPart, IsPutOrCut, IsSilent, NotesBy, PrintsBy, PutsCut, PutsPart, SaysBy, SinkAt}
+use Rattle.command_rules.specs.Sinks.{EndsLine, IsPutInPart, IsPutOrCut, IsSilent, NotesBy, PrintsBy, PutsCut, PutsPart, SaysBy, SinkAt, HasBytes}
 use Rattle.command_rules.specs.Spool.{SpoolEnds}
 use Rattle.command_rules.specs.Verdict.{early_verdict, first_refusal, spool_verdict, verdict_of}
 use Rattle.command_rules.proofs.SpoolLemmas.{attempt_of, unbegun_same}
@@ -48,6 +48,7 @@ module _ (A B : List ℕ → Type 0) (all : (text : List ℕ) → A text → B t
   prints_map Busy prints = prints
   prints_map (Damaged damage) prints = prints
   prints_map StillRunning prints = prints
+  prints_map Faulty prints = prints
 
   pub notes_map : (cause : Cause) → NotesBy cause A old new → NotesBy cause B old new
   notes_map Done notes = (notes.0, all notes.0 notes.1, notes.2)
@@ -59,6 +60,7 @@ module _ (A B : List ℕ → Type 0) (all : (text : List ℕ) → A text → B t
   notes_map Busy notes = notes
   notes_map (Damaged damage) notes = notes
   notes_map StillRunning notes = notes
+  notes_map Faulty notes = notes
 
 -- the verdict of a request whose early checks pass is that of its session
 alone : (verdict : Option Refusal) → first_refusal (verdict ∷ []) ≡ verdict
@@ -81,9 +83,11 @@ module _ (asked : ToolRequest) (caller : Caller) (tells : Telling) (before after
       Finds tells.input (Ok asked) caller.zone before.contents carries.reached found →
       (tells.files ≡ true → tells.alone ≡ true → tells.output ≡ true →
       PrintsBy cause (IsSessionText asked caller found carries.shown) before.output after.output) →
+      (tells.files ≡ true → tells.alone ≡ true → is_listing (Ok asked) ≡ true → cause ≡ OutputFault →
+      HasBytes (IsSessionText asked caller found carries.shown)) →
       (tells.errors ≡ true → NotesBy cause (IsSessionLine asked caller found carries.shown) before.errors after.errors) →
       Ends NotesBy (Ok asked) caller tells before after cause
-  ends_carried none clock finds prints notes = record {
+  ends_carried none clock finds prints listed notes = record {
     found = found;
     shown = carries.shown;
     reached = carries.reached;
@@ -100,6 +104,9 @@ module _ (asked : ToolRequest) (caller : Caller) (tells : Telling) (before after
     prints = λ known is_alone tells_output. prints_map (IsSessionText asked caller found carries.shown) (IsAskedText (Ok asked) caller found carries.shown)
         (λ text is. (is.0, is.1, verdict_late asked caller found carries.shown none ∙ is.2, is.3)) before.output after.output cause
         (prints known is_alone tells_output);
+    listed = λ known is_alone is same.
+        let has = listed known is_alone is same in
+        (has.0, (has.1.0, has.1.1, verdict_late asked caller found carries.shown none ∙ has.1.2, has.1.3), has.2);
     notes = λ tells_errors. notes_map (IsSessionLine asked caller found carries.shown) (IsAskedLine (Ok asked) caller found carries.shown)
         (λ line is. (verdict_late asked caller found carries.shown none ∙ is.0, is.1)) before.errors after.errors cause (notes tells_errors);
   }
@@ -115,6 +122,7 @@ IsEarly OutputFault = ⊥
 IsEarly Busy = ⊥
 IsEarly (Damaged damage) = ⊥
 IsEarly StillRunning = ⊥
+IsEarly Faulty = ⊥
 
 -- a cause that keeps the order of the early checks keeps that of all
 keeps_early : (early : Option Refusal) (asked : ToolRequest) (caller : Caller) (found : Found) (shown : Result JobTable Damage) (cause : Cause) →
@@ -132,6 +140,7 @@ keeps_early None asked caller found shown cause is order =
       by_cause Busy early none = absurd early
       by_cause (Damaged damage) early none = absurd early
       by_cause StillRunning early none = absurd early
+      by_cause Faulty early none = absurd early
 
 -- and so how far the command came
 up_to_early : (early : Option Refusal) (asked : ToolRequest) (caller : Caller) (found : Found) (shown : Result JobTable Damage) (reached : Check) →
@@ -162,6 +171,7 @@ untouched AreSteps old new OutputFault reached early reach before same = absurd 
 untouched AreSteps old new Busy reached early reach before same = absurd early
 untouched AreSteps old new (Damaged damage) reached early reach before same = absurd early
 untouched AreSteps old new StillRunning reached early reach before same = absurd early
+untouched AreSteps old new Faulty reached early reach before same = absurd early
 
 -- nothing was put where nothing changed
 pub silent_prints : (cause : Cause) (IsText : List ℕ → Type 0) (old new : SinkAt) → IsEarly cause → IsSilent old new → PrintsBy cause IsText old new
@@ -174,6 +184,7 @@ silent_prints OutputFault IsText old new early silent = absurd early
 silent_prints Busy IsText old new early silent = absurd early
 silent_prints (Damaged damage) IsText old new early silent = absurd early
 silent_prints StillRunning IsText old new early silent = absurd early
+silent_prints Faulty IsText old new early silent = absurd early
 
 pub silent_notes : (cause : Cause) (IsLine : List ℕ → Type 0) (old new : SinkAt) → IsEarly cause → IsSilent old new → NotesBy cause IsLine old new
 silent_notes (Refused refusal) IsLine old new early silent = silent
@@ -185,6 +196,7 @@ silent_notes OutputFault IsLine old new early silent = absurd early
 silent_notes Busy IsLine old new early silent = absurd early
 silent_notes (Damaged damage) IsLine old new early silent = absurd early
 silent_notes StillRunning IsLine old new early silent = absurd early
+silent_notes Faulty IsLine old new early silent = absurd early
 
 -- a command that stopped before the spool was entered, its words read
 pub ends_early : (asked : ToolRequest) (caller : Caller) (tells : Telling) (before after : Holding) (finding : Finding) (keeps : KeepsLists finding)
@@ -212,6 +224,7 @@ ends_early asked caller tells before after finding keeps cause reached order ear
       apart = λ known is_alone is. same;
       spool = λ known is_alone. untouched (AreAskedSteps (Ok asked) caller (finding allow deny)) before.spool after.spool cause reached early reach ahead same;
       prints = λ known is_alone tells_output. silent_prints cause (IsAskedText (Ok asked) caller (finding allow deny) shown) before.output after.output early silent;
+      listed = λ known is_alone is same. absurd (subst (λ (of : Cause). IsEarly of) same early);
       notes = λ tells_errors. silent_notes cause (IsAskedLine (Ok asked) caller (finding allow deny) shown) before.errors after.errors early quiet;
     }
 
@@ -240,6 +253,7 @@ module _ (tool : List ℕ) (IsLine : List ℕ → Type 0) (old between new : Sin
   line_said Busy says = says
   line_said (Damaged damage) says = says
   line_said StillRunning says = says
+  line_said Faulty says = says
 
   -- what was said before a line that finds no memory
   notes_no_memory : (cause : Cause) → IsUndone cause → NotesBy cause IsLine old between → NotesBy Memory IsLine old between
@@ -251,6 +265,7 @@ module _ (tool : List ℕ) (IsLine : List ℕ → Type 0) (old between new : Sin
   notes_no_memory Busy undone notes = inl notes
   notes_no_memory (Damaged damage) undone notes = inl notes
   notes_no_memory StillRunning undone notes = absurd notes
+  notes_no_memory Faulty undone notes = absurd notes
   notes_no_memory Done undone notes = absurd undone
 
   says_line : (cause : Cause) → NotesBy cause IsLine old between → SaysLine tool cause between new → SaysBy tool cause IsLine old new
@@ -270,6 +285,7 @@ prints_no_memory InputFault IsText old new undone prints = inl prints
 prints_no_memory Busy IsText old new undone prints = inl prints
 prints_no_memory (Damaged damage) IsText old new undone prints = inl prints
 prints_no_memory StillRunning IsText old new undone prints = absurd prints
+prints_no_memory Faulty IsText old new undone prints = absurd prints
 prints_no_memory Done IsText old new undone prints = absurd undone
 
 -- the holding with another sink for errors
@@ -293,6 +309,7 @@ module _ (tool : List ℕ) (asked : Asked) (caller : Caller) (tells : Telling) (
     apart = ends.apart;
     spool = ends.spool;
     prints = ends.prints;
+    listed = ends.listed;
     notes = λ known. says_line tool (IsAskedLine asked caller ends.found ends.shown) before.errors between after.errors cause (ends.notes known) (says known);
   }
 
@@ -311,6 +328,7 @@ module _ (tool : List ℕ) (asked : Asked) (caller : Caller) (tells : Telling) (
     spool = λ known is_alone. attempt_of (AreAskedSteps asked caller ends.found) before.spool after.spool cause (ends.spool known is_alone);
     prints = λ known is_alone tells_output.
         prints_no_memory cause (IsAskedText asked caller ends.found ends.shown) before.output after.output undone (ends.prints known is_alone tells_output);
+    listed = λ known is_alone is same. (cc);
     notes = λ known. says_none tool (IsAskedLine asked caller ends.found ends.shown) before.errors between after.errors cause undone (ends.notes known)
         (quiet known);
   }

@@ -3,7 +3,7 @@ use Rattle.std.proofs.Common.{◌≢◌}
 use Rattle.host_calls.specs.declared.fault.EnterFault.{EnterFault}
 use Rattle.host_calls.specs.declared.fault.EnterFault.TheVariants as entry
 use Rattle.listing_text.specs.declared.cause.Cause.{Cause}
-use Rattle.listing_text.specs.declared.cause.Cause.TheVariants.{Done, Refused, FileFault, InputFault, OutputFault, Busy, Memory, Damaged, StillRunning}
+use Rattle.listing_text.specs.declared.cause.Cause.TheVariants.{Done, Refused, FileFault, InputFault, OutputFault, Busy, Memory, Damaged, StillRunning, Faulty}
 use Rattle.command_rules.specs.Causes.{cause_of_entry}
 
 -- a fault of a file, a lock that is taken, or want of memory
@@ -17,6 +17,7 @@ IsOfEntry InputFault = ⊥
 IsOfEntry OutputFault = ⊥
 IsOfEntry (Damaged damage) = ⊥
 IsOfEntry StillRunning = ⊥
+IsOfEntry Faulty = ⊥
 
 pub entry_comes : (fault : EnterFault) → IsOfEntry (cause_of_entry fault)
 entry_comes entry.Taken = tt

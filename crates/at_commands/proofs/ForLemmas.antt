@@ -14,7 +14,7 @@ use Rattle.step_runs.proofs.MadeLemmas.{no_steps_are_made}
 use Rattle.job_removal.specs.Removing.{AreRemoval, ComesOfRemoving, IsOfWork}
 use Rattle.job_listing.specs.Scripts.{IsOfShowing}
 use Rattle.listing_text.specs.declared.cause.Cause.{Cause}
-use Rattle.listing_text.specs.declared.cause.Cause.TheVariants.{Done, Refused, FileFault, InputFault, OutputFault, Busy, Memory, Damaged, StillRunning}
+use Rattle.listing_text.specs.declared.cause.Cause.TheVariants.{Done, Refused, FileFault, InputFault, OutputFault, Busy, Memory, Damaged, StillRunning, Faulty}
 use Rattle.listing_text.specs.declared.refusal.Refusal.{Refusal}
 use Rattle.listing_text.specs.Listing.{IsListing, may_see}
 use Rattle.spool_model.specs.declared.row.Row.{Row}
@@ -78,6 +78,7 @@ works_map A B table all old new InputFault works = works
 works_map A B table all old new Busy works = works
 works_map A B table all old new (Damaged damage) works = works
 works_map A B table all old new StillRunning works = works
+works_map A B table all old new Faulty works = works
 
 module _ (tells alone : Bool) (asked : ToolRequest) (caller : Caller) (user : List ℕ) (same : caller.context.user ≡ user) (old middle new : World) (kept : Kept)
     (is_open : IsOpened tells user old middle kept) where
@@ -136,6 +137,7 @@ IsOfRemoval OutputFault = ⊥
 IsOfRemoval Busy = ⊥
 IsOfRemoval (Damaged damage) = ⊥
 IsOfRemoval StillRunning = ⊥
+IsOfRemoval Faulty = ⊥
 
 module _ (tells alone : Bool) (numbers : List ℕ) (caller : Caller) (user : List ℕ) (same : caller.context.user ≡ user) (old middle new : World) (kept : Kept)
     (is_open : IsOpened tells user old middle kept) where
@@ -175,6 +177,7 @@ module _ (tells alone : Bool) (numbers : List ℕ) (caller : Caller) (user : Lis
   removal_by Busy none of_work works = absurd of_work
   removal_by (Damaged damage) none of_work works = absurd of_work
   removal_by StillRunning none of_work works = absurd of_work
+  removal_by Faulty none of_work works = absurd of_work
 
 -- a removal is done, or stopped by a fault of a file or want of memory
 pub removal_comes : (result : Result (Unit {0}) CommandError) → IfErr result ComesOfRemoving → IsOfRemoval (cause_in result)
@@ -190,6 +193,7 @@ removal_comes (Err stopped) comes = by_cause stopped.cause comes where
   by_cause Busy of_work = absurd of_work
   by_cause (Damaged damage) of_work = absurd of_work
   by_cause StillRunning of_work = absurd of_work
+  by_cause Faulty of_work = absurd of_work
 
 -- Listings.
 
@@ -318,6 +322,7 @@ module _ (tells output : Bool) (numbers : List ℕ) (caller : Caller) (user : Li
     showing_stopped Busy of_showing puts = absurd of_showing
     showing_stopped (Damaged damage) of_showing puts = absurd of_showing
     showing_stopped StillRunning of_showing puts = absurd of_showing
+    showing_stopped Faulty of_showing puts = absurd of_showing
 
 -- what a session showed stands after it
 pub shows_within : (tells alone output : Bool) (asked : ToolRequest) (caller : Caller) (before entered left after : World) (was is : SinkAt) (result : Result (Unit {0}) CommandError) →

@@ -67,7 +67,7 @@ first_more : (one : Option Refusal) (later : List (Option Refusal)) → OnTable 
 first_more (Some refusal) later on after = on
 first_more None later on after = after
 
-jobs_on : (user : List ℕ) (removing : Bool) (table : JobTable) (numbers : List ℕ) → OnTable (jobs_check user removing table numbers)
+pub jobs_on : (user : List ℕ) (removing : Bool) (table : JobTable) (numbers : List ℕ) → OnTable (jobs_check user removing table numbers)
 jobs_on user removing table [] = tt
 jobs_on user removing table (number ∷ later) =
     first_more (row_check user removing number (row_at table number))

@@ -10,7 +10,7 @@ use Rattle.host_calls.specs.Clock.{with_now}
 use Rattle.host_calls.specs.World.{World}
 use Rattle.job_script.specs.HeaderIn.{header_in}
 use Rattle.listing_text.specs.declared.cause.Cause.{Cause}
-use Rattle.listing_text.specs.declared.cause.Cause.TheVariants.{Done, Refused, FileFault, InputFault, OutputFault, Busy, Memory, Damaged, StillRunning}
+use Rattle.listing_text.specs.declared.cause.Cause.TheVariants.{Done, Refused, FileFault, InputFault, OutputFault, Busy, Memory, Damaged, StillRunning, Faulty}
 use Rattle.listing_text.specs.declared.refusal.Refusal.{Refusal}
 use Rattle.spool_model.specs.Users.{IsUserName}
 use Rattle.command_rules.specs.declared.caller.Caller.{Caller}
@@ -81,6 +81,7 @@ module _ (tells alone errors : Bool) (caller : Caller) (queue minute : ℕ) (scr
     stored_and_said Busy was is says = absurd says
     stored_and_said (Damaged damage) was is says = absurd says
     stored_and_said StillRunning was is says = absurd says
+    stored_and_said Faulty was is says = absurd says
 
 early_of : (cause : Cause) → IsOfPreparing cause → IsEarly cause
 early_of Done is = absurd is
@@ -92,6 +93,7 @@ early_of Busy is = absurd is
 early_of Memory is = tt
 early_of (Damaged damage) is = absurd is
 early_of StillRunning is = absurd is
+early_of Faulty is = absurd is
 
 -- what stands after the lock stands after the clock
 late_place : (place : ℕ) → nat_lt place 11 ≡ false → nat_lt 4 place ≡ true
@@ -171,4 +173,5 @@ module _ (tells : Tells) (queue : ℕ) (mail : Bool) (file : Option (List ℕ)) 
         (finds_at answered.carries.reached answered.carries.allow answered.carries.deny)
         (λ known is_alone tells_output. prints_nothing tells.files tells.alone (request.Submit queue mail file when) caller
         (found_of prepares.now prepares.time prepares.commands) before.spool after.spool cause answered.carries (λ table. refl) printed known is_alone)
+        (λ known is_alone is same. (cc))
         answered.notes

@@ -1,11 +1,11 @@
 -- Why a session ended, by its parts.
-use Rattle.std.proofs.Common.{◌≡◌, ◌≢◌, Bool, List, ℕ, ap, refl, sym, subst, arith}
-use Rattle.std.specs.Prelude.{Result, Ok, Err, IfErr, IsErrOf}
+use Rattle.std.proofs.Common.{◌≡◌, ◌≢◌, Bool, List, ℕ, ap, refl, sym, subst, arith, false}
+use Rattle.std.specs.Prelude.{Option, Some, None, Result, Ok, Err, IfErr, IsErrOf}
 use Rattle.host_calls.specs.declared.host.Host.{Ghosts}
 use Rattle.host_calls.specs.Session.{IsOutside}
 use Rattle.host_calls.specs.World.{World}
 use Rattle.listing_text.specs.declared.cause.Cause.{Cause}
-use Rattle.listing_text.specs.declared.cause.Cause.TheVariants.{Done, Refused, FileFault, InputFault, OutputFault, Busy, Memory, Damaged, StillRunning}
+use Rattle.listing_text.specs.declared.cause.Cause.TheVariants.{Done, Refused, FileFault, InputFault, OutputFault, Busy, Memory, Damaged, StillRunning, Faulty}
 use Rattle.spool_store.specs.declared.fault.StoreFault.{StoreFault}
 use Rattle.spool_store.specs.declared.fault.StoreFault.TheVariants as store
 use Rattle.command_rules.specs.declared.command_error.CommandError.{CommandError}
@@ -15,6 +15,13 @@ use Rattle.command_rules.proofs.SpoolLemmas.{goes_on_none}
 use Rattle.job_listing.specs.Scripts.{ComesOfShowing, IsOfShowing}
 use Rattle.job_removal.specs.Removing.{ComesOfRemoving, IsOfWork}
 use Rattle.spool_session.specs.Sessions.{ComesOfSession, HasRisenIn, IsOfSession, StaysQuiet}
+use Rattle.at_words.specs.declared.filter.Filter.{Filter}
+use Rattle.at_words.specs.declared.filter.Filter.TheVariants as filter
+use Rattle.listing_text.specs.declared.refusal.Refusal.{Refusal}
+use Rattle.spool_model.specs.JobTable.{JobTable}
+use Rattle.command_rules.specs.Ends.{StopsBeforeLock}
+use Rattle.command_rules.specs.Verdict.{filter_check, jobs_check}
+use Rattle.at_commands.proofs.LateLemmas.{OnTable, jobs_on}
 use Rattle.at_commands.specs.inside.Session.{IsNoOutput, IsOfSpool}
 use Rattle.at_commands.proofs.EntryLemmas.{IsOfEntry}
 
@@ -24,15 +31,15 @@ not_opened_comes tells user old new cause (lists_fault same) = tt
 not_opened_comes tells user old new cause (lists_lack_memory same) = tt
 not_opened_comes tells user old new cause (faults allow deny permits lists unbegun) = tt
 not_opened_comes tells user old new cause (lacks_memory allow deny permits lists unbegun) = tt
-not_opened_comes tells user old new cause (refuses allow deny refused lists same) = tt
+not_opened_comes tells user old new cause (refuses allow deny refused lists same) = refl
 not_opened_comes tells user old new cause (is_damaged damage allow deny permits lists shows) = tt
 
 -- the store stopped
 pub store_comes : (fault : StoreFault) → IsOfSession (cause_of fault)
 store_comes store.FileFault = tt
 store_comes (store.Damaged damage) = tt
-store_comes store.QueueFull = tt
-store_comes store.NumbersUsedUp = tt
+store_comes store.QueueFull = refl
+store_comes store.NumbersUsedUp = refl
 store_comes store.Memory = tt
 
 -- nor does the output fail where none is put
@@ -61,6 +68,7 @@ entry_of_spool Busy is = tt
 entry_of_spool Memory is = tt
 entry_of_spool (Damaged damage) is = absurd is
 entry_of_spool StillRunning is = absurd is
+entry_of_spool Faulty is = absurd is
 
 pub work_of_spool : (cause : Cause) → IsOfWork cause → IsOfSpool cause
 work_of_spool Done is = absurd is
@@ -72,6 +80,7 @@ work_of_spool Busy is = absurd is
 work_of_spool Memory is = tt
 work_of_spool (Damaged damage) is = absurd is
 work_of_spool StillRunning is = absurd is
+work_of_spool Faulty is = absurd is
 
 pub work_of_session : (cause : Cause) → IsOfWork cause → IsOfSession cause
 work_of_session Done is = absurd is
@@ -83,6 +92,7 @@ work_of_session Busy is = absurd is
 work_of_session Memory is = tt
 work_of_session (Damaged damage) is = absurd is
 work_of_session StillRunning is = absurd is
+work_of_session Faulty is = absurd is
 
 pub showing_of_session : (cause : Cause) → IsOfShowing cause → IsOfSession cause
 showing_of_session Done is = absurd is
@@ -94,6 +104,7 @@ showing_of_session Busy is = absurd is
 showing_of_session Memory is = tt
 showing_of_session (Damaged damage) is = absurd is
 showing_of_session StillRunning is = absurd is
+showing_of_session Faulty is = absurd is
 
 -- so neither the inputs nor the output
 pub no_input_of_spool : (stopped : CommandError) → IsNoOutput stopped → stopped.cause ≢ InputFault
@@ -162,8 +173,20 @@ quiet_none g at outside = record {
 }
 
 -- and no fault came of it, where the cause is none
-pub risen_none : {H : Type 0} (g : Ghosts H) (old new : H) (cause : Cause) → (cause ≡ FileFault → ⊥) → (cause ≡ Busy → ⊥) → HasRisenIn g old new cause
-risen_none g old new cause no_file_fault no_busy = record {
+pub risen_none : {H : Type 0} (g : Ghosts H) (old new : H) (cause : Cause) → (cause ≡ FileFault → ⊥) → (cause ≡ Busy → ⊥) →
+    (StopsBeforeLock cause → g.session new ≡ g.session old) → HasRisenIn g old new cause
+risen_none g old new cause no_file_fault no_busy same_session = record {
   file_fault = λ same. absurd (no_file_fault same);
   busy = λ same. absurd (no_busy same);
+  before_lock = same_session;
 }
+
+-- a refusal of the jobs that are asked for comes within the session
+pub jobs_come : (user : List ℕ) (removing : Bool) (table : JobTable) (numbers : List ℕ) (refusal : Refusal) →
+    Some refusal ≡ jobs_check user removing table numbers → IsOfSession (Refused refusal)
+jobs_come user removing table numbers refusal is = (subst OnTable (sym is) (jobs_on user removing table numbers)).0.lock
+
+pub filter_comes : (user : List ℕ) (table : JobTable) (which : Filter) (refusal : Refusal) → Some refusal ≡ filter_check user table which → IsOfSession (Refused refusal)
+filter_comes user table filter.All refusal is = absurd (let no : ◌≡◌ {A = Option Refusal} (Some refusal) None = is in cc)
+filter_comes user table (filter.Queue letter) refusal is = absurd (let no : ◌≡◌ {A = Option Refusal} (Some refusal) None = is in cc)
+filter_comes user table (filter.Numbers numbers) refusal is = jobs_come user false table numbers refusal is

@@ -11,7 +11,7 @@ use Rattle.step_runs.specs.Current.{IsCurrent, Kept}
 use Rattle.step_runs.proofs.MadeLemmas.{calls_make_their_steps}
 use Rattle.step_runs.proofs.RunLemmas.{calls_are_runs}
 use Rattle.job_script.specs.HeaderIn.{header_in}
-use Rattle.job_script.proofs.HeaderInLemmas.{header_in-some}
+use Rattle.job_script.specs.JobText.{text_for}
 use Rattle.listing_text.specs.declared.cause.Cause.{Cause}
 use Rattle.listing_text.specs.declared.refusal.Refusal.{Refusal}
 use Rattle.listing_text.specs.declared.refusal.Refusal.TheVariants as refusal
@@ -21,19 +21,18 @@ use Rattle.spool_model.specs.declared.step.Step.{Step}
 use Rattle.spool_model.specs.JobTable.{JobTable}
 use Rattle.spool_model.specs.Lists.{live_count}
 use Rattle.spool_model.specs.Steps.{AreLegal}
-use Rattle.spool_shows.specs.Shown.{user_of}
 use Rattle.spool_shows.proofs.SoundTables.{shown_tables_are_sound}
 use Rattle.spool_store.specs.declared.fault.StoreFault.{StoreFault}
 use Rattle.spool_store.specs.declared.fault.StoreFault.TheVariants.{Damaged, FileFault as Failed, Memory as NoMemory, NumbersUsedUp, QueueFull}
 use Rattle.spool_store.specs.declared.submit.TheConstants.{MAX_LIVE}
-use Rattle.spool_store.specs.Submitting.{HasRoom, IsAnswerOn, IsFull, IsUsedUp, job_of_script, submission}
+use Rattle.spool_store.specs.Submitting.{HasRoom, IsAnswerOn, IsFull, IsUsedUp, job_for, job_of_script, submission}
 use Rattle.spool_store.proofs.SubmitStored.{submission_legal}
 use Rattle.command_rules.specs.declared.caller.Caller.{Caller}
 use Rattle.command_rules.specs.declared.command_error.CommandError.{CommandError}
 use Rattle.command_rules.specs.Causes.{cause_in, cause_of, error_of}
 use Rattle.command_rules.specs.Found.{found_of}
 use Rattle.at_commands.specs.inside.Carrying.{AreWorkSteps, Finding}
-use Rattle.command_rules.specs.Requested.{job_for}
+use Rattle.spool_store.proofs.WrittenJobs.{header_of_written, job_of_written}
 use Rattle.command_rules.specs.Sessions.{IsNotOpened, IsOpened, IsWorkedOn}
 use Rattle.command_rules.specs.Times.{minute_in}
 use Rattle.command_rules.specs.Verdict.{first_refusal, number_check, room_check, table_verdict}
@@ -46,7 +45,7 @@ use Rattle.at_commands.proofs.EntryLemmas.{IsOfEntry}
 pub header_of_job : (caller : Caller) (mail : Bool) (commands script : List ℕ) → IsJobOf caller mail commands script →
     header_in script ≡ Some (caller.context.user, mail)
 header_of_job caller mail commands script is =
-    (header_in-some script caller.context.user mail).1 (record { name = is.user; rest = _; text = is.text })
+    ap header_in is.text ∙ header_of_written caller.context mail commands is.user
 
 pub has_header : (caller : Caller) (mail : Bool) (commands script : List ℕ) → IsJobOf caller mail commands script → IsSome (header_in script)
 has_header caller mail commands script is = ap is_some (header_of_job caller mail commands script is)
@@ -55,11 +54,9 @@ has_header caller mail commands script is = ap is_some (header_of_job caller mai
 pub job_same : (caller : Caller) (queue minute : ℕ) (mail : Bool) (time : Result ℕ Refusal) (commands script : List ℕ) → IsJobOf caller mail commands script →
     minute ≡ minute_in time → job_of_script queue minute script ≡ job_for caller.context queue mail (minute_in time) commands
 job_same caller queue minute mail time commands script is same =
-    ap (λ (of : List ℕ). with_user of minute script) (ap user_of (header_of_job caller mail commands script is))
-    ∙ ap (λ (of : ℕ). with_user caller.context.user of script) same
-    ∙ ap (λ (of : List ℕ). with_user caller.context.user (minute_in time) of) is.text where
-      with_user : List ℕ → ℕ → List ℕ → Job
-      with_user user at text = record { queue = queue; minute = at; user = user; script = text }
+    ap (λ (of : List ℕ). job_of_script queue minute of) is.text
+    ∙ ap (λ (at : ℕ). job_of_script queue at (text_for caller.context mail commands)) same
+    ∙ job_of_written caller.context queue (minute_in time) mail commands is.user
 
 -- The checks on a table.
 

@@ -1,5 +1,5 @@
 -- How a command ends that stopped at its words.
-use Rattle.std.proofs.Common.{◌≡◌, Bool, false, ℕ, ℤ, pos, List, [], sym, refl, arith}
+use Rattle.std.proofs.Common.{◌≡◌, Bool, false, ℕ, ℤ, pos, List, [], sym, refl, arith, subst}
 use Rattle.std.specs.Prelude.{Option, Some, None, Result, Ok, Err}
 use Rattle.std.specs.FinMap as finite
 use Rattle.at_words.specs.declared.tool_request.ToolRequest.TheVariants as request
@@ -92,5 +92,6 @@ ends_at_words asked caller tells at cause early reach order =
       apart = λ known is_alone is. refl;
       spool = λ known is_alone. untouched (AreAskedSteps asked caller found) at.spool at.spool cause of_words early reach refl refl;
       prints = λ known is_alone tells_output. silent_prints cause (IsAskedText asked caller found shown) at.output at.output early (silent at.output);
+      listed = λ known is_alone is same. absurd (subst (λ (of : Cause). IsEarly of) same early);
       notes = λ tells_errors. silent_notes cause (IsAskedLine asked caller found shown) at.errors at.errors early (silent at.errors);
     }

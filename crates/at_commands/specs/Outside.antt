@@ -2,7 +2,7 @@
 use Rattle.std.specs.Prelude.{◌≡◌, ◌≢◌, ℕ, true, false, List, Err}
 use Rattle.at_words.specs.declared.fault.WordsFault.{WordsFault}
 use Rattle.command_rules.specs.declared.caller.Caller.{Caller}
-use Rattle.command_rules.specs.Ends.{Ends, FailsToPrint, Holding, Telling, holding, telling}
+use Rattle.command_rules.specs.Ends.{Ends, FailsToPrint, Holding, StopsBeforeLock, Telling, holding, telling}
 use Rattle.command_rules.specs.Found.{Asked, is_submission}
 use Rattle.command_rules.specs.Sinks.{SinkAt, sink_at}
 use Rattle.daemon_turn.specs.Daemons.{DaemonState}
@@ -12,7 +12,7 @@ use Rattle.host_calls.specs.declared.host.Host as host
 use Rattle.host_calls.specs.declared.inputs.Inputs as inputs
 use Rattle.host_calls.specs.declared.readings.Readings as readings
 use Rattle.host_calls.specs.declared.sink.Sink as sink
-use Rattle.host_calls.specs.Inputs.{Sources}
+use Rattle.host_calls.specs.Inputs.{AreReadAtMostOnce, Sources}
 use Rattle.host_calls.specs.Session.{IsLeft, Session}
 use Rattle.host_calls.specs.Sink.{Outlet}
 use Rattle.host_calls.specs.World.{GoesOn}
@@ -54,7 +54,8 @@ pub record HasRisen (asked : Asked) (old new : OutsideAt) (cause : Cause) : Type
 
 -- How a command ends that asks for no daemon: it starts no child and hands nothing over; its verdict and order, what each
 -- crash on the way and each image of the end show, and what is printed and said. No load is read, and it does not end while
--- jobs still run. Words that ask for nothing leave the session alone: the lock is not asked for.
+-- crash on the way and each image of the end show, and what is printed and said. No load is read, and it does not end while
+-- jobs still run. Words that ask for nothing leave the session alone, and so does all else that stops before the lock.
 pub record EndsUnserved (Notes : Cause → (List ℕ → Type 0) → SinkAt → SinkAt → Type 0) (asked : Asked) (caller : Caller)
     (old new : OutsideAt) (cause : Cause) : Type 0 where
   pub left : IsLeft old.session new.session
@@ -63,6 +64,7 @@ pub record EndsUnserved (Notes : Cause → (List ℕ → Type 0) → SinkAt → 
   pub not_running : cause ≢ StillRunning
   pub readers : new.readers ≡ old.readers
   pub unasked : (fault : WordsFault) → asked ≡ Err fault → new.session ≡ old.session
+  pub before_lock : StopsBeforeLock cause → new.session ≡ old.session
 
 -- what is served with, once the daemon keeps this
 abbrev pub served_at : OutsideAt → DaemonState → ServeAt
@@ -78,11 +80,11 @@ ServesAsked asked old new cause = WhereServed asked (λ limit interval once turn
     old.holds.errors new.holds.errors cause)
 
 -- What the readings, the inputs and the sinks were made as stays, and so does what the inputs hold. No input is asked for but
--- by a submission.
+-- by a submission, which reads once at most.
 pub record StaysMade (asked : Asked) (old new : OutsideAt) : Type 0 where
   pub readers : new.readers.made_as ≡ old.readers.made_as
   pub contents : new.holds.contents ≡ old.holds.contents
-  pub inputs : new.sources.made_as ≡ old.sources.made_as
+  pub inputs : AreReadAtMostOnce old.sources new.sources
   pub unread : is_submission asked ≡ false → new.sources ≡ old.sources
   pub out : new.out.made_as ≡ old.out.made_as
   pub err : new.err.made_as ≡ old.err.made_as

@@ -97,7 +97,7 @@ fn is_unreadable(zone: &Zone) -> bool
     matches!(zone, Zone::Unreadable)
 }
 
-// Puts the text, at once.
+// Puts the text, at once; nothing where it is empty, so that a sink that fails is not asked for nothing.
 fn put_whole<O: Sink>(alloc: Global, text: &[u8], out: &mut O) -> Cause
     ensures made_as { (O.outlet out.new).made_as ≡ (O.outlet out.old).made_as }
     ensures output_fault { result ≡ Cause.OutputFault
@@ -105,6 +105,9 @@ fn put_whole<O: Sink>(alloc: Global, text: &[u8], out: &mut O) -> Cause
     ensures puts { PutsWhole O.tells text.now (sink_at (O.content out.old) (O.outlet out.old))
         (sink_at (O.content out.new) (O.outlet out.new)) result }
 {
+    if text.is_empty() {
+        return Cause::Done;
+    }
     cause_of_put(out.put(alloc, text))
 }
 

@@ -5,6 +5,7 @@ ghost use Rattle.at_words.specs.declared.tool_request.ToolRequest.TheVariants as
 ghost use Rattle.civil_minute.specs.Zone.{IsReadable};
 ghost use Rattle.clock_range.specs.ClockRange.{IsClockMinute};
 ghost use Rattle.host_calls.specs.Causes.{Rose};
+ghost use Rattle.host_calls.specs.Inputs.{AreReadAtMostOnce};
 ghost use Rattle.host_calls.specs.Session.{CallsInside, IsInside, IsOutside};
 ghost use Rattle.host_calls.specs.World.{GoesOn};
 ghost use Rattle.job_script.specs.HeaderIn.{header_in};
@@ -55,7 +56,7 @@ pub(crate) fn submit<H: Host, R: Readings, I: Inputs, E: Sink>(
         → Rose (E.outlet err.old).sink_faults (E.outlet err.new).sink_faults }
     ensures readers { R.readers readings.new ≡ R.readers readings.old }
     ensures contents { I.contents inputs.new ≡ I.contents inputs.old }
-    ensures input_made { (I.sources inputs.new).made_as ≡ (I.sources inputs.old).made_as }
+    ensures input_read { AreReadAtMostOnce (I.sources inputs.old) (I.sources inputs.new) }
     ensures errors_made { (E.outlet err.new).made_as ≡ (E.outlet err.old).made_as }
     ensures submits { Submits (tells_of H.tells H.alone R.tells I.tells E.tells)
         (request.Submit queue mail file.now when.now) caller.now

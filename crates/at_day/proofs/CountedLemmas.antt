@@ -2,7 +2,7 @@
 use Rattle.std.proofs.Common.{◌≡◌, ◌≤◌, ℕ, List, sym, ap, subst, ◌∙◌, inl, inr, arith}
 use Rattle.std.specs.Prelude.{Result, Ok, Err, count_by}
 use Rattle.command_rules.proofs.SpoolLemmas.{unbegun_same}
-use Rattle.daemon_turn.proofs.HandLemmas.{counts_on}
+use Rattle.host_session.proofs.SessionLemmas.{counts_on}
 use Rattle.host_calls.specs.Causes.{Rose}
 use Rattle.host_calls.specs.Session.{IsLeft, KeepsCounts, Session, StaysInside}
 use Rattle.host_calls.specs.World.{World}

@@ -17,7 +17,7 @@ use Rattle.host_calls.specs.declared.fault.SinkFault.{SinkFault}
 use Rattle.host_calls.specs.declared.fault.SinkFault.TheVariants as sink
 use Rattle.listing_text.specs.Cause.{cause_line_of}
 use Rattle.listing_text.specs.declared.cause.Cause.{Cause}
-use Rattle.listing_text.specs.declared.cause.Cause.TheVariants.{Done, Refused, FileFault, InputFault, OutputFault, Busy, Memory, Damaged, StillRunning}
+use Rattle.listing_text.specs.declared.cause.Cause.TheVariants.{Done, Refused, FileFault, InputFault, OutputFault, Busy, Memory, Damaged, StillRunning, Faulty}
 use Rattle.cause_output.specs.Saying.{IsSaid, SaysLine}
 use Rattle.cause_output.specs.Putting.{PutsLines}
 use Rattle.at_day.specs.declared.counts.Counts.{Counts}
@@ -104,6 +104,7 @@ module _ (tells : Bool) (count : ℕ) (old new : SinkAt) where
   made_without_line Busy ends = absurd ends
   made_without_line (Damaged damage) ends = absurd ends
   made_without_line StillRunning ends = absurd ends
+  made_without_line Faulty ends = absurd ends
 
 module _ (tells : Bool) (old new : SinkAt) (cause : Cause) where
   without_line : (asked : Asked) → EndsDay tells asked old new cause → EndsDay tells asked old new Memory
@@ -137,6 +138,7 @@ module _ (tool : List ℕ) (old new : SinkAt) where
   line_ends Busy says = says
   line_ends (Damaged damage) says = says
   line_ends StillRunning says = says
+  line_ends Faulty says = says
 
   pub line_said : (tells : Bool) (cause final : Cause) → IsSaid tool tells cause old new final → tells ≡ true →
       EndsLine tool final old new
@@ -156,6 +158,7 @@ IsDayCause InputFault = ⊥
 IsDayCause Busy = ⊥
 IsDayCause (Damaged damage) = ⊥
 IsDayCause StillRunning = ⊥
+IsDayCause Faulty = ⊥
 
 module _ (tells : Bool) (old new : SinkAt) where
   made_cause : (count : ℕ) (cause : Cause) → EndsMade tells count old new cause → IsDayCause cause
@@ -168,6 +171,7 @@ module _ (tells : Bool) (old new : SinkAt) where
   made_cause count Busy ends = absurd ends
   made_cause count (Damaged damage) ends = absurd ends
   made_cause count StillRunning ends = absurd ends
+  made_cause count Faulty ends = absurd ends
 
   refused_cause : (cause : Cause) → EndsRefused tells old new cause → IsDayCause cause
   refused_cause cause ends = elim ends.refused [
@@ -225,3 +229,4 @@ made_days_are_reported tells count old new InputFault ends none = absurd ends
 made_days_are_reported tells count old new Busy ends none = absurd ends
 made_days_are_reported tells count old new (Damaged damage) ends none = absurd ends
 made_days_are_reported tells count old new StillRunning ends none = absurd ends
+made_days_are_reported tells count old new Faulty ends none = absurd ends

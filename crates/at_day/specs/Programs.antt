@@ -11,14 +11,14 @@ use Rattle.at_words.specs.declared.tool_request.ToolRequest.TheVariants as reque
 use Rattle.at_words.specs.Requests.{request_of}
 use Rattle.at_words.specs.Tools.{tool_of_words}
 use Rattle.command_rules.specs.declared.caller.Caller.{Caller}
-use Rattle.command_rules.specs.Ends.{Ends}
+use Rattle.command_rules.specs.Ends.{Ends, StopsBeforeLock}
 use Rattle.command_rules.specs.Found.{Asked}
 use Rattle.command_rules.specs.Sinks.{EndsLine, IsPut, IsPutInPart, IsSilent, SaysBy, SinkAt}
 use Rattle.host_calls.specs.Causes.{Rose}
 use Rattle.host_calls.specs.Session.{IsLeft}
 use Rattle.host_calls.specs.World.{GoesOn}
 use Rattle.listing_text.specs.declared.cause.Cause.{Cause}
-use Rattle.listing_text.specs.declared.cause.Cause.TheVariants.{Done, Refused, FileFault, InputFault, OutputFault, Busy, Memory, Damaged, StillRunning}
+use Rattle.listing_text.specs.declared.cause.Cause.TheVariants.{Done, Refused, FileFault, InputFault, OutputFault, Busy, Memory, Damaged, StillRunning, Faulty}
 use Rattle.listing_text.specs.declared.refusal.Refusal.TheVariants.{Usage}
 use Rattle.at_day.specs.declared.counts.Counts.{Counts}
 use Rattle.at_day.specs.Lines.{day_lines}
@@ -64,6 +64,7 @@ EndsMade tells count old new InputFault = ⊥
 EndsMade tells count old new Busy = ⊥
 EndsMade tells count old new (Damaged damage) = ⊥
 EndsMade tells count old new StillRunning = ⊥
+EndsMade tells count old new Faulty = ⊥
 
 -- The words are refused, unless no memory was found to read them or to say so. Nothing is put.
 pub record EndsRefused (tells : Bool) (old new : SinkAt) (cause : Cause) : Type 0 where
@@ -93,6 +94,7 @@ pub record EndsUnservedUnlessDay (words : List (List ℕ)) (caller : Caller) (ol
       Ends (SaysBy (tool_name_of words)) (request_of words) caller old.tells old.holds new.holds cause
   pub readers : new.readers ≡ old.readers
   pub unasked : (fault : WordsFault) → request_of words ≡ Err fault → new.session ≡ old.session
+  pub before_lock : StopsBeforeLock cause → new.session ≡ old.session
 
 -- What words of atday do: what is handed over stays as it is but for the two sinks, and the day that they ask for was made
 -- and told, or the words are refused; and then the line of the cause is said.

@@ -1,24 +1,24 @@
 //! The tools over the real outside: the spool folder that `ATSPOOL` names, the clock and the load of the machine, and
-//! the standard streams of the process. A day that `atday` makes needs no folder.
+//! the standard streams of the process. A day that `atday` makes leaves the folder alone.
 #![tactic(auto)]
 
-ghost use Rattle.std.specs.Prelude.{◌<◌, IfOk};
+ghost use Rattle.std.specs.Prelude.{◌<◌};
 ghost use Rattle.host_calls.specs.Session.{IsOutside};
-ghost use Rattle.memory_host.specs.Host.{memory_session};
 
-use at_day::{Caller, asks_for_day, program};
+mod answer;
+mod real;
+
+use crate::answer::answer;
+use crate::real::{RealFolder, real_clock, real_errors, real_folder, real_input, real_output};
+use at_day::Caller;
 use host_calls::Host;
-use memory_host::{Files, MemoryHost, Plan};
-use process_input::{StartupError, caller_of, held_streams, say_startup_error, text_of, words_of};
-use std::alloc::{AllocError, Global};
+use process_input::{StartupError, caller_of, held_streams, say_startup_error, words_of};
+use std::alloc::AllocError;
 use std::process::ExitCode;
-use unix_host::{UnixErr, UnixHost, UnixInputs, UnixOut, UnixReadings};
+use witnessed_host::Silent;
 
 // The name under which is said why the tools could not begin.
 const TOOL: &str = "at";
-
-// Where jobs lie if no variable names another folder.
-const SPOOL: &str = "/var/spool/atjobs";
 
 fn main(rt: HostRuntime) -> ExitCode {
     // They stay held until the end: what is opened in between must not become a standard stream.
@@ -29,55 +29,38 @@ fn main(rt: HostRuntime) -> ExitCode {
     }
 }
 
-// Does what the words of this process ask for over the real things, and gives the exit status.
+// Does what the words of this process ask for over the real things, and gives the exit status. Beside the folder and the
+// input stands a witness who knows nothing and disputes nothing.
 fn run(rt: &HostRuntime) -> Result<u8, StartupError> {
     let words = words_of(rt)?;
     let caller = caller_of(rt)?;
-    if asks_for_day(&words) {
-        return Ok(answer_in_memory(rt, &words, &caller)?);
-    }
-    let mut host = UnixHost::make(rt.clone()?, rt.alloc(), text_of(rt, "ATSPOOL", SPOOL)?)?;
-    Ok(answer(rt, &words, &caller, &mut host)?)
+    let mut folder = real_folder(rt, Silent)?;
+    Ok(over_streams(rt, &words, &caller, &mut folder)?)
 }
 
-// A day is handed a host in memory in place of the real one, which it would leave alone.
-fn answer_in_memory(rt: &HostRuntime, words: &[String], caller: &Caller) -> Result<u8, AllocError>
-    requires umask { caller.now.context.umask < 512 }
-{
-    let mut host = no_spool(rt.alloc())?;
-    answer(rt, words, caller, &mut host)
-}
-
-// Does what the words ask for over the host and the real things beside it, and gives the exit status.
-fn answer<H: Host>(
+// Does what the words ask for over the folder, and the clock and the streams beside it.
+fn over_streams(
     rt: &HostRuntime,
     words: &[String],
     caller: &Caller,
-    host: &mut H,
+    folder: &mut RealFolder<Silent>,
 ) -> Result<u8, AllocError>
-    requires outside { IsOutside (H.session host.old) }
+    requires outside { IsOutside (⟦<RealFolder<Silent> as Host>⟧.session folder.old) }
     requires umask { caller.now.context.umask < 512 }
 {
-    let mut readings = UnixReadings::make(rt.clone()?);
-    let mut inputs = UnixInputs::make(rt.clone()?);
-    let mut out = UnixOut::make(rt.clone()?);
-    let mut err = UnixErr::make(rt.clone()?);
-    let status = program(
+    let mut clock = real_clock(rt)?;
+    let mut input = real_input(rt, Silent)?;
+    let mut output = real_output(rt)?;
+    let mut errors = real_errors(rt)?;
+    let status = answer(
         rt.alloc(),
         words,
         caller,
-        host,
-        &mut readings,
-        &mut inputs,
-        &mut out,
-        &mut err,
+        folder,
+        &mut clock,
+        &mut input,
+        &mut output,
+        &mut errors,
     );
     Ok(status.code)
-}
-
-// A host in memory without files.
-fn no_spool(alloc: Global) -> Result<MemoryHost, AllocError>
-    ensures { IfOk result (λ host. IsOutside (memory_session host)) }
-{
-    MemoryHost::make(alloc, Files::new(alloc), Plan::quiet(alloc))
 }

@@ -7,7 +7,7 @@ use Rattle.clap.specs.Simple.{App, matches_of}
 use Rattle.clap.specs.Walk.{Row, Text, rows_of}
 use Rattle.clap.specs.declared.parser.matches.ArgMatches.{ArgMatches}
 use Rattle.at_words.specs.Answers.{Answers, asked_of, if_taken}
-use Rattle.at_words.specs.inside.Parsing.{Parses}
+use Rattle.at_words.specs.Parsing.{Parses}
 use Rattle.at_words.specs.declared.fault.WordsFault.{WordsFault}
 use Rattle.at_words.specs.declared.fault.WordsFault.TheVariants.{Usage, BadQueue, Memory}
 

@@ -20,6 +20,10 @@ value_rule id letter = record (new_rule id) { short = Some letter; action = Some
 abbrev pub long_rule : Text → Rule
 long_rule id = record (new_rule id) { long = Some id; action = Some Set }
 
+-- a flag of a long name
+abbrev pub long_flag_rule : Text → Rule
+long_flag_rule id = record (new_rule id) { long = Some id; action = Some SetTrue }
+
 -- any number of operands
 abbrev pub operands_rule : Rule
 operands_rule = record (new_rule (codes "operands")) { action = Some Append }

@@ -4,8 +4,8 @@ pub mod Commands
 pub mod Daemons
 pub mod Digits
 pub mod Numbers
+pub mod Parsing
 pub mod Queues
 pub mod Requests
 pub mod Rows
 pub mod Tools
-pub mod inside

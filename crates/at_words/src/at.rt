@@ -10,7 +10,7 @@ ghost use Rattle.at_words.specs.Commands.{at_app};
 ghost use Rattle.at_words.specs.Rows.{text_of};
 
 use crate::arguments::{has_flag, has_value, operands, parsed, text, value};
-use crate::builder::{bare, with_flag, with_operands, with_value};
+use crate::builder::{bare_command, with_flag, with_operands, with_value};
 use crate::jobs::{filter, one_or_more};
 use crate::{Numbers, ToolRequest, When, WordsFault, queue};
 use clap::{ArgMatches, Command};
@@ -29,7 +29,7 @@ pub fn request(alloc: Global, words: &[String]) -> Result<ToolRequest, WordsFaul
 fn command<'a>(alloc: Global) -> Result<Command<'a>, AllocError>
     ensures { IfOk result (λ made. app_of made ≡ at_app) }
 {
-    let mail = with_flag(alloc, bare(alloc, "at"), "mail", 'm')?;
+    let mail = with_flag(alloc, bare_command(alloc, "at"), "mail", 'm')?;
     let list = with_flag(alloc, mail, "list", 'l')?;
     let remove = with_flag(alloc, list, "remove", 'r')?;
     let show = with_flag(alloc, remove, "show", 'c')?;

@@ -9,7 +9,7 @@ ghost use Rattle.at_words.specs.Daemons.{atd_asked, interval_asked, limit_asked,
 ghost use Rattle.at_words.specs.Rows.{text_of};
 
 use crate::arguments::{has_flag, parsed, value};
-use crate::builder::{bare, with_flag, with_long, with_value};
+use crate::builder::{bare_command, with_flag, with_long, with_value};
 use crate::{ToolRequest, WordsFault, digits};
 use clap::{ArgMatches, Command};
 use std::alloc::{AllocError, Global};
@@ -32,7 +32,7 @@ pub fn request(alloc: Global, words: &[String]) -> Result<ToolRequest, WordsFaul
 fn command<'a>(alloc: Global) -> Result<Command<'a>, AllocError>
     ensures { IfOk result (λ made. app_of made ≡ atd_app) }
 {
-    let once = with_flag(alloc, bare(alloc, "atd"), "once", 's')?;
+    let once = with_flag(alloc, bare_command(alloc, "atd"), "once", 's')?;
     let limit = with_value(alloc, once, "limit", 'l')?;
     let interval = with_value(alloc, limit, "interval", 'b')?;
     with_long(alloc, interval, "turns")
@@ -79,7 +79,9 @@ fn interval_of(value: Option<&str>) -> Option<u32>
     }
 }
 
-fn turns_of(value: Option<&str>) -> Option<u64>
+/// The number of turns that the value of `--turns` writes, the greatest where none is given. None where it is no number
+/// from 1 to that.
+pub fn turns_of(value: Option<&str>) -> Option<u64>
     ensures { result ≡ turns_asked (text_of value.entry) }
 {
     match value {

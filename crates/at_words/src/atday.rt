@@ -9,7 +9,7 @@ ghost use Rattle.at_words.specs.Daemons.{atday_asked, make_asked};
 ghost use Rattle.at_words.specs.Rows.{text_of};
 
 use crate::arguments::{parsed, value};
-use crate::builder::{bare, with_long};
+use crate::builder::{bare_command, with_long};
 use crate::{ToolRequest, WordsFault, digits};
 use clap::{ArgMatches, Command};
 use std::alloc::{AllocError, Global};
@@ -29,7 +29,7 @@ pub fn request(alloc: Global, words: &[String]) -> Result<ToolRequest, WordsFaul
 fn command<'a>(alloc: Global) -> Result<Command<'a>, AllocError>
     ensures { IfOk result (λ made. app_of made ≡ atday_app) }
 {
-    with_long(alloc, bare(alloc, "atday"), "make")
+    with_long(alloc, bare_command(alloc, "atday"), "make")
 }
 
 fn asked(matches: &ArgMatches) -> Result<ToolRequest, WordsFault>

@@ -8,7 +8,7 @@ ghost use Rattle.at_words.specs.Asked.{atq_asked};
 ghost use Rattle.at_words.specs.Commands.{atq_app};
 
 use crate::arguments::{parsed, value};
-use crate::builder::{bare, with_value};
+use crate::builder::{bare_command, with_value};
 use crate::jobs::filter;
 use crate::{ToolRequest, WordsFault};
 use clap::{ArgMatches, Command};
@@ -26,7 +26,7 @@ pub fn request(alloc: Global, words: &[String]) -> Result<ToolRequest, WordsFaul
 fn command<'a>(alloc: Global) -> Result<Command<'a>, AllocError>
     ensures { IfOk result (λ made. app_of made ≡ atq_app) }
 {
-    with_value(alloc, bare(alloc, "atq"), "queue", 'q')
+    with_value(alloc, bare_command(alloc, "atq"), "queue", 'q')
 }
 
 fn asked(alloc: Global, matches: &ArgMatches) -> Result<ToolRequest, WordsFault>

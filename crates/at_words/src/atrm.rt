@@ -8,7 +8,7 @@ ghost use Rattle.at_words.specs.Asked.{atrm_asked};
 ghost use Rattle.at_words.specs.Commands.{atrm_app};
 
 use crate::arguments::{operands, parsed};
-use crate::builder::{bare, with_operands};
+use crate::builder::{bare_command, with_operands};
 use crate::jobs::one_or_more;
 use crate::{ToolRequest, WordsFault};
 use clap::{ArgMatches, Command};
@@ -26,7 +26,7 @@ pub fn request(alloc: Global, words: &[String]) -> Result<ToolRequest, WordsFaul
 fn command<'a>(alloc: Global) -> Result<Command<'a>, AllocError>
     ensures { IfOk result (λ made. app_of made ≡ atrm_app) }
 {
-    with_operands(alloc, bare(alloc, "atrm"))
+    with_operands(alloc, bare_command(alloc, "atrm"))
 }
 
 fn asked(alloc: Global, matches: &ArgMatches) -> Result<ToolRequest, WordsFault>

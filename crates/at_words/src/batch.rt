@@ -8,7 +8,7 @@ ghost use Rattle.at_words.specs.Asked.{batch_asked};
 ghost use Rattle.at_words.specs.Commands.{batch_app};
 
 use crate::arguments::{parsed, text};
-use crate::builder::{bare, with_value};
+use crate::builder::{bare_command, with_value};
 use crate::{ToolRequest, When, WordsFault};
 use clap::{ArgMatches, Command};
 use host_calls::Text;
@@ -26,7 +26,7 @@ pub fn request(alloc: Global, words: &[String]) -> Result<ToolRequest, WordsFaul
 fn command<'a>(alloc: Global) -> Result<Command<'a>, AllocError>
     ensures { IfOk result (λ made. app_of made ≡ batch_app) }
 {
-    with_value(alloc, bare(alloc, "batch"), "file", 'f')
+    with_value(alloc, bare_command(alloc, "batch"), "file", 'f')
 }
 
 fn asked(alloc: Global, matches: &ArgMatches) -> Result<ToolRequest, WordsFault>

@@ -1,13 +1,13 @@
 //! Commands without help, and the arguments that they take.
 ghost use Rattle.std.specs.Prelude.{◌≡◌, IfOk};
 ghost use Rattle.clap.specs.Simple.{app_of, with_rule};
-ghost use Rattle.at_words.specs.Commands.{bare_app, flag_rule, value_rule, long_rule, operands_rule};
+ghost use Rattle.at_words.specs.Commands.{bare_app, flag_rule, long_flag_rule, value_rule, long_rule, operands_rule};
 
 use clap::{Arg, ArgAction, Command};
 use std::alloc::{AllocError, Global};
 
 /// A command without arguments, which takes no flag for help.
-pub fn bare<'a>(alloc: Global, name: &'a str) -> Command<'a>
+pub fn bare_command<'a>(alloc: Global, name: &'a str) -> Command<'a>
     ensures { app_of result ≡ bare_app name.entry.now }
 {
     Command::new(alloc, name).disable_help_flag(true)
@@ -52,6 +52,19 @@ pub fn with_long<'a>(
 {
     let option = Arg::new(alloc, id).long(id).action(ArgAction::Set);
     command.arg(option)
+}
+
+/// The command with a flag of a long name more.
+pub fn with_long_flag<'a>(
+    alloc: Global,
+    command: Command<'a>,
+    id: &'a str,
+) -> Result<Command<'a>, AllocError>
+    ensures { IfOk result (λ more.
+        app_of more ≡ with_rule (app_of command.entry) (long_flag_rule id.entry.now)) }
+{
+    let flag = Arg::new(alloc, id).long(id).action(ArgAction::SetTrue);
+    command.arg(flag)
 }
 
 /// The command with any number of operands.

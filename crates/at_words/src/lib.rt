@@ -1,5 +1,6 @@
 //! The words of `at`, `batch`, `atq`, `atrm`, `atd` and `atday`, read as what they ask for. Each tool's
-//! words are read by `clap` as one simple command.
+//! words are read by `clap` as one simple command. What a program of one command needs to read its own words so is
+//! public: the command, its arguments, and what the words say of each.
 #![tactic(auto)]
 
 mod arguments;
@@ -21,7 +22,10 @@ mod tool_request;
 mod when;
 mod words;
 
+pub use arguments::{has_flag, parsed, value};
+pub use atd::turns_of;
 pub use atday::MAX_EVENTS;
+pub use builder::{bare_command, with_long, with_long_flag, with_value};
 pub use fault::WordsFault;
 pub use filter::Filter;
 pub use numbers::Numbers;

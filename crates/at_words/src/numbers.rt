@@ -32,6 +32,14 @@ impl Numbers {
         }
     }
 
+    /// The numbers of a list in which each stands once. Takes no memory.
+    pub fn of_distinct(numbers: Vec<u32>) -> Numbers
+        requires { IsTrue (are_distinct numbers.items) }
+        ensures { result ≡ numbers.items }
+    {
+        Numbers { inner: numbers }
+    }
+
     /// Appends a number that is not there yet.
     pub fn push(&mut self, _alloc: Global, number: u32) -> Result<(), AllocError>
         ensures ok { OnOk result (self.new ≡ with_number self.old number) }

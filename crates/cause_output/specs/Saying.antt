@@ -1,7 +1,7 @@
 -- The line of a cause, as it is said to the caller (own).
 use Rattle.std.specs.Prelude.{◌≡◌, ◌⊎◌, ℕ, Bool, true, List}
 use Rattle.listing_text.specs.declared.cause.Cause.{Cause}
-use Rattle.listing_text.specs.declared.cause.Cause.TheVariants.{Done, Refused, FileFault, InputFault, OutputFault, Busy, Memory, Damaged, StillRunning}
+use Rattle.listing_text.specs.declared.cause.Cause.TheVariants.{Done, Refused, FileFault, InputFault, OutputFault, Busy, Memory, Damaged, StillRunning, Faulty}
 use Rattle.listing_text.specs.Cause.{cause_line_of}
 use Rattle.command_rules.specs.Sinks.{IsPutOrCut, IsSilent, SinkAt}
 
@@ -16,6 +16,7 @@ IsUndone Memory = Unit {0}
 IsUndone (Refused refusal) = Unit {0}
 IsUndone (Damaged damage) = Unit {0}
 IsUndone StillRunning = Unit {0}
+IsUndone Faulty = Unit {0}
 
 -- the line of the cause was put, or cut; what was done has none
 abbrev pub SaysLine : List ℕ → Cause → SinkAt → SinkAt → Type 0
@@ -28,6 +29,7 @@ SaysLine tool Memory old new = IsPutOrCut (cause_line_of tool Memory) old new
 SaysLine tool (Refused refusal) old new = IsPutOrCut (cause_line_of tool (Refused refusal)) old new
 SaysLine tool (Damaged damage) old new = IsPutOrCut (cause_line_of tool (Damaged damage)) old new
 SaysLine tool StillRunning old new = IsPutOrCut (cause_line_of tool StillRunning) old new
+SaysLine tool Faulty old new = IsPutOrCut (cause_line_of tool Faulty) old new
 
 -- The line of a cause was put, which is known where the sink tells it. Where the line found no memory the cause is that.
 abbrev pub IsSaid : List ℕ → Bool → Cause → SinkAt → SinkAt → Cause → Type 0

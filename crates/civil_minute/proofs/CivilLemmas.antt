@@ -29,7 +29,7 @@ local_time zone at local shows = record {
 pub local_time-same : {zone : Zone} {at : ℤ} {local : DateTime} (second : ℤ) → at ≡ second → IsLocalTime zone at local → IsLocalTime zone second local
 local_time-same {zone} {at} {local} second same shows = subst (λ s. IsLocalTime zone s local) same shows
 
--- a zone is at most 25:59:59 ahead or after
+-- a zone is at most 25:59:59 east or west of UTC
 pub offset_bound : (zone : TimeZone) (nanos : ℤ) → IsOffsetSeconds (offset_at zone nanos)
 unfolding offset_at
 offset_bound UTC nanos = omega (arith, signed_arith)

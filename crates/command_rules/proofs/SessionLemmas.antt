@@ -7,7 +7,7 @@ use Rattle.step_runs.specs.Current.{Kept}
 use Rattle.step_runs.proofs.AttemptLemmas.{runs_after_recoveries}
 use Rattle.step_runs.proofs.MadeLemmas.{made_steps_are_achieved, no_steps_are_made}
 use Rattle.listing_text.specs.declared.cause.Cause.{Cause}
-use Rattle.listing_text.specs.declared.cause.Cause.TheVariants.{Done, Refused, FileFault, InputFault, OutputFault, Busy, Memory, Damaged, StillRunning}
+use Rattle.listing_text.specs.declared.cause.Cause.TheVariants.{Done, Refused, FileFault, InputFault, OutputFault, Busy, Memory, Damaged, StillRunning, Faulty}
 use Rattle.spool_model.specs.declared.step.Step.{Step}
 use Rattle.spool_model.specs.JobTable.{JobTable}
 use Rattle.command_rules.specs.Requested.{AreNoSteps, OrNone}
@@ -52,3 +52,4 @@ module _ (AreSteps : JobTable → List Step → Type 0) (old middle new : World)
   works_end Busy works = absurd works
   works_end (Damaged damage) works = absurd works
   works_end StillRunning works = absurd works
+  works_end Faulty works = absurd works

@@ -1,7 +1,7 @@
 -- The checks of a command, and their order (own).
 use Rattle.std.specs.Prelude.{◌≡◌, ℕ, Bool, false, Option, Some, None, nat_lt}
 use Rattle.listing_text.specs.declared.refusal.Refusal.{Refusal}
-use Rattle.listing_text.specs.declared.refusal.Refusal.TheVariants.{Usage, NotAllowed, Timespec, NoSuchDay, OutOfRange, Past, BadTimeArg, BadZone, BadQueue, BadDirectory, BadUser, TooLong, EnvironmentTooLarge, QueueFull, NumbersUsedUp, NoSuchJob, NotYours, RunningJob, BadClock}
+use Rattle.listing_text.specs.declared.refusal.Refusal.TheVariants.{Usage, NotAllowed, Timespec, NoSuchDay, OutOfRange, Past, BadTimeArg, BadZone, BadQueue, BadDirectory, BadUser, TooLong, EnvironmentTooLarge, QueueFull, NumbersUsedUp, NoSuchJob, NotYours, RunningJob, BadClock, BadCrontab, AccountsFull, TargetNotEmpty}
 
 -- What a command checks or does, one after the other: the first that fails decides its answer.
 pub data Check : Type 0 where
@@ -66,8 +66,11 @@ check_of NoSuchDay = of_date
 check_of OutOfRange = of_date
 check_of Past = of_date
 check_of TooLong = of_length
+check_of (BadCrontab line) = of_length
 check_of NotAllowed = of_access
 check_of QueueFull = of_room
+check_of AccountsFull = of_room
+check_of TargetNotEmpty = of_room
 check_of NumbersUsedUp = of_number
 check_of (NoSuchJob number) = of_jobs
 check_of (NotYours number) = of_jobs

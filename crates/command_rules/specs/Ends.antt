@@ -8,14 +8,14 @@ use Rattle.host_calls.specs.Inputs.{Contents}
 use Rattle.host_calls.specs.Sink.{Outlet}
 use Rattle.host_calls.specs.World.{World, reading}
 use Rattle.listing_text.specs.declared.cause.Cause.{Cause}
-use Rattle.listing_text.specs.declared.cause.Cause.TheVariants.{Done, Refused, FileFault, InputFault, OutputFault, Busy, Memory, Damaged, StillRunning}
+use Rattle.listing_text.specs.declared.cause.Cause.TheVariants.{Done, Refused, FileFault, InputFault, OutputFault, Busy, Memory, Damaged, StillRunning, Faulty}
 use Rattle.listing_text.specs.declared.refusal.Refusal.{Refusal}
 use Rattle.spool_model.specs.JobTable.{JobTable}
 use Rattle.command_rules.specs.declared.caller.Caller.{Caller}
 use Rattle.command_rules.specs.Checks.{Check, ComesUpTo, check_of, is_before, of_input, of_lock, of_folder, of_output}
-use Rattle.command_rules.specs.Found.{AreInFolder, Asked, Finds, Found, answers_read}
+use Rattle.command_rules.specs.Found.{AreInFolder, Asked, Finds, Found, answers_read, is_listing}
 use Rattle.command_rules.specs.Requested.{AreAskedSteps, IsAskedLine, IsAskedText}
-use Rattle.command_rules.specs.Sinks.{PrintsBy, SinkAt}
+use Rattle.command_rules.specs.Sinks.{HasBytes, PrintsBy, SinkAt}
 use Rattle.command_rules.specs.Spool.{SpoolEnds}
 use Rattle.command_rules.specs.Verdict.{verdict_of}
 
@@ -30,11 +30,13 @@ ComesBefore Done check = ⊥
 ComesBefore (Refused refusal) check = ⊥
 ComesBefore Memory check = ⊥
 ComesBefore StillRunning check = ⊥
+ComesBefore Faulty check = ⊥
 
 -- the cause is no refusal
 abbrev pub IsNoRefusal : Cause → Type 0
 IsNoRefusal (Refused refusal) = ⊥
 IsNoRefusal StillRunning = ⊥
+IsNoRefusal Faulty = ⊥
 IsNoRefusal Done = Unit {0}
 IsNoRefusal FileFault = Unit {0}
 IsNoRefusal InputFault = Unit {0}
@@ -48,6 +50,19 @@ IsNoRefusal (Damaged damage) = Unit {0}
 abbrev pub KeepsOrder : Option Refusal → Cause → Type 0
 KeepsOrder None cause = IsNoRefusal cause
 KeepsOrder (Some refusal) cause = (cause ≡ Refused refusal) ⊎ ((cause ≡ Memory) ⊎ ComesBefore cause (check_of refusal))
+
+-- the cause stops a command before it asks for the lock
+abbrev pub StopsBeforeLock : Cause → Type 0
+StopsBeforeLock (Refused refusal) = is_before (check_of refusal) of_lock ≡ true
+StopsBeforeLock InputFault = Unit {0}
+StopsBeforeLock Done = ⊥
+StopsBeforeLock FileFault = ⊥
+StopsBeforeLock OutputFault = ⊥
+StopsBeforeLock Busy = ⊥
+StopsBeforeLock Memory = ⊥
+StopsBeforeLock (Damaged damage) = ⊥
+StopsBeforeLock StillRunning = ⊥
+StopsBeforeLock Faulty = ⊥
 
 -- a fault of the spool comes at the lock, at the lists, at the folder, or at the steps
 abbrev pub IsOfSpool : Check → Type 0
@@ -64,6 +79,7 @@ Reaches FileFault check = IsOfSpool check
 Reaches (Damaged damage) check = check ≡ of_folder
 Reaches Memory check = Unit {0}
 Reaches StillRunning check = ⊥
+Reaches Faulty check = ⊥
 
 -- which of the objects that a command is handed tell what they hold
 pub record Telling : Type 0 where
@@ -91,7 +107,8 @@ holding spool answers contents output errors =
     record { spool = spool; answers = answers; contents = contents; output = output; errors = errors }
 
 -- How a command ends that was asked for so: over what it found outside, which is what was told, and over how far it came.
--- What is said to the caller is a parameter: before the line of the cause, or with it.
+-- The output of a listing can fail only where it has a line. What is said to the caller is a parameter: before the line of
+-- the cause, or with it.
 pub record Ends (Notes : Cause → (List ℕ → Type 0) → SinkAt → SinkAt → Type 0) (asked : Asked) (caller : Caller)
     (tells : Telling) (before after : Holding) (cause : Cause) : Type 0 where
   pub found : Found
@@ -107,6 +124,8 @@ pub record Ends (Notes : Cause → (List ℕ → Type 0) → SinkAt → SinkAt �
   pub spool : tells.files ≡ true → tells.alone ≡ true → SpoolEnds (AreAskedSteps asked caller found) before.spool after.spool cause
   pub prints : tells.files ≡ true → tells.alone ≡ true → tells.output ≡ true →
       PrintsBy cause (IsAskedText asked caller found shown) before.output after.output
+  pub listed : tells.files ≡ true → tells.alone ≡ true → is_listing asked ≡ true → cause ≡ OutputFault →
+      HasBytes (IsAskedText asked caller found shown)
   pub notes : tells.errors ≡ true → Notes cause (IsAskedLine asked caller found shown) before.errors after.errors
 
 -- the output of a command fails where the sink does that it goes to: that for errors of a submission, else the other

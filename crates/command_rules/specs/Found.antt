@@ -50,6 +50,16 @@ is_submission (Ok (request.Daemon limit interval once turns)) = false
 is_submission (Ok (request.Make count)) = false
 is_submission (Err fault) = false
 
+-- a listing is asked for
+abbrev pub is_listing : Asked → Bool
+is_listing (Ok (request.List filter)) = true
+is_listing (Ok (request.Submit queue mail file when)) = false
+is_listing (Ok (request.Remove numbers)) = false
+is_listing (Ok (request.Show numbers)) = false
+is_listing (Ok (request.Daemon limit interval once turns)) = false
+is_listing (Ok (request.Make count)) = false
+is_listing (Err fault) = false
+
 -- the answers of the clock after a command: a submission that comes to the check of the clock reads it once
 abbrev pub answers_read : Asked → Check → ℤ → Answers → Answers
 answers_read asked reached now answers =

@@ -9,29 +9,21 @@ use Rattle.civil_minute.specs.declared.civil.CivilMinute.{CivilMinute}
 use Rattle.civil_minute.specs.declared.zone.Zone.{Zone}
 use Rattle.civil_minute.specs.Civil.{IsCivilTime}
 use Rattle.host_calls.specs.declared.damage.Damage.{Damage}
-use Rattle.job_script.specs.declared.context.Context.{Context}
-use Rattle.job_script.specs.JobText.{text_for}
 use Rattle.listing_text.specs.Date.{date_text_of}
 use Rattle.listing_text.specs.Lines.{accepted_line_of}
 use Rattle.listing_text.specs.Listing.{IsListing, passes_all, passes_letter, passes_numbers}
 use Rattle.spool_model.specs.declared.entry.Entry.TheVariants.{Live, Done}
-use Rattle.spool_model.specs.declared.job.Job.{Job}
 use Rattle.spool_model.specs.declared.row.Row.{Row}
 use Rattle.spool_model.specs.declared.step.Step.{Step}
 use Rattle.spool_model.specs.declared.step.Step.TheVariants as step
 use Rattle.spool_model.specs.JobTable.{JobEntry, JobTable, entry_at}
 use Rattle.spool_model.specs.Lists.{surplus}
 use Rattle.spool_model.specs.Steps.{after_steps}
-use Rattle.spool_store.specs.Submitting.{submission}
+use Rattle.spool_store.specs.Submitting.{job_for, submission}
 use Rattle.command_rules.specs.declared.caller.Caller.{Caller}
 use Rattle.command_rules.specs.Found.{Asked, Found}
 use Rattle.command_rules.specs.Times.{minute_in}
 use Rattle.command_rules.specs.Verdict.{verdict_of}
-
--- the job of a submission: its user, its minute, and a text that does the commands as the caller would
-abbrev pub job_for : Context → ℕ → Bool → ℕ → List ℕ → Job
-job_for context queue mail minute commands =
-    record { queue = queue; minute = minute; user = context.user; script = text_for context mail commands }
 
 -- the numbers are removed, in order
 abbrev pub removes : List ℕ → List Step

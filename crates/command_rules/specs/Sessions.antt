@@ -12,7 +12,7 @@ use Rattle.step_runs.specs.Current.{IsCurrent, Kept}
 use Rattle.step_runs.specs.Made.{AreMade}
 use Rattle.step_runs.specs.Runs.{Runs}
 use Rattle.listing_text.specs.declared.cause.Cause.{Cause}
-use Rattle.listing_text.specs.declared.cause.Cause.TheVariants.{Done, Refused, FileFault, InputFault, OutputFault, Busy, Memory, Damaged, StillRunning}
+use Rattle.listing_text.specs.declared.cause.Cause.TheVariants.{Done, Refused, FileFault, InputFault, OutputFault, Busy, Memory, Damaged, StillRunning, Faulty}
 use Rattle.listing_text.specs.declared.refusal.Refusal.TheVariants.{NotAllowed}
 use Rattle.spool_model.specs.declared.step.Step.{Step}
 use Rattle.spool_model.specs.JobTable.{JobTable}
@@ -92,3 +92,4 @@ Works AreSteps table old new InputFault = ⊥
 Works AreSteps table old new Busy = ⊥
 Works AreSteps table old new (Damaged damage) = ⊥
 Works AreSteps table old new StillRunning = ⊥
+Works AreSteps table old new Faulty = ⊥

@@ -1,9 +1,9 @@
 -- What a command puts on a sink (own): a text whole, a prefix of it, or nothing.
-use Rattle.std.specs.Prelude.{◌≡◌, ◌⊎◌, ◌≤◌, ◌++◌, ℕ, List, take}
+use Rattle.std.specs.Prelude.{◌≡◌, ◌≢◌, ◌⊎◌, ◌≤◌, ◌++◌, [], ℕ, List, take}
 use Rattle.host_calls.specs.Causes.{Rose}
 use Rattle.host_calls.specs.Sink.{Outlet}
 use Rattle.listing_text.specs.declared.cause.Cause.{Cause}
-use Rattle.listing_text.specs.declared.cause.Cause.TheVariants.{Done, Refused, FileFault, InputFault, OutputFault, Busy, Memory, Damaged, StillRunning}
+use Rattle.listing_text.specs.declared.cause.Cause.TheVariants.{Done, Refused, FileFault, InputFault, OutputFault, Busy, Memory, Damaged, StillRunning, Faulty}
 use Rattle.listing_text.specs.Cause.{cause_line_of}
 
 -- a sink at a moment: what was put on it, and how often it failed
@@ -45,6 +45,10 @@ IsPutOrCut text old new = IsPut text old new ⊎ IsCut text old new
 abbrev pub PutsSome : (List ℕ → Type 0) → SinkAt → SinkAt → Type 0
 PutsSome IsText old new = (text : List ℕ) × IsText text × IsPut text old new
 
+-- there is such a text, of one byte or more
+abbrev pub HasBytes : (List ℕ → Type 0) → Type 0
+HasBytes IsText = (text : List ℕ) × IsText text × (text ≢ [])
+
 -- a prefix of such a text was put, or nothing
 abbrev pub PutsPart : (List ℕ → Type 0) → SinkAt → SinkAt → Type 0
 PutsPart IsText old new = IsSilent old new ⊎ ((text : List ℕ) × IsText text × IsPutInPart text old new)
@@ -65,6 +69,7 @@ PrintsBy InputFault IsText old new = IsSilent old new
 PrintsBy Busy IsText old new = IsSilent old new
 PrintsBy (Damaged damage) IsText old new = IsSilent old new
 PrintsBy StillRunning IsText old new = ⊥
+PrintsBy Faulty IsText old new = ⊥
 
 -- What is said to the caller before the line of the cause: all of the notice where the command is done, and perhaps a
 -- prefix of it where its put failed.
@@ -78,6 +83,7 @@ NotesBy InputFault IsLine old new = IsSilent old new
 NotesBy Busy IsLine old new = IsSilent old new
 NotesBy (Damaged damage) IsLine old new = IsSilent old new
 NotesBy StillRunning IsLine old new = ⊥
+NotesBy Faulty IsLine old new = ⊥
 
 -- the line of the cause after what was said before it: whole unless the sink failed, or no memory was found for it
 abbrev pub EndsLine : List ℕ → Cause → SinkAt → SinkAt → Type 0
@@ -90,6 +96,7 @@ EndsLine tool InputFault old new = IsPutOrCut (cause_line_of tool InputFault) ol
 EndsLine tool Busy old new = IsPutOrCut (cause_line_of tool Busy) old new
 EndsLine tool (Damaged damage) old new = IsPutOrCut (cause_line_of tool (Damaged damage)) old new
 EndsLine tool StillRunning old new = IsPutOrCut (cause_line_of tool StillRunning) old new
+EndsLine tool Faulty old new = IsPutOrCut (cause_line_of tool Faulty) old new
 
 -- What a command says to its caller, by its cause: the notice, and after it the line of the cause. Nothing is said of
 -- what was done but the notice.

@@ -5,6 +5,7 @@
 use Rattle.std.specs.Prelude.{◌≡◌, ◌==◌, ◌&&◌, ℕ, Bool, true, not, IsTrue, List, [], ◌∷◌, ◌++◌, length}
 use Rattle.std.specs.List.{list_all}
 use Rattle.blanks.specs.Blanks.{after_blanks, is_blank}
+use Rattle.job_script.specs.Variables.{has_no_zero}
 use Rattle.cron_text.specs.Field.{SpellsField}
 use Rattle.cron_text.specs.declared.entry.CronEntry.{CronEntry}
 use Rattle.cron_text.specs.declared.field.Field.{Field}
@@ -35,7 +36,7 @@ pub record BeginsWithField (low high : ℕ) (text : List ℕ) (field : Field) (r
 
 -- the command has a byte, and no zero byte
 abbrev pub is_command : List ℕ → Bool
-is_command command = not (length command == 0) && list_all (λ byte. not (byte == 0)) command
+is_command command = not (length command == 0) && has_no_zero command
 
 -- the line spells the entry: five patterns, each with blanks after it, and the command up to its end
 pub record SpellsEntry (line : List ℕ) (entry : CronEntry) : Type 0 where

@@ -1,6 +1,6 @@
 //! An entry of a crontab: a line with five patterns and a command.
-ghost use Rattle.std.specs.Prelude.{◌≡◌, ◌<◌, ◌≤◌, ◌==◌, not, IfOk, IfSome, length};
-ghost use Rattle.std.specs.List.{list_all, position};
+ghost use Rattle.std.specs.Prelude.{◌≡◌, ◌<◌, ◌≤◌, IfOk, IfSome, length};
+ghost use Rattle.std.specs.List.{position};
 ghost use Rattle.blanks.specs.Blanks.{is_blank};
 ghost use Rattle.cron_text.specs.Entry.{is_command};
 ghost use Rattle.cron_text.specs.inside.Reader as Reader;
@@ -9,6 +9,7 @@ use crate::Field;
 use crate::field::read_field;
 use blanks::after_blanks;
 use host_calls::Bytes;
+use job_script::is_without_zero;
 use std::alloc::{AllocError, Global};
 
 /// When a command is due, and the command as its line has it.
@@ -67,13 +68,7 @@ fn read_line(line: &[u8]) -> Option<(Schedule, &[u8])>
 fn is_command(command: &[u8]) -> bool
     ensures { result ≡ is_command command.now }
 {
-    !command.is_empty() && has_no_zero(command)
-}
-
-fn has_no_zero(command: &[u8]) -> bool
-    ensures { result ≡ list_all (λ byte. not (byte == 0)) command.now }
-{
-    command.iter().all(|byte| *byte != 0)
+    !command.is_empty() && is_without_zero(command)
 }
 
 #[tactic(auto, unfolding(crate::specs::inside::Reader::schedule_in))]

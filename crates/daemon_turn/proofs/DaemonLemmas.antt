@@ -20,6 +20,7 @@ use Rattle.step_runs.specs.Calls.{ShowsAsBefore}
 use Rattle.step_runs.proofs.AttemptLemmas.{recoveries_begin_nothing}
 use Rattle.spool_store.specs.declared.fault.StoreFault.{StoreFault}
 use Rattle.spool_store.specs.declared.fault.StoreFault.TheVariants as fault
+use Rattle.host_session.proofs.SessionLemmas.{counts_on}
 use Rattle.daemon_turn.specs.declared.kid.Kid.{Kid}
 use Rattle.daemon_turn.specs.declared.mode.Mode.{Mode}
 use Rattle.daemon_turn.specs.declared.turn_input.TurnInput.{TurnInput}
@@ -32,7 +33,6 @@ use Rattle.daemon_turn.specs.Leaving.{Gave, IfUnread, IsIdle, IsNone, IsStopped,
 use Rattle.daemon_turn.specs.Starting.{Turn, turn_of}
 use Rattle.spool_store.specs.Faults.{IsOfReading}
 use Rattle.daemon_turn.specs.inside.Working.{Works, end_after, end_of_session}
-use Rattle.daemon_turn.proofs.HandLemmas.{counts_on}
 
 abbrev stand : Session → World → DaemonState → DaemonAt
 stand session world daemon = record { session = session; world = world; daemon = daemon }

@@ -26,7 +26,8 @@ use Rattle.daemon_turn.specs.inside.Going.{MayGo}
 use Rattle.daemon_turn.specs.inside.Making.{MakesAll, MayMake}
 use Rattle.step_runs.proofs.ApartLemmas.{Apart}
 use Rattle.daemon_turn.proofs.DecideLemmas.{made_prefix}
-use Rattle.daemon_turn.proofs.GoLemmas.{asked_part, made_part, makes_go, memory_goes, stays_inside}
+use Rattle.daemon_turn.proofs.GoLemmas.{asked_part, made_part, makes_go, memory_goes}
+use Rattle.host_session.proofs.SessionLemmas.{stays_inside}
 use Rattle.daemon_turn.proofs.LegalLemmas.{legal_apart}
 use Rattle.step_runs.proofs.RowLemmas.{done_apart, done_held, take_apart, take_has}
 

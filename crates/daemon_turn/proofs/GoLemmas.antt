@@ -7,7 +7,7 @@ use Rattle.std.proofs.Math.Seq.{take-length}
 use Rattle.host_calls.specs.declared.child.Asked.{Asked}
 use Rattle.host_calls.specs.declared.child.Child.{Child}
 use Rattle.host_calls.specs.declared.child.Handed.{Handed}
-use Rattle.host_calls.specs.Session.{IsInside, KeepsCounts, Session, StaysInside}
+use Rattle.host_calls.specs.Session.{IsInside, Session, StaysInside}
 use Rattle.host_calls.specs.World.{World}
 use Rattle.spool_model.specs.declared.step.Step.{Step}
 use Rattle.spool_model.specs.JobTable.{JobTable}
@@ -30,7 +30,7 @@ use Rattle.daemon_turn.specs.StepsOf.{step_of, steps_of}
 use Rattle.daemon_turn.specs.inside.Going.{Gives, Goes, Part, PartEnds, joined}
 use Rattle.daemon_turn.specs.inside.Handing.{HandsJobOver}
 use Rattle.daemon_turn.specs.inside.Making.{MakesAll}
-use Rattle.daemon_turn.proofs.HandLemmas.{counts_on}
+use Rattle.host_session.proofs.SessionLemmas.{counts_on, no_counts}
 use Rattle.daemon_turn.proofs.MakeLemmas.{without_scripts_is}
 
 no_fault : {T E : Type 0} (value : T) (fault : E) → ◌≡◌ {A = Result T E} (Ok value) (Err fault) → ⊥
@@ -39,12 +39,6 @@ no_fault value fault is = cc
 -- no part
 abbrev pub no_part : Part
 no_part = record { steps = []; next = []; questions = []; flags = []; added = [] }
-
-no_counts : (session : Session) → KeepsCounts session session
-no_counts session = record { made_as = refl; file_faults = omega arith; start_faults = omega arith; taken = omega arith }
-
-pub stays_inside : (session : Session) → IsInside session → StaysInside session session
-stays_inside session inside = record { inside = inside; children = refl; counts = no_counts session }
 
 pub goes_none : (tells : Bool) (session : Session) (world : World) (kept : Kept) → IsInside session → Goes tells session session world world kept no_part (Ok kept)
 goes_none tells session world kept inside = record {

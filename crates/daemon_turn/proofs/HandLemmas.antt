@@ -6,7 +6,7 @@ use Rattle.host_calls.specs.declared.child.Child.{Child}
 use Rattle.host_calls.specs.declared.fault.StartFault.{StartFault}
 use Rattle.host_calls.specs.declared.fault.StartFault.TheVariants.{Failed, Memory as NoMemory}
 use Rattle.host_calls.specs.Folder.{Files, Folder, reading_of}
-use Rattle.host_calls.specs.Session.{KeepsCounts, Session, Starts}
+use Rattle.host_calls.specs.Session.{Session, Starts}
 use Rattle.host_calls.specs.World.{StartCall, World, reading}
 use Rattle.job_name.specs.JobName.{SpellsJobName}
 use Rattle.queue_rules.specs.Queues.{niceness_of}
@@ -30,6 +30,7 @@ use Rattle.spool_store.specs.declared.fault.StoreFault.TheVariants.{FileFault, M
 use Rattle.spool_store.specs.Listed.{IsLive}
 use Rattle.spool_store.specs.Scripts.{HoldsScript, IsFileOf}
 use Rattle.spool_store.specs.Stepping.{MakesStep}
+use Rattle.host_session.proofs.SessionLemmas.{counts_on}
 use Rattle.daemon_turn.specs.inside.Handing.{HandingEnds, HandsJobOver}
 
 -- the job that was started runs since then
@@ -120,15 +121,6 @@ named table old_form number name bytes same file = subst (λ (of : List ℕ). Sp
 -- the host's files have the script
 pub script_held : (table : JobTable) (files : Files) (number : ℕ) (name : List ℕ) (nice : ℕ) → IsScriptFile table files number name nice → IsSome (finite.get files name)
 script_held table files number name nice file = subst IsSome (sym file.held) refl
-
--- counts go on
-pub counts_on : (old middle new : Session) → KeepsCounts old middle → KeepsCounts middle new → KeepsCounts old new
-counts_on old middle new before beyond = record {
-  made_as = beyond.made_as ∙ before.made_as;
-  file_faults = omega (arith, before.file_faults, beyond.file_faults);
-  start_faults = omega (arith, before.start_faults, beyond.start_faults);
-  taken = omega (arith, before.taken, beyond.taken);
-}
 
 same_fault : {T : Type 0} (one other : StoreFault) → ◌≡◌ {A = Result T StoreFault} (Err one) (Err other) → one ≡ other
 same_fault one other is = cc

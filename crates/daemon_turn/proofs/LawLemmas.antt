@@ -1,21 +1,22 @@
 -- What follows of every turn.
 use Rattle.std.proofs.Common.{◌≡◌, ◌++◌, List, sym, ◌∙◌, refl, inl, inr}
 use Rattle.std.specs.Prelude.{Result, Ok, Err}
-use Rattle.host_calls.specs.declared.child.Handed.{Handed}
 use Rattle.host_calls.specs.declared.damage.Damage.{Damage}
 use Rattle.host_calls.specs.Folder.{Files, IsImage}
 use Rattle.host_calls.specs.World.{LeavesOnly, World, reading}
 use Rattle.host_calls.proofs.FolderLemmas.{reading_is_image}
-use Rattle.host_calls.proofs.WorldLemmas.{at_end, leaves_weaker}
+use Rattle.host_calls.proofs.WorldLemmas.{at_end}
 use Rattle.spool_model.specs.declared.step.Step.{Step}
 use Rattle.spool_model.specs.JobTable.{JobTable}
 use Rattle.spool_model.specs.Steps.{after_steps}
 use Rattle.spool_shows.specs.Shown.{shown_by}
-use Rattle.step_runs.specs.Attempts.{IsAsBefore, IsBegun, IsOnTheWay, IsUnbegun}
+use Rattle.step_runs.specs.Attempts.{IsBegun, IsUnbegun}
+use Rattle.step_runs.specs.Good.{IsGood}
+use Rattle.step_runs.proofs.GoodLemmas.{begun_attempts_keep_good, unbegun_attempts_keep_good}
 use Rattle.daemon_turn.specs.declared.report.TurnEnd.{TurnEnd}
 use Rattle.daemon_turn.specs.declared.report.TurnEnd.TheVariants.{Done, Busy, FileFault, Damaged, Memory}
 use Rattle.daemon_turn.specs.declared.step.TurnStep.{TurnStep}
-use Rattle.daemon_turn.specs.Laws.{GoodFoldersStayGood, IsGood, ReadingsStayGood, TurnsAreDone}
+use Rattle.daemon_turn.specs.Laws.{GoodFoldersStayGood, ReadingsStayGood, TurnsAreDone}
 use Rattle.daemon_turn.specs.Leaving.{DaemonAt, IsIdle, IsStopped, TurnLeaves}
 use Rattle.daemon_turn.specs.Starting.{Turn, turn_of}
 use Rattle.daemon_turn.specs.StepsOf.{steps_of}
@@ -31,20 +32,13 @@ turns_are_done tells alone at old new FileFault steps turn known is_alone table 
 turns_are_done tells alone at old new (Damaged damage) steps turn known is_alone table shown no_taken no_fault =
     no_damage table damage (shown_by (reading old.world)) shown (turn.leaves known is_alone).1
 
--- an image as before is good
+-- attempts leave good images alone
 module _ (old new : World) (good : (image : Files) → IsImage old.now.folder image → IsGood image) where
-  good_before : (image : Files) (handed : List Handed) → IsAsBefore old.now image handed → IsGood image
-  good_before image handed is = (let from : IsGood is.0.from = good is.0.from is.0.was in (from.0, is.0.same ∙ from.1))
-
-  good_on_the_way : (table : JobTable) (steps : List Step) (image : Files) (handed : List Handed) → IsOnTheWay table steps old.now image handed → IsGood image
-  good_on_the_way table steps image handed (inl before) = good_before image handed before
-  good_on_the_way table steps image handed (inr along) = (after_steps table along.stepping.prefix, along.stepping.shows)
-
   good_unbegun : IsUnbegun old new → LeavesOnly (λ image handed. IsGood image) old new
-  good_unbegun unbegun = leaves_weaker (IsAsBefore old.now) (λ image handed. IsGood image) old new good_before unbegun.leaves
+  good_unbegun unbegun = (unbegun_attempts_keep_good old new good unbegun).leaves
 
   good_begun : (table : JobTable) (steps : List Step) → IsBegun table steps old new → LeavesOnly (λ image handed. IsGood image) old new
-  good_begun table steps begun = leaves_weaker (IsOnTheWay table steps old.now) (λ image handed. IsGood image) old new (good_on_the_way table steps) begun.leaves
+  good_begun table steps begun = (begun_attempts_keep_good table steps old new good begun).leaves
 
 good_by : (turn : Turn) (steps : List TurnStep) (old new : DaemonAt) (end : TurnEnd) → TurnLeaves turn steps old new end → ((image : Files) → IsImage old.world.now.folder image → IsGood image) →
     LeavesOnly (λ image handed. IsGood image) old.world new.world

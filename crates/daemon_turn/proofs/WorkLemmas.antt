@@ -44,8 +44,8 @@ use Rattle.step_runs.proofs.ApartLemmas.{all_each, each_all, rise_filter}
 use Rattle.daemon_turn.proofs.AskLemmas.{questions_of_none}
 use Rattle.daemon_turn.proofs.WithoutScriptsTurns.{asked_alike, first_alike, kids_after_alike, turn_alike}
 use Rattle.daemon_turn.proofs.DecisionLemmas.{asked_run}
-use Rattle.daemon_turn.proofs.GoLemmas.{asked_part, memory_goes, stays_inside, steps_join}
-use Rattle.daemon_turn.proofs.HandLemmas.{counts_on}
+use Rattle.daemon_turn.proofs.GoLemmas.{asked_part, memory_goes, steps_join}
+use Rattle.host_session.proofs.SessionLemmas.{counts_on, stays_inside}
 use Rattle.daemon_turn.proofs.KidLemmas.{kids_stay}
 
 -- The kids whose jobs run.

@@ -4,7 +4,8 @@ use Rattle.host_calls.specs.Causes.{Rose}
 use Rattle.host_calls.specs.Folder.{Files, IsImage}
 use Rattle.host_calls.specs.World.{HasEachImage, LeavesOnly, reading}
 use Rattle.spool_model.specs.JobTable.{JobTable}
-use Rattle.spool_shows.specs.Shown.{Shows, shown_by}
+use Rattle.spool_shows.specs.Shown.{shown_by}
+use Rattle.step_runs.specs.Good.{IsGood}
 use Rattle.daemon_turn.specs.declared.turn_input.TurnInput.{TurnInput}
 use Rattle.daemon_turn.specs.declared.report.TurnEnd.{TurnEnd}
 use Rattle.daemon_turn.specs.declared.report.TurnEnd.TheVariants.{Done, Busy, FileFault, Damaged, Memory}
@@ -25,10 +26,6 @@ TurnsAreDone = (tells alone : Bool) (at : TurnInput) (old new : DaemonAt) (end :
     TurnsTo tells alone at old new end steps → tells ≡ true → alone ≡ true →
     (table : JobTable) → shown_by (reading old.world) ≡ Ok table →
     ¬ (Rose old.session.taken new.session.taken) → ¬ (Rose old.session.file_faults new.session.file_faults) → IsDoneOrMemory end
-
--- the image shows a table
-abbrev pub IsGood : Files → Type 0
-IsGood image = (table : JobTable) × Shows image table
 
 -- where the reading shows a table, it shows one after a turn too
 abbrev pub ReadingsStayGood : Type 0

@@ -1,5 +1,5 @@
 //! Inputs that count how often they are asked.
-ghost use Rattle.std.specs.Prelude.{[], None, false};
+ghost use Rattle.std.specs.Prelude.{◌+◌, ◌-◌, ◌^◌, [], None, false, min};
 
 use host_calls::{Bytes, InputFault, Inputs};
 use std::alloc::Global;
@@ -30,7 +30,7 @@ impl Inputs for CountingInputs {
 
     ghost contents = { λ inputs. record { standard = []; file = λ path. None } };
 
-    ghost sources = { λ inputs. record { made_as = []; input_faults = 0 } };
+    ghost sources = { λ inputs. record { made_as = []; reads = min (inputs.of_standard + inputs.of_file) (2 ^ 64 - 1); input_faults = 0 } };
 
     fn standard(&mut self, alloc: Global, most: usize) -> Result<Bytes, InputFault> {
         self.of_standard = self.of_standard.saturating_add(1);

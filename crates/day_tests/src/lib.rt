@@ -1,9 +1,12 @@
 //! Days and commands, tried in memory: a made day with each call failing, the machine stopping, each lock taken; and what
-//! no scenario writes down: many jobs, long commands, and how often commands are read.
+//! no scenario writes down: many jobs, long commands, two batch jobs of a day, how often commands are
+//! read, and the folder that a program names first.
 #![tactic(auto)]
 
 #[cfg(test)]
 mod ann;
+#[cfg(test)]
+mod batches;
 #[cfg(test)]
 mod commands;
 #[cfg(test)]
@@ -12,6 +15,8 @@ mod counting_inputs;
 mod crowd;
 #[cfg(test)]
 mod days;
+#[cfg(test)]
+mod folders;
 #[cfg(test)]
 mod made;
 #[cfg(test)]

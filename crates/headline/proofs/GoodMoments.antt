@@ -12,10 +12,9 @@ use Rattle.spool_model.specs.Laws.{PrefixAndRest}
 use Rattle.spool_model.specs.Steps.{AreLegal, FollowDraws, IsPrefix, after_steps}
 use Rattle.spool_model.proofs.StepLemmas.{prefixes_are_legal}
 use Rattle.spool_shows.specs.Shown.{Shows, shown_by}
-use Rattle.step_runs.specs.Attempts.{IsAsBefore, IsBegun, IsOnTheWay}
 use Rattle.step_runs.specs.Hands.{HandsByNow}
-use Rattle.step_runs.specs.Runs.{IsAlong}
-use Rattle.headline.specs.Effects.{Whole, Partial, ComesUpWith, Crashed, TakesEffect, Effect, PassFrom, Passed, Untouched, all_steps, steps_begun, world_after}
+use Rattle.headline.specs.Effects.{Whole, Partial, ComesUpWith, Crashed, Effect, Passed, Untouched, all_steps, steps_begun, world_after}
+use Rattle.headline.specs.ShownEffects.{IsShownAlong, IsShownAsBefore, IsShownBegun, IsShownOnTheWay, PassShownFrom, TakesShownEffect}
 use Rattle.headline.proofs.GoodSteps.{all_prefix, all_rest, follows_prefix, good_by_now}
 use Rattle.headline.proofs.GoodTables.{IsGood}
 
@@ -45,11 +44,11 @@ good_prefix opening all given more table steps prefix legal follow within is by_
 
 -- an image that is as before shows a good table
 as_before : (opening : JobTable) (all : List Step) (first : List Handed) (start : Moment) →
-    HasEachImage (ShowsGood opening all first) start → (image : Files) (handed : List Handed) → IsAsBefore start image handed →
+    HasEachImage (ShowsGood opening all first) start → (image : Files) (handed : List Handed) → IsShownAsBefore start image handed →
     ShowsGood opening all first image handed
 as_before opening all first start good image handed is =
-    let was : ShowsGood opening all first is.0.from start.handed = good is.0.from is.0.was in
-    record { table = was.table; shows = is.0.same ∙ was.shows; given = was.given; grown = is.1 ∙ was.grown; good = was.good }
+    let was : ShowsGood opening all first is.from start.handed = good is.from is.was in
+    record { table = was.table; shows = is.same ∙ was.shows; given = was.given; grown = is.as_many ∙ was.grown; good = was.good }
 
 -- the table that the reading shows is good, whichever it is
 shown_good : (opening : JobTable) (all : List Step) (first : List Handed) (old : World) (table : JobTable) →
@@ -64,26 +63,26 @@ shown_good opening all first old table shown is =
 along : (opening : JobTable) (all : List Step) (first : List Handed) (table : JobTable) (steps : List Step) (start : Moment)
     (given : List Handed) → AreLegal table steps → FollowDraws false steps → All (Contains all) steps →
     start.handed ≡ first ++ given → IsGood opening all false given table → (image : Files) (handed : List Handed) →
-    IsAlong table steps start image handed → ShowsGood opening all first image handed
+    IsShownAlong table steps start image handed → ShowsGood opening all first image handed
 along opening all first table steps start given legal follow within grown good image handed is = record {
-  table = after_steps table is.stepping.prefix;
-  shows = is.stepping.shows;
+  table = after_steps table is.prefix;
+  shows = is.shows;
   given = given ++ is.given;
   grown = is.grown ∙ ap (λ (l : List Handed). l ++ is.given) grown ∙ append_assoc first given is.given;
-  good = good_prefix opening all given is.given table steps is.stepping.prefix legal follow within is.stepping.is_prefix is.hands good;
+  good = good_prefix opening all given is.given table steps is.prefix legal follow within is.is_prefix is.hands good;
 }
 
 -- steps that were begun
 begun_keeps : (opening : JobTable) (all : List Step) (first : List Handed) (table : JobTable) (steps : List Step) (old new : World) →
-    FollowDraws false steps → IsBegun table steps old new → All (Contains all) steps →
+    FollowDraws false steps → IsShownBegun table steps old new → All (Contains all) steps →
     HasEachImage (ShowsGood opening all first) old.now → Keeps (ShowsGood opening all first) old new
 begun_keeps opening all first table steps old new follow begun within good =
     let start : (given : List Handed) × (old.now.handed ≡ first ++ given) × IsGood opening all false given table =
     shown_good opening all first old table begun.shown (good (reading old) (reading_is_image old.now.folder)) in
-    let on : (image : Files) (handed : List Handed) → IsAlong table steps old.now image handed → ShowsGood opening all first image handed =
+    let on : (image : Files) (handed : List Handed) → IsShownAlong table steps old.now image handed → ShowsGood opening all first image handed =
     along opening all first table steps old.now start.0 begun.legal follow within start.1 start.2 in
     record {
-      leaves = leaves_weaker (IsOnTheWay table steps old.now) (ShowsGood opening all first) old new
+      leaves = leaves_weaker (IsShownOnTheWay table steps old.now) (ShowsGood opening all first) old new
           (λ image handed is. elim is [
             | inl before ↦ as_before opening all first old.now good image handed before
             | inr further ↦ on image handed further
@@ -105,10 +104,10 @@ crash_keeps opening all first image old new up good =
 
 -- one event
 pub event_keeps : (opening : JobTable) (all : List Step) (first : List Handed) (effect : Effect) (old new : World) →
-    TakesEffect effect old new → All (Contains all) (steps_begun effect) → HasEachImage (ShowsGood opening all first) old.now →
+    TakesShownEffect effect old new → All (Contains all) (steps_begun effect) → HasEachImage (ShowsGood opening all first) old.now →
     Keeps (ShowsGood opening all first) old new
 event_keeps opening all first Untouched old new moved within good = record {
-  leaves = leaves_weaker (IsAsBefore old.now) (ShowsGood opening all first) old new (as_before opening all first old.now good) moved.leaves;
+  leaves = leaves_weaker (IsShownAsBefore old.now) (ShowsGood opening all first) old new (as_before opening all first old.now good) moved.leaves;
   now = λ image is. as_before opening all first old.now good image new.now.handed (moved.now image is);
 }
 event_keeps opening all first (Partial table steps) old new moved within good =
@@ -119,7 +118,7 @@ event_keeps opening all first (Crashed image) old new moved within good = crash_
 
 -- a list of events
 pub events_keep : (opening : JobTable) (all : List Step) (first : List Handed) (events : List Passed) (old : World) →
-    PassFrom old events → All (Contains all) (all_steps events) → HasEachImage (ShowsGood opening all first) old.now →
+    PassShownFrom old events → All (Contains all) (all_steps events) → HasEachImage (ShowsGood opening all first) old.now →
     Keeps (ShowsGood opening all first) old (world_after old events)
 events_keep opening all first [] old pass within good =
     record { leaves = leaves_none (ShowsGood opening all first) old old refl; now = good }

@@ -10,15 +10,15 @@ use Rattle.spool_model.specs.declared.step.Step.{Step}
 use Rattle.spool_model.specs.JobTable.{JobTable}
 use Rattle.spool_model.specs.Steps.{FollowDraws, after_steps}
 use Rattle.spool_shows.proofs.SoundTables.{shown_tables_are_sound}
-use Rattle.step_runs.specs.Attempts.{IsBegun}
 use Rattle.step_runs.specs.Current.{EachShows}
-use Rattle.step_runs.specs.Runs.{IsAlong}
 use Rattle.headline.specs.Headline.{EachHandsOver, HandedOnce, EffectHandsOver, ShowsAfter, StartStands, StartsSurvive}
-use Rattle.headline.specs.Laws.{EventsHandOnce}
-use Rattle.headline.specs.Effects.{Whole, Partial, Crashed, TakesEffect, Effect, PassFrom, Passed, Untouched, all_steps, world_after}
+use Rattle.headline.specs.Laws.{EventsHandOnce, ShownEventsHandOnce}
+use Rattle.headline.specs.Effects.{Whole, Partial, Crashed, Effect, Passed, Untouched, all_steps, world_after}
+use Rattle.headline.specs.ShownEffects.{IsShownAlong, IsShownBegun, PassShownFrom, TakesShownEffect}
 use Rattle.headline.specs.Standings.{settled_at}
 use Rattle.headline.proofs.GoodMoments.{Keeps, ShowsGood, events_keep, good_prefix}
 use Rattle.headline.proofs.GoodTables.{IsGood, good_opening}
+use Rattle.headline.proofs.ShownEffectLemmas.{events_are_shown}
 use Rattle.headline.proofs.StandingLemmas.{settled_stands, stands_through}
 use Rattle.headline.proofs.TableAfterLemmas.{tables_after}
 use Rattle.headline.proofs.StartedNumbers.{Stands}
@@ -53,36 +53,36 @@ good_survives opening all first image handed is = record {
 }
 
 -- steps that were begun hand over scripts of their own table
-begun_once : (table : JobTable) (steps : List Step) (old new : World) → FollowDraws false steps → IsBegun table steps old new →
+begun_once : (table : JobTable) (steps : List Step) (old new : World) → FollowDraws false steps → IsShownBegun table steps old new →
     HandedOnce table steps old new
 begun_once table steps old new follow begun =
-    let is : IsAlong table steps old.now (reading new) new.now.handed = begun.now (reading new) (reading_is_image new.now.folder) in
-    let good : IsGood table steps false is.given (after_steps table is.stepping.prefix) =
-    good_prefix table steps [] is.given table steps is.stepping.prefix begun.legal follow (All-contains_itself steps) is.stepping.is_prefix is.hands
+    let is : IsShownAlong table steps old.now (reading new) new.now.handed = begun.now (reading new) (reading_is_image new.now.folder) in
+    let good : IsGood table steps false is.given (after_steps table is.prefix) =
+    good_prefix table steps [] is.given table steps is.prefix begun.legal follow (All-contains_itself steps) is.is_prefix is.hands
     (good_opening table steps (shown_tables_are_sound (reading old) table begun.shown)) in
     record { given = is.given; grown = is.grown; once = good.once; of_jobs = good.of_jobs }
 
-hands_over : (effect : Effect) (old new : World) → TakesEffect effect old new → EffectHandsOver effect old new
-hands_over Untouched old new moved = (moved.now (reading new) (reading_is_image new.now.folder)).1
+hands_over : (effect : Effect) (old new : World) → TakesShownEffect effect old new → EffectHandsOver effect old new
+hands_over Untouched old new moved = (moved.now (reading new) (reading_is_image new.now.folder)).as_many
 hands_over (Partial table steps) old new moved = begun_once table steps old new moved.0 moved.1
 hands_over (Whole table steps) old new moved = begun_once table steps old new moved.0 moved.1.begun
 hands_over (Crashed image) old new moved = moved.handed
 
-each_hands_over : (old : World) (events : List Passed) → PassFrom old events → EachHandsOver old events
+each_hands_over : (old : World) (events : List Passed) → PassShownFrom old events → EachHandsOver old events
 each_hands_over old [] pass = tt
 each_hands_over old (event ∷ later) pass =
     (hands_over event.effect old event.left pass.0, each_hands_over event.left later pass.1)
 
 -- each image shows the table after the events
-shows_after : (opening : JobTable) (events : List Passed) (old : World) → EachShows old.now.folder opening → PassFrom old events →
+shows_after : (opening : JobTable) (events : List Passed) (old : World) → EachShows old.now.folder opening → PassShownFrom old events →
     HasEachImage (ShowsGood opening (all_steps events) old.now.handed) (world_after old events).now →
     ShowsAfter opening events (world_after old events)
 shows_after opening events old each pass good image is =
     let shown : ShowsGood opening (all_steps events) old.now.handed image (world_after old events).now.handed = good image is in
     (shown.table, shown.shows, tables_after opening events old each pass image is shown.table shown.shows)
 
-pub events_hand_once : EventsHandOnce
-events_hand_once opening events old shows pass =
+pub shown_events_hand_once : ShownEventsHandOnce
+shown_events_hand_once opening events old shows pass =
     let all : List Step = all_steps events in
     let new : World = world_after old events in
     let kept : Keeps (ShowsGood opening all old.now.handed) old new =
@@ -96,3 +96,7 @@ events_hand_once opening events old shows pass =
           (good_survives opening all old.now) kept.leaves;
       now = λ image is. good_survives opening all old.now image new.now.handed (kept.now image is);
     }
+
+-- and so of effects
+pub events_hand_once : EventsHandOnce
+events_hand_once opening events old shows pass = shown_events_hand_once opening events old shows (events_are_shown old events pass)

@@ -4,4 +4,5 @@ pub mod GoodSteps
 pub mod GoodMoments
 pub mod TableAfterLemmas
 pub mod StandingLemmas
+pub mod ShownEffectLemmas
 pub mod HeadlineLemmas

@@ -10,10 +10,10 @@ use Rattle.spool_model.specs.JobTable.{JobTable}
 use Rattle.spool_model.specs.Steps.{IsPrefix, after_steps}
 use Rattle.spool_shows.specs.Shown.{Shows, shown_by}
 use Rattle.step_runs.specs.Attempts.{IsAsBefore}
-use Rattle.step_runs.specs.Calls.{ShowsAsBefore}
 use Rattle.step_runs.specs.Current.{EachShows}
 use Rattle.headline.specs.Laws.{AcknowledgedEventsAreWhole, EventsPassOn, LaterEventsLeave, SettledFoldersShowTheirTable, StandingHostsReadTables, StillWorldsAreUnbegun}
-use Rattle.headline.specs.Effects.{Whole, Partial, Crashed, TakesEffect, Effect, PassFrom, Passed, Untouched}
+use Rattle.headline.specs.Effects.{Whole, Partial, Crashed, Effect, Passed, Untouched}
+use Rattle.headline.specs.ShownEffects.{IsShownAsBefore, PassShownFrom, TakesShownEffect}
 use Rattle.headline.specs.Standings.{ArrivesAt, MayShow, Standing, StandsAt, StandsThrough, settled_at}
 use Rattle.headline.proofs.TableAfterLemmas.{one_table}
 
@@ -41,22 +41,22 @@ may_show old at table shown stands =
     stands (reading old) (reading_is_image old.now.folder) in
     (prefix.0, prefix.1, one_table (reading old) table (after_steps at.table prefix.0) shown prefix.2)
 
--- where the host stands after a move
-arrives : (effect : Effect) (old new : World) (at : Standing) → TakesEffect effect old new → StandsAt old.now.folder at →
+-- where the host stands after an effect
+arrives : (effect : Effect) (old new : World) (at : Standing) → TakesShownEffect effect old new → StandsAt old.now.folder at →
     (after : Standing) × ArrivesAt effect at after × StandsAt new.now.folder after
 arrives Untouched old new at moved stands = (at, refl, still) where
   still : StandsAt new.now.folder at
   still image is =
-      let before : ShowsAsBefore old.now.folder image = (moved.now image is).0 in
+      let before : IsShownAsBefore old.now image new.now.handed = moved.now image is in
       let prefix : (prefix : List Step) × IsPrefix prefix at.steps × Shows before.from (after_steps at.table prefix) = stands before.from before.was in
       (prefix.0, prefix.1, before.same ∙ prefix.2)
 arrives (Partial table steps) old new at moved stands = (
   record { table = table; steps = steps },
   (may_show old at table moved.1.shown stands, refl),
   λ image is. (
-    (moved.1.now image is).stepping.prefix,
-    (moved.1.now image is).stepping.is_prefix,
-    (moved.1.now image is).stepping.shows,
+    (moved.1.now image is).prefix,
+    (moved.1.now image is).is_prefix,
+    (moved.1.now image is).shows,
   ),
 )
 arrives (Whole table steps) old new at moved stands = (
@@ -71,7 +71,7 @@ arrives (Crashed image) old new at moved stands =
       only prefix shows = settled_stands new.now.folder (after_steps at.table prefix)
           (λ other is. subst (λ (files : Files). Shows files (after_steps at.table prefix)) (sym (moved.only other is)) shows)
 
-pub stands_through : (old : World) (at : Standing) (events : List Passed) → PassFrom old events → StandsAt old.now.folder at →
+pub stands_through : (old : World) (at : Standing) (events : List Passed) → PassShownFrom old events → StandsAt old.now.folder at →
     StandsThrough old at events
 stands_through old at [] pass stands = stands
 stands_through old at (event ∷ later) pass stands =

@@ -8,11 +8,10 @@ use Rattle.spool_model.specs.declared.step.Step.{Step}
 use Rattle.spool_model.specs.JobTable.{JobTable}
 use Rattle.spool_model.specs.Steps.{after_steps}
 use Rattle.spool_shows.specs.Shown.{Shows}
-use Rattle.step_runs.specs.Calls.{ShowsAsBefore}
 use Rattle.step_runs.specs.Current.{EachShows}
-use Rattle.step_runs.specs.Runs.{IsAlong}
 use Rattle.headline.specs.Headline.{IsMadeOf, IsTableAfter}
-use Rattle.headline.specs.Effects.{Whole, Partial, Crashed, TakesEffect, Effect, PassFrom, Passed, Untouched, world_after}
+use Rattle.headline.specs.Effects.{Whole, Partial, Crashed, Effect, Passed, Untouched, world_after}
+use Rattle.headline.specs.ShownEffects.{IsShownAlong, IsShownAsBefore, PassShownFrom, TakesShownEffect}
 
 -- the folder shows one table
 pub one_table : (files : Files) (one other : JobTable) → Shows files one → Shows files other → one ≡ other
@@ -30,10 +29,10 @@ record ComesOf (effect : Effect) (old : World) (table : JobTable) : Type 0 where
   made : IsMadeOf effect part
   after : table ≡ after_steps before part
 
-comes_of : (effect : Effect) (old new : World) → TakesEffect effect old new → (image : Files) → IsImage new.now.folder image →
+comes_of : (effect : Effect) (old new : World) → TakesShownEffect effect old new → (image : Files) → IsImage new.now.folder image →
     (table : JobTable) → Shows image table → ComesOf effect old table
 comes_of Untouched old new moved image is table shows =
-    let before : ShowsAsBefore old.now.folder image = (moved.now image is).0 in
+    let before : IsShownAsBefore old.now image new.now.handed = moved.now image is in
     record {
       from = before.from;
       was = before.was;
@@ -44,15 +43,15 @@ comes_of Untouched old new moved image is table shows =
       after = refl;
     }
 comes_of (Partial begun steps) old new moved image is table shows =
-    let along : IsAlong begun steps old.now image new.now.handed = moved.1.now image is in
+    let along : IsShownAlong begun steps old.now image new.now.handed = moved.1.now image is in
     record {
       from = reading old;
       was = reading_is_image old.now.folder;
       before = begun;
       shows = moved.1.shown;
-      part = along.stepping.prefix;
-      made = along.stepping.is_prefix;
-      after = one_table image table (after_steps begun along.stepping.prefix) shows along.stepping.shows;
+      part = along.prefix;
+      made = along.is_prefix;
+      after = one_table image table (after_steps begun along.prefix) shows along.shows;
     }
 comes_of (Whole begun steps) old new moved image is table shows = record {
   from = reading old;
@@ -74,7 +73,7 @@ comes_of (Crashed left) old new moved image is table shows = record {
 }
 
 -- the table that an image shows after the events comes by them of what an image before them shows
-come_of : (old : World) (events : List Passed) → PassFrom old events → (image : Files) →
+come_of : (old : World) (events : List Passed) → PassShownFrom old events → (image : Files) →
     IsImage (world_after old events).now.folder image → (table : JobTable) → Shows image table →
     (from : Files) × IsImage old.now.folder from × (opening : JobTable) × Shows from opening × IsTableAfter opening events table
 come_of old [] pass image is table shows = (image, is, table, shows, refl)
@@ -92,7 +91,7 @@ come_of old (event ∷ later) pass image is table shows =
 
 -- where each image showed the opening table, it comes of that
 pub tables_after : (opening : JobTable) (events : List Passed) (old : World) → EachShows old.now.folder opening →
-    PassFrom old events → (image : Files) → IsImage (world_after old events).now.folder image → (table : JobTable) →
+    PassShownFrom old events → (image : Files) → IsImage (world_after old events).now.folder image → (table : JobTable) →
     Shows image table → IsTableAfter opening events table
 tables_after opening events old each pass image is table shows =
     let of : (from : Files) × IsImage old.now.folder from × (opening : JobTable) × Shows from opening × IsTableAfter opening events table =

@@ -60,7 +60,7 @@ pub record HandedOnce (table : JobTable) (steps : List Step) (old new : World) :
   pub once : NumbersDiffer given
   pub of_jobs : All (IsScriptOfJob table steps) given
 
--- what a move hands over: scripts of jobs of the table that the folder showed when it began, and none where none began
+-- what an effect hands over: scripts of jobs of the table that the folder showed when it began, and none where none began
 abbrev pub EffectHandsOver : Effect → World → World → Type 0
 EffectHandsOver Untouched old new = new.now.handed ≡ old.now.handed
 EffectHandsOver (Partial table steps) old new = HandedOnce table steps old new

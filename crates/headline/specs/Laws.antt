@@ -10,12 +10,22 @@ use Rattle.step_runs.specs.Attempts.{IsUnbegun}
 use Rattle.step_runs.specs.Current.{EachShows}
 use Rattle.headline.specs.Headline.{Headline}
 use Rattle.headline.specs.Effects.{Effect, IsEffectOf, Whole, TakesEffect, PassFrom, Passed, world_after}
+use Rattle.headline.specs.ShownEffects.{PassShownFrom, TakesShownEffect}
 use Rattle.headline.specs.Standings.{Standing, StandsAt, StandsThrough, settled_at}
 
 -- the headline, of any events that pass from a world on whose folder shows one table in each image
 abbrev pub EventsHandOnce : Type 0
 EventsHandOnce = (opening : JobTable) (events : List Passed) (old : World) →
     EachShows old.now.folder opening → PassFrom old events → Headline opening events old
+
+-- the headline, of any events that pass so as far as images show it, whatever they do to other files
+abbrev pub ShownEventsHandOnce : Type 0
+ShownEventsHandOnce = (opening : JobTable) (events : List Passed) (old : World) →
+    EachShows old.now.folder opening → PassShownFrom old events → Headline opening events old
+
+-- an effect is one that images show
+abbrev pub EffectsAreShown : Type 0
+EffectsAreShown = (effect : Effect) (old new : World) → TakesEffect effect old new → TakesShownEffect effect old new
 
 -- the reading shows a table before each of the events
 abbrev pub EachReadsATable : World → List Passed → Type 0

@@ -26,7 +26,7 @@ abbrev pub StandsAt : Folder → Standing → Type 0
 StandsAt folder at = (image : Files) → IsImage folder image →
     (prefix : List Step) × IsPrefix prefix at.steps × Shows image (after_steps at.table prefix)
 
--- Where the host stands after a move: where it stood, if no step was begun; else at the table that the reading showed,
+-- Where the host stands after an effect: where it stood, if no step was begun; else at the table that the reading showed,
 -- with the steps, if they were begun, and at the table after them, if all were made; after a crash at the table of its image.
 abbrev pub ArrivesAt : Effect → Standing → Standing → Type 0
 ArrivesAt Untouched before after = after ≡ before
@@ -35,7 +35,7 @@ ArrivesAt (Whole table steps) before after = MayShow before table × (after ≡ 
 ArrivesAt (Crashed image) before after =
     (table : JobTable) × Shows image table × MayShow before table × (after ≡ settled_at table)
 
--- the host stands there before the events, and after each of them where it arrives by its move
+-- the host stands there before the events, and after each of them where it arrives by its effect
 abbrev pub StandsThrough : World → Standing → List Passed → Type 0
 StandsThrough old at [] = StandsAt old.now.folder at
 StandsThrough old at (event ∷ later) =

@@ -1,10 +1,16 @@
 //! What holds of all events, each law as the contract of a function.
-ghost use Rattle.headline.specs.Laws.{AchievedStepsStand, AcknowledgedEventsAreWhole, EventsHandOnce, EventsPassOn, LaterEventsLeave, SettledFoldersShowTheirTable, StandingHostsReadTables, StillWorldsAreUnbegun};
+ghost use Rattle.headline.specs.Laws.{AchievedStepsStand, AcknowledgedEventsAreWhole, EffectsAreShown, EventsHandOnce, EventsPassOn, LaterEventsLeave, SettledFoldersShowTheirTable, ShownEventsHandOnce, StandingHostsReadTables, StillWorldsAreUnbegun};
 
 /// Over all events no script is handed over twice, or before its start survives every crash, and the host stands where
 /// the events leave it.
 pub fn events_hand_once()
     ensures { EventsHandOnce }
+{}
+
+/// The same of events that change other files too, as far as images show it: each effect is one of these.
+pub fn shown_events_hand_once()
+    ensures events { ShownEventsHandOnce }
+    ensures effects { EffectsAreShown }
 {}
 
 /// What was acknowledged made all of its steps.

@@ -7,10 +7,12 @@
 //! 2. `Standings`: where the host stands between them (`StandsAt`, `ArrivesAt`)
 //! 3. `Headline`: what holds of all of them
 //! 4. `Laws`: that it does (`EventsHandOnce`)
+//! 5. `ShownEffects`: the same with no word of other files, for events that change some (`ShownEventsHandOnce`)
 #![tactic(auto)]
 
 mod laws;
 
 pub use laws::{
-    acknowledged_events_are_whole, events_hand_once, events_pass_on, standing_hosts_read_tables,
+    acknowledged_events_are_whole, events_hand_once, events_pass_on, shown_events_hand_once,
+    standing_hosts_read_tables,
 };

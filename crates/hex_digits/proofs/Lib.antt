@@ -1,3 +1,4 @@
 pub mod DigitLemmas
+pub mod EightDigits
 pub mod TestLemmas
 pub mod ValueLemmas

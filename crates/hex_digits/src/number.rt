@@ -1,6 +1,6 @@
 //! Numbers as digits.
 ghost use Rattle.std.specs.Prelude.{◌≡◌, ◌<◌, ◌≤◌, ◌^◌, ℕ, IfSome, IfNone, length};
-ghost use Rattle.hex_digits.specs.Digits.{SpellsNumber, digit_at};
+ghost use Rattle.hex_digits.specs.Digits.{SpellsNumber, digit_at, digits_of};
 
 use crate::{byte_of, digit_of};
 
@@ -28,6 +28,15 @@ pub fn write(out: &mut [u8], number: u64)
         let from_right = out.len() - 1 - place;
         out[place] = byte_of(digit_of_number(number, from_right));
     }
+}
+
+/// The number in eight digits.
+pub fn digits_of(number: u32) -> [u8; 8]
+    ensures { result ≡ digits_of number }
+{
+    let mut digits = [b'0'; 8];
+    write(&mut digits, number as u64);
+    digits
 }
 
 // The digit at a place, counted from the right.

@@ -1,7 +1,7 @@
 //! Standard input, and files by their paths.
 ghost use Rattle.std.specs.Prelude.{◌≡◌, ◌≤◌, Bool, IsTrue, IfOk, length};
 ghost use Rattle.host_calls.specs.Causes.{HasCause};
-ghost use Rattle.host_calls.specs.Inputs.{Contents, Sources, IsPrefixOf};
+ghost use Rattle.host_calls.specs.Inputs.{AreReadOnce, Contents, Sources, IsPrefixOf};
 
 use crate::{Bytes, InputFault};
 use std::alloc::Global;
@@ -22,7 +22,7 @@ pub trait Inputs {
         ensures prefix { IsTrue tells → IfOk result (IsPrefixOf (Some (contents self.old).standard) most) }
         ensures few { IfOk result (λ bytes. length bytes ≤ most) }
         ensures contents { contents self.new ≡ contents self.old }
-        ensures made_as { (sources self.new).made_as ≡ (sources self.old).made_as }
+        ensures once { AreReadOnce (sources self.old) (sources self.new) }
         ensures cause { HasCause InputFault.Failed
             (sources self.old).input_faults (sources self.new).input_faults result };
 
@@ -31,7 +31,7 @@ pub trait Inputs {
         ensures prefix { IsTrue tells → IfOk result (IsPrefixOf ((contents self.old).file path.now) most) }
         ensures few { IfOk result (λ bytes. length bytes ≤ most) }
         ensures contents { contents self.new ≡ contents self.old }
-        ensures made_as { (sources self.new).made_as ≡ (sources self.old).made_as }
+        ensures once { AreReadOnce (sources self.old) (sources self.new) }
         ensures cause { HasCause InputFault.Failed
             (sources self.old).input_faults (sources self.new).input_faults result };
 }

@@ -4,7 +4,7 @@ use Rattle.host_calls.specs.Causes.{Rose}
 use Rattle.host_calls.specs.World.{World}
 use Rattle.step_runs.specs.Current.{IsCurrent, Kept}
 use Rattle.listing_text.specs.declared.cause.Cause.{Cause}
-use Rattle.listing_text.specs.declared.cause.Cause.TheVariants.{Done, Refused, FileFault, InputFault, OutputFault, Busy, Memory, Damaged, StillRunning}
+use Rattle.listing_text.specs.declared.cause.Cause.TheVariants.{Done, Refused, FileFault, InputFault, OutputFault, Busy, Memory, Damaged, StillRunning, Faulty}
 use Rattle.spool_model.specs.JobTable.{JobTable}
 use Rattle.command_rules.specs.declared.command_error.CommandError.{CommandError}
 use Rattle.command_rules.specs.Causes.{error_of}
@@ -22,6 +22,7 @@ IsOfShowing InputFault = ⊥
 IsOfShowing Busy = ⊥
 IsOfShowing (Damaged damage) = ⊥
 IsOfShowing StillRunning = ⊥
+IsOfShowing Faulty = ⊥
 
 -- the call was stopped by one of these
 abbrev pub ComesOfShowing : CommandError → Type 0

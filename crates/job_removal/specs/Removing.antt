@@ -1,7 +1,7 @@
 -- The steps of a removal, and why it may stop (own).
 use Rattle.std.specs.Prelude.{◌≡◌, ℕ, List}
 use Rattle.listing_text.specs.declared.cause.Cause.{Cause}
-use Rattle.listing_text.specs.declared.cause.Cause.TheVariants.{Done, Refused, FileFault, InputFault, OutputFault, Busy, Memory, Damaged, StillRunning}
+use Rattle.listing_text.specs.declared.cause.Cause.TheVariants.{Done, Refused, FileFault, InputFault, OutputFault, Busy, Memory, Damaged, StillRunning, Faulty}
 use Rattle.spool_model.specs.declared.step.Step.{Step}
 use Rattle.spool_model.specs.JobTable.{JobTable}
 use Rattle.command_rules.specs.declared.command_error.CommandError.{CommandError}
@@ -22,6 +22,7 @@ IsOfWork OutputFault = ⊥
 IsOfWork Busy = ⊥
 IsOfWork (Damaged damage) = ⊥
 IsOfWork StillRunning = ⊥
+IsOfWork Faulty = ⊥
 
 -- the command was stopped by one of these
 abbrev pub ComesOfRemoving : CommandError → Type 0

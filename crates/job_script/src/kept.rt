@@ -53,7 +53,7 @@ fn is_reserved_name(name: &[u8]) -> bool
 }
 
 /// Whether there is no zero byte.
-pub(crate) fn is_without_zero(bytes: &[u8]) -> bool
+pub fn is_without_zero(bytes: &[u8]) -> bool
     ensures { result ≡ has_no_zero bytes.now }
 {
     bytes.iter().all(|byte| is_no_zero_byte(*byte))

@@ -17,6 +17,7 @@ pub use context::Context;
 pub use fault::ScriptFault;
 pub use form::is_job_text;
 pub use headers::{JobHeader, MAX_HEADER, header, header_fault};
+pub use kept::is_without_zero;
 pub use laws::{checks_are_tests, headers_are_read_exactly, texts_and_meanings_are_one_to_one};
 pub use variables::Variables;
 pub use writer::{MAX_COMMANDS, put_quoted, write};

@@ -3,7 +3,7 @@ use Rattle.std.specs.Prelude.{List, ℕ, Bool, true, false, [], ◌++◌, codes,
 use Rattle.std.specs.Fmt.{decimal}
 use Rattle.host_calls.specs.declared.damage.Damage.{Damage}
 use Rattle.listing_text.specs.declared.cause.Cause.{Cause}
-use Rattle.listing_text.specs.declared.cause.Cause.TheVariants.{Done, Refused, FileFault, InputFault, OutputFault, Busy, Memory, Damaged, StillRunning}
+use Rattle.listing_text.specs.declared.cause.Cause.TheVariants.{Done, Refused, FileFault, InputFault, OutputFault, Busy, Memory, Damaged, StillRunning, Faulty}
 use Rattle.listing_text.specs.declared.status.Status.{Status}
 use Rattle.listing_text.specs.Refusal.{refusal_text}
 
@@ -28,6 +28,7 @@ code_of Busy = 5
 code_of Memory = 6
 code_of (Damaged _) = 7
 code_of StillRunning = 8
+code_of Faulty = 9
 
 -- the status of a cause
 abbrev pub status_of : Cause → Status
@@ -36,6 +37,10 @@ status_of cause = record { code = code_of cause; cause = cause }
 -- the file that is damaged, and at which byte
 abbrev pub damage_text : Damage → List ℕ
 damage_text damage = damage.name ++ codes " damaged at " ++ decimal damage.offset
+
+-- the line of a file that is damaged
+abbrev pub fault_line_of : Damage → List ℕ
+fault_line_of damage = damage_text damage ++ codes "\n"
 
 -- the text of a cause; what was done has none
 abbrev pub cause_text : Cause → List ℕ
@@ -48,6 +53,7 @@ cause_text Busy = codes "spool busy"
 cause_text Memory = codes "out of memory"
 cause_text (Damaged damage) = damage_text damage
 cause_text StillRunning = codes "jobs still running"
+cause_text Faulty = codes "spool has faults"
 
 -- the line of a cause: the tool and the text; nothing for what was done
 abbrev pub cause_line_of : List ℕ → Cause → List ℕ

@@ -2,9 +2,9 @@
 use Rattle.std.specs.Prelude.{List, ℕ, ◌++◌, codes}
 use Rattle.std.specs.Fmt.{decimal}
 use Rattle.listing_text.specs.declared.refusal.Refusal.{Refusal}
-use Rattle.listing_text.specs.declared.refusal.Refusal.TheVariants.{Usage, NotAllowed, Timespec, NoSuchDay, OutOfRange, Past, BadTimeArg, BadZone, BadQueue, BadDirectory, BadUser, TooLong, EnvironmentTooLarge, QueueFull, NumbersUsedUp, NoSuchJob, NotYours, RunningJob, BadClock}
+use Rattle.listing_text.specs.declared.refusal.Refusal.TheVariants.{Usage, NotAllowed, Timespec, NoSuchDay, OutOfRange, Past, BadTimeArg, BadZone, BadQueue, BadDirectory, BadUser, TooLong, EnvironmentTooLarge, QueueFull, NumbersUsedUp, NoSuchJob, NotYours, RunningJob, BadClock, BadCrontab, AccountsFull, TargetNotEmpty}
 
--- the text of a refusal; a place and a job number are printed in decimal
+-- the text of a refusal; a place, a job number and a line are printed in decimal
 abbrev pub refusal_text : Refusal → List ℕ
 refusal_text Usage = codes "usage"
 refusal_text NotAllowed = codes "not allowed"
@@ -25,3 +25,6 @@ refusal_text (NoSuchJob number) = codes "no such job " ++ decimal number
 refusal_text (NotYours number) = codes "job " ++ decimal number ++ codes " is not yours"
 refusal_text (RunningJob number) = codes "job " ++ decimal number ++ codes " is running"
 refusal_text BadClock = codes "bad clock"
+refusal_text (BadCrontab line) = codes "bad crontab at line " ++ decimal line
+refusal_text AccountsFull = codes "accounts full"
+refusal_text TargetNotEmpty = codes "target not empty"

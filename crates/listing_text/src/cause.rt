@@ -1,6 +1,6 @@
 //! How a command ended, and the line that says why.
 ghost use Rattle.std.specs.Prelude.{◌≡◌, IfOk};
-ghost use Rattle.listing_text.specs.Cause.{is_done, code_of, damage_text, cause_text, cause_line_of};
+ghost use Rattle.listing_text.specs.Cause.{is_done, code_of, damage_text, cause_text, cause_line_of, fault_line_of};
 
 use crate::Refusal;
 use host_calls::{Bytes, Damage};
@@ -27,6 +27,8 @@ pub enum Cause {
     Damaged(Damage),
     /// The turns were used up before every job ended.
     StillRunning,
+    /// The spool has faults, and each was told.
+    Faulty,
 }
 
 impl Cause {
@@ -51,6 +53,7 @@ impl Cause {
             Cause::Memory => 6,
             Cause::Damaged(_) => 7,
             Cause::StillRunning => 8,
+            Cause::Faulty => 9,
         }
     }
 }
@@ -82,7 +85,17 @@ fn text_of(alloc: Global, cause: &Cause) -> Result<Vec<u8>, AllocError>
         Cause::Memory => Vec::from_slice(alloc, b"out of memory"),
         Cause::Damaged(damage) => text_of_damage(alloc, damage),
         Cause::StillRunning => Vec::from_slice(alloc, b"jobs still running"),
+        Cause::Faulty => Vec::from_slice(alloc, b"spool has faults"),
     }
+}
+
+/// The line of a file that is damaged, and at which byte.
+pub fn fault_line(alloc: Global, damage: &Damage) -> Result<Bytes, AllocError>
+    ensures { IfOk result (λ line. line ≡ fault_line_of damage.now) }
+{
+    let mut line = text_of_damage(alloc, damage)?;
+    line.push(b'\n')?;
+    Ok(Bytes::from(line))
 }
 
 fn text_of_damage(alloc: Global, damage: &Damage) -> Result<Vec<u8>, AllocError>

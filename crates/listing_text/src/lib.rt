@@ -9,7 +9,7 @@ mod refusal;
 mod status;
 mod turn_step;
 
-pub use cause::{Cause, cause_line};
+pub use cause::{Cause, cause_line, fault_line};
 pub use date::date_text;
 pub use lines::{accepted_line, queue_line};
 pub use refusal::Refusal;

@@ -42,6 +42,12 @@ pub enum Refusal {
     RunningJob(u32),
     /// The clock shows a time outside its range.
     BadClock,
+    /// A line of the crontab, counted from 1, is neither an entry nor ignored.
+    BadCrontab(u32),
+    /// The accounts have room for no more records.
+    AccountsFull,
+    /// The folder that is to be written holds a spool.
+    TargetNotEmpty,
 }
 
 impl fmt::Display for Refusal {
@@ -71,6 +77,9 @@ impl fmt::Display for Refusal {
             Refusal::NotYours(number) => write!(f, "job {number} is not yours"),
             Refusal::RunningJob(number) => write!(f, "job {number} is running"),
             Refusal::BadClock => f.write_str("bad clock"),
+            Refusal::BadCrontab(line) => write!(f, "bad crontab at line {line}"),
+            Refusal::AccountsFull => f.write_str("accounts full"),
+            Refusal::TargetNotEmpty => f.write_str("target not empty"),
         }
     }
 }

@@ -8,10 +8,13 @@ use Rattle.memory_host.specs.declared.inputs.MemoryInputs.{MemoryInputs}
 abbrev pub contents_given : MemoryInputs → Contents
 contents_given inputs = given_contents inputs.standard inputs.file
 
--- what the inputs were made as, and how often they failed
+-- what the inputs were made as, how often they were read, and how often they failed
 abbrev pub sources_so_far : MemoryInputs → Sources
-sources_so_far inputs =
-    record { made_as = inputs_spelling inputs.standard inputs.file inputs.fails; input_faults = inputs.input_faults }
+sources_so_far inputs = record {
+  made_as = inputs_spelling inputs.standard inputs.file inputs.fails;
+  reads = inputs.reads;
+  input_faults = inputs.input_faults;
+}
 
 -- they were made to fail at each call
 abbrev pub are_failing : MemoryInputs → Bool

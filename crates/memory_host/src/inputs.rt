@@ -1,7 +1,7 @@
 //! Inputs whose content is given.
 ghost use Rattle.std.specs.Prelude.{◌≡◌, ◌≤◌, true, false, IfOk, Some, Err, is_some, take, length, option_map};
 ghost use Rattle.host_calls.specs.Causes.{HasCause};
-ghost use Rattle.host_calls.specs.Inputs.{IsPrefixOf};
+ghost use Rattle.host_calls.specs.Inputs.{AreReadOnce, IsPrefixOf};
 ghost use Rattle.memory_host.specs.Inputs.{inputs_spelling, given_contents};
 
 use host_calls::{Bytes, InputFault, Inputs};
@@ -13,6 +13,7 @@ pub struct MemoryInputs {
     standard: Bytes,
     file: Option<Bytes>,
     fails: bool,
+    reads: u64,
     input_faults: u64,
     ghost unfailing: { fails ≡ false → is_some file ≡ true → input_faults ≡ 0 },
 }
@@ -33,6 +34,7 @@ impl MemoryInputs {
             sources_so_far made
             ≡ record {
               made_as = inputs_spelling standard.now (option_map (λ bytes. bytes.now) file.entry) fails;
+              reads = 0;
               input_faults = 0;
             }) }
     {
@@ -44,6 +46,7 @@ impl MemoryInputs {
             standard: Bytes::of(alloc, standard)?,
             file,
             fails,
+            reads: 0,
             input_faults: 0,
         })
     }
@@ -62,12 +65,13 @@ impl Inputs for MemoryInputs {
         ensures prefix { IfOk result (IsPrefixOf (Some (contents_given self.old).standard) most) }
         ensures few { IfOk result (λ bytes. length bytes ≤ most) }
         ensures contents { contents_given self.new ≡ contents_given self.old }
-        ensures made_as { (sources_so_far self.new).made_as ≡ (sources_so_far self.old).made_as }
+        ensures once { AreReadOnce (sources_so_far self.old) (sources_so_far self.new) }
         ensures cause { HasCause InputFault.Failed
             (sources_so_far self.old).input_faults (sources_so_far self.new).input_faults result }
         ensures planned { are_failing self.old ≡ true → result ≡ Err InputFault.Failed }
         ensures unplanned { result ≡ Err InputFault.Failed → are_failing self.old ≡ true }
     {
+        self.reads = self.reads.saturating_add(1);
         if self.fails {
             self.input_faults = self.input_faults.saturating_add(1);
             return Err(InputFault::Failed);
@@ -79,12 +83,13 @@ impl Inputs for MemoryInputs {
         ensures prefix { IfOk result (IsPrefixOf ((contents_given self.old).file _path.now) most) }
         ensures few { IfOk result (λ bytes. length bytes ≤ most) }
         ensures contents { contents_given self.new ≡ contents_given self.old }
-        ensures made_as { (sources_so_far self.new).made_as ≡ (sources_so_far self.old).made_as }
+        ensures once { AreReadOnce (sources_so_far self.old) (sources_so_far self.new) }
         ensures cause { HasCause InputFault.Failed
             (sources_so_far self.old).input_faults (sources_so_far self.new).input_faults result }
         ensures planned { file_fails self.old ≡ true → result ≡ Err InputFault.Failed }
         ensures unplanned { result ≡ Err InputFault.Failed → file_fails self.old ≡ true }
     {
+        self.reads = self.reads.saturating_add(1);
         match &self.file {
             Some(bytes) if !self.fails => Ok(prefix(alloc, bytes.as_slice(), most)?),
             _ => {

@@ -1,2 +1,3 @@
-pub mod Umask
+pub mod Folders
 pub mod StartupError
+pub mod Umask

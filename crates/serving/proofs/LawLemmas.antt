@@ -8,7 +8,8 @@ use Rattle.command_rules.specs.Sinks.{SinkAt}
 use Rattle.daemon_turn.specs.declared.kid.Kid.{Kid}
 use Rattle.daemon_turn.specs.declared.report.TurnEnd.{TurnEnd}
 use Rattle.daemon_turn.specs.declared.report.TurnEnd.TheVariants.{Done, Busy, FileFault, Damaged, Memory}
-use Rattle.daemon_turn.specs.Laws.{IsDoneOrMemory, IsGood}
+use Rattle.daemon_turn.specs.Laws.{IsDoneOrMemory}
+use Rattle.step_runs.specs.Good.{IsGood}
 use Rattle.daemon_turn.specs.Leaving.{DaemonAt}
 use Rattle.daemon_turn.proofs.LawLemmas.{readings_stay_good, turns_are_done}
 use Rattle.serving.specs.Items.{Item, first_end, last_item}

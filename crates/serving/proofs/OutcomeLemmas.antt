@@ -30,6 +30,7 @@ IsCaused (cause.Refused refusal) old new was is = Unit {0}
 IsCaused cause.Memory old new was is = Unit {0}
 IsCaused (cause.Damaged damage) old new was is = Unit {0}
 IsCaused cause.StillRunning old new was is = Unit {0}
+IsCaused cause.Faulty old new was is = Unit {0}
 
 abbrev pub IsCausedFor : Outcome → Session → Session → SinkAt → SinkAt → Type 0
 IsCausedFor (OfTurn of) old new was is = IsCaused of old new was is

@@ -11,6 +11,7 @@ use Rattle.host_calls.specs.declared.child.Child.{Child}
 use Rattle.daemon_turn.specs.Leaving.{DaemonAt}
 use Rattle.daemon_turn.specs.declared.report.TurnEnd.{TurnEnd}
 use Rattle.daemon_turn.specs.declared.report.TurnEnd.TheVariants.{Done, Busy, FileFault, Damaged, Memory}
+use Rattle.host_session.proofs.SessionLemmas.{counts_on, no_counts}
 use Rattle.serving.specs.Items.{Item, but_last, first_end, last_item, mode_after}
 use Rattle.serving.specs.Lines.{step_lines, turn_lines}
 use Rattle.serving.specs.Serves.{RestsAfter, ServeAt, Served, Serves, ServeTelling, no_turn, next_turn, serve_at}
@@ -76,17 +77,6 @@ rested_spool tells once (Some item) old new rests = rests.spool
 
 -- Counts and children from turn to turn.
 
-pub counts_same : (session : Session) → KeepsCounts session session
-counts_same session = record { made_as = refl; file_faults = omega arith; start_faults = omega arith; taken = omega arith }
-
-pub counts_then : (old middle new : Session) → KeepsCounts old middle → KeepsCounts middle new → KeepsCounts old new
-counts_then old middle new first second = record {
-  made_as = second.made_as ∙ first.made_as;
-  file_faults = omega (arith, first.file_faults, second.file_faults);
-  start_faults = omega (arith, first.start_faults, second.start_faults);
-  taken = omega (arith, first.taken, second.taken);
-}
-
 pub children_same : (children : List Child) → KeepsChildren children children
 children_same children = ([], sym (append-nil children))
 
@@ -96,9 +86,9 @@ children_then old middle new first second =
 
 module _ (tells : ServeTelling) (once : Bool) (first : ServeAt) where
   pub serves_counts : (items : List Item) (last : ServeAt) → Serves tells once first items last → KeepsCounts first.spool.session last.spool.session
-  serves_counts _ _ no_turn = counts_same first.spool.session
+  serves_counts _ _ no_turn = no_counts first.spool.session
   serves_counts _ _ (next_turn before item last rested after serves goes_on rests served) =
-      counts_then first.spool.session last.spool.session after.spool.session (serves_counts before last serves)
+      counts_on first.spool.session last.spool.session after.spool.session (serves_counts before last serves)
       (subst (λ (spool : DaemonAt). KeepsCounts spool.session after.spool.session) (rested_spool tells.clock once (last_item before) last rested rests) served.turn.counts)
 
 -- Why the first turn ended so.
@@ -140,9 +130,9 @@ module _ (tells : ServeTelling) (once : Bool) (first : ServeAt) where
   rose_more [] item last rested after rose counts rests served =
       rose_wider (Some item.end) first.spool.session rested.spool.session after.spool.session after.spool.session
       (subst (λ (spool : DaemonAt). KeepsCounts first.spool.session spool.session) (sym (rested_spool tells.clock once None last rested rests)) counts)
-      (counts_same after.spool.session) (rose_served [] item rested after served)
+      (no_counts after.spool.session) (rose_served [] item rested after served)
   rose_more (head ∷ before) item last rested after rose counts rests served =
-      rose_wider (Some head.end) first.spool.session first.spool.session last.spool.session after.spool.session (counts_same first.spool.session)
+      rose_wider (Some head.end) first.spool.session first.spool.session last.spool.session after.spool.session (no_counts first.spool.session)
       (subst (λ (spool : DaemonAt). KeepsCounts spool.session after.spool.session) (rested_spool tells.clock once (last_item (head ∷ before)) last rested rests) served.turn.counts)
       rose
 

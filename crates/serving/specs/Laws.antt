@@ -6,9 +6,9 @@ use Rattle.host_calls.specs.Causes.{Rose}
 use Rattle.host_calls.specs.Clock.{Answers, with_now}
 use Rattle.host_calls.specs.World.{reading}
 use Rattle.listing_text.specs.declared.cause.Cause.{Cause}
-use Rattle.listing_text.specs.declared.cause.Cause.TheVariants.{Done, Refused, FileFault, InputFault, OutputFault, Busy, Memory, Damaged, StillRunning}
+use Rattle.listing_text.specs.declared.cause.Cause.TheVariants.{Done, Refused, FileFault, InputFault, OutputFault, Busy, Memory, Damaged, StillRunning, Faulty}
 use Rattle.command_rules.specs.Sinks.{SinkAt}
-use Rattle.daemon_turn.specs.Laws.{IsGood}
+use Rattle.step_runs.specs.Good.{IsGood}
 use Rattle.serving.specs.Serves.{ServeAt, ServeTelling}
 use Rattle.serving.specs.Serving.{Serving}
 
@@ -16,6 +16,7 @@ use Rattle.serving.specs.Serving.{Serving}
 abbrev pub IsServedWell : Cause → Type 0
 IsServedWell Done = Unit {0}
 IsServedWell StillRunning = Unit {0}
+IsServedWell Faulty = ⊥
 IsServedWell Memory = Unit {0}
 IsServedWell (Refused refusal) = ⊥
 IsServedWell FileFault = ⊥

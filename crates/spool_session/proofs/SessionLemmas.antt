@@ -1,26 +1,21 @@
 -- What a session comes to, by its work.
 use Rattle.std.proofs.Common.{◌≡◌, ◌≤◌, ℕ, ◌∙◌, ap, refl, subst, arith}
-use Rattle.std.specs.Prelude.{Result, Ok, Err, IfErr, IsErrOf}
+use Rattle.std.proofs.lemmas.Bool.Decides.{nat_tests}
+use Rattle.std.specs.Prelude.{true, nat_lt, Result, Ok, Err, IfErr, IsErrOf}
 use Rattle.host_calls.specs.Causes.{Rose}
 use Rattle.host_calls.specs.declared.fault.EnterFault.{EnterFault}
 use Rattle.host_calls.specs.declared.fault.EnterFault.TheVariants.{Failed, Memory as NoMemory, Taken}
 use Rattle.host_calls.specs.declared.host.Host.{Ghosts}
-use Rattle.host_calls.specs.Session.{KeepsCounts, Session}
+use Rattle.host_session.proofs.SessionLemmas.{counts_on}
 use Rattle.host_session.specs.Work.{Calls, IsDoneInside, IsUndone}
 use Rattle.listing_text.specs.declared.cause.Cause.{Cause}
-use Rattle.listing_text.specs.declared.cause.Cause.TheVariants.{Busy, Done, FileFault}
+use Rattle.listing_text.specs.declared.cause.Cause.TheVariants.{Done, Refused, FileFault, InputFault, OutputFault, Busy, Memory, Damaged, StillRunning, Faulty}
 use Rattle.command_rules.specs.Causes.{cause_in, cause_of_entry, error_of}
 use Rattle.command_rules.specs.declared.command_error.CommandError.{CommandError}
+use Rattle.command_rules.specs.Checks.{check_of, place_of}
+use Rattle.command_rules.specs.Ends.{StopsBeforeLock}
 use Rattle.command_rules.proofs.SpoolLemmas.{goes_on_then}
 use Rattle.spool_session.specs.Sessions.{ComesOfSession, HasRisenIn, IsOfSession, IsWork, StaysQuiet, WorksInside}
-
-pub counts_then : (old middle new : Session) → KeepsCounts old middle → KeepsCounts middle new → KeepsCounts old new
-counts_then old middle new before after = record {
-  made_as = after.made_as ∙ before.made_as;
-  file_faults = omega (arith, before.file_faults, after.file_faults);
-  start_faults = omega (arith, before.start_faults, after.start_faults);
-  taken = omega (arith, before.taken, after.taken);
-}
 
 -- a count that rose on the way has risen in all
 rose_within : (first old new last : ℕ) → first ≤ old → new ≤ last → Rose old new → Rose first last
@@ -36,6 +31,26 @@ never_busy : {T : Type 0} (result : Result T CommandError) → IfErr result Come
 never_busy (Ok value) comes is = let no : Done ≡ Busy = is in cc
 never_busy (Err stopped) comes is = subst IsOfSession is comes
 
+-- nor does anything stop it before the lock
+is_late : (place : ℕ) → nat_lt 11 place ≡ true → nat_lt place 11 ≡ true → ⊥
+is_late place late early = grind (arith, nat_tests)
+
+never_before_lock_by : (cause : Cause) → IsOfSession cause → StopsBeforeLock cause → ⊥
+never_before_lock_by (Refused refusal) comes stops = is_late (place_of (check_of refusal)) comes stops
+never_before_lock_by FileFault comes stops = stops
+never_before_lock_by OutputFault comes stops = stops
+never_before_lock_by Memory comes stops = stops
+never_before_lock_by (Damaged damage) comes stops = stops
+never_before_lock_by Done comes stops = stops
+never_before_lock_by InputFault comes stops = comes
+never_before_lock_by Busy comes stops = stops
+never_before_lock_by StillRunning comes stops = stops
+never_before_lock_by Faulty comes stops = stops
+
+never_before_lock : {T : Type 0} (result : Result T CommandError) → IfErr result ComesOfSession → StopsBeforeLock (cause_in result) → ⊥
+never_before_lock (Ok value) comes stops = stops
+never_before_lock (Err stopped) comes stops = never_before_lock_by stopped.cause comes stops
+
 module _ {H F T : Type 0} (g : Ghosts H) (calls : Calls H F (Result T CommandError)) (work left : F) (old new : H) (result : Result T CommandError)
     (is_work : IsWork g calls work) (done : IsDoneInside g calls work left old new result) where
   abbrev works : WorksInside g done.first done.last result
@@ -46,8 +61,8 @@ module _ {H F T : Type 0} (g : Ghosts H) (calls : Calls H F (Result T CommandErr
     left = record {
       outside = done.over.outside;
       children = done.over.children ∙ (works.inside.stays.children ∙ done.begun.children);
-      counts = counts_then (g.session old) (g.session done.first) (g.session new) done.begun.counts
-          (counts_then (g.session done.first) (g.session done.last) (g.session new) works.inside.stays.counts done.over.counts);
+      counts = counts_on (g.session old) (g.session done.first) (g.session new) done.begun.counts
+          (counts_on (g.session done.first) (g.session done.last) (g.session new) works.inside.stays.counts done.over.counts);
     };
     goes_on = λ known.
         goes_on_then (g.world old) (g.world done.last) (g.world new)
@@ -61,6 +76,7 @@ module _ {H F T : Type 0} (g : Ghosts H) (calls : Calls H F (Result T CommandErr
         rose_within (g.session old).file_faults (g.session done.first).file_faults (g.session done.last).file_faults (g.session new).file_faults
         done.begun.counts.file_faults done.over.counts.file_faults (works.inside.cause.rose (failed result is));
     busy = λ is. absurd (never_busy result works.comes is);
+    before_lock = λ stops. absurd (never_before_lock result works.comes stops);
   }
 
 module _ {H F : Type 0} (g : Ghosts H) (work left : F) (old new : H) where
@@ -68,6 +84,6 @@ module _ {H F : Type 0} (g : Ghosts H) (work left : F) (old new : H) where
   quiet_undone fault undone = record { left = undone.refused.left; goes_on = undone.refused.quiet.goes_on }
 
   pub risen_undone : (fault : EnterFault) → IsUndone g work left old new fault → HasRisenIn g old new (cause_of_entry fault)
-  risen_undone Taken undone = record { file_fault = λ is. (cc); busy = λ is. undone.refused.taken refl }
-  risen_undone Failed undone = record { file_fault = λ is. undone.refused.failed refl; busy = λ is. (cc) }
-  risen_undone NoMemory undone = record { file_fault = λ is. (cc); busy = λ is. (cc) }
+  risen_undone Taken undone = record { file_fault = λ is. (cc); busy = λ is. undone.refused.taken refl; before_lock = λ stops. absurd stops }
+  risen_undone Failed undone = record { file_fault = λ is. undone.refused.failed refl; busy = λ is. (cc); before_lock = λ stops. absurd stops }
+  risen_undone NoMemory undone = record { file_fault = λ is. (cc); busy = λ is. (cc); before_lock = λ stops. absurd stops }

@@ -9,8 +9,10 @@ use Rattle.host_calls.specs.Session.{CallsInside, IsInside, IsLeft}
 use Rattle.host_calls.specs.World.{GoesOn}
 use Rattle.host_session.specs.Work.{Calls, IsDoneInside, IsUndone}
 use Rattle.listing_text.specs.declared.cause.Cause.{Cause}
-use Rattle.listing_text.specs.declared.cause.Cause.TheVariants.{Done, Refused, FileFault, InputFault, OutputFault, Busy, Memory, Damaged, StillRunning}
+use Rattle.listing_text.specs.declared.cause.Cause.TheVariants.{Done, Refused, FileFault, InputFault, OutputFault, Busy, Memory, Damaged, StillRunning, Faulty}
 use Rattle.command_rules.specs.Causes.{cause_of_entry, error_of}
+use Rattle.command_rules.specs.Checks.{check_of, is_before, of_lock}
+use Rattle.command_rules.specs.Ends.{StopsBeforeLock}
 use Rattle.command_rules.specs.declared.command_error.CommandError.{CommandError}
 
 -- a cause that comes within a session: the lock was had, and the inputs were read before
@@ -18,12 +20,13 @@ abbrev pub IsOfSession : Cause → Type 0
 IsOfSession FileFault = Unit {0}
 IsOfSession OutputFault = Unit {0}
 IsOfSession Memory = Unit {0}
-IsOfSession (Refused refusal) = Unit {0}
+IsOfSession (Refused refusal) = is_before of_lock (check_of refusal) ≡ true
 IsOfSession (Damaged damage) = Unit {0}
 IsOfSession Done = ⊥
 IsOfSession InputFault = ⊥
 IsOfSession Busy = ⊥
 IsOfSession StillRunning = ⊥
+IsOfSession Faulty = ⊥
 
 -- the command was stopped by one of these
 abbrev pub ComesOfSession : CommandError → Type 0
@@ -51,10 +54,12 @@ pub record StaysQuiet {H : Type 0} (g : Ghosts H) (old new : H) : Type 0 where
   pub left : IsLeft (g.session old) (g.session new)
   pub goes_on : g.tells ≡ true → GoesOn (g.world old) (g.world new)
 
--- a fault of a file, or a lock that was taken, comes only where its count rose
+-- A fault of a file, or a lock that was taken, comes only where its count rose. What stops before the lock leaves the
+-- session as it was.
 pub record HasRisenIn {H : Type 0} (g : Ghosts H) (old new : H) (cause : Cause) : Type 0 where
   pub file_fault : cause ≡ FileFault → Rose (g.session old).file_faults (g.session new).file_faults
   pub busy : cause ≡ Busy → Rose (g.session old).taken (g.session new).taken
+  pub before_lock : StopsBeforeLock cause → g.session new ≡ g.session old
 
 -- the session could not begin, and so nothing was done
 pub record IsUnentered {H F T : Type 0} (g : Ghosts H) (work left : F) (old new : H) (result : Result T CommandError) : Type 0 where

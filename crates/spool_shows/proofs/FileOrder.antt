@@ -24,18 +24,19 @@ abbrev pub AreInOrder : {X : Type 0} → (X → List ℕ) → List X → Type 0
 AreInOrder key [] = Unit {0}
 AreInOrder {X} key (x ∷ later) = ((other : X) → Has later other → name_cmp (key x) (key other) ≡ Less) × AreInOrder key later
 
-order_sorted : {X : Type 0} → (es : List (List ℕ × X)) → T (is_sorted name_cmp es) → AreInOrder (λ (e : List ℕ × X). e.0) es
+-- sorted entries are in order, and so are those that pass a test, and what each of them gives
+pub order_sorted : {X : Type 0} → (es : List (List ℕ × X)) → T (is_sorted name_cmp es) → AreInOrder (λ (e : List ℕ × X). e.0) es
 order_sorted [] sorted = tt
 order_sorted (first ∷ later) sorted = (λ other has. below name_cmp first.0 later other (left _ _ sorted) has, order_sorted later (right _ _ sorted))
 
-order_filtered : {X : Type 0} → (key : X → List ℕ) (test : X → Bool) (xs : List X) → AreInOrder key xs → AreInOrder key (filter test xs)
+pub order_filtered : {X : Type 0} → (key : X → List ℕ) (test : X → Bool) (xs : List X) → AreInOrder key xs → AreInOrder key (filter test xs)
 order_filtered key test [] order = tt
 order_filtered key test (x ∷ later) order = by_test (test x) (order_filtered key test later order.1) where
   by_test : (b : Bool) → AreInOrder key (filter test later) → AreInOrder key (cond b (x ∷ filter test later) (filter test later))
   by_test true rest = (λ other has. order.0 other (filtered_has test later other has).0, rest)
   by_test false rest = rest
 
-order_given : {X Y : Type 0} → (key : X → List ℕ) (other_key : Y → List ℕ) (give : X → Option Y) → ((x : X) (y : Y) → give x ≡ Some y → other_key y ≡ key x) → (xs : List X) → AreInOrder key xs → AreInOrder other_key (filter_map give xs)
+pub order_given : {X Y : Type 0} → (key : X → List ℕ) (other_key : Y → List ℕ) (give : X → Option Y) → ((x : X) (y : Y) → give x ≡ Some y → other_key y ≡ key x) → (xs : List X) → AreInOrder key xs → AreInOrder other_key (filter_map give xs)
 order_given key other_key give keeps [] order = tt
 order_given {X = X} {Y = Y} key other_key give keeps (x ∷ later) order = by_given (give x) refl (order_given key other_key give keeps later order.1) where
   by_given : (given : Option Y) → give x ≡ given → AreInOrder other_key (filter_map give later) → AreInOrder other_key (cons_option given (filter_map give later))

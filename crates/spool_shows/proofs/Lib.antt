@@ -19,6 +19,7 @@ pub mod OneMark
 pub mod OtherLemmas
 pub mod RewriteLemmas
 pub mod ShownEntries
+pub mod ShownHeaders
 pub mod ShownStates
 pub mod SoundLemmas
 pub mod SoundTables

@@ -17,7 +17,7 @@ use Rattle.spool_shows.specs.Laws.{AgreeOnJobs, HasMarks, OtherFilesCountForNoth
 use Rattle.spool_shows.specs.Shown.{shown_after_journal, shown_after_last, shown_by, shown_by_files}
 
 -- what is found among the entries under names that pass a test
-found_among : (test : List ℕ → Bool) (files : Files) (name : List ℕ) → find name_cmp name (where_key name_cmp test (entries files)) ≡ cond (test name) (map.get files name) None
+pub found_among : (test : List ℕ → Bool) (files : Files) (name : List ℕ) → find name_cmp name (where_key name_cmp test (entries files)) ≡ cond (test name) (map.get files name) None
 found_among test files name =
     find-where_key name_cmp test name (λ other tied. ap test (sym (slice_cmp-IsAntisymmetric nat_cmp-IsAntisymmetric name other tied))) (entries files)
     ∙ ap (λ found. cond (test name) found None) (sym (get-entries files name))

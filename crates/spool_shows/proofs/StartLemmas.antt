@@ -30,7 +30,8 @@ starts_whole marks files place (first ∷ later) mark is has =
       | inr in_later ↦ starts_whole marks files (place + 1) later mark both.1 in_later
     ]
 
-whole_starts : (marks : List Mark) (files : List JobFile) (place : ℕ) (list : List Mark) → ((at : ℕ) (mark : Mark) → Has list mark → mark_damage marks files at mark ≡ None) → starts_damage marks files place list ≡ None
+-- and no mark shows damage, where each shows none at any place
+pub whole_starts : (marks : List Mark) (files : List JobFile) (place : ℕ) (list : List Mark) → ((at : ℕ) (mark : Mark) → Has list mark → mark_damage marks files at mark ≡ None) → starts_damage marks files place list ≡ None
 whole_starts marks files place [] each = refl
 whole_starts marks files place (first ∷ later) each =
     rw (each place first (inl refl)) (whole_starts marks files (place + 1) later (λ at mark has. each at mark (inr has)))

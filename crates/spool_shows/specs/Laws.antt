@@ -1,6 +1,7 @@
 -- What holds of every folder, and of every change that a step of the job table makes to one.
-use Rattle.std.specs.Prelude.{◌≡◌, ◌+◌, ◌++◌, [], ◌∷◌, ℕ, Bool, true, List, Some, None, Ok}
+use Rattle.std.specs.Prelude.{◌≡◌, ◌⊎◌, ◌+◌, ◌++◌, [], ◌∷◌, ℕ, Bool, true, List, Some, None, Ok, Err}
 use Rattle.std.specs.FinMap as map
+use Rattle.host_calls.specs.declared.damage.Damage.{Damage}
 use Rattle.host_calls.specs.Folder.{Files}
 use Rattle.job_script.specs.HeaderIn.{header_in}
 use Rattle.sequence_file.specs.Sequence.{sequence_file}
@@ -10,7 +11,7 @@ use Rattle.spool_model.specs.declared.job.Job.{Job}
 use Rattle.spool_model.specs.declared.state.State.TheVariants.{Pending}
 use Rattle.spool_model.specs.declared.step.Step.{Step}
 use Rattle.spool_model.specs.declared.step.Step.TheVariants.{Draw, Accept, Remove, Start, End, Interrupt, Forget}
-use Rattle.spool_model.specs.JobTable.{IsSound, JobTable, entry_at}
+use Rattle.spool_model.specs.JobTable.{IsSound, JobState, JobTable, entry_at}
 use Rattle.spool_model.specs.Steps.{IsLegal, after_step, after_steps}
 use Rattle.start_journal.specs.declared.mark.Mark.{Mark}
 use Rattle.start_journal.specs.declared.mark.Mark.TheVariants as mark
@@ -35,6 +36,24 @@ FoldersAreShownByName = (files : Files) (table : JobTable) → IsShownByName fil
 -- a table that a folder shows is sound
 abbrev pub ShownTablesAreSound : Type 0
 ShownTablesAreSound = (files : Files) (table : JobTable) → Shows files table → IsSound table
+
+-- the script begins with a header of its job's user
+abbrev pub HasItsHeader : Job → Type 0
+HasItsHeader job = (mail : Bool) × (header_in job.script ≡ Some (job.user, mail))
+
+-- so does the script of each live job of a table that a folder shows
+abbrev pub ShownJobsHaveHeaders : Type 0
+ShownJobsHaveHeaders = (files : Files) (table : JobTable) (number : ℕ) (job : Job) (state : JobState) → Shows files table →
+    entry_at table number ≡ Some (Live job state) → HasItsHeader job
+
+-- the folder shows a damage, or a table that has no entry
+abbrev pub ShowsNoEntry : Files → Type 0
+ShowsNoEntry files = ((damage : Damage) × (shown_by files ≡ Err damage)) ⊎
+    ((table : JobTable) × Shows files table × ((number : ℕ) → entry_at table number ≡ None))
+
+-- so does each folder without a sequence file, whatever else it has
+abbrev pub FoldersWithoutSequenceShowNoEntry : Type 0
+FoldersWithoutSequenceShowNoEntry = (files : Files) → map.get files sequence_file ≡ None → ShowsNoEntry files
 
 -- the journal of the folder gives these marks
 pub record HasMarks (files : Files) (marks : List Mark) : Type 0 where

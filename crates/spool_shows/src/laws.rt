@@ -1,7 +1,7 @@
 //! What holds of every folder, each law as the contract of a function.
 ghost use Rattle.spool_shows.specs.DamageLaws.{FoldersShowTheirFirstDamage, UndamagedFoldersShowTables};
 ghost use Rattle.spool_shows.specs.Examples.{SmallFoldersAreDamaged, SmallFoldersShow, SmallFoldersShowOldForm};
-ghost use Rattle.spool_shows.specs.Laws.{AcceptsAreShown, CompactionsAreShown, DrawsAreShown, FoldersAreShownByName, LegalStepsAddLegalMarks, MarksAreShown, OtherFilesCountForNothing, RewritesAreShown, ShownTablesAreSound};
+ghost use Rattle.spool_shows.specs.Laws.{AcceptsAreShown, CompactionsAreShown, DrawsAreShown, FoldersAreShownByName, FoldersWithoutSequenceShowNoEntry, LegalStepsAddLegalMarks, MarksAreShown, OtherFilesCountForNothing, RewritesAreShown, ShownJobsHaveHeaders, ShownTablesAreSound};
 ghost use Rattle.spool_shows.specs.OldForm.{OldFormFoldersShowTheSame, OldFormTablesAreShown};
 
 /// What small folders show, computed.
@@ -25,6 +25,16 @@ pub fn folders_show_their_first_damage()
 /// The table that a folder shows is sound.
 pub fn shown_tables_are_sound()
     ensures { ShownTablesAreSound }
+{}
+
+/// The script of each live job that a folder shows begins with a header of its user.
+pub fn shown_jobs_have_headers()
+    ensures { ShownJobsHaveHeaders }
+{}
+
+/// A folder without a sequence file shows a damage, or a table without entries.
+pub fn folders_without_sequence_show_no_entry()
+    ensures { FoldersWithoutSequenceShowNoEntry }
 {}
 
 /// Files under other names, and those of decided numbers, count for nothing.

@@ -12,6 +12,7 @@ mod laws;
 
 pub use laws::{
     accepts_are_shown, compactions_are_shown, draws_are_shown, folders_are_shown_by_name,
-    folders_show_their_first_damage, marks_are_shown, old_form_folders_show_the_same,
-    other_files_count_for_nothing, rewrites_are_shown, shown_tables_are_sound, small_folders,
+    folders_show_their_first_damage, folders_without_sequence_show_no_entry, marks_are_shown,
+    old_form_folders_show_the_same, other_files_count_for_nothing, rewrites_are_shown,
+    shown_jobs_have_headers, shown_tables_are_sound, small_folders,
 };

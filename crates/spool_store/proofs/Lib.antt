@@ -1,10 +1,13 @@
 pub mod AddLemmas
+pub mod AddedJobs
+pub mod BesideLemmas
 pub mod CountLemmas
 pub mod DecideLemmas
 pub mod DecidedFiles
 pub mod DrawnFolders
 pub mod Edits
 pub mod PrefixLemmas
+pub mod HeaderLemmas
 pub mod KeptMarks
 pub mod KindLemmas
 pub mod LifecycleLemmas
@@ -35,3 +38,4 @@ pub mod SubmitLemmas
 pub mod SubmitStored
 pub mod SubmittedFolders
 pub mod TableLemmas
+pub mod WrittenJobs

@@ -259,11 +259,16 @@ module _ (old surveyed : World) (survey : Survey) (at : HasSettled old surveyed 
       forms = forms;
     }
 
+    -- other files read as before
+    other_reads : (name : List ℕ) → ¬ (IsSpoolName name) → finite.get (reading_of new.now.folder) name ≡ finite.get files name
+    other_reads name other = others_same (reading_of new.now.folder) (end_left (reading_of new.now.folder) (reading_is_image new.now.folder)) name other
+
     -- and the folder is recovered
     pub recovered : IsRecovered old.now.folder new.now.folder (record { table = survey.jobs; journal = survey.journal; old_form = survey.old_form.items })
     recovered = record {
       table = at.found.table;
       shown = at.found.shows;
       current = current;
-      others = λ name other. others_same (reading_of new.now.folder) (end_left (reading_of new.now.folder) (reading_is_image new.now.folder)) name other;
+      others = other_reads;
+      certain_others = λ image is name other. others_same image (end_left image is) name other ∙ sym (other_reads name other);
     }

@@ -1,6 +1,6 @@
 -- What a call of the store leaves that makes one step by its mark.
-use Rattle.std.proofs.Common.{◌≡◌, ℕ, true, false, List, [], ◌∷◌, sym, ap, subst, ◌∙◌, refl, inl, inr, Result, Ok, Err}
-use Rattle.std.specs.Prelude.{Option, Some, None, IfSome, IsErr, option_map}
+use Rattle.std.proofs.Common.{◌≡◌, ℕ, Bool, true, false, List, [], ◌∷◌, sym, ap, subst, ◌∙◌, refl, inl, inr, Result, Ok, Err}
+use Rattle.std.specs.Prelude.{Option, Some, None, IfSome, IsErr, option_map, if◌then◌else◌}
 use Rattle.host_calls.specs.Folder.{Folder, reading_of}
 use Rattle.host_calls.specs.World.{World}
 use Rattle.job_name.specs.JobName.{SpellsJobName}
@@ -13,6 +13,7 @@ use Rattle.spool_model.specs.JobTable.{IsRunning, JobEntry, JobState, JobTable, 
 use Rattle.spool_model.specs.Steps.{IsLegal, after_step}
 use Rattle.start_journal.specs.declared.mark.Mark.{Mark}
 use Rattle.start_journal.specs.declared.mark.Mark.TheVariants.{Started}
+use Rattle.start_journal.specs.Changing.{added, compacted}
 use Rattle.start_journal.specs.Journals.{JournalRead}
 use Rattle.start_journal.specs.Marks.{AreLegal, decides, is_ended, is_started}
 use Rattle.whole_file.specs.Others.{ChangesFiles}
@@ -24,6 +25,7 @@ use Rattle.spool_shows.specs.Laws.{AddsMark}
 use Rattle.spool_store.specs.declared.fault.StoreFault.{StoreFault}
 use Rattle.spool_store.specs.inside.Marking.{HaveOneMore, IsDecisionOf, IsMarkOf, IsMarked, KeepsFiles, kept_with}
 use Rattle.spool_store.specs.Scripts.{IsFileOf}
+use Rattle.spool_store.specs.Stepping.{HasItsMark, needs_room}
 use Rattle.spool_store.specs.Stored.{IsStored}
 use Rattle.spool_store.proofs.DecideLemmas.{decided_before_or_by_it, still_drawn}
 use Rattle.spool_store.proofs.MarkingCalls.{journal_is_spool}
@@ -132,6 +134,18 @@ stored_step inside surveyed jobs new step mark of is legal range more after =
     legal (legal_inside inside surveyed step mark of) of.adds range more in
     subst (λ table. IsStored (record { table = table; journal = new; old_form = inside.old_form })) (sym after)
     (record { sound = whole.sound; drawn = whole.drawn; entries = whole.entries; batch = whole.batch; old_form = is.old_form })
+
+-- and the journal has the step's mark, compacted before where it needs room
+pub has_its_mark : (inside surveyed : Kept) (jobs : JobTable) (new : JournalRead) (step : Step) (mark : Mark) → IsStepOf inside surveyed step mark →
+    (needs_room inside.journal ≡ false → new ≡ added inside.journal mark) →
+    (needs_room inside.journal ≡ true → new ≡ added (compacted inside.journal) mark) →
+    HasItsMark surveyed step (record { table = jobs; journal = new; old_form = inside.old_form })
+has_its_mark inside surveyed jobs new step mark of free full =
+    subst (λ (kept : Kept). HasItsMark kept step (record { table = jobs; journal = new; old_form = inside.old_form })) of.view
+    (record { mark = mark; adds = of.adds; journal = by_room (needs_room inside.journal) refl }) where
+      by_room : (needs : Bool) → needs_room inside.journal ≡ needs → new ≡ added (if needs then compacted inside.journal else inside.journal) mark
+      by_room true is = full is
+      by_room false is = free is
 
 -- a mark that ends a running job may follow
 pub running_legal : (inside surveyed : Kept) (number : ℕ) → inside ≡ surveyed → IsRunning surveyed.table number → IsStored inside → (is_started number inside.journal.marks ≡ true) × (is_ended number inside.journal.marks ≡ false)

@@ -1,20 +1,24 @@
 -- What a recovery leaves, by its answer (own).
-use Rattle.std.specs.Prelude.{◌≡◌, Result, Ok, Err}
-use Rattle.host_calls.specs.Folder.{Folder, reading_of}
+use Rattle.std.specs.Prelude.{◌≡◌, ℕ, List, Result, Ok, Err}
+use Rattle.std.specs.FinMap as finite
+use Rattle.host_calls.specs.Folder.{Files, Folder, IsImage, reading_of}
 use Rattle.spool_model.specs.JobTable.{JobTable}
 use Rattle.spool_shows.specs.OldForm.{HasNoNewFormName, ShowsOldForm}
 use Rattle.spool_shows.specs.Shown.{shown_by}
 use Rattle.step_runs.specs.Calls.{KeepsOthers}
-use Rattle.step_runs.specs.Current.{IsCurrent, Kept}
+use Rattle.step_runs.specs.Current.{IsCurrent, IsSpoolName, Kept}
 use Rattle.spool_store.specs.declared.fault.StoreFault.{StoreFault}
 use Rattle.spool_store.specs.declared.fault.StoreFault.TheVariants.{Damaged, FileFault, Memory, NumbersUsedUp, QueueFull}
 
--- The reading showed a table, and what is kept is current with it. Other files read as before.
+-- The reading showed a table, and what is kept is current with it. Other files read as before, and are certain: each
+-- image has them so.
 pub record IsRecovered (old new : Folder) (kept : Kept) : Type 0 where
   pub table : JobTable
   pub shown : shown_by (reading_of old) ≡ Ok table
   pub current : IsCurrent kept new table
   pub others : KeepsOthers old new
+  pub certain_others : (image : Files) → IsImage new image → (name : List ℕ) → ¬ (IsSpoolName name)
+      → finite.get image name ≡ finite.get (reading_of new) name
 
 -- where no file of the reading had a name of the new form, and it showed a table by the old form alone, what is kept
 -- is current with that table

@@ -1,9 +1,11 @@
 -- A submission (own): whether there is room for its job, and the steps that it makes.
-use Rattle.std.specs.Prelude.{◌≡◌, ◌≤◌, ◌<◌, ◌+◌, [], ◌∷◌, ℕ, true, List, Some, Result, Ok, Err}
+use Rattle.std.specs.Prelude.{◌≡◌, ◌≤◌, ◌<◌, ◌+◌, [], ◌∷◌, ℕ, Bool, true, List, Some, Result, Ok, Err}
 use Rattle.std.specs.FinMap as finite
 use Rattle.host_calls.specs.Folder.{Folder, reading_of}
 use Rattle.job_name.specs.JobName.{SpellsJobName}
+use Rattle.job_script.specs.declared.context.Context.{Context}
 use Rattle.job_script.specs.HeaderIn.{header_in}
+use Rattle.job_script.specs.JobText.{text_for}
 use Rattle.spool_model.specs.declared.job.Job.{Job}
 use Rattle.spool_model.specs.declared.number.TheConstants.{LAST_NUMBER}
 use Rattle.spool_model.specs.declared.step.Step.{Step}
@@ -45,6 +47,11 @@ IsRefusal table (Damaged damage) = ⊥
 pub record IsNextNumber (table : JobTable) (number : ℕ) : Type 0 where
   pub room : HasRoom table
   pub next : number ≡ table.last + 1
+
+-- the job of who submits: the user, the minute, and a text that does the commands as the user would
+abbrev pub job_for : Context → ℕ → Bool → ℕ → List ℕ → Job
+job_for context queue mail minute commands =
+    record { queue = queue; minute = minute; user = context.user; script = text_for context mail commands }
 
 -- the job of a script: its user is that of the script's header
 abbrev pub job_of_script : ℕ → ℕ → List ℕ → Job

@@ -22,6 +22,9 @@ mod tables;
 pub use due_lines::Due;
 pub use fault::StoreFault;
 pub(crate) use jobs::Jobs;
-pub use laws::lists_are_of_the_table;
+pub use laws::{
+    changes_beside_show_the_same, lists_are_of_the_table, stores_stay_current_beside,
+    submissions_add_one_job,
+};
 pub use store::Store;
 pub use submit::MAX_LIVE;

@@ -10,7 +10,8 @@ ghost use Rattle.start_journal.specs.Slots.{IsWritable};
 ghost use Rattle.whole_file.specs.Others.{ChangesFiles};
 ghost use Rattle.step_runs.specs.Calls.{IsSteppingOn, KeepsOthers};
 ghost use Rattle.step_runs.specs.Current.{IsCurrent};
-ghost use Rattle.spool_store.specs.inside.Marking.{AreSameOrKept, HaveOneMore, IsDecisionOf, IsMarkOf, IsMarked, KeepsFiles, kept_with, needs_room};
+ghost use Rattle.spool_store.specs.inside.Marking.{AreSameOrKept, HaveOneMore, IsDecisionOf, IsMarkOf, IsMarked, KeepsFiles, kept_with};
+ghost use Rattle.spool_store.specs.Stepping.{needs_room};
 
 use host_calls::{Host, HostFault, Name};
 use start_journal::{Journal, Mark};
@@ -103,6 +104,8 @@ pub(crate) fn decide<H: Host>(
     ensures inside { CallsInside HostFault.Failed (H.session host.old) (H.session host.new) result }
     ensures legal { AreLegal journal.marks }
     ensures marks { IfOk result (λ new. HaveOneMore journal.marks mark new.marks) }
+    ensures free { needs_room journal ≡ false → IfOk result (λ new. new ≡ added journal mark) }
+    ensures compacted { needs_room journal ≡ true → IfOk result (λ new. new ≡ added (compacted journal) mark) }
     ensures files { IsTrue H.tells → (old_form : List ℕ) (table : JobTable) (step : Step)
         → IsDecisionOf old_form journal (H.world host.old).now.folder table step mark file.now
         → ChangesFiles (IsSteppingOn table (step ∷ []) (H.world host.old).now.folder)

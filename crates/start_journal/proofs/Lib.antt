@@ -20,6 +20,7 @@ pub mod SlotChanges
 pub mod SlotWrites
 pub mod StageLemmas
 pub mod StandLemmas
+pub mod TakenLemmas
 pub mod TextLemmas
 pub mod CompactionLemmas
 pub mod WholeLemmas

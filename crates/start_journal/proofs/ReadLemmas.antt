@@ -16,7 +16,7 @@ use Rattle.std.proofs.lemmas.Bool.{and_from, and_parts}
 use Rattle.start_journal.proofs.JournalLemmas.{legal_is, legal_tested}
 
 -- a slot that spells no mark gives none
-none_given : (slot : List ℕ) → ((mark : Mark) → ¬ (SpellsMark slot mark)) → mark_in slot ≡ None
+pub none_given : (slot : List ℕ) → ((mark : Mark) → ¬ (SpellsMark slot mark)) → mark_in slot ≡ None
 none_given slot none = by_mark (mark_in slot) refl where
   by_mark : (found : Option Mark) → mark_in slot ≡ found → mark_in slot ≡ None
   by_mark None is = is

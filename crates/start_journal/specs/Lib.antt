@@ -9,5 +9,6 @@ pub mod Marks
 pub mod SlotBytes
 pub mod Slots
 pub mod Stages
+pub mod Taken
 pub mod Compaction
 pub mod inside

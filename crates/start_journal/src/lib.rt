@@ -18,6 +18,7 @@ mod right_prefix;
 mod slot;
 mod stage;
 mod stages;
+mod take_marks;
 mod text;
 
 pub use compaction::COMPACTION_SLOTS;
@@ -35,3 +36,5 @@ pub use mark::Mark;
 pub use names::journal_name;
 pub use slot::{SLOT, mark_text, read_mark};
 pub use stage::Stage;
+pub use take_marks::{Taken, TakenMark, take};
+pub use text::journal_text;

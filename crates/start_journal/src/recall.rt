@@ -80,7 +80,12 @@ fn put(marks: &mut Vec<Mark>, stages: &mut Stages, mark: Mark) -> Result<(), All
 
 // The mark of a slot after marks with these stages and after free slots, `None` where its gate is
 // closed, or the place in the slot where it breaks the form of a journal.
-fn next(stages: &Stages, free: u64, slot: &[u8; SLOT], last: u32) -> Result<Option<Mark>, usize>
+pub(crate) fn next(
+    stages: &Stages,
+    free: u64,
+    slot: &[u8; SLOT],
+    last: u32,
+) -> Result<Option<Mark>, usize>
     ensures few { IfErr result (λ place. place ≤ 32) }
     ensures legal { (marks : List Mark) → TellStages marks stages.now
         → IfOk result (λ found. IfSome found (IsLegalAfter marks)) }

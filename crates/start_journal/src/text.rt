@@ -6,8 +6,8 @@ use crate::slot::SLOT;
 use crate::{Mark, mark_text};
 use std::alloc::{AllocError, Global};
 
-// The slots of these marks, and so many free slots after them.
-pub(crate) fn journal_text(alloc: Global, marks: &[Mark], free: u64) -> Result<Vec<u8>, AllocError>
+/// The journal of these marks: their slots, and so many free slots after them.
+pub fn journal_text(alloc: Global, marks: &[Mark], free: u64) -> Result<Vec<u8>, AllocError>
     requires { AreWritable marks.now }
     ensures { IfOk result (λ text. SpellsJournal text.items marks.now free) }
 {

@@ -1,6 +1,8 @@
 pub mod ApartLemmas
 pub mod AttemptLemmas
+pub mod CutOffLemmas
 pub mod WithoutScriptsLemmas
+pub mod GoodLemmas
 pub mod HandsLemmas
 pub mod MadeLemmas
 pub mod RunLemmas

@@ -3,6 +3,7 @@ pub mod WithoutScripts
 pub mod Calls
 pub mod Codes
 pub mod Current
+pub mod Good
 pub mod Hands
 pub mod Laws
 pub mod Made

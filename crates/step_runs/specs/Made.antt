@@ -14,7 +14,7 @@ use Rattle.spool_model.specs.declared.job.Job.{Job}
 use Rattle.spool_model.specs.declared.step.Step.{Step}
 use Rattle.spool_model.specs.declared.step.Step.TheVariants.{Start}
 use Rattle.spool_model.specs.JobTable.{JobState, JobTable, entry_at}
-use Rattle.spool_model.specs.Steps.{AreLegal, after_steps}
+use Rattle.spool_model.specs.Steps.{AreLegal, IsPrefix, after_steps}
 use Rattle.spool_shows.specs.Shown.{Shows}
 use Rattle.step_runs.specs.Calls.{KeepsOthers}
 use Rattle.step_runs.specs.Current.{IsCurrent, Kept}
@@ -49,6 +49,19 @@ pub record AreStopped (table : JobTable) (steps next : List Step) (given : List 
   pub hands : Hands table steps given
   pub prefixes : HandsPrefixes old new
   pub asked : new.asked ≡ old.asked ++ questions
+
+-- the image shows the table after the steps and a prefix of the next ones
+pub record ShowsAfterPrefix (table : JobTable) (steps next : List Step) (image : Files) : Type 0 where
+  pub prefix : List Step
+  pub is_prefix : IsPrefix prefix next
+  pub shows : Shows image (after_steps table (steps ++ prefix))
+
+-- The steps were made, and then a call was cut off that makes the next ones, however many: each image shows the table
+-- after a prefix of these.
+pub record AreCutOff (table : JobTable) (steps next : List Step) (old new : World) : Type 0 where
+  pub legal : AreLegal table (steps ++ next)
+  pub run : Runs table (steps ++ next) old new
+  pub ends : (image : Files) → IsImage new.now.folder image → ShowsAfterPrefix table steps next image
 
 -- whether a child came of each script that was handed over
 abbrev pub flags_of : List Handed → List Bool

@@ -16,7 +16,7 @@ use Rattle.step_runs.specs.Attempts.{IsAchieved, IsBegun}
 use Rattle.step_runs.specs.Calls.{IsSteppingOn, KeepsOthers, ShowsAsBefore}
 use Rattle.step_runs.specs.Current.{EachShows, IsCurrent, Kept}
 use Rattle.step_runs.specs.Hands.{StartNothing}
-use Rattle.step_runs.specs.Made.{AreMade, AreStopped, IsScriptFile, StartEnds}
+use Rattle.step_runs.specs.Made.{AreCutOff, AreMade, AreStopped, IsScriptFile, StartEnds}
 
 -- where what is kept is current, no steps were made
 abbrev pub NoStepsAreMade : Type 0
@@ -43,6 +43,13 @@ MadeStepsAreStopped = (table : JobTable) (steps : List Step) (given : List Hande
     (old new : World) →
     AreMade table steps given questions kept old new → AreStopped table steps [] given questions old new
 
+-- steps that were cut off after those that were made are cut off
+abbrev pub StepsAreCutOffAfter : Type 0
+StepsAreCutOffAfter = (table : JobTable) (first later next : List Step) (given : List Handed) (questions : List Asked)
+    (kept : Kept) (start middle end : World) →
+    AreMade table first given questions kept start middle → AreCutOff (after_steps table first) later next middle end →
+    AreCutOff table (first ++ later) next start end
+
 -- a call of the store that hands a current one back has made its steps, where they start nothing
 abbrev pub CallsMakeTheirSteps : Type 0
 CallsMakeTheirSteps = (table : JobTable) (steps : List Step) (kept : Kept) (old new : World) → AreLegal table steps →
@@ -55,6 +62,12 @@ abbrev pub CallsStopAtTheirStep : Type 0
 CallsStopAtTheirStep = (table : JobTable) (step : Step) (old new : World) → IsLegal table step →
     EachShows old.now.folder table → ChangesFiles (IsSteppingOn table (step ∷ []) old.now.folder) old new →
     AreStopped table [] (step ∷ []) [] [] old new
+
+-- a call of the store for any steps that start nothing, whatever comes of it, is cut off at them
+abbrev pub CallsAreCutOff : Type 0
+CallsAreCutOff = (table : JobTable) (steps : List Step) (old new : World) → AreLegal table steps → StartNothing steps →
+    EachShows old.now.folder table → ChangesFiles (IsSteppingOn table steps old.now.folder) old new →
+    AreCutOff table [] steps old new
 
 -- a start that the store made, and the call of the host after it to which its script is given
 abbrev pub StartsEnd : Type 0

@@ -1,5 +1,6 @@
 //! What holds of every table without its scripts and of every run of steps, each law as the contract of a
 //! function.
+ghost use Rattle.step_runs.specs.Good.{BegunAttemptsKeepGood, RecoveriesKeepGood, RunsKeepGood, StoreCallsKeepGood, UnbegunAttemptsKeepGood};
 ghost use Rattle.step_runs.specs.Laws.{CallsAreRuns, EntriesAreWithoutScripts, PrefixesRunAsTheSteps, LegalAsOnTheTable, ListsAsOnTheTable, ListsLegalAsOnTheTable, ListsStepAsOnTheTable, OneStepIsARun, RecoveriesBeginNothing, RunsAfterRecoveries, RunsGoOn, RunsGoThrough, ScriptsAreGone, StepsAsOnTheTable};
 
 /// A step on a table without its scripts is that step on the table.
@@ -30,4 +31,14 @@ pub fn calls_are_runs()
 pub fn runs_stand_after_recoveries()
     ensures alone { RecoveriesBeginNothing }
     ensures begun { RunsAfterRecoveries }
+{}
+
+/// A folder of which each image shows a table comes to show no damage, at no moment: not by a recovery, a call of the
+/// store, a run of steps, or an attempt at them, as commands and turns make it, whatever comes of these.
+pub fn good_folders_stay_good()
+    ensures recoveries { RecoveriesKeepGood }
+    ensures calls { StoreCallsKeepGood }
+    ensures runs { RunsKeepGood }
+    ensures unbegun { UnbegunAttemptsKeepGood }
+    ensures begun { BegunAttemptsKeepGood }
 {}

@@ -8,16 +8,18 @@
 //! 4. `Hands`: what steps hand over, the script of each start
 //! 5. `Runs`: what a crash leaves at each moment of steps, and what was handed over by then
 //! 6. `Attempts`: a recovery, and then a run (`Attempts`, `Achieves`)
-//! 7. `Made`: calls one after another, made to their end or stopped (`AreMade`, `AreStopped`)
-//! 8. `MadeLaws` and `Laws`: how these join
+//! 7. `Made`: calls one after another, made to their end, or stopped, or cut off (`AreMade`, `AreStopped`, `AreCutOff`)
+//! 8. `MadeLaws` and `Laws`: how these join; `Good`: that none of them brings a damage
 #![tactic(auto)]
 
 mod laws;
 mod made;
 
 pub use laws::{
-    calls_are_runs, runs_go_on, runs_stand_after_recoveries, tables_without_scripts_step_alike,
+    calls_are_runs, good_folders_stay_good, runs_go_on, runs_stand_after_recoveries,
+    tables_without_scripts_step_alike,
 };
 pub use made::{
-    calls_make_steps, made_steps_are_attempts, questions_make_no_step, starts_end, steps_join,
+    calls_are_cut_off, calls_make_steps, made_steps_are_attempts, questions_make_no_step,
+    starts_end, steps_join,
 };

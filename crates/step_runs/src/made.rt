@@ -1,5 +1,5 @@
 //! How calls that make steps join, each law as the contract of a function.
-ghost use Rattle.step_runs.specs.MadeLaws.{CallsMakeTheirSteps, CallsStopAtTheirStep, MadeStepsAreAchieved, MadeStepsAreStopped, NoStepsAreMade, QuestionsMakeNoStep, StartsEnd, StepsAreMadeAfter, StepsAreStoppedAfter, StoppedStepsAreBegun};
+ghost use Rattle.step_runs.specs.MadeLaws.{CallsAreCutOff, CallsMakeTheirSteps, CallsStopAtTheirStep, MadeStepsAreAchieved, MadeStepsAreStopped, NoStepsAreMade, QuestionsMakeNoStep, StartsEnd, StepsAreCutOffAfter, StepsAreMadeAfter, StepsAreStoppedAfter, StoppedStepsAreBegun};
 
 /// Steps that were made one part after another are made, and where a later part was stopped, all are.
 pub fn steps_join()
@@ -14,6 +14,12 @@ pub fn steps_join()
 pub fn calls_make_steps()
     ensures made { CallsMakeTheirSteps }
     ensures stopped { CallsStopAtTheirStep }
+{}
+
+/// A call of the store that makes more than one step, and was cut off, leaves a prefix of them after those made before.
+pub fn calls_are_cut_off()
+    ensures cut_off { CallsAreCutOff }
+    ensures later { StepsAreCutOffAfter }
 {}
 
 /// A start that the store made is followed by the host's call that takes its script.

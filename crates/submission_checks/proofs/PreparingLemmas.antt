@@ -6,7 +6,7 @@ use Rattle.at_words.specs.declared.when.When.{When}
 use Rattle.civil_minute.specs.declared.zone.Zone.{Zone}
 use Rattle.clock_range.specs.ClockRange.{is_clock_second}
 use Rattle.host_calls.specs.Clock.{Answers, with_now}
-use Rattle.host_calls.specs.Inputs.{Contents}
+use Rattle.host_calls.specs.Inputs.{Contents, AreReadAtMostOnce, AreReadOnce, Sources}
 use Rattle.job_script.specs.Check.{IsFit, Written, first_fault}
 use Rattle.job_script.specs.declared.checks.TheConstants.{MAX_ENVIRONMENT}
 use Rattle.job_script.specs.declared.writer.TheConstants.{MAX_COMMANDS}
@@ -15,7 +15,7 @@ use Rattle.job_script.specs.Variables.{lines_length}
 use Rattle.job_script.specs.declared.fault.ScriptFault.{ScriptFault}
 use Rattle.job_script.specs.declared.fault.ScriptFault.TheVariants as script
 use Rattle.listing_text.specs.declared.cause.Cause.{Cause}
-use Rattle.listing_text.specs.declared.cause.Cause.TheVariants.{Done, Refused, FileFault, InputFault, OutputFault, Busy, Memory, Damaged, StillRunning}
+use Rattle.listing_text.specs.declared.cause.Cause.TheVariants.{Done, Refused, FileFault, InputFault, OutputFault, Busy, Memory, Damaged, StillRunning, Faulty}
 use Rattle.listing_text.specs.declared.refusal.Refusal.{Refusal}
 use Rattle.listing_text.specs.declared.refusal.Refusal.TheVariants.{BadClock, BadZone, TooLong}
 use Rattle.command_rules.specs.declared.caller.Caller.{Caller}
@@ -204,6 +204,7 @@ module _ (readings_tell inputs_tell : Bool) (caller : Caller) (mail : Bool) (fil
         meant_stops Busy none = absurd none
         meant_stops (Damaged damage) none = absurd none
         meant_stops StillRunning none = absurd none
+        meant_stops Faulty none = absurd none
 
         -- at the second now as the call had it
         pub meant_stops_at : (given : ℤ) (cause : Cause) → given ≡ now → MeansNone (IsTimeOf when given caller.zone) cause →
@@ -243,6 +244,7 @@ module _ (readings_tell inputs_tell : Bool) (caller : Caller) (mail : Bool) (fil
           input_stops Busy of_input_fault = absurd of_input_fault
           input_stops (Damaged damage) of_input_fault = absurd of_input_fault
           input_stops StillRunning of_input_fault = absurd of_input_fault
+          input_stops Faulty of_input_fault = absurd of_input_fault
 
           module _ (commands : List ℕ) (read : inputs_tell ≡ true → AreRead file contents commands) where
             -- there are too many bytes of commands
@@ -305,3 +307,10 @@ module _ (readings_tell inputs_tell : Bool) (caller : Caller) (mail : Bool) (fil
                     script_is = same_script;
                   };
                 }
+
+-- inputs that were not read, and inputs that were read once, were read once at most
+pub unread : (at : Sources) → AreReadAtMostOnce at at
+unread at = record { made_as = refl; reads = inl refl }
+
+pub read_once : (old new : Sources) → AreReadOnce old new → AreReadAtMostOnce old new
+read_once old new once = record { made_as = once.made_as; reads = inr once.reads }

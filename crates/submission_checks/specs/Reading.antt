@@ -1,6 +1,6 @@
 -- Why the commands of a submission could not be read (own).
 use Rattle.listing_text.specs.declared.cause.Cause.{Cause}
-use Rattle.listing_text.specs.declared.cause.Cause.TheVariants.{Done, Refused, FileFault, InputFault, OutputFault, Busy, Memory, Damaged, StillRunning}
+use Rattle.listing_text.specs.declared.cause.Cause.TheVariants.{Done, Refused, FileFault, InputFault, OutputFault, Busy, Memory, Damaged, StillRunning, Faulty}
 use Rattle.command_rules.specs.declared.command_error.CommandError.{CommandError}
 
 -- the inputs failed, or there was no memory
@@ -14,6 +14,7 @@ IsOfInput OutputFault = ⊥
 IsOfInput Busy = ⊥
 IsOfInput (Damaged damage) = ⊥
 IsOfInput StillRunning = ⊥
+IsOfInput Faulty = ⊥
 
 -- the command was stopped by one of these
 abbrev pub ComesOfReading : CommandError → Type 0

@@ -3,7 +3,7 @@ use Rattle.std.specs.Prelude.{◌≡◌, ◌⊎◌, ℕ, Result, Ok, Err}
 use Rattle.civil_minute.specs.declared.fault.DateFault.{DateFault}
 use Rattle.civil_minute.specs.declared.fault.DateFault.TheVariants as date
 use Rattle.listing_text.specs.declared.cause.Cause.{Cause}
-use Rattle.listing_text.specs.declared.cause.Cause.TheVariants.{Done, Refused, FileFault, InputFault, OutputFault, Busy, Memory, Damaged, StillRunning}
+use Rattle.listing_text.specs.declared.cause.Cause.TheVariants.{Done, Refused, FileFault, InputFault, OutputFault, Busy, Memory, Damaged, StillRunning, Faulty}
 use Rattle.listing_text.specs.declared.refusal.Refusal.{Refusal}
 use Rattle.listing_text.specs.declared.refusal.Refusal.TheVariants.{NoSuchDay, OutOfRange, Past}
 use Rattle.command_rules.specs.declared.command_error.CommandError.{CommandError}
@@ -27,6 +27,7 @@ MeansNone IsTime OutputFault = ⊥
 MeansNone IsTime Busy = ⊥
 MeansNone IsTime (Damaged damage) = ⊥
 MeansNone IsTime StillRunning = ⊥
+MeansNone IsTime Faulty = ⊥
 
 -- the answer is the one time
 abbrev pub Means : (Result ℕ Refusal → Type 0) → Result ℕ CommandError → Type 0

@@ -1,6 +1,7 @@
 //! The commands of a submission.
 ghost use Rattle.std.specs.Prelude.{◌≡◌, IfErr, IfOk, IsTrue, option_copied, option_map};
 ghost use Rattle.host_calls.specs.Causes.{HasCause};
+ghost use Rattle.host_calls.specs.Inputs.{AreReadOnce};
 ghost use Rattle.listing_text.specs.declared.cause.Cause.TheVariants as cause;
 ghost use Rattle.command_rules.specs.Causes.{error_of};
 ghost use Rattle.command_rules.specs.Found.{AreRead};
@@ -18,7 +19,7 @@ pub(crate) fn read_commands<I: Inputs>(
     inputs: &mut I,
 ) -> Result<Bytes, CommandError>
     ensures contents { I.contents inputs.new ≡ I.contents inputs.old }
-    ensures made_as { (I.sources inputs.new).made_as ≡ (I.sources inputs.old).made_as }
+    ensures once { AreReadOnce (I.sources inputs.old) (I.sources inputs.new) }
     ensures cause { HasCause (error_of cause.InputFault)
         (I.sources inputs.old).input_faults (I.sources inputs.new).input_faults result }
     ensures comes { IfErr result ComesOfReading }

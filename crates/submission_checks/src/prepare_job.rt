@@ -1,6 +1,7 @@
 //! The checks of a submission before the spool is entered, in their order.
 ghost use Rattle.std.specs.Prelude.{◌≡◌, ◌<◌, option_copied};
 ghost use Rattle.host_calls.specs.Causes.{HasCause};
+ghost use Rattle.host_calls.specs.Inputs.{AreReadAtMostOnce};
 ghost use Rattle.listing_text.specs.declared.cause.Cause.TheVariants as cause;
 ghost use Rattle.command_rules.specs.Causes.{error_of};
 ghost use Rattle.command_rules.specs.Verdict.{is_unreadable};
@@ -32,7 +33,7 @@ pub fn prepare<R: Readings, I: Inputs>(
     requires umask { caller.now.context.umask < 512 }
     ensures readers { R.readers readings.new ≡ R.readers readings.old }
     ensures contents { I.contents inputs.new ≡ I.contents inputs.old }
-    ensures made_as { (I.sources inputs.new).made_as ≡ (I.sources inputs.old).made_as }
+    ensures at_most_once { AreReadAtMostOnce (I.sources inputs.old) (I.sources inputs.new) }
     ensures cause { HasCause (error_of cause.InputFault)
         (I.sources inputs.old).input_faults (I.sources inputs.new).input_faults result }
     ensures prepares { Prepares R.tells I.tells caller.now mail (option_copied file.entry) when.now

@@ -1,5 +1,5 @@
 //! Numbers of the formats, as they are written there.
-use hex_digits::{digit_of, read, write};
+use hex_digits::{digit_of, digits_of, read, write};
 
 #[test]
 fn numbers_and_their_digits(rt: HostRuntime) {
@@ -24,4 +24,12 @@ fn digits_are_written_with_leading_zeros(rt: HostRuntime) {
     assert_eq!(rt; out, *b"01b968a0");
     assert_eq!(rt; digit_of(b'/'), None);
     assert_eq!(rt; digit_of(b'`'), None);
+}
+
+#[test]
+fn eight_digits_of_a_number(rt: HostRuntime) {
+    assert_eq!(rt; digits_of(1), *b"00000001");
+    assert_eq!(rt; digits_of(28_961_790), *b"01b9ebfe");
+    assert_eq!(rt; digits_of(4_222_846_079), *b"fbb3847f");
+    assert_eq!(rt; digits_of(u32::MAX), *b"ffffffff");
 }

@@ -1,6 +1,7 @@
 //! Standard input, and files by their paths.
 ghost use Rattle.std.specs.Prelude.{◌≡◌, ◌≤◌, [], false, IfOk, IsErrOf, length};
 ghost use Rattle.host_calls.specs.Causes.{HasCause};
+ghost use Rattle.host_calls.specs.Inputs.{after_read};
 ghost use Rattle.unix_host.specs.Unknown.{unknown_contents};
 
 use crate::prefix::prefix;
@@ -12,16 +13,19 @@ use std::fs::{File, Files};
 #[derive(Drop)]
 pub struct UnixInputs<R: Files<File = File> + Input + Drop> {
     rt: R,
+    pub(crate) reads: u64,
     pub(crate) input_faults: u64,
 }
 
 impl<R: Files<File = File> + Input + Drop> UnixInputs<R> {
     /// The standard input and the files of this runtime.
     pub fn make(rt: R) -> UnixInputs<R>
-        ensures { result.input_faults ≡ 0 }
+        ensures reads { result.reads ≡ 0 }
+        ensures input_faults { result.input_faults ≡ 0 }
     {
         UnixInputs {
             rt,
+            reads: 0,
             input_faults: 0,
         }
     }
@@ -32,22 +36,26 @@ impl<R: Files<File = File> + Input + Drop> Inputs for UnixInputs<R> {
 
     ghost contents = { λ _. unknown_contents };
 
-    ghost sources = { λ own. record { made_as = []; input_faults = own.input_faults } };
+    ghost sources = { λ own. record { made_as = []; reads = own.reads; input_faults = own.input_faults } };
 
     fn standard(&mut self, alloc: Global, most: usize) -> Result<Bytes, InputFault>
         ensures few { IfOk result (λ bytes. length bytes ≤ most) }
+        ensures reads { self.new.reads ≡ after_read self.old.reads }
         ensures cause { HasCause InputFault.Failed self.old.input_faults self.new.input_faults result }
         ensures counts { ¬ (IsErrOf result InputFault.Failed) → self.new.input_faults ≡ self.old.input_faults }
     {
+        self.reads = self.reads.saturating_add(1);
         let answer = prefix(alloc, &mut self.rt.reader(), most);
         counted(&mut self.input_faults, answer)
     }
 
     fn file(&mut self, alloc: Global, path: &str, most: usize) -> Result<Bytes, InputFault>
         ensures few { IfOk result (λ bytes. length bytes ≤ most) }
+        ensures reads { self.new.reads ≡ after_read self.old.reads }
         ensures cause { HasCause InputFault.Failed self.old.input_faults self.new.input_faults result }
         ensures counts { ¬ (IsErrOf result InputFault.Failed) → self.new.input_faults ≡ self.old.input_faults }
     {
+        self.reads = self.reads.saturating_add(1);
         let answer = match File::open(&self.rt, path) {
             Ok(mut file) => prefix(alloc, &mut file, most),
             Err(_) => Err(InputFault::Failed),

@@ -24,6 +24,7 @@ mod readings;
 mod synced;
 mod torn;
 mod unsynced;
+mod untold;
 
 pub use err::UnixErr;
 pub use host::UnixHost;

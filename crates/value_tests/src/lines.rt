@@ -2,8 +2,8 @@
 use civil_minute::CivilMinute;
 use host_calls::{Damage, Ending, Name};
 use listing_text::{
-    Cause, Refusal, Status, TurnStepText, accepted_line, cause_line, date_text, queue_line,
-    turn_line,
+    Cause, Refusal, Status, TurnStepText, accepted_line, cause_line, date_text, fault_line,
+    queue_line, turn_line,
 };
 use spool_model::{Row, State, UserName};
 use std::test::Fail;
@@ -148,6 +148,9 @@ fn each_refusal_has_its_text(rt: HostRuntime) -> Result<(), Fail> {
         (Refusal::NotYours(2), "at: job 2 is not yours\n"),
         (Refusal::RunningJob(2), "at: job 2 is running\n"),
         (Refusal::BadClock, "at: bad clock\n"),
+        (Refusal::BadCrontab(12), "at: bad crontab at line 12\n"),
+        (Refusal::AccountsFull, "at: accounts full\n"),
+        (Refusal::TargetNotEmpty, "at: target not empty\n"),
     ] {
         let status = Status::of(Cause::Refused(refusal));
         assert_eq!(rt; status.code, 1);
@@ -175,10 +178,15 @@ fn each_cause_has_its_status_and_line(rt: HostRuntime) -> Result<(), Fail> {
         (Cause::Memory, 6, "atq: out of memory\n"),
         (Cause::Damaged(damage), 7, "atq: .SEQ damaged at 4\n"),
         (Cause::StillRunning, 8, "atq: jobs still running\n"),
+        (Cause::Faulty, 9, "atq: spool has faults\n"),
     ] {
         assert_eq!(rt; Status::of(cause).code, code, "{line}");
         let text = cause_line(rt.alloc(), "atq", &cause)?;
         assert_eq!(rt; text.as_slice(), line.as_bytes(), "{line}");
     }
+    assert_eq!(rt;
+        fault_line(rt.alloc(), &damage)?.as_slice(),
+        b".SEQ damaged at 4\n".as_slice()
+    );
     Ok(())
 }

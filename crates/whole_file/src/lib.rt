@@ -9,4 +9,4 @@ mod whole_content;
 pub use clear_file::clear;
 pub use place_file::place;
 pub use temporary::temporary_name;
-pub use whole_content::content;
+pub use whole_content::{content, whole};

@@ -1,5 +1,5 @@
 //! Reading a file whole.
-ghost use Rattle.std.specs.Prelude.{◌≡◌, IfOk, IsTrue};
+ghost use Rattle.std.specs.Prelude.{◌≡◌, IfOk, IsSome, IsTrue, Some};
 ghost use Rattle.std.specs.FinMap as map;
 ghost use Rattle.host_calls.specs.Session.{CallsInside, IsInside};
 ghost use Rattle.host_calls.specs.World.{reading};
@@ -24,7 +24,19 @@ pub fn content<H: Host>(
     if !names.contains(name) {
         return Ok(None);
     }
+    Ok(Some(whole(alloc, host, name)?))
+}
+
+/// All bytes of the named file, which is there. The folder is not listed.
+pub fn whole<H: Host>(alloc: Global, host: &mut H, name: &Name) -> Result<Bytes, HostFault>
+    requires inside { IsInside (H.session host.old) }
+    requires held { IsTrue H.tells → IsSome (map.get (reading (H.world host.old)) name.now) }
+    ensures inside { CallsInside HostFault.Failed (H.session host.old) (H.session host.new) result }
+    ensures looks { IsTrue H.tells → H.world host.new ≡ H.world host.old }
+    ensures content { IsTrue H.tells
+        → IfOk result (λ bytes. map.get (reading (H.world host.old)) name.now ≡ Some bytes) }
+{
     let length = host.length(alloc, name)?;
     let bytes = host.read(alloc, name, 0, length as usize)?;
-    Ok(Some(Bytes::from(bytes)))
+    Ok(Bytes::from(bytes))
 }

@@ -3,7 +3,7 @@ use Rattle.std.specs.Prelude.{◌≡◌, ℕ, Bool, true, List, Result, Ok, Err}
 use Rattle.host_calls.specs.declared.fault.SinkFault.{SinkFault}
 use Rattle.host_calls.specs.declared.fault.SinkFault.TheVariants.{Failed, Memory as NoMemory}
 use Rattle.listing_text.specs.declared.cause.Cause.{Cause}
-use Rattle.listing_text.specs.declared.cause.Cause.TheVariants.{Done, Refused, FileFault, InputFault, OutputFault, Busy, Memory, Damaged, StillRunning}
+use Rattle.listing_text.specs.declared.cause.Cause.TheVariants.{Done, Refused, FileFault, InputFault, OutputFault, Busy, Memory, Damaged, StillRunning, Faulty}
 use Rattle.command_rules.specs.Sinks.{IsCut, IsSilent, PutsSome, SinkAt}
 
 -- the accepted line was put, by the answer of its put
@@ -23,3 +23,4 @@ Accepts tells IsLine old new InputFault = ⊥
 Accepts tells IsLine old new Busy = ⊥
 Accepts tells IsLine old new (Damaged damage) = ⊥
 Accepts tells IsLine old new StillRunning = ⊥
+Accepts tells IsLine old new Faulty = ⊥

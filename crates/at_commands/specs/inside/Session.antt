@@ -1,6 +1,6 @@
 -- Why the session of a command ended without being done (own).
 use Rattle.listing_text.specs.declared.cause.Cause.{Cause}
-use Rattle.listing_text.specs.declared.cause.Cause.TheVariants.{Done, Refused, FileFault, InputFault, OutputFault, Busy, Memory, Damaged, StillRunning}
+use Rattle.listing_text.specs.declared.cause.Cause.TheVariants.{Done, Refused, FileFault, InputFault, OutputFault, Busy, Memory, Damaged, StillRunning, Faulty}
 use Rattle.command_rules.specs.declared.command_error.CommandError.{CommandError}
 
 -- the output did not fail, nor did the inputs
@@ -14,6 +14,7 @@ IsOfSpool OutputFault = ⊥
 IsOfSpool Done = ⊥
 IsOfSpool InputFault = ⊥
 IsOfSpool StillRunning = ⊥
+IsOfSpool Faulty = ⊥
 
 -- the command was stopped by one of these
 abbrev pub IsNoOutput : CommandError → Type 0

@@ -1,5 +1,5 @@
 -- One mark more in the journal (own): when the store may add it, and what stands then.
-use Rattle.std.specs.Prelude.{◌≡◌, ◌⊎◌, ◌==◌, ◌||◌, ◌++◌, [], ◌∷◌, ℕ, Bool, List, true}
+use Rattle.std.specs.Prelude.{◌≡◌, ◌⊎◌, ◌++◌, [], ◌∷◌, ℕ, List, true}
 use Rattle.std.specs.FinMap as finite
 use Rattle.host_calls.specs.Folder.{Files, Folder, IsImage, reading_of}
 use Rattle.sequence_file.specs.Sequence.{sequence_file}
@@ -12,7 +12,6 @@ use Rattle.start_journal.specs.declared.mark.Mark.{Mark}
 use Rattle.start_journal.specs.Changing.{HoldsJournal}
 use Rattle.start_journal.specs.Journals.{JournalRead, journal_file}
 use Rattle.start_journal.specs.Marks.{decides, kept_marks}
-use Rattle.start_journal.specs.Compaction.{wants_compaction}
 use Rattle.whole_file.specs.Others.{IsEither}
 use Rattle.step_runs.specs.WithoutScripts.{without_scripts}
 use Rattle.step_runs.specs.Current.{EachShows, HasNoDecidedFile, IsCurrent, Kept}
@@ -21,10 +20,6 @@ use Rattle.spool_store.specs.Scripts.{IsFileOf}
 -- what is kept of a table: the table without scripts, the journal, and the numbers of names in the old form
 abbrev pub kept_with : List ℕ → JournalRead → JobTable → Kept
 kept_with old_form journal table = record { table = without_scripts table; journal = journal; old_form = old_form }
-
--- no slot is free, or the journal wants compaction: then it is compacted before a mark is added
-abbrev pub needs_room : JournalRead → Bool
-needs_room journal = journal.free == 0 || wants_compaction journal.marks
 
 -- the mark is that of a legal step on the table that the folder shows
 pub record IsMarkOf (old_form : List ℕ) (journal : JournalRead) (folder : Folder) (table : JobTable) (step : Step)

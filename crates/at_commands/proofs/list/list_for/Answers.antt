@@ -2,7 +2,7 @@ use Rattle.std.proofs.Common.{◌∙◌, List, rules, subst, sym, ℕ}
 use Rattle.at_words.specs.declared.tool_request.ToolRequest.TheVariants as request
 use Rattle.command_rules.specs.Sinks.{sink_at}
 use Rattle.at_commands.specs.inside.Printing.{PutsWhole}
-use Rattle.at_commands.proofs.AnswerLemmas.{listing_put, listing_stopped, listing_unzoned, puts_no_busy, puts_no_file_fault, puts_no_input_fault}
+use Rattle.at_commands.proofs.AnswerLemmas.{listing_put, listing_stopped, listing_unzoned, puts_after_lock, puts_no_busy, puts_no_file_fault, puts_no_input_fault}
 use Rattle.at_commands.proofs.InSessionLemmas.{lists_of_session, no_output_of_session}
 use Rattle.at_commands.proofs.SessionLemmas.{no_input_of_spool, no_output_of_spool, quiet_none, risen_none}
 use Rattle.at_commands.proofs.UserLemmas.{zone_readable}
@@ -40,6 +40,7 @@ returns-in-Err-clause-ends g c =
 pub returns-in-Ok-clause-faults : goal.returns-in-Ok-clause-faults
 returns-in-Ok-clause-faults g c = risen_none g.H.Host _ _ c.put_whole.result
     (puts_no_file_fault _ _ _ _ c.put_whole.result c.put_whole.ensures.puts) (puts_no_busy _ _ _ _ c.put_whole.result c.put_whole.ensures.puts)
+    (λ stops. absurd (puts_after_lock _ _ _ _ c.put_whole.result c.put_whole.ensures.puts stops))
 
 pub returns-in-Ok-clause-no_input_fault : goal.returns-in-Ok-clause-no_input_fault
 returns-in-Ok-clause-no_input_fault g c = puts_no_input_fault _ _ _ _ c.put_whole.result c.put_whole.ensures.puts

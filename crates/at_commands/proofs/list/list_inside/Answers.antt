@@ -3,7 +3,7 @@ use Rattle.std.proofs.lemmas.Result.{err_from_is_err_and}
 use Rattle.at_words.specs.declared.tool_request.ToolRequest.TheVariants as request
 use Rattle.at_commands.proofs.AnswerLemmas.{listing_of, listing_unopened}
 use Rattle.at_commands.proofs.ForLemmas.{listing_refused}
-use Rattle.at_commands.proofs.SessionLemmas.{memory_comes, memory_no_output, not_opened_comes, not_opened_of_spool}
+use Rattle.at_commands.proofs.SessionLemmas.{filter_comes, memory_comes, memory_no_output, not_opened_comes, not_opened_of_spool}
 use Rattle.at_commands.proofs.list.list_inside.Goals as goal
 
 pub returns-in_err-store-clause-comes : goal.returns-in_err-store-clause-comes
@@ -24,7 +24,7 @@ returns-in_err-store-clause-lists g c = λ caller same same_zone.
     c.args.user.now c.in_err-store.field-0.0.cause same c.in_err-store.ensures.not_opened)
 
 pub returns-in-Some-clause-comes : goal.returns-in-Some-clause-comes
-returns-in-Some-clause-comes g c = rw c.refused.ensures tt
+returns-in-Some-clause-comes g c = rw c.refused.ensures (filter_comes c.args.user.now c.in_ok-store.store.table c.args.which.now c.in-Some.refusal c.in-Some.ensures)
 
 pub returns-in-Some-clause-no_output : goal.returns-in-Some-clause-no_output
 returns-in-Some-clause-no_output g c = rw c.refused.ensures tt

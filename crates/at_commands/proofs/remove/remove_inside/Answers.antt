@@ -1,11 +1,11 @@
-use Rattle.std.proofs.Common.{sym, refl}
+use Rattle.std.proofs.Common.{sym, refl, true}
 use Rattle.std.proofs.lemmas.Result.{err_from_is_err_and}
 use Rattle.at_words.specs.declared.tool_request.ToolRequest.TheVariants as request
 use Rattle.command_rules.specs.Causes.{cause_in}
 use Rattle.command_rules.proofs.SpoolLemmas.{goes_on_then}
 use Rattle.at_commands.proofs.ForLemmas.{carries_unopened, removal_by, removal_comes, removal_refused}
 use Rattle.at_commands.proofs.JobsLemmas.{removal_allowed}
-use Rattle.at_commands.proofs.SessionLemmas.{not_opened_comes, not_opened_of_spool, removing_comes, removing_no_output}
+use Rattle.at_commands.proofs.SessionLemmas.{jobs_come, not_opened_comes, not_opened_of_spool, removing_comes, removing_no_output}
 use Rattle.at_commands.proofs.remove.remove_inside.Goals as goal
 
 pub returns-in_err-store-clause-comes : goal.returns-in_err-store-clause-comes
@@ -26,7 +26,7 @@ returns-in_err-store-clause-carries g c = λ caller same.
     c.args.user.now c.in_err-store.field-0.0.cause same c.in_err-store.ensures.not_opened)
 
 pub returns-in-Some-clause-comes : goal.returns-in-Some-clause-comes
-returns-in-Some-clause-comes g c = rw c.refused.ensures tt
+returns-in-Some-clause-comes g c = rw c.refused.ensures (jobs_come c.args.user.now true c.in_ok-store.store.table c.args.numbers.now c.in-Some.refusal c.in-Some.ensures)
 
 pub returns-in-Some-clause-no_output : goal.returns-in-Some-clause-no_output
 returns-in-Some-clause-no_output g c = rw c.refused.ensures tt

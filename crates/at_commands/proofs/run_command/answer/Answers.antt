@@ -2,7 +2,7 @@ use Rattle.std.specs.Prelude.{Ok}
 use Rattle.std.proofs.Common.{◌∙◌, refl}
 use Rattle.command_rules.specs.Ends.{holding, telling}
 use Rattle.command_rules.specs.Sinks.{sink_at}
-use Rattle.at_commands.proofs.CommandLemmas.{cause_had, ends_not_running, fails_later, memory_busy, memory_file_fault, memory_input_fault, memory_output_fault}
+use Rattle.at_commands.proofs.CommandLemmas.{cause_had, ends_not_running, fails_later, memory_busy, memory_file_fault, memory_input_fault, memory_output_fault, stops_had}
 use Rattle.at_commands.proofs.EndsLemmas.{ends_said}
 use Rattle.at_commands.proofs.run_command.answer.Goals as goal
 
@@ -40,6 +40,7 @@ returns-clause-ends g c =
       not_running = ends_not_running _ _ _ _ _ _ _ ends;
       readers = ended.readers;
       unasked = λ fault is. (cc);
+      before_lock = λ stops. ended.before_lock (stops_had c.say_cause.result c.carry_out-cause.result c.say_cause.ensures.same_or_memory stops);
     })
 
 pub returns-clause-made : goal.returns-clause-made

@@ -2,7 +2,7 @@ use Rattle.std.proofs.Common.{ap, refl}
 use Rattle.command_rules.specs.Ends.{holding, telling}
 use Rattle.command_rules.specs.Sinks.{sink_at}
 use Rattle.host_calls.specs.Clock.{Readers}
-use Rattle.at_commands.proofs.CommandLemmas.{ends_not_running, make_ends}
+use Rattle.at_commands.proofs.CommandLemmas.{ends_not_running, make_ends, read_never}
 use Rattle.at_commands.proofs.SessionLemmas.{quiet_none}
 use Rattle.at_commands.proofs.run_command.carry_out.Goals as goal
 
@@ -27,13 +27,14 @@ returns-in-Submit-clause-ends g c =
       not_running = ends_not_running _ _ _ _ _ _ _ ends;
       readers = c.submit.ensures.readers;
       unasked = λ fault is. (cc);
+      before_lock = c.submit.ensures.faults.before_lock;
     })
 
 pub returns-in-Submit-clause-made : goal.returns-in-Submit-clause-made
 returns-in-Submit-clause-made g c = rw c.in-Submit.is (record {
   readers = ap (λ (of : Readers). of.made_as) c.submit.ensures.readers;
   contents = c.submit.ensures.contents;
-  inputs = c.submit.ensures.input_made;
+  inputs = c.submit.ensures.input_read;
   out = refl;
   err = c.submit.ensures.errors_made;
   unread = λ other. (cc);
@@ -58,10 +59,11 @@ returns-in-List-clause-ends g c =
       not_running = ends_not_running _ _ _ _ _ _ _ ends;
       readers = refl;
       unasked = λ fault is. (cc);
+      before_lock = c.list.ensures.faults.before_lock;
     })
 
 pub returns-in-List-clause-made : goal.returns-in-List-clause-made
-returns-in-List-clause-made g c = record { readers = refl; contents = refl; inputs = refl; out = c.list.ensures.made_as; err = refl; unread = λ other. refl }
+returns-in-List-clause-made g c = record { readers = refl; contents = refl; inputs = read_never _; out = c.list.ensures.made_as; err = refl; unread = λ other. refl }
 
 pub returns-in-Remove-clause-faults : goal.returns-in-Remove-clause-faults
 returns-in-Remove-clause-faults g c = rw c.in-Remove.is (record {
@@ -83,10 +85,11 @@ returns-in-Remove-clause-ends g c =
       not_running = ends_not_running _ _ _ _ _ _ _ ends;
       readers = refl;
       unasked = λ fault is. (cc);
+      before_lock = c.remove.ensures.faults.before_lock;
     })
 
 pub returns-in-Remove-clause-made : goal.returns-in-Remove-clause-made
-returns-in-Remove-clause-made g c = record { readers = refl; contents = refl; inputs = refl; out = refl; err = refl; unread = λ other. refl }
+returns-in-Remove-clause-made g c = record { readers = refl; contents = refl; inputs = read_never _; out = refl; err = refl; unread = λ other. refl }
 
 pub returns-in-Show-clause-faults : goal.returns-in-Show-clause-faults
 returns-in-Show-clause-faults g c = rw c.in-Show.is (record {
@@ -107,10 +110,11 @@ returns-in-Show-clause-ends g c =
       not_running = ends_not_running _ _ _ _ _ _ _ ends;
       readers = refl;
       unasked = λ fault is. (cc);
+      before_lock = c.show.ensures.faults.before_lock;
     })
 
 pub returns-in-Show-clause-made : goal.returns-in-Show-clause-made
-returns-in-Show-clause-made g c = record { readers = refl; contents = refl; inputs = refl; out = c.show.ensures.made_as; err = refl; unread = λ other. refl }
+returns-in-Show-clause-made g c = record { readers = refl; contents = refl; inputs = read_never _; out = c.show.ensures.made_as; err = refl; unread = λ other. refl }
 
 pub unreachable-requires : goal.unreachable-requires
 unreachable-requires g c = rw c.in-Daemon.is at c.requires.tool
@@ -130,7 +134,8 @@ returns-in-Make-clause-ends g c =
       not_running = λ same. (cc);
       readers = refl;
       unasked = λ fault is. (cc);
+      before_lock = λ stops. refl;
     })
 
 pub returns-in-Make-clause-made : goal.returns-in-Make-clause-made
-returns-in-Make-clause-made g c = record { readers = refl; contents = refl; inputs = refl; out = refl; err = refl; unread = λ other. refl }
+returns-in-Make-clause-made g c = record { readers = refl; contents = refl; inputs = read_never _; out = refl; err = refl; unread = λ other. refl }

@@ -15,7 +15,7 @@ use Rattle.command_rules.specs.Causes.{words_cause}
 use Rattle.at_commands.specs.Tools.{tool_name_of}
 use Rattle.at_commands.proofs.AtdLemmas.{nothing_served, words_served}
 use Rattle.command_rules.proofs.SpoolLemmas.{goes_on_none}
-use Rattle.at_commands.proofs.CommandLemmas.{left_same, outside_left, words_end, words_not_running, words_risen}
+use Rattle.at_commands.proofs.CommandLemmas.{left_same, outside_left, words_end, words_not_running, words_risen, read_never}
 use Rattle.at_commands.proofs.EndsLemmas.{ends_said}
 use Rattle.at_commands.proofs.ServedLemmas.{daemon_named, has_turns}
 use Rattle.at_commands.proofs.run_command.command.Goals as goal
@@ -38,7 +38,7 @@ returns-in-Err-clause-faults g c = rw c.of.ensures
     (words_risen c.in-Err.fault c.say_cause.result (rw c.cause_of_words.ensures at c.say_cause.ensures.same_or_memory) _ _ _)
 
 pub returns-in-Err-clause-made : goal.returns-in-Err-clause-made
-returns-in-Err-clause-made g c = record { readers = refl; contents = refl; inputs = refl; out = refl; err = c.say_cause.ensures.made_as; unread = λ other. refl }
+returns-in-Err-clause-made g c = record { readers = refl; contents = refl; inputs = read_never _; out = refl; err = c.say_cause.ensures.made_as; unread = λ other. refl }
 
 pub returns-in-Err-clause-ends : goal.returns-in-Err-clause-ends
 returns-in-Err-clause-ends g c = rw c.of.ensures (λ unserved. record {
@@ -47,6 +47,7 @@ returns-in-Err-clause-ends g c = rw c.of.ensures (λ unserved. record {
   not_running = words_not_running c.in-Err.fault c.say_cause.result (rw c.cause_of_words.ensures at c.say_cause.ensures.same_or_memory);
   readers = refl;
   unasked = λ fault is. refl;
+  before_lock = λ stops. refl;
   ends = ends_said (tool_name_of (map string_bytes c.args.words.now)) (request_of (map string_bytes c.args.words.now)) c.args.caller.now
       (telling g.H.Host.tells g.H.Host.alone g.R.Readings.tells g.I.Inputs.tells g.O.Sink.tells g.E.Sink.tells)
       (holding (g.H.Host.world c.args.host.now) (g.R.Readings.answers c.args.readings.now) (g.I.Inputs.contents c.args.inputs.now)

@@ -1,4 +1,4 @@
-use Rattle.std.proofs.Common.{refl, sym}
+use Rattle.std.proofs.Common.{refl, sym, false}
 use Rattle.std.proofs.lemmas.Result.{err_from_is_err_and}
 use Rattle.at_words.specs.declared.tool_request.ToolRequest.TheVariants as request
 use Rattle.command_rules.specs.Sinks.{sink_at}
@@ -7,7 +7,7 @@ use Rattle.at_commands.proofs.AnswerLemmas.{showing_of, showing_unopened}
 use Rattle.at_commands.proofs.UnreadLemmas.{silent}
 use Rattle.at_commands.proofs.ForLemmas.{showing_refused}
 use Rattle.at_commands.proofs.JobsLemmas.{jobs_live_all}
-use Rattle.at_commands.proofs.SessionLemmas.{no_output_of_stopped, not_opened_comes, not_opened_of_spool, showing_comes}
+use Rattle.at_commands.proofs.SessionLemmas.{jobs_come, no_output_of_stopped, not_opened_comes, not_opened_of_spool, showing_comes}
 use Rattle.at_commands.proofs.show.show_inside.Goals as goal
 
 pub returns-in_err-store-clause-comes : goal.returns-in_err-store-clause-comes
@@ -29,7 +29,7 @@ returns-in_err-store-clause-shows g c = λ caller same.
     (sink_at (g.O.Sink.content c.args.out.now) (g.O.Sink.outlet c.args.out.now)) c.args.user.now c.in_err-store.field-0.0.cause same c.in_err-store.ensures.not_opened)
 
 pub returns-in-Some-clause-comes : goal.returns-in-Some-clause-comes
-returns-in-Some-clause-comes g c = rw c.refused.ensures tt
+returns-in-Some-clause-comes g c = rw c.refused.ensures (jobs_come c.args.user.now false c.in_ok-store.store.table c.args.numbers.now c.in-Some.refusal c.in-Some.ensures)
 
 pub returns-in-Some-clause-shows : goal.returns-in-Some-clause-shows
 returns-in-Some-clause-shows g c = λ caller same.

@@ -17,6 +17,7 @@ pub returns-in-Err-clause-faults : goal.returns-in-Err-clause-faults
 returns-in-Err-clause-faults g c = risen_none g.H.Host _ _ c.in-Err.stopped.cause
     (λ same. subst (λ (of : Cause). IsOfPreparing of) same c.in-Err.ensures.prepares.ends.comes)
     (λ same. subst (λ (of : Cause). IsOfPreparing of) same c.in-Err.ensures.prepares.ends.comes)
+    (λ stops. refl)
 
 pub returns-in-Err-clause-output_fault : goal.returns-in-Err-clause-output_fault
 returns-in-Err-clause-output_fault g c = λ same. absurd (subst (λ (of : Cause). IsOfPreparing of) same c.in-Err.ensures.prepares.ends.comes)

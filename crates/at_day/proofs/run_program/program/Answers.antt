@@ -1,4 +1,4 @@
-use Rattle.std.proofs.Common.{◌≡◌, ◌∙◌, [], true, false, map, refl, string_bytes, sym, append-nil, arith}
+use Rattle.std.proofs.Common.{◌≡◌, ◌∙◌, [], true, false, inl, map, refl, string_bytes, sym, append-nil, arith}
 use Rattle.std.specs.Prelude.{Bool}
 use Rattle.at_words.specs.Requests.{request_of}
 use Rattle.command_rules.proofs.SpoolLemmas.{goes_on_none}
@@ -53,6 +53,7 @@ returns-then-asks_for_day-clause-ends g c = λ unserved. record {
   ends = λ other. absurd (one_answer (asks_for_day (map string_bytes c.args.words.now)) (sym c.asks_for_day.ensures ∙ c.if-asks_for_day.true) other);
   readers = refl;
   unasked = λ fault is. refl;
+  before_lock = λ stops. refl;
 }
 
 pub returns-then-asks_for_day-clause-serves : goal.returns-then-asks_for_day-clause-serves
@@ -71,7 +72,7 @@ pub returns-then-asks_for_day-clause-made : goal.returns-then-asks_for_day-claus
 returns-then-asks_for_day-clause-made g c = record {
   readers = refl;
   contents = refl;
-  inputs = refl;
+  inputs = record { made_as = refl; reads = inl refl };
   out = c.answer_day.ensures.out_made;
   err = c.answer_day.ensures.errors_made;
   unread = λ other. refl;
@@ -83,4 +84,4 @@ returns-clause-day g c = λ is. absurd (one_answer (asks_for_day (map string_byt
 pub returns-clause-ends : goal.returns-clause-ends
 returns-clause-ends g c = λ unserved.
     let ends = c.command.ensures.ends unserved in
-    record { left = ends.left; quiet = ends.quiet; not_running = ends.not_running; ends = λ other. ends.ends; readers = ends.readers; unasked = ends.unasked }
+    record { left = ends.left; quiet = ends.quiet; not_running = ends.not_running; ends = λ other. ends.ends; readers = ends.readers; unasked = ends.unasked; before_lock = ends.before_lock }

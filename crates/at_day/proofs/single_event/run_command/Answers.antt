@@ -40,7 +40,7 @@ returns-clause-given c =
     (record {
       readers = (e.ends unserved).readers;
       contents = e.made.contents;
-      sources = e.made.inputs;
+      sources = e.made.inputs.made_as;
       printed_on = e.made.out;
       said_on = e.made.err;
     })

@@ -7,7 +7,7 @@ use Rattle.at_words.proofs.at.command.Goals as goal
 pub returns : goal.returns
 unfolding at_app
 returns c =
-    let mail = c.in_ok-mail.ensures ∙ ap (with (flag_rule (codes "mail") 109)) c.bare.ensures in
+    let mail = c.in_ok-mail.ensures ∙ ap (with (flag_rule (codes "mail") 109)) c.bare_command.ensures in
     let list = c.in_ok-list.ensures ∙ ap (with (flag_rule (codes "list") 108)) mail in
     let remove = c.in_ok-remove.ensures ∙ ap (with (flag_rule (codes "remove") 114)) list in
     let show = c.in_ok-show.ensures ∙ ap (with (flag_rule (codes "show") 99)) remove in

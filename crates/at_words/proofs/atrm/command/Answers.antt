@@ -7,4 +7,4 @@ use Rattle.at_words.proofs.atrm.command.Goals as goal
 pub returns : goal.returns
 unfolding atrm_app
 returns c =
-    made_with c.with_operands.result (app_of c.bare.result) atrm_app operands_rule c.with_operands.ensures (ap (with operands_rule) c.bare.ensures)
+    made_with c.with_operands.result (app_of c.bare_command.result) atrm_app operands_rule c.with_operands.ensures (ap (with operands_rule) c.bare_command.ensures)

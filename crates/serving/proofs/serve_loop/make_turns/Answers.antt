@@ -1,8 +1,9 @@
 use Rattle.std.proofs.Common.{refl, ◌∙◌, [], ◌∷◌, ◌++◌, length, ◌≡◌, ◌+◌, arith}
 use Rattle.command_rules.specs.Sinks.{sink_at}
+use Rattle.host_session.proofs.SessionLemmas.{counts_on, no_counts}
 use Rattle.serving.specs.Serves.{serve_at, serve_telling}
 use Rattle.serving.proofs.ProceedLemmas.{ended_made, nothing_served}
-use Rattle.serving.proofs.ServeLemmas.{children_same, children_then, counts_same, counts_then, one_longer}
+use Rattle.serving.proofs.ServeLemmas.{children_same, children_then, one_longer}
 use Rattle.serving.proofs.serve_loop.make_turns.Goals as goal
 
 pub loop-turn-init : goal.loop-turn-init
@@ -10,7 +11,7 @@ loop-turn-init g c = record {
   outside = c.requires.outside;
   children = c.requires.children;
   kept = children_same (g.H.Host.session c.args.host.now).children;
-  counts = counts_same (g.H.Host.session c.args.host.now);
+  counts = no_counts (g.H.Host.session c.args.host.now);
   readers_made = refl;
   out_made = refl;
   errors_made = refl;
@@ -33,7 +34,7 @@ loop-turn-preserved g c =
       outside = c.next_turn.ensures.outside;
       children = c.next_turn.ensures.children;
       kept = children_then _ _ _ c.loop-turn.invariant.kept c.next_turn.ensures.kept;
-      counts = counts_then _ _ _ c.loop-turn.invariant.counts c.next_turn.ensures.counts;
+      counts = counts_on _ _ _ c.loop-turn.invariant.counts c.next_turn.ensures.counts;
       readers_made = c.next_turn.ensures.readers_made ∙ c.loop-turn.invariant.readers_made;
       out_made = c.next_turn.ensures.out_made ∙ c.loop-turn.invariant.out_made;
       errors_made = c.next_turn.ensures.errors_made ∙ c.loop-turn.invariant.errors_made;
@@ -53,7 +54,7 @@ pub returns-in-Some-clause-kept : goal.returns-in-Some-clause-kept
 returns-in-Some-clause-kept g c = children_then _ _ _ c.loop-turn.invariant.kept c.next_turn.ensures.kept
 
 pub returns-in-Some-clause-counts : goal.returns-in-Some-clause-counts
-returns-in-Some-clause-counts g c = counts_then _ _ _ c.loop-turn.invariant.counts c.next_turn.ensures.counts
+returns-in-Some-clause-counts g c = counts_on _ _ _ c.loop-turn.invariant.counts c.next_turn.ensures.counts
 
 pub returns-in-Some-clause-readers_made : goal.returns-in-Some-clause-readers_made
 returns-in-Some-clause-readers_made g c = c.next_turn.ensures.readers_made ∙ c.loop-turn.invariant.readers_made

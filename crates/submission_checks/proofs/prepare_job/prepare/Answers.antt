@@ -3,7 +3,7 @@ use Rattle.std.proofs.lemmas.Int.{to_z-of_z}
 use Rattle.std.proofs.lemmas.Result.{err_from_is_err_and}
 use Rattle.host_calls.specs.declared.bytes.Bytes.{Bytes}
 use Rattle.submission_checks.proofs.ContextLemmas.{context_passes}
-use Rattle.submission_checks.proofs.PreparingLemmas.{clock_stops, context_stops, input_stops, meant_at, meant_stops_at, prepared, same_second, script_stops_at, zone_stops}
+use Rattle.submission_checks.proofs.PreparingLemmas.{clock_stops, context_stops, input_stops, meant_at, meant_stops_at, prepared, read_once, same_second, script_stops_at, unread, zone_stops}
 use Rattle.submission_checks.proofs.prepare_job.prepare.Goals as goal
 
 pub returns-in_err-check-clause-prepares : goal.returns-in_err-check-clause-prepares
@@ -68,3 +68,24 @@ returns-clause-prepares g c =
     (meant_at _ _ c.now-now.result _ _ (to_z-of_z w64 c.now-now.result fits) c.in_ok-minute.ensures.meant)
     c.in_ok-commands.commands c.in_ok-commands.ensures.read _ (rw c.as_slice.ensures at c.in_ok-script.ensures.refused).1 refl
     (rw c.as_slice.ensures at c.in_ok-script.ensures.text)
+
+pub returns-in_err-check-clause-at_most_once : goal.returns-in_err-check-clause-at_most_once
+returns-in_err-check-clause-at_most_once g c = unread _
+
+pub returns-then-not-is_clock_second-clause-at_most_once : goal.returns-then-not-is_clock_second-clause-at_most_once
+returns-then-not-is_clock_second-clause-at_most_once g c = unread _
+
+pub returns-then-is_unreadable-clause-at_most_once : goal.returns-then-is_unreadable-clause-at_most_once
+returns-then-is_unreadable-clause-at_most_once g c = unread _
+
+pub returns-in_err-minute-clause-at_most_once : goal.returns-in_err-minute-clause-at_most_once
+returns-in_err-minute-clause-at_most_once g c = unread _
+
+pub returns-in_err-commands-clause-at_most_once : goal.returns-in_err-commands-clause-at_most_once
+returns-in_err-commands-clause-at_most_once g c = read_once _ _ c.in_err-commands.ensures.once
+
+pub returns-in_err-script-clause-at_most_once : goal.returns-in_err-script-clause-at_most_once
+returns-in_err-script-clause-at_most_once g c = read_once _ _ c.in_ok-commands.ensures.once
+
+pub returns-clause-at_most_once : goal.returns-clause-at_most_once
+returns-clause-at_most_once g c = read_once _ _ c.in_ok-commands.ensures.once

@@ -7,6 +7,6 @@ pub returns-then-not-contains-clause-content : goal.returns-then-not-contains-cl
 returns-then-not-contains-clause-content g c = λ tells.
     none_found _ (sym c.if-not-contains.true ∙ found_is (reading (g.H.Host.world c.args.host.now)) c.args.name.now c.deref.result.now c.contains.result (c.deref.ensures.value ∙ c.in_ok-names.ensures.listed tells) c.contains.ensures.value)
 
-pub length-requires-clause-held : goal.length-requires-clause-held
-length-requires-clause-held g c = λ tells. rw (c.in_ok-names.ensures.looks tells) (sym
+pub whole-requires-clause-held : goal.whole-requires-clause-held
+whole-requires-clause-held g c = λ tells. rw (c.in_ok-names.ensures.looks tells) (sym
     (found_is (reading (g.H.Host.world c.args.host.now)) c.args.name.now c.deref.result.now c.contains.result (c.deref.ensures.value ∙ c.in_ok-names.ensures.listed tells) c.contains.ensures.value) ∙ c.if-not-contains.false)

@@ -4,7 +4,7 @@ use Rattle.spool_model.specs.JobTable.{JobTable}
 use Rattle.spool_model.specs.Steps.{IsLegal}
 use Rattle.start_journal.specs.declared.mark.Mark.TheVariants.{Forgotten}
 use Rattle.step_runs.specs.Current.{Kept}
-use Rattle.spool_store.proofs.StepCalls.{IsStepOf, failed_call, mark_of_step, marked_call, stored_step}
+use Rattle.spool_store.proofs.StepCalls.{IsStepOf, failed_call, has_its_mark, mark_of_step, marked_call, stored_step}
 use Rattle.spool_store.proofs.store.Store.forget.Goals as goal
 
 -- the step that the store makes, and its mark
@@ -22,6 +22,7 @@ returns-in_err-journal g c = record {
     inside = search rules;
     faults = search rules;
     table_is = search rules;
+    marked = search rules;
     files = λ tells table current.
         let is = mark_of_step _ _ _ table _ _ (forgets _ _ c.args.number c.self.view_is c.requires.may.legal) current in
         failed_call table _ _ _ c.from_residual.result c.from_residual.ensures.0 (c.add_mark.ensures.files tells _ table _ is);
@@ -38,6 +39,9 @@ returns g c = record {
     inside = search rules;
     faults = search rules;
     table_is = search rules;
+    marked =
+        let of = forgets _ _ c.args.number c.self.view_is c.requires.may.legal in
+        has_its_mark _ _ _ _ _ _ of c.in_ok-journal.ensures.free c.in_ok-journal.ensures.compacted;
     files = λ tells table current.
         let of = forgets _ _ c.args.number c.self.view_is c.requires.may.legal in
         let is = mark_of_step _ _ _ table _ _ of current in

@@ -6,7 +6,7 @@ use Rattle.start_journal.specs.declared.mark.Mark.TheVariants.{Interrupted}
 use Rattle.step_runs.specs.Current.{Kept}
 use Rattle.spool_shows.proofs.ShownEntries.{passes_same}
 use Rattle.spool_store.specs.Scripts.{IsFileOf}
-use Rattle.spool_store.proofs.StepCalls.{IsDecidingStep, current_call, decision_of_step, failed_call, of_some, running_legal, stored_step}
+use Rattle.spool_store.proofs.StepCalls.{IsDecidingStep, current_call, decision_of_step, failed_call, has_its_mark, of_some, running_legal, stored_step}
 use Rattle.spool_store.proofs.store.Store.interrupt.Goals as goal
 
 -- the step that the store makes, its mark, and the file of its job
@@ -33,6 +33,7 @@ returns-in_err-journal g c = record {
     inside = search rules;
     faults = search rules;
     table_is = search rules;
+    marked = search rules;
     files = λ tells table current.
         let of = interrupts _ _ c.args.number c.file.result _ c.self.view_is c.requires.may.legal c.unwrap-file.ensures c.file.ensures.found in
         failed_call table _ _ _ c.from_residual-in_err-journal.result c.from_residual-in_err-journal.ensures.0
@@ -51,6 +52,9 @@ returns g c = record {
     inside = search rules;
     faults = search rules;
     table_is = search rules;
+    marked =
+        let of = interrupts _ _ c.args.number c.file.result _ c.self.view_is c.requires.may.legal c.unwrap-file.ensures c.file.ensures.found in
+        has_its_mark _ _ _ _ _ _ of.step_of c.in_ok-journal.ensures.free c.in_ok-journal.ensures.compacted;
     files = λ tells table current.
         let of = interrupts _ _ c.args.number c.file.result _ c.self.view_is c.requires.may.legal c.unwrap-file.ensures c.file.ensures.found in
         let is = decision_of_step _ _ _ table _ _ _ of current in

@@ -11,7 +11,7 @@ use Rattle.start_journal.specs.declared.mark.Mark.TheVariants.{Started}
 use Rattle.step_runs.specs.Current.{Kept}
 use Rattle.spool_store.specs.Listed.{row_job}
 use Rattle.spool_store.specs.Rows.{row_entry}
-use Rattle.spool_store.proofs.StepCalls.{IsStepOf, failed_call, mark_of_step, marked_call, of_some, stored_step}
+use Rattle.spool_store.proofs.StepCalls.{IsStepOf, failed_call, has_its_mark, mark_of_step, marked_call, of_some, stored_step}
 use Rattle.spool_store.proofs.store.Store.start.Goals as goal
 
 -- the queue of a job is that of its row
@@ -44,6 +44,7 @@ returns-in_err-journal g c = record {
     inside = search rules;
     faults = search rules;
     table_is = search rules;
+    marked = search rules;
     files = λ tells table current.
         let of = starts _ _ c.args.number c.args.second _ c.unwrap.result.now c.self.view_is c.requires.may.legal (of_some _ c.row.result _ c.unwrap.ensures c.row.ensures.found) (to_z-of_z w64 c.args.second c.ranges.second) in
         failed_call table _ _ _ c.from_residual.result c.from_residual.ensures.0 (c.add_mark.ensures.files tells _ table _ (mark_of_step _ _ _ table _ _ of current));
@@ -62,6 +63,9 @@ returns g c = record {
     inside = search rules;
     faults = search rules;
     table_is = search rules;
+    marked =
+        let of = starts _ _ c.args.number c.args.second _ c.unwrap.result.now c.self.view_is c.requires.may.legal (of_some _ c.row.result _ c.unwrap.ensures c.row.ensures.found) (to_z-of_z w64 c.args.second c.ranges.second) in
+        has_its_mark _ _ _ _ _ _ of c.in_ok-journal.ensures.free c.in_ok-journal.ensures.compacted;
     files = λ tells table current.
         let of = starts _ _ c.args.number c.args.second _ c.unwrap.result.now c.self.view_is c.requires.may.legal (of_some _ c.row.result _ c.unwrap.ensures c.row.ensures.found) (to_z-of_z w64 c.args.second c.ranges.second) in
         let is = mark_of_step _ _ _ table _ _ of current in

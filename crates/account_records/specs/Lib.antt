@@ -1,0 +1,5 @@
+pub mod Lines
+pub mod News
+pub mod Records
+pub mod Standings
+pub mod inside

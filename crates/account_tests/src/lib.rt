@@ -1,0 +1,5 @@
+//! Accounts: files of records, by examples from outside.
+#![tactic(auto)]
+
+#[cfg(test)]
+mod lines;

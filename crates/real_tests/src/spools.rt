@@ -1,0 +1,65 @@
+//! A real folder and its model: a spool that has an empty list of users who may not use `at`, and no other file.
+ghost use Rattle.std.specs.Prelude.{◌≡◌, true, IfOk, IfSome};
+ghost use Rattle.host_calls.specs.Session.{IsOutside};
+
+use crate::keeping::Keeping;
+use host_calls::{Host, Name, Text};
+use memory_host::{Files, MemoryHost, Plan};
+use std::alloc::{AllocError, Global};
+use std::process;
+use std::process::Command;
+use std::test::Fail;
+use unix_host::UnixHost;
+use witnessed_host::Witnessed;
+
+/// The folder of the system, beside one who keeps what it holds.
+pub type KeptFolder = Witnessed<UnixHost<HostRuntime>, Keeping>;
+
+/// Does a line of the shell, whose `$1` is the path.
+pub fn line(rt: &HostRuntime, text: &str, path: &str) -> Result<(), Fail> {
+    let mut shell = Command::new(rt.alloc(), "/bin/sh")?;
+    shell.args(&["-c", text, "sh", path])?;
+    shell.output(rt)?;
+    Ok(())
+}
+
+/// The path of such a folder, which no other test has.
+pub fn fresh_spool(rt: &HostRuntime, test: &str) -> Result<String, Fail> {
+    let own = process::id(rt.process());
+    let path = format!(in rt.alloc(); "/tmp/real_tests_{own}_{test}")?;
+    clear(rt, path.as_str())?;
+    line(rt, "mkdir -p \"$1\" && : >\"$1/at.deny\"", path.as_str())?;
+    Ok(path)
+}
+
+/// Removes a folder and what lies beside it.
+pub fn clear(rt: &HostRuntime, path: &str) -> Result<(), Fail> {
+    line(rt, "rm -rf \"$1\" \"$1.out\" \"$1.lock\"", path)
+}
+
+/// The folder, beside one who knows that it is such a spool; none where the model can't be made.
+pub fn kept_folder(rt: &HostRuntime, path: &str) -> Result<Option<KeptFolder>, Fail>
+    ensures { IfOk result (λ made. IfSome made (λ folder. IsOutside (⟦<KeptFolder as Host>⟧.session folder))) }
+{
+    let alloc = rt.alloc();
+    let Some(model) = model(alloc)? else {
+        return Ok(None);
+    };
+    let host = UnixHost::make(rt.clone()?, alloc, Text::of(alloc, path)?)?;
+    Ok(Some(Witnessed::new(host, Keeping::new(alloc, model))))
+}
+
+// The model of such a spool, within a session.
+fn model(alloc: Global) -> Result<Option<MemoryHost>, AllocError>
+    ensures { IfOk result (λ made. IfSome made (λ model. model.is_inside ≡ true)) }
+{
+    let mut files = Files::new(alloc);
+    if let Some(name) = Name::of(b"at.deny") {
+        files.put(alloc, name, b"")?;
+    }
+    let mut model = MemoryHost::make(alloc, files, Plan::quiet(alloc))?;
+    match model.enter(alloc) {
+        Ok(()) => Ok(Some(model)),
+        Err(_) => Ok(None),
+    }
+}

@@ -1,0 +1,15 @@
+//! Files of text records, a line each: one reader, which tells the first byte of the first bad line,
+//! and one writer, for any kind of record.
+#![tactic(auto)]
+
+mod keeper;
+mod laws;
+mod reader;
+mod record;
+mod writer;
+
+pub use keeper::Keeper;
+pub use laws::{added_lines_read_back, files_have_one_reading, read_records_can_be_written};
+pub use reader::{LinesFault, read_lines};
+pub use record::LineRecord;
+pub use writer::text_of;

@@ -1,0 +1,21 @@
+//! A witness beside a host that tells nothing of its files, and beside inputs that tell nothing of their content. He is
+//! told each call with its answer, and passes the answer on or disputes it. What he knows of the files is then what the
+//! two of them tell.
+#![tactic(auto)]
+
+mod counts;
+mod input_witness;
+mod no_files;
+mod silent;
+mod untold;
+mod witness;
+mod witnessed;
+mod witnessed_inputs;
+
+pub use input_witness::InputWitness;
+pub use no_files::NoFiles;
+pub use silent::Silent;
+pub use untold::{Untold, UntoldInputs};
+pub use witness::Witness;
+pub use witnessed::Witnessed;
+pub use witnessed_inputs::WitnessedInputs;
