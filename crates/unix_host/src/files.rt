@@ -2,6 +2,7 @@
 ghost use Rattle.std.specs.Prelude.{◌≡◌, ◌≢◌, ◌-◌, IfOk, min, vec_len};
 ghost use Rattle.std.specs.IoError.{error_kind};
 
+use crate::absent::Absent;
 use crate::listing::{Listed, Listing};
 use crate::paths::Paths;
 use crate::synced::sync_path;
@@ -15,18 +16,34 @@ use std::{fs, io};
 // How many bytes of names are read at a time. The longest name has 255, and none is cut.
 const NAMES: usize = 4096;
 
-/// Makes the spool folder and the folder of outputs, where they are absent. What lies beside the spool folder is
+/// Where the spool folder lies, which is made where it is absent, unless that is to be a fault. What lies beside it is
 /// named by the folder's own path, that no link is in, so that one folder has one lock.
-pub fn make_folders<R: Files<File = File>>(
+pub fn enter_folder<R: Files<File = File>>(
     rt: &R,
     alloc: Global,
     spool: &str,
+    absent: Absent,
 ) -> Result<Paths, EnterFault> {
-    let Ok(is_new) = make_folder(rt, spool) else {
+    match absent {
+        Absent::Makes => make_folders(rt, alloc, spool, absent),
+        Absent::Fails => find_folder(rt, alloc, spool),
+    }
+}
+
+// The spool folder and the folder of outputs, which are made where they are absent.
+fn make_folders<R: Files<File = File>>(
+    rt: &R,
+    alloc: Global,
+    spool: &str,
+    absent: Absent,
+) -> Result<Paths, EnterFault>
+    requires { absent ≡ Absent.Makes }
+{
+    let Ok(is_new) = make_folder(rt, spool, absent) else {
         return Err(EnterFault::Failed);
     };
     let paths = resolved(rt, alloc, spool)?;
-    let Ok(has_new_outputs) = make_folder(rt, paths.outputs()) else {
+    let Ok(has_new_outputs) = make_folder(rt, paths.outputs(), absent) else {
         return Err(EnterFault::Failed);
     };
     // A submission that is acknowledged is not to vanish with the folder.
@@ -36,8 +53,19 @@ pub fn make_folders<R: Files<File = File>>(
     Ok(paths)
 }
 
-// Whether the folder is new. Only its owner may look into it.
-fn make_folder<R: Files>(rt: &R, path: &str) -> io::Result<bool> {
+// The spool folder, if it is there.
+fn find_folder<R: Files>(rt: &R, alloc: Global, spool: &str) -> Result<Paths, EnterFault> {
+    if !is_folder(rt, spool) {
+        return Err(EnterFault::Failed);
+    }
+    resolved(rt, alloc, spool)
+}
+
+// Whether the folder is new. Only its owner may look into it. A host of a folder that is there can't call it.
+fn make_folder<R: Files>(rt: &R, path: &str, absent: Absent) -> io::Result<bool>
+    requires { absent ≡ Absent.Makes }
+{
+    let _ = absent;
     if is_folder(rt, path) {
         return Ok(false);
     }

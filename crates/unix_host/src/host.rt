@@ -8,6 +8,7 @@ ghost use Rattle.unix_host.specs.declared.unsynced.Unsynced.{Unsynced};
 ghost use Rattle.unix_host.specs.UnixHost.{ending_in, listed_names, starts_of, session_of, known_of, torn_file, unsynced_of};
 ghost use Rattle.unix_host.specs.Unknown.{unknown_world};
 
+use crate::absent::Absent;
 use crate::counts::Counts;
 use crate::finish::finish;
 use crate::job::{ChildProcess, JobStart, ending_of};
@@ -22,33 +23,12 @@ use std::rt::Runtime;
 /// A spool folder on a disk, its lock and the children that were started from it.
 #[derive(Drop)]
 pub struct UnixHost<R: Runtime<File = File> + Processes> {
-    rt: R,
-    spool: Text,
-    folder: Option<LockedFolder>,
-    kids: Vec<ChildProcess<R>>,
+    pub(crate) rt: R,
+    pub(crate) spool: Text,
+    pub(crate) absent: Absent,
+    pub(crate) folder: Option<LockedFolder>,
+    pub(crate) kids: Vec<ChildProcess<R>>,
     pub(crate) counts: Counts,
-}
-
-impl<R: Runtime<File = File> + Processes> UnixHost<R> {
-    /// The host of this folder. It touches no file.
-    pub fn make(rt: R, alloc: Global, spool: Text) -> Result<UnixHost<R>, AllocError>
-        ensures outside { IfOk result (λ made. IsOutside (session_of made)) }
-        ensures children { IfOk result (λ made. (session_of made).children ≡ []) }
-        ensures spool { IfOk result (λ made. made.spool ≡ spool) }
-        ensures counts { IfOk result (λ made. made.counts ≡ record { files = 0; starts = 0; taken = 0 }) }
-    {
-        Ok(UnixHost {
-            rt,
-            spool,
-            folder: None,
-            kids: Vec::new(alloc),
-            counts: Counts {
-                files: 0,
-                starts: 0,
-                taken: 0,
-            },
-        })
-    }
 }
 
 impl<R: Runtime<File = File> + Processes> Host for UnixHost<R> {
@@ -71,7 +51,7 @@ impl<R: Runtime<File = File> + Processes> Host for UnixHost<R> {
         ensures known { OnOk result (unsynced_of self.new ≡ known_of self.new) }
         ensures unlisted { OnOk result (listed_names self.new ≡ None) }
     {
-        match LockedFolder::enter(&self.rt, alloc, self.spool.as_str()) {
+        match LockedFolder::enter(&self.rt, alloc, self.spool.as_str(), self.absent) {
             Ok(folder) => {
                 self.folder = Some(folder);
                 Ok(())

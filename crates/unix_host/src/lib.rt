@@ -2,6 +2,7 @@
 //! streams. Nothing here tells content, so what a file or a stream holds is trusted, and not proved.
 #![tactic(auto)]
 
+mod absent;
 mod changes;
 mod counts;
 mod err;
@@ -16,6 +17,7 @@ mod job;
 mod listing;
 mod lock;
 mod locked;
+mod make;
 mod out;
 mod paths;
 mod prefix;

@@ -11,6 +11,7 @@ ghost use Rattle.unix_host.specs.inside.LockByte.{amount_of};
 ghost use Rattle.unix_host.specs.inside.Paths.{file_in};
 ghost use Rattle.unix_host.specs.inside.Torn.{may_tear, HasTorn, HasWhole};
 
+use crate::absent::Absent;
 use crate::changes::Changes;
 use crate::listing::Listing;
 use crate::lock::Lock;
@@ -36,17 +37,18 @@ pub struct LockedFolder {
 }
 
 impl LockedFolder {
-    /// Makes the folder where it is absent, and takes its lock.
+    /// Takes the lock of the folder, which is made where it is absent, unless that is to be a fault.
     pub fn enter<R: Files<File = File> + Clock>(
         rt: &R,
         alloc: Global,
         spool: &str,
+        absent: Absent,
     ) -> Result<LockedFolder, EnterFault>
         ensures known { IfOk result (λ folder. unsynced_by folder.changes ≡ folder.lock.known) }
         ensures left { IfOk result (λ folder. left_by folder.changes ≡ folder.lock.known) }
         ensures unlisted { IfOk result (λ folder. folder.listing ≡ None) }
     {
-        let paths = files::make_folders(rt, alloc, spool)?;
+        let paths = files::enter_folder(rt, alloc, spool, absent)?;
         let lock = Lock::take(rt, paths.lock())?;
         let changes = Changes::after(&lock);
         Ok(LockedFolder {

@@ -3,9 +3,10 @@ ghost use Rattle.std.specs.Prelude.{◌≡◌, false};
 ghost use Rattle.host_calls.specs.Session.{IsInside, IsOutside};
 
 use crate::words::{begin, clear, fresh_spool, host_of, line, named};
-use host_calls::{Host, HostFault, Name};
+use host_calls::{Host, HostFault, Name, Text};
 use std::alloc::Global;
 use std::test::Fail;
+use unix_host::UnixHost;
 
 // A file is made, read, written over, read again in part and after its end, and synced.
 fn made_and_read<H: Host>(
@@ -190,5 +191,30 @@ fn a_folder_that_cannot_be_made_is_a_fault(rt: HostRuntime) -> Result<(), Fail> 
     drop(host);
     clear(&rt, path.as_str())?;
     assert!(rt; answer.is_err());
+    Ok(())
+}
+
+// Whether a session of the host of a folder that is to be there begins, and how many files lie at its path or beside it.
+fn begins_where_it_is(rt: &HostRuntime, path: &str) -> Result<(bool, Vec<u8>), Fail> {
+    let spool = Text::of(rt.alloc(), path)?;
+    let mut host = UnixHost::existing(rt.clone()?, rt.alloc(), spool)?;
+    let begins = begin(rt.alloc(), &mut host).is_ok();
+    drop(host);
+    let count = line(rt, "ls -d \"$1\"* 2>/dev/null | wc -l", path)?;
+    Ok((begins, count))
+}
+
+// Where it is absent, nothing is made; where it is there, its lock alone.
+#[test]
+fn a_folder_that_is_to_be_there_is_not_made(rt: HostRuntime) -> Result<(), Fail> {
+    let path = fresh_spool(&rt, "absent")?;
+    let absent = begins_where_it_is(&rt, path.as_str())?;
+    line(&rt, "mkdir \"$1\"", path.as_str())?;
+    let there = begins_where_it_is(&rt, path.as_str())?;
+    clear(&rt, path.as_str())?;
+    assert!(rt; !absent.0);
+    assert_eq!(rt; absent.1.as_slice(), b"0\n".as_slice());
+    assert!(rt; there.0);
+    assert_eq!(rt; there.1.as_slice(), b"2\n".as_slice());
     Ok(())
 }

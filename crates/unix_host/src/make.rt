@@ -1,0 +1,63 @@
+//! The two ways in which the host of a spool folder is made.
+ghost use Rattle.std.specs.Prelude.{◌≡◌, [], None, IfOk};
+ghost use Rattle.host_calls.specs.Session.{IsOutside};
+ghost use Rattle.unix_host.specs.UnixHost.{session_of};
+
+use crate::absent::Absent;
+use crate::counts::Counts;
+use crate::host::UnixHost;
+use host_calls::Text;
+use std::alloc::{AllocError, Global};
+use std::fs::File;
+use std::process::Processes;
+use std::rt::Runtime;
+
+impl<R: Runtime<File = File> + Processes> UnixHost<R> {
+    /// The host of this folder, which a session makes where it is absent. It touches no file.
+    pub fn make(rt: R, alloc: Global, spool: Text) -> Result<UnixHost<R>, AllocError>
+        ensures outside { IfOk result (λ made. IsOutside (session_of made)) }
+        ensures children { IfOk result (λ made. (session_of made).children ≡ []) }
+        ensures spool { IfOk result (λ made. made.spool ≡ spool) }
+        ensures absent { IfOk result (λ made. made.absent ≡ Absent.Makes) }
+        ensures counts { IfOk result (λ made. made.counts ≡ record { files = 0; starts = 0; taken = 0 }) }
+    {
+        Ok(host_of(rt, alloc, spool, Absent::Makes))
+    }
+
+    /// The host of a folder that is there: a session fails where it is absent, and makes nothing. It touches no file.
+    pub fn existing(rt: R, alloc: Global, spool: Text) -> Result<UnixHost<R>, AllocError>
+        ensures outside { IfOk result (λ made. IsOutside (session_of made)) }
+        ensures children { IfOk result (λ made. (session_of made).children ≡ []) }
+        ensures spool { IfOk result (λ made. made.spool ≡ spool) }
+        ensures absent { IfOk result (λ made. made.absent ≡ Absent.Fails) }
+        ensures counts { IfOk result (λ made. made.counts ≡ record { files = 0; starts = 0; taken = 0 }) }
+    {
+        Ok(host_of(rt, alloc, spool, Absent::Fails))
+    }
+}
+
+fn host_of<R: Runtime<File = File> + Processes>(
+    rt: R,
+    alloc: Global,
+    spool: Text,
+    absent: Absent,
+) -> UnixHost<R>
+    ensures folder { result.folder ≡ None }
+    ensures kids { result.kids.items ≡ [] }
+    ensures spool { result.spool ≡ spool }
+    ensures absent { result.absent ≡ absent }
+    ensures counts { result.counts ≡ record { files = 0; starts = 0; taken = 0 } }
+{
+    UnixHost {
+        rt,
+        spool,
+        absent,
+        folder: None,
+        kids: Vec::new(alloc),
+        counts: Counts {
+            files: 0,
+            starts: 0,
+            taken: 0,
+        },
+    }
+}
