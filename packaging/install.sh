@@ -28,8 +28,9 @@ esac
 case $#,${1:-} in 0, | 2,--cpu) ;; *) stops 'usage: install.sh [--cpu NAME]' ;; esac
 [ $# = 0 ] || [ -z "${BINARY:-}${BINARIES:-}" ] || stops 'a BINARY is built already: give no --cpu'
 
-# The commands of the list: `commands EXPRESSION` gives the names of those for whose fields, where, what and page, it holds.
-commands() { awk '$1 == "command" { name = $2; where = $3; what = $4; page = $5; if ('"$1"') print name }' "$here/packaging/programs"; }
+# The commands of the list: `commands EXPRESSION [FIELD]` gives the names, or that field, of those for whose fields, where,
+# what and page, it holds.
+commands() { awk '$1 == "command" { name = $2; where = $3; what = $4; page = $5; if ('"$1"') print '"${2:-name}"' }' "$here/packaging/programs"; }
 crates=$(awk '$1 == "command" && $4 != "script" && !seen[$4]++ { print $4 }' "$here/packaging/programs")
 
 is_stale() {
@@ -90,7 +91,10 @@ for tool in $(commands 'where == "sbin"'); do ln -sf ../bin/at "$to/sbin/$tool";
 for page in "$here"/man/*.[158]; do
     file "$page" "$to/share/man/man${page##*.}/$(basename "$page")"
 done
-for name in $(commands 'page == "at.1" && name != "at"'); do ln -sf at.1 "$to/share/man/man1/$name.1"; done
+for name in $(commands 'page != "-" && page !~ "^" name "[.]"'); do
+    page=$(commands "name == \"$name\"" page)
+    ln -sf "$page" "$to/share/man/man${page##*.}/$name.${page##*.}"
+done
 ln -sf at.allow.5 "$to/share/man/man5/at.deny.5"
 
 file "$here/packaging/completions/at.bash" "$to/share/bash-completion/completions/at"
@@ -107,15 +111,20 @@ unit() {
     chmod 644 "$2"
 }
 file "$here/packaging/systemd/coefhird-user.tmpfiles" "$to/share/user-tmpfiles.d/coefhird.conf"
+units() { # which begin so, and where to
+    for source in "$here/packaging/systemd/$1"*.service "$here/packaging/systemd/$1"*.path "$here/packaging/systemd/$1"*.timer; do
+        unit "$source" "$2/${source##*/"$1"}"
+    done
+}
 case $PREFIX in
     "${HOME:-/nowhere}"/*)
-        unit "$here/packaging/systemd/user-atd.service" "$to/share/systemd/user/atd.service"
+        units user- "$to/share/systemd/user"
         # (it is for one user, whoever that is)
         sed -i '/^# It is enabled/,/^ConditionUser/d' "$to/share/systemd/user/atd.service"
         ;;
     *)
-        unit "$here/packaging/systemd/user-atd.service" "$to/lib/systemd/user/atd.service"
-        unit "$here/packaging/systemd/atd.service" "$to/lib/systemd/system/atd.service"
+        units user- "$to/lib/systemd/user"
+        units system- "$to/lib/systemd/system"
         file "$here/packaging/systemd/coefhird.tmpfiles" "$to/lib/tmpfiles.d/coefhird.conf"
         file "$here/packaging/systemd/hardening.conf" "$to/share/doc/coefhird/hardening.conf"
         ;;

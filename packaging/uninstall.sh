@@ -6,12 +6,14 @@ here=$(cd "$(dirname "$0")/.." && pwd)
 PREFIX=${PREFIX:-/usr/local}
 to=${DESTDIR:-}$PREFIX
 rm -f "$to/share/zsh/site-functions/_at" \
-    "$to/share/systemd/user/atd.service" \
-    "$to/lib/systemd/user/atd.service" \
-    "$to/lib/systemd/system/atd.service" \
     "$to/lib/tmpfiles.d/coefhird.conf" \
     "$to/share/user-tmpfiles.d/coefhird.conf" \
     "$to/share/doc/coefhird/hardening.conf"
+for unit in "$here"/packaging/systemd/user-* "$here"/packaging/systemd/system-*; do
+    name=${unit##*/}
+    name=${name#*-}
+    rm -f "$to/share/systemd/user/$name" "$to/lib/systemd/user/$name" "$to/lib/systemd/system/$name"
+done
 # Its commands, and the programs that they are.
 while read -r kind tool where what page; do
     [ "$kind" = command ] || continue

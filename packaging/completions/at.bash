@@ -1,4 +1,4 @@
-# Completions of at, batch, atq, atrm, atd, atday, atout and atwhen for bash.
+# Completions of at, batch, atq, atrm, atd, atday, ataccount, atcheck, atsalvage, atout and atwhen for bash.
 
 _coefhird_jobs() { atq 2>/dev/null | cut -f 1; }
 
@@ -69,6 +69,18 @@ _coefhird_atday() {
     esac
 }
 
+# A folder, or one of these words.
+_coefhird_folder_or() {
+    compopt -o filenames 2>/dev/null
+    mapfile -t COMPREPLY < <(compgen -W "$1" -- "$2"; compgen -d -- "$2")
+}
+
+_coefhird_ataccount() { _coefhird_folder_or '--show' "${COMP_WORDS[COMP_CWORD]}"; }
+
+_coefhird_atcheck() { _coefhird_folder_or '--salvage' "${COMP_WORDS[COMP_CWORD]}"; }
+
+_coefhird_atsalvage() { _coefhird_folder_or '--yes' "${COMP_WORDS[COMP_CWORD]}"; }
+
 _coefhird_atout() {
     mapfile -t COMPREPLY < <(compgen -W "-f $(_coefhird_jobs)" -- "${COMP_WORDS[COMP_CWORD]}")
 }
@@ -83,5 +95,8 @@ complete -F _coefhird_atq atq
 complete -F _coefhird_atrm atrm
 complete -F _coefhird_atd atd
 complete -F _coefhird_atday atday
+complete -F _coefhird_ataccount ataccount
+complete -F _coefhird_atcheck atcheck
+complete -F _coefhird_atsalvage atsalvage
 complete -F _coefhird_atout atout
 complete -F _coefhird_atwhen atwhen

@@ -1,4 +1,4 @@
-# Completions of at, batch, atq, atrm, atd, atday, atout and atwhen for fish.
+# Completions of at, batch, atq, atrm, atd, atday, ataccount, atcheck, atsalvage, atout and atwhen for fish.
 
 function __coefhird_jobs
     atq 2>/dev/null
@@ -42,6 +42,15 @@ complete -c atd -l turns -x -d 'make so many turns and end'
 
 complete -c atday -f
 complete -c atday -l make -x -d 'make so many events'
+
+complete -c ataccount -f -a '(__fish_complete_directories)'
+complete -c ataccount -l show -d 'print a line for each user and queue'
+
+complete -c atcheck -f -a '(__fish_complete_directories)'
+complete -c atcheck -l salvage -d 'write what can be saved into the second folder'
+
+complete -c atsalvage -f -a '(__fish_complete_directories)'
+complete -c atsalvage -l yes -d 'do not ask before the swap'
 
 complete -c atout -f -a '(__coefhird_jobs)'
 complete -c atout -s f -d 'wait for the job, and go on as it writes'

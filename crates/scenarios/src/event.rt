@@ -8,6 +8,8 @@ use std::alloc::{AllocError, Global};
 pub enum Event {
     /// A call of a tool, with all its words.
     Run(Vec<String>),
+    /// A call of the program that counts jobs, with all its words.
+    Account(Vec<String>),
     /// A new daemon without kids, with this limit of the load and this interval between batch starts.
     Daemon(u32, u32),
     /// One full turn of the daemon, at this second and with this load.
@@ -24,6 +26,7 @@ pub enum Event {
 pub fn event_of(alloc: Global, word: &[u8], rest: &[Vec<u8>]) -> Result<Event, Why> {
     match word {
         b"run" => Ok(Event::Run(texts(alloc, rest)?)),
+        b"account" => Ok(Event::Account(texts(alloc, rest)?)),
         b"daemon" => {
             let (limit, interval) = two(rest)?;
             Ok(Event::Daemon(number(limit)?, number(interval)?))

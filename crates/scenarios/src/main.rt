@@ -4,6 +4,7 @@
 mod event;
 mod machine;
 mod opening;
+mod printed;
 mod scene;
 mod settings;
 mod transcript;

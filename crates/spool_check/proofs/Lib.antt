@@ -1,11 +1,2 @@
-pub mod AddedMarks
-pub mod CutFiles
-pub mod FilesFirst
-pub mod FirstFault
-pub mod FoundFiles
-pub mod JobFaults
-pub mod JournalFirst
-pub mod NumbersDrawn
-pub mod SavedMarks
-pub mod Settling
-pub mod StartsKept
+pub mod CheckLemmas
+pub mod WordLemmas

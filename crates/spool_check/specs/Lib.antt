@@ -1,6 +1,5 @@
-pub mod Examples
-pub mod Faults
-pub mod Laws
-pub mod Listed
-pub mod Salvaged
+pub mod Checking
+pub mod Outside
+pub mod Telling
+pub mod Words
 pub mod inside

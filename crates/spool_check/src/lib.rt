@@ -1,24 +1,18 @@
-//! What is damaged in a spool folder, all of it, and what can be saved of it.
+//! The checker: it tells every fault of a spool folder, and writes what is saved of it into a new folder.
 //!
-//! Its definitions are what a reader believes, and not what runs. In the order in which to read them:
-//! 1. `Faults`: all faults of a folder, in the order in which recovery looks for the first of them
-//! 2. `Salvaged`: the marks and files that are taken of a folder with faults, and the table that they make
-//! 3. `Examples`: small folders, their faults and what is saved of them
-//! 4. `Listed`: what listing the faults leaves
-//! 5. `Laws`: the first fault is the damage that recovery answers, a folder without one is saved whole, and the marks that
-//!    are saved can be placed
+//! Its definitions are what a reader of `check_program` believes. In the order in which to read them:
+//! 1. `Words`: what the words ask for
+//! 2. `Outside`: the two folders and the streams that it is handed
+//! 3. `Telling`: the lines of the faults, and the cause by them
+//! 4. `Checking`: what is left in the two folders, and how it ends
 #![tactic(auto)]
 
-mod fault_list;
-mod find_files;
-mod found_file;
-mod job_faults;
-mod laws;
-mod list_faults;
+mod look;
+mod program;
+mod save;
+mod tell;
+mod words;
 
-pub use fault_list::FaultList;
-pub use laws::{
-    damage_is_the_first_fault, salvaged_marks_are_sound, small_folders, starts_are_not_pending,
-    taken_marks_are_sound,
-};
-pub use list_faults::faults;
+pub use program::check_program;
+pub use spool_faults::{FaultList, faults};
+pub use spool_salvage::{SalvageFault, salvage};

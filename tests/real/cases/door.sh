@@ -6,7 +6,7 @@ me=$(id -un)
 doored() {
   [ ! -d "$place/pre" ] || return 0
   mkdir "$place/door"
-  DESTDIR=$place/door PREFIX=$place/pre BINARY=$place/bin/program sh "$here/../../packaging/install.sh" || fail 'it is not installed'
+  DESTDIR=$place/door PREFIX=$place/pre BINARIES=$place/programs sh "$here/../../packaging/install.sh" || fail 'it is not installed'
   ln -s "$place/door$place/pre" "$place/pre"
 }
 

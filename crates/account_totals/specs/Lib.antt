@@ -1,0 +1,4 @@
+pub mod Laws
+pub mod Observing
+pub mod Totals
+pub mod inside

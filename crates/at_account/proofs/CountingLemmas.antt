@@ -1,0 +1,195 @@
+-- What is counted and written in a session, since its start.
+use Rattle.std.proofs.Common.{◌≡◌, ◌∙◌, ℕ, Bool, List, inl, inr, refl, ap, subst}
+use Rattle.std.specs.Prelude.{Option, Some, None, Err}
+use Rattle.std.specs.FinMap as finite
+use Rattle.std.specs.Option.{option_map}
+use Rattle.host_calls.specs.Folder.{Files, Folder, IsImage}
+use Rattle.host_calls.specs.World.{GoesOn, World, reading}
+use Rattle.host_calls.proofs.WorldLemmas.{leaves_weaker}
+use Rattle.account_records.specs.declared.record.AccountRecord.{AccountRecord}
+use Rattle.account_records.specs.News.{known_of, news_of}
+use Rattle.account_totals.specs.Observing.{AreNews, known_in}
+use Rattle.command_rules.specs.Causes.{cause_of}
+use Rattle.listing_text.specs.declared.cause.Cause.{Cause}
+use Rattle.listing_text.specs.declared.cause.Cause.TheVariants.{Done, Refused, FileFault, InputFault, OutputFault, Busy, Memory, Damaged, StillRunning, Faulty}
+use Rattle.listing_text.specs.declared.refusal.Refusal.TheVariants as refusal
+use Rattle.spool_model.specs.declared.entry.Entry.TheVariants.{Live, Done as DoneEntry}
+use Rattle.spool_model.specs.JobTable.{JobEntry, JobTable, entry_at}
+use Rattle.spool_store.specs.declared.fault.StoreFault.{StoreFault}
+use Rattle.spool_store.specs.declared.fault.StoreFault.TheVariants as store
+use Rattle.spool_store.specs.Faults.{IsOfReading}
+use Rattle.spool_store.specs.Recovering.{IsRecovered, Recovered}
+use Rattle.spool_store.proofs.BesideLemmas.{shows_the_same}
+use Rattle.step_runs.specs.Calls.{ShowsAsBefore}
+use Rattle.step_runs.specs.Current.{Kept}
+use Rattle.step_runs.specs.WithoutScripts.{entry_without_script, without_scripts}
+use Rattle.step_runs.proofs.WithoutScriptsLemmas.{entries_are_without_scripts}
+use Rattle.whole_file.specs.Others.{ChangesFiles, IsEither}
+use Rattle.whole_file.proofs.ChangesJoined.{changes_end, changes_on, changes_weaker, left_alone}
+use Rattle.at_account.specs.Accounting.{IsAccounted, IsAccounting}
+use Rattle.at_account.specs.Counting.{AreCounted, GivesRecords, IsAccountDamage}
+use Rattle.at_account.specs.Names.{account_file, account_temp}
+use Rattle.at_account.specs.Showing.{IsShown}
+use Rattle.at_account.specs.inside.Filing as file
+use Rattle.at_account.specs.inside.Filing.{EachGives, IsCertainAt, IsWriting}
+use Rattle.at_account.specs.inside.Inside.{IsCounted, IsOfWork, StopsCounting, StopsInside}
+use Rattle.at_account.proofs.NameLemmas.{both_beside, file_beside, temp_beside}
+
+-- an entry is known without its script
+same_known : (entry : Option JobEntry) → option_map known_of (option_map entry_without_script entry) ≡ option_map known_of entry
+same_known None = refl
+same_known (Some (Live job state)) = refl
+same_known (Some (DoneEntry fate)) = refl
+
+known_without_scripts : (kept table : JobTable) (number : ℕ) → kept ≡ without_scripts table → known_in kept number ≡ known_in table number
+known_without_scripts kept table number is =
+    ap (λ (of : JobTable). known_in of number) is ∙ ap (option_map known_of) (entries_are_without_scripts table number) ∙ same_known (entry_at table number)
+
+-- what is new by the table that a store keeps is so by the table itself
+news_with_scripts : (before news : List AccountRecord) (kept table : JobTable) → kept ≡ without_scripts table → AreNews before kept news → AreNews before table news
+news_with_scripts before news kept table is are = record {
+  each = λ number. are.each number ∙ ap (news_of before number) (known_without_scripts kept table number is);
+  by_number = are.by_number;
+}
+
+-- a start as it was
+as_before : (start : Folder) (image : Files) → IsImage start image → ShowsAsBefore start image
+as_before start image is = record { from = image; was = is; same = refl; others = λ name other. refl }
+
+-- an image on the way of a recovery
+recovery_is_accounting : (start : Folder) (image : Files) → ShowsAsBefore start image → IsAccounting start image
+recovery_is_accounting start image is = record {
+  from = is.from;
+  was = is.was;
+  same = is.same;
+  account = inl (is.others account_file file_beside);
+  others = λ name beside other. is.others name beside;
+}
+
+-- nothing but a recovery was begun
+pub accounting_alone : (old new : World) → ChangesFiles (ShowsAsBefore old.now.folder) old new → ChangesFiles (IsAccounting old.now.folder) old new
+accounting_alone old new recovery =
+    changes_weaker (ShowsAsBefore old.now.folder) (IsAccounting old.now.folder) old new (recovery_is_accounting old.now.folder) recovery
+
+-- the recovery stopped
+pub recovery_stops : (old new : World) (fault : StoreFault) → IsOfReading fault → ChangesFiles (ShowsAsBefore old.now.folder) old new
+    → Recovered old.now.folder new.now.folder (Err fault) → StopsInside old new (cause_of fault)
+recovery_stops old new store.FileFault reads recovery recovered = tt
+recovery_stops old new store.Memory reads recovery recovered = tt
+recovery_stops old new (store.Damaged damage) reads recovery recovered = (inl recovered, recovery)
+recovery_stops old new store.QueueFull reads recovery recovered = absurd reads
+recovery_stops old new store.NumbersUsedUp reads recovery recovered = absurd reads
+
+pub recovery_comes : (fault : StoreFault) → IsOfReading fault → IsOfWork (cause_of fault)
+recovery_comes store.FileFault reads = tt
+recovery_comes store.Memory reads = tt
+recovery_comes (store.Damaged damage) reads = tt
+recovery_comes store.QueueFull reads = absurd reads
+recovery_comes store.NumbersUsedUp reads = absurd reads
+
+-- a fault of a file, or want of memory, leaves what it leaves
+pub host_stops : (old new : World) (cause : Cause) → file.IsOfHost cause → StopsInside old new cause
+host_stops old new FileFault is = tt
+host_stops old new Memory is = tt
+host_stops old new cause is = absurd is
+
+-- what stops a reading stops the work
+pub reading_comes : (cause : Cause) → file.IsOfReading cause → IsOfWork cause
+reading_comes FileFault is = tt
+reading_comes Memory is = tt
+reading_comes (Damaged damage) is = tt
+reading_comes cause is = absurd is
+
+-- the spool was recovered, and what it keeps is this
+module _ (old middle : World) (kept : Kept) (recovery : ChangesFiles (ShowsAsBefore old.now.folder) old middle)
+    (recovered : IsRecovered old.now.folder middle.now.folder kept) where
+  -- the file of accounts reads as before
+  pub reads_on : finite.get (reading middle) account_file ≡ finite.get (reading old) account_file
+  reads_on = recovered.others account_file file_beside
+
+  -- and the one that is being made is certain
+  pub temp_certain : IsCertainAt account_temp middle.now.folder
+  temp_certain image is = recovered.certain_others image is account_temp temp_beside
+
+  -- why nothing was counted
+  pub stops : (cause : Cause) → StopsCounting kept.table (finite.get (reading middle) account_file) cause → StopsInside old middle cause
+  stops (Damaged damage) stopped =
+      (inr (recovered.table, recovered.shown, subst (λ content. IsAccountDamage content damage) reads_on stopped), recovery)
+  stops (Refused refusal.AccountsFull) stopped = (
+    record {
+      table = recovered.table;
+      read = stopped.read;
+      shown = recovered.shown;
+      gives = subst (λ content. GivesRecords content stopped.read) reads_on stopped.gives;
+      many = record {
+        news = stopped.many.news;
+        are = news_with_scripts stopped.read stopped.many.news kept.table recovered.table recovered.current.without_scripts_is stopped.many.are;
+        many = stopped.many.many;
+      };
+    },
+    recovery,
+  )
+  stops (Refused other) stopped = absurd stopped
+  stops FileFault stopped = tt
+  stops Memory stopped = tt
+  stops Done stopped = absurd stopped
+  stops InputFault stopped = absurd stopped
+  stops OutputFault stopped = absurd stopped
+  stops Busy stopped = absurd stopped
+  stops StillRunning stopped = absurd stopped
+  stops Faulty stopped = absurd stopped
+
+  module _ (records : List AccountRecord) (counts : IsCounted kept.table (finite.get (reading middle) account_file) records) where
+    counted : AreCounted (reading old) recovered.table records
+    counted = record {
+      read = counts.read;
+      news = counts.news;
+      shown = recovered.shown;
+      gives = subst (λ content. GivesRecords content counts.read) reads_on counts.gives;
+      are = news_with_scripts counts.read counts.news kept.table recovered.table recovered.current.without_scripts_is counts.are;
+      all = counts.all;
+    }
+
+    module _ (new : World) (writes : ChangesFiles (IsWriting records middle.now.folder) middle new) where
+      -- an image on the way to the new file
+      since_start : (image : Files) → IsWriting records middle.now.folder image → IsAccounting old.now.folder image
+      since_start image is =
+          let from = changes_end (ShowsAsBefore old.now.folder) old middle recovery (as_before old.now.folder) is.alone.from is.alone.was in
+          record {
+            from = from.from;
+            was = from.was;
+            same = shows_the_same (IsEither account_temp account_file) both_beside middle.now.folder image is.alone ∙ from.same;
+            account = elim is.account [
+              | inl same ↦ inl (same ∙ from.others account_file file_beside)
+              | inr gives ↦ inr (record { table = recovered.table; records = records; counted = counted; gives = gives })
+            ];
+            others = λ name beside other. is.alone.others name other ∙ from.others name beside;
+          }
+
+      pub accounting_since : ChangesFiles (IsAccounting old.now.folder) old new
+      accounting_since =
+          changes_on (ShowsAsBefore old.now.folder) (IsWriting records middle.now.folder) (IsAccounting old.now.folder) old middle new
+          (recovery_is_accounting old.now.folder) since_start recovery writes
+
+      -- all was done
+      pub accounted : (show : Bool) (text : List ℕ) → IsShown show records text → EachGives records new.now.folder → IsAccounted show old new text
+      accounted show text shown gives = record {
+        table = recovered.table;
+        records = records;
+        counted = counted;
+        stands = λ image is.
+            let writing = changes_end (IsWriting records middle.now.folder) middle new writes
+            (λ files was. record { alone = left_alone (IsEither account_temp account_file) middle.now.folder files was; account = inl refl }) image is in (
+              shows_the_same (IsEither account_temp account_file) both_beside middle.now.folder image writing.alone ∙ recovered.current.shows writing.alone.from writing.alone.was,
+              gives image is,
+            );
+        shown = shown;
+      }
+
+-- what changes only files goes on
+pub goes_on_by : (P : Files → Type 0) (old new : World) → ChangesFiles P old new → GoesOn old new
+goes_on_by P old new changes = record {
+  asked = changes.asked;
+  handed = changes.handed;
+  leaves = leaves_weaker _ _ old new (λ image handed is. is.1) changes.leaves;
+}

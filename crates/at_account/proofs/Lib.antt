@@ -1,0 +1,7 @@
+pub mod CountingLemmas
+pub mod FilingLemmas
+pub mod NameLemmas
+pub mod ProgramLemmas
+pub mod SessionLemmas
+pub mod ShowLemmas
+pub mod WordLemmas

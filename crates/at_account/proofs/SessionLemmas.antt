@@ -1,0 +1,162 @@
+-- How the program ends, by its session and what is put after it.
+use Rattle.std.proofs.Common.{◌≡◌, ◌∙◌, ℕ, Bool, true, List, [], ◌++◌, inl, inr, refl, sym, ap, subst, arith, append-nil}
+use Rattle.std.specs.Prelude.{Result, Ok, Err, IfErr}
+use Rattle.std.specs.Fn.{CalledAtMut}
+use Rattle.command_rules.specs.Causes.{cause_of_entry, cause_of_put}
+use Rattle.command_rules.specs.declared.command_error.CommandError.{CommandError}
+use Rattle.command_rules.specs.Sinks.{IsSilent, SinkAt, sink_at}
+use Rattle.host_calls.specs.Causes.{HasCause, Rose}
+use Rattle.host_calls.specs.declared.fault.EnterFault.{EnterFault}
+use Rattle.host_calls.specs.declared.fault.EnterFault.TheVariants as entry
+use Rattle.host_calls.specs.declared.fault.SinkFault.{SinkFault}
+use Rattle.host_calls.specs.declared.fault.SinkFault.TheVariants as sink
+use Rattle.host_calls.specs.declared.host.Host.{Ghosts}
+use Rattle.host_calls.specs.Sink.{Outlet, Puts}
+use Rattle.host_calls.specs.World.{World}
+use Rattle.host_session.specs.Work.{Calls}
+use Rattle.listing_text.specs.declared.cause.Cause.{Cause}
+use Rattle.listing_text.specs.declared.cause.Cause.TheVariants.{Done, Refused, FileFault, InputFault, OutputFault, Busy, Memory, Damaged, StillRunning, Faulty}
+use Rattle.listing_text.specs.declared.refusal.Refusal.TheVariants as refusal
+use Rattle.spool_session.specs.Sessions.{ComesOfSession, EndsSession, IsOfSession}
+use Rattle.whole_file.specs.Others.{ChangesFiles}
+use Rattle.whole_file.proofs.OthersLemmas.{changes_none}
+use Rattle.at_account.specs.Accounting.{IsAccounted, IsAccounting, Leaves, MayEnd}
+use Rattle.at_account.specs.inside.Inside.{EndsInside, IsOfWork, PutsText, StopsInside}
+
+-- what stops the work may end the program, and comes within a session
+work_may_end : (cause : Cause) → IsOfWork cause → MayEnd cause
+work_may_end FileFault is = tt
+work_may_end Memory is = tt
+work_may_end (Damaged damage) is = tt
+work_may_end (Refused refusal.AccountsFull) is = tt
+work_may_end cause is = absurd is
+
+work_of_session : (cause : Cause) → IsOfWork cause → IsOfSession cause
+work_of_session FileFault is = tt
+work_of_session Memory is = tt
+work_of_session (Damaged damage) is = tt
+work_of_session (Refused refusal.AccountsFull) is = refl
+work_of_session cause is = absurd is
+
+pub work_comes : {T : Type 0} (result : Result T CommandError) → IfErr result (λ stopped. IsOfWork stopped.cause) → IfErr result ComesOfSession
+work_comes (Ok value) is = tt
+work_comes (Err stopped) is = work_of_session stopped.cause is
+
+entry_may_end : (fault : EnterFault) → MayEnd (cause_of_entry fault)
+entry_may_end entry.Taken = tt
+entry_may_end entry.Failed = tt
+entry_may_end entry.Memory = tt
+
+-- what is left by a session that ended so
+abbrev pub Stops : World → World → Cause → Type 0
+Stops old new Busy = new ≡ old
+Stops old new cause = StopsInside old new cause
+
+stops_inside : (old new : World) (cause : Cause) → StopsInside old new cause → Stops old new cause
+stops_inside old new FileFault is = is
+stops_inside old new Memory is = is
+stops_inside old new (Damaged damage) is = is
+stops_inside old new (Refused refusal) is = is
+stops_inside old new cause is = absurd is
+
+stops_at_entry : (old new : World) (fault : EnterFault) → new ≡ old → Stops old new (cause_of_entry fault)
+stops_at_entry old new entry.Taken same = same
+stops_at_entry old new entry.Failed same = tt
+stops_at_entry old new entry.Memory same = tt
+
+abbrev pub Ends : Bool → World → World → Result (List ℕ) CommandError → Type 0
+Ends show old new (Ok text) = IsAccounted show old new text
+Ends show old new (Err stopped) = Stops old new stopped.cause
+
+ends_inside : (show : Bool) (old new : World) (result : Result (List ℕ) CommandError) → EndsInside show old new result → Ends show old new result
+ends_inside show old new (Ok text) is = is
+ends_inside show old new (Err stopped) is = stops_inside old new stopped.cause is
+
+module _ {H F : Type 0} (g : Ghosts H) (calls : Calls H F (Result (List ℕ) CommandError)) (work left : F) (old new : H) (result : Result (List ℕ) CommandError)
+    (ends : EndsSession g calls work left old new result) where
+  -- why the session ended
+  pub session_may_end : ((first last : H) → CalledAtMut calls work first result left last → IfErr result (λ stopped. IsOfWork stopped.cause)) →
+      IfErr result (λ stopped. MayEnd stopped.cause)
+  session_may_end within = elim ends [
+    | inl none ↦ subst (λ of. IfErr of (λ stopped. MayEnd stopped.cause)) (sym none.is) (entry_may_end none.fault)
+    | inr done ↦ by_result result (within done.first done.last done.did)
+  ] where
+    by_result : (of : Result (List ℕ) CommandError) → IfErr of (λ stopped. IsOfWork stopped.cause) → IfErr of (λ stopped. MayEnd stopped.cause)
+    by_result (Ok text) is = tt
+    by_result (Err stopped) is = work_may_end stopped.cause is
+
+  -- what each image has
+  pub session_images : ((first last : H) → CalledAtMut calls work first result left last → g.tells ≡ true
+      → ChangesFiles (IsAccounting (g.world first).now.folder) (g.world first) (g.world last))
+      → g.tells ≡ true → g.alone ≡ true → ChangesFiles (IsAccounting (g.world old).now.folder) (g.world old) (g.world new)
+  session_images within tells alone = elim ends [
+    | inl none ↦ subst (λ now. ChangesFiles (IsAccounting (g.world old).now.folder) (g.world old) now) (sym (none.undone.refused.quiet.alone tells alone))
+        (changes_none (IsAccounting (g.world old).now.folder) (g.world old))
+    | inr done ↦ subst (λ now. ChangesFiles (IsAccounting (g.world old).now.folder) (g.world old) now) (sym (done.quiet.alone tells alone))
+        (subst (λ (from : World). ChangesFiles (IsAccounting from.now.folder) from (g.world done.last)) (done.begun.quiet.alone tells alone)
+        (within done.first done.last done.did tells))
+  ]
+
+  -- and what is left
+  pub session_ends : (show : Bool) → ((first last : H) → CalledAtMut calls work first result left last → g.tells ≡ true
+      → EndsInside show (g.world first) (g.world last) result)
+      → g.tells ≡ true → g.alone ≡ true → Ends show (g.world old) (g.world new) result
+  session_ends show within tells alone = elim ends [
+    | inl none ↦ subst (Ends show (g.world old) (g.world new)) (sym none.is)
+        (stops_at_entry (g.world old) (g.world new) none.fault (none.undone.refused.quiet.alone tells alone))
+    | inr done ↦ subst (λ now. Ends show (g.world old) now result) (sym (done.quiet.alone tells alone))
+        (subst (λ from. Ends show from (g.world done.last) result) (done.begun.quiet.alone tells alone)
+        (ends_inside show (g.world done.first) (g.world done.last) result (within done.first done.last done.did tells)))
+  ]
+
+-- nothing was put
+same_silent : (at : SinkAt) → IsSilent at at
+same_silent at = record { content = refl; later = omega arith }
+
+-- the session was stopped
+pub stopped_leaves : (show output : Bool) (old new : World) (at : SinkAt) (cause : Cause) → MayEnd cause → Stops old new cause → Leaves show output old new at at cause
+stopped_leaves show output old new at FileFault may is = λ tells. same_silent at
+stopped_leaves show output old new at Memory may is = λ tells. inl (same_silent at)
+stopped_leaves show output old new at Busy may is = (is, λ tells. same_silent at)
+stopped_leaves show output old new at (Damaged damage) may is = (is.0, is.1, λ tells. same_silent at)
+stopped_leaves show output old new at (Refused refusal) may is = (is, λ tells. same_silent at)
+stopped_leaves show output old new at Done may is = absurd is
+stopped_leaves show output old new at InputFault may is = absurd is
+stopped_leaves show output old new at OutputFault may is = absurd is
+stopped_leaves show output old new at StillRunning may is = absurd is
+stopped_leaves show output old new at Faulty may is = absurd is
+
+-- the text was put, or not
+pub put_leaves : (show output : Bool) (old new : World) (was now : SinkAt) (text : List ℕ) (cause : Cause) → PutsText output text was now cause
+    → IsAccounted show old new text → Leaves show output old new was now cause
+put_leaves show output old new was now text Done puts done = (text, done, puts)
+put_leaves show output old new was now text OutputFault puts done = (text, done, puts)
+put_leaves show output old new was now text Memory puts done = λ tells. inl (puts tells)
+put_leaves show output old new was now text cause puts done = absurd puts
+
+pub put_may_end : (output : Bool) (was now : SinkAt) (text : List ℕ) (cause : Cause) → PutsText output text was now cause → MayEnd cause
+put_may_end output was now text Done puts = tt
+put_may_end output was now text OutputFault puts = tt
+put_may_end output was now text Memory puts = tt
+put_may_end output was now text cause puts = absurd puts
+
+-- a put of the text
+pub text_put : (tells : Bool) (text old new : List ℕ) (was now : Outlet) (put : Result (Unit {0}) SinkFault) →
+    (tells ≡ true → Puts text old new put) → HasCause sink.Failed was.sink_faults now.sink_faults put →
+    PutsText tells text (sink_at old was) (sink_at new now) (cause_of_put put)
+text_put tells text old new was now (Ok value) puts has = λ known. record { content = puts known; later = has.later }
+text_put tells text old new was now (Err sink.Failed) puts has = λ known.
+    let part = puts known in
+    record { count = part.0; content = part.1; later = has.later; rose = has.rose refl }
+text_put tells text old new was now (Err sink.Memory) puts has = λ known. record { content = puts known; later = has.later }
+
+-- an output fault comes only of a sink that failed
+pub put_failed : (put : Result (Unit {0}) SinkFault) (was now : ℕ) → HasCause sink.Failed was now put → cause_of_put put ≡ OutputFault → Rose was now
+put_failed (Ok value) was now has same = let impossible : Done ≡ OutputFault = same in cc
+put_failed (Err sink.Failed) was now has same = has.rose refl
+put_failed (Err sink.Memory) was now has same = let impossible : Memory ≡ OutputFault = same in cc
+
+-- nothing is put of a text without a byte
+pub none_put : (tells : Bool) (text : List ℕ) (at : SinkAt) → text ≡ [] → PutsText tells text at at Done
+none_put tells text at none = λ known.
+    record { content = sym (append-nil at.content) ∙ ap (λ (bytes : List ℕ). at.content ++ bytes) (sym none); later = omega arith }

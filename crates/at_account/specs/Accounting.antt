@@ -1,0 +1,145 @@
+-- What the program leaves (own): what each image of each moment has, what is put and said, and each cause.
+use Rattle.std.specs.Prelude.{◌≡◌, ◌⊎◌, ℕ, Bool, true, List, Option, Result, Ok, Err}
+use Rattle.std.specs.FinMap as finite
+use Rattle.at_words.specs.declared.fault.WordsFault.{WordsFault}
+use Rattle.command_rules.specs.Causes.{words_cause}
+use Rattle.command_rules.specs.Sinks.{IsCut, IsPut, IsPutInPart, IsSilent, SinkAt, sink_at}
+use Rattle.host_calls.specs.Causes.{Rose}
+use Rattle.host_calls.specs.declared.damage.Damage.{Damage}
+use Rattle.host_calls.specs.declared.host.Host as host
+use Rattle.host_calls.specs.declared.sink.Sink as sink
+use Rattle.host_calls.specs.Folder.{Files, Folder, IsImage, reading_of}
+use Rattle.host_calls.specs.Session.{IsLeft, Session}
+use Rattle.host_calls.specs.Sink.{Outlet}
+use Rattle.host_calls.specs.World.{GoesOn, World, reading}
+use Rattle.listing_text.specs.declared.cause.Cause.{Cause}
+use Rattle.listing_text.specs.declared.cause.Cause.TheVariants.{Done, Refused, FileFault, InputFault, OutputFault, Busy, Memory, Damaged, StillRunning, Faulty}
+use Rattle.listing_text.specs.declared.refusal.Refusal.{Refusal}
+use Rattle.listing_text.specs.declared.refusal.Refusal.TheVariants.{AccountsFull}
+use Rattle.account_records.specs.declared.record.AccountRecord.{AccountRecord}
+use Rattle.spool_model.specs.JobTable.{JobTable}
+use Rattle.spool_shows.specs.Shown.{Shows, shown_by}
+use Rattle.step_runs.specs.Calls.{ShowsAsBefore}
+use Rattle.step_runs.specs.Current.{IsSpoolName}
+use Rattle.whole_file.specs.Others.{ChangesFiles, IsEither}
+use Rattle.at_account.specs.Counting.{AreCounted, AreTooMany, GivesRecords, IsAccountDamage}
+use Rattle.at_account.specs.Names.{account_file, account_temp}
+use Rattle.at_account.specs.Showing.{IsShown}
+
+-- the content of the file of accounts has the records that were counted over these files
+pub record HasCounted (files : Files) (content : Option (List ℕ)) : Type 0 where
+  pub table : JobTable
+  pub records : List AccountRecord
+  pub counted : AreCounted files table records
+  pub gives : GivesRecords content records
+
+-- The image shows what an image of the start shows and has its other files. Its file of accounts is that one's, or has
+-- the records that were counted over the reading of the start.
+pub record IsAccounting (start : Folder) (image : Files) : Type 0 where
+  pub from : Files
+  pub was : IsImage start from
+  pub same : shown_by image ≡ shown_by from
+  pub account : (finite.get image account_file ≡ finite.get from account_file) ⊎ HasCounted (reading_of start)
+      (finite.get image account_file)
+  pub others : (name : List ℕ) → ¬ (IsSpoolName name) → ¬ (IsEither account_temp account_file name) → finite.get image name
+      ≡ finite.get from name
+
+-- each image of the folder shows the table, and its file of accounts has the records
+abbrev pub EachHas : Folder → JobTable → List AccountRecord → Type 0
+EachHas folder table records =
+    (image : Files) → IsImage folder image → Shows image table × GivesRecords (finite.get image account_file) records
+
+-- The records were counted over the reading of the start, each image has them, and the text is what is shown of them.
+pub record IsAccounted (show : Bool) (old new : World) (text : List ℕ) : Type 0 where
+  pub table : JobTable
+  pub records : List AccountRecord
+  pub counted : AreCounted (reading old) table records
+  pub stands : EachHas new.now.folder table records
+  pub shown : IsShown show records text
+
+-- nothing was changed but what a recovery changes: each image has the file of accounts of the one that it comes of
+abbrev pub IsLeftAlone : World → World → Type 0
+IsLeftAlone old new = ChangesFiles (ShowsAsBefore old.now.folder) old new
+
+-- the spool is damaged, or else the file of accounts
+abbrev pub IsDamage : Files → Damage → Type 0
+IsDamage files damage =
+    (shown_by files ≡ Err damage)
+    ⊎ ((table : JobTable) × (shown_by files ≡ Ok table) × IsAccountDamage (finite.get files account_file) damage)
+
+-- what a refusal leaves: there would be too many records, and nothing was placed
+abbrev pub RefusalLeaves : Refusal → World → World → Type 0
+RefusalLeaves AccountsFull old new = AreTooMany (reading old) × IsLeftAlone old new
+RefusalLeaves _ old new = ⊥
+
+-- What is left in the folder and put on the output, by the cause: all of the text where it is done, a prefix of it where the
+-- put failed or found no memory, and else nothing.
+abbrev pub Leaves : Bool → Bool → World → World → SinkAt → SinkAt → Cause → Type 0
+Leaves show tells old new was now Done = (text : List ℕ) × IsAccounted show old new text × (tells ≡ true → IsPut text was now)
+Leaves show tells old new was now OutputFault = (text : List ℕ) × IsAccounted show old new text × (tells ≡ true → IsCut text was now)
+Leaves show tells old new was now Memory = tells ≡ true →
+    IsSilent was now ⊎ ((text : List ℕ) × IsAccounted show old new text × IsPutInPart text was now)
+Leaves show tells old new was now FileFault = tells ≡ true → IsSilent was now
+Leaves show tells old new was now (Refused refusal) = RefusalLeaves refusal old new × (tells ≡ true → IsSilent was now)
+Leaves show tells old new was now (Damaged damage) = IsDamage (reading old) damage × IsLeftAlone old new × (tells ≡ true → IsSilent was now)
+Leaves show tells old new was now Busy = (new ≡ old) × (tells ≡ true → IsSilent was now)
+Leaves show tells old new was now InputFault = ⊥
+Leaves show tells old new was now StillRunning = ⊥
+Leaves show tells old new was now Faulty = ⊥
+
+-- the causes for which the program may end, where its words ask for something
+abbrev pub MayEnd : Cause → Type 0
+MayEnd Done = Unit {0}
+MayEnd (Refused AccountsFull) = Unit {0}
+MayEnd (Refused _) = ⊥
+MayEnd FileFault = Unit {0}
+MayEnd OutputFault = Unit {0}
+MayEnd Busy = Unit {0}
+MayEnd Memory = Unit {0}
+MayEnd (Damaged damage) = Unit {0}
+MayEnd InputFault = ⊥
+MayEnd StillRunning = ⊥
+MayEnd Faulty = ⊥
+
+-- The host and the output at a moment: whether they tell what they hold, what they hold, and what each tells always.
+pub record OutsideAt : Type 0 where
+  pub files : Bool
+  pub alone : Bool
+  pub output : Bool
+  pub session : Session
+  pub spool : World
+  pub out : SinkAt
+  pub outlet : Outlet
+
+abbrev pub outside_at : {H O : Type 0} → host.Ghosts H → sink.Ghosts O → H → O → OutsideAt
+outside_at h o host out = record {
+  files = h.tells;
+  alone = h.alone;
+  output = o.tells;
+  session = h.session host;
+  spool = h.world host;
+  out = sink_at (o.content out) (o.outlet out);
+  outlet = o.outlet out;
+}
+
+-- Words that ask for nothing are said to be wrong, or found no memory; the folder and the output are left alone.
+pub record IsUnasked (fault : WordsFault) (old new : OutsideAt) (cause : Cause) : Type 0 where
+  pub because : (cause ≡ words_cause fault) ⊎ (cause ≡ Memory)
+  pub session : new.session ≡ old.session
+  pub spool : new.spool ≡ old.spool
+  pub silent : old.output ≡ true → IsSilent old.out new.out
+
+-- How the program ends, by what its words ask for. It starts no child and hands nothing over; each fault comes only where
+-- its count rose; what each image of each moment has; what is left; and what is put.
+pub record Accounting (asked : Result Bool WordsFault) (old new : OutsideAt) (cause : Cause) : Type 0 where
+  pub left : IsLeft old.session new.session
+  pub goes_on : old.files ≡ true → GoesOn old.spool new.spool
+  pub file_fault : cause ≡ FileFault → Rose old.session.file_faults new.session.file_faults
+  pub busy : cause ≡ Busy → Rose old.session.taken new.session.taken
+  pub output_fault : cause ≡ OutputFault → Rose old.outlet.sink_faults new.outlet.sink_faults
+  pub made_as : new.outlet.made_as ≡ old.outlet.made_as
+  pub unasked : (fault : WordsFault) → asked ≡ Err fault → IsUnasked fault old new cause
+  pub may_end : (show : Bool) → asked ≡ Ok show → MayEnd cause
+  pub images : old.files ≡ true → old.alone ≡ true → ChangesFiles (IsAccounting old.spool.now.folder) old.spool new.spool
+  pub leaves : (show : Bool) → asked ≡ Ok show → old.files ≡ true → old.alone ≡ true →
+      Leaves show old.output old.spool new.spool old.out new.out cause

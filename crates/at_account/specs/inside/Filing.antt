@@ -1,0 +1,73 @@
+-- The file of accounts, as it is read and replaced (own).
+use Rattle.std.specs.Prelude.{◌≡◌, ◌⊎◌, ℕ, List, Option, Some, Result, Ok, Err}
+use Rattle.std.specs.FinMap as finite
+use Rattle.account_records.specs.declared.record.AccountRecord.{AccountRecord}
+use Rattle.command_rules.specs.declared.command_error.CommandError.{CommandError}
+use Rattle.host_calls.specs.Folder.{Files, Folder, IsImage, reading_of}
+use Rattle.listing_text.specs.declared.cause.Cause.{Cause}
+use Rattle.listing_text.specs.declared.cause.Cause.TheVariants.{Done, Refused, FileFault, InputFault, OutputFault, Busy, Memory, Damaged, StillRunning, Faulty}
+use Rattle.whole_file.specs.Others.{IsEither, LeavesOthers}
+use Rattle.at_account.specs.Counting.{GivesRecords, IsAccountDamage}
+use Rattle.at_account.specs.Names.{account_file, account_temp}
+
+-- a fault of a file, want of memory, or damage
+abbrev pub IsOfReading : Cause → Type 0
+IsOfReading FileFault = Unit {0}
+IsOfReading Memory = Unit {0}
+IsOfReading (Damaged damage) = Unit {0}
+IsOfReading Done = ⊥
+IsOfReading (Refused refusal) = ⊥
+IsOfReading InputFault = ⊥
+IsOfReading OutputFault = ⊥
+IsOfReading Busy = ⊥
+IsOfReading StillRunning = ⊥
+IsOfReading Faulty = ⊥
+
+-- a fault of a file, or want of memory
+abbrev pub IsOfHost : Cause → Type 0
+IsOfHost FileFault = Unit {0}
+IsOfHost Memory = Unit {0}
+IsOfHost (Damaged damage) = ⊥
+IsOfHost Done = ⊥
+IsOfHost (Refused refusal) = ⊥
+IsOfHost InputFault = ⊥
+IsOfHost OutputFault = ⊥
+IsOfHost Busy = ⊥
+IsOfHost StillRunning = ⊥
+IsOfHost Faulty = ⊥
+
+-- damage is answered where the content has it
+abbrev pub IsUnread : Option (List ℕ) → Cause → Type 0
+IsUnread content (Damaged damage) = IsAccountDamage content damage
+IsUnread content FileFault = Unit {0}
+IsUnread content Memory = Unit {0}
+IsUnread content Done = ⊥
+IsUnread content (Refused refusal) = ⊥
+IsUnread content InputFault = ⊥
+IsUnread content OutputFault = ⊥
+IsUnread content Busy = ⊥
+IsUnread content StillRunning = ⊥
+IsUnread content Faulty = ⊥
+
+-- what a reading of the content answers
+abbrev pub ReadsAccount : Option (List ℕ) → Result (List AccountRecord) CommandError → Type 0
+ReadsAccount content (Ok records) = GivesRecords content records
+ReadsAccount content (Err stopped) = IsUnread content stopped.cause
+
+-- each image has what the reading has under the name
+abbrev pub IsCertainAt : List ℕ → Folder → Type 0
+IsCertainAt name folder = (image : Files) → IsImage folder image → finite.get image name ≡ finite.get (reading_of folder) name
+
+-- each image has the bytes under the name
+abbrev pub IsPlacedAt : List ℕ → List ℕ → Folder → Type 0
+IsPlacedAt name bytes folder = (image : Files) → IsImage folder image → finite.get image name ≡ Some bytes
+
+-- the file of accounts has the records in each image
+abbrev pub EachGives : List AccountRecord → Folder → Type 0
+EachGives records folder = (image : Files) → IsImage folder image → GivesRecords (finite.get image account_file) records
+
+-- The image is one of the start but for the file of accounts and the one that is being made, and its file of accounts is
+-- that one's, or has the records.
+pub record IsWriting (records : List AccountRecord) (start : Folder) (image : Files) : Type 0 where
+  pub alone : LeavesOthers (IsEither account_temp account_file) start image
+  pub account : (finite.get image account_file ≡ finite.get alone.from account_file) ⊎ GivesRecords (finite.get image account_file) records

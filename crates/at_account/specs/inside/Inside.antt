@@ -1,0 +1,96 @@
+-- What is done within the session, and what is put after it (own).
+use Rattle.std.specs.Prelude.{◌≡◌, ◌++◌, ℕ, Bool, true, List, Option, Result, Ok, Err}
+use Rattle.account_records.specs.declared.record.AccountRecord.{AccountRecord}
+use Rattle.account_totals.specs.Observing.{AreNews, WouldPass}
+use Rattle.command_rules.specs.declared.command_error.CommandError.{CommandError}
+use Rattle.command_rules.specs.Sinks.{IsCut, IsPut, IsSilent, SinkAt}
+use Rattle.host_calls.specs.World.{World, reading}
+use Rattle.listing_text.specs.declared.cause.Cause.{Cause}
+use Rattle.listing_text.specs.declared.cause.Cause.TheVariants.{Done, Refused, FileFault, InputFault, OutputFault, Busy, Memory, Damaged, StillRunning, Faulty}
+use Rattle.listing_text.specs.declared.refusal.Refusal.TheVariants.{AccountsFull}
+use Rattle.spool_model.specs.JobTable.{JobTable}
+use Rattle.whole_file.specs.Others.{ChangesFiles}
+use Rattle.at_account.specs.Accounting.{IsAccounted, IsAccounting, IsDamage, IsLeftAlone, Leaves, RefusalLeaves}
+use Rattle.at_account.specs.Counting.{GivesRecords, IsAccountDamage}
+
+-- what may stop the work: a fault of a file, want of memory, damage, or that there would be too many records
+abbrev pub IsOfWork : Cause → Type 0
+IsOfWork FileFault = Unit {0}
+IsOfWork Memory = Unit {0}
+IsOfWork (Damaged damage) = Unit {0}
+IsOfWork (Refused AccountsFull) = Unit {0}
+IsOfWork (Refused _) = ⊥
+IsOfWork Done = ⊥
+IsOfWork InputFault = ⊥
+IsOfWork OutputFault = ⊥
+IsOfWork Busy = ⊥
+IsOfWork StillRunning = ⊥
+IsOfWork Faulty = ⊥
+
+-- the records are those of the content with what is new of the table
+pub record IsCounted (table : JobTable) (content : Option (List ℕ)) (records : List AccountRecord) : Type 0 where
+  pub read : List AccountRecord
+  pub news : List AccountRecord
+  pub gives : GivesRecords content read
+  pub are : AreNews read table news
+  pub all : records ≡ read ++ news
+
+-- there would be too many
+pub record WouldBeTooMany (table : JobTable) (content : Option (List ℕ)) : Type 0 where
+  pub read : List AccountRecord
+  pub gives : GivesRecords content read
+  pub many : WouldPass read table
+
+-- why nothing was counted
+abbrev pub StopsCounting : JobTable → Option (List ℕ) → Cause → Type 0
+StopsCounting table content (Damaged damage) = IsAccountDamage content damage
+StopsCounting table content (Refused AccountsFull) = WouldBeTooMany table content
+StopsCounting table content (Refused _) = ⊥
+StopsCounting table content FileFault = Unit {0}
+StopsCounting table content Memory = Unit {0}
+StopsCounting table content Done = ⊥
+StopsCounting table content InputFault = ⊥
+StopsCounting table content OutputFault = ⊥
+StopsCounting table content Busy = ⊥
+StopsCounting table content StillRunning = ⊥
+StopsCounting table content Faulty = ⊥
+
+abbrev pub Counts : JobTable → Option (List ℕ) → Result (List AccountRecord) CommandError → Type 0
+Counts table content (Ok records) = IsCounted table content records
+Counts table content (Err stopped) = StopsCounting table content stopped.cause
+
+-- what is left by the cause that stopped the work
+abbrev pub StopsInside : World → World → Cause → Type 0
+StopsInside old new (Damaged damage) = IsDamage (reading old) damage × IsLeftAlone old new
+StopsInside old new (Refused refusal) = RefusalLeaves refusal old new
+StopsInside old new FileFault = Unit {0}
+StopsInside old new Memory = Unit {0}
+StopsInside old new Done = ⊥
+StopsInside old new InputFault = ⊥
+StopsInside old new OutputFault = ⊥
+StopsInside old new Busy = ⊥
+StopsInside old new StillRunning = ⊥
+StopsInside old new Faulty = ⊥
+
+-- what is left by the answer: the text that is to be shown of what was counted
+abbrev pub EndsInside : Bool → World → World → Result (List ℕ) CommandError → Type 0
+EndsInside show old new (Ok text) = IsAccounted show old new text
+EndsInside show old new (Err stopped) = StopsInside old new stopped.cause
+
+-- all of the text was put, a prefix of it, or nothing for want of memory
+abbrev pub PutsText : Bool → List ℕ → SinkAt → SinkAt → Cause → Type 0
+PutsText tells text old new Done = tells ≡ true → IsPut text old new
+PutsText tells text old new OutputFault = tells ≡ true → IsCut text old new
+PutsText tells text old new Memory = tells ≡ true → IsSilent old new
+PutsText tells text old new (Refused refusal) = ⊥
+PutsText tells text old new FileFault = ⊥
+PutsText tells text old new InputFault = ⊥
+PutsText tells text old new Busy = ⊥
+PutsText tells text old new (Damaged damage) = ⊥
+PutsText tells text old new StillRunning = ⊥
+PutsText tells text old new Faulty = ⊥
+
+-- what each image has and what is left, where the host tells its files and nobody else changes them
+pub record Accounts (files alone output show : Bool) (old new : World) (was now : SinkAt) (cause : Cause) : Type 0 where
+  pub images : files ≡ true → alone ≡ true → ChangesFiles (IsAccounting old.now.folder) old new
+  pub leaves : files ≡ true → alone ≡ true → Leaves show output old new was now cause

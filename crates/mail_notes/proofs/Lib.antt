@@ -1,0 +1,8 @@
+pub mod BookLemmas
+pub mod LineLemmas
+pub mod NameLemmas
+pub mod NoteLemmas
+pub mod RunLemmas
+pub mod TextLemmas
+pub mod WaitingLemmas
+pub mod WritingLemmas

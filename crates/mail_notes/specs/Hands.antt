@@ -1,0 +1,75 @@
+-- What notes hand over (own): the notice of each that was sent.
+use Rattle.std.specs.Prelude.{◌≡◌, ◌⊎◌, ◌++◌, [], ◌∷◌, ℕ, List, Option, Some, None, Contains}
+use Rattle.host_calls.specs.declared.child.Handed.{Handed}
+use Rattle.listing_text.specs.Lines.{turn_text}
+use Rattle.listing_text.specs.declared.turn_step.TurnStepText.{TurnStepText}
+use Rattle.listing_text.specs.declared.turn_step.TurnStepText.TheVariants as step
+use Rattle.spool_model.specs.declared.entry.Entry.TheVariants.{Done}
+use Rattle.spool_model.specs.declared.fate.Fate.{Fate}
+use Rattle.spool_model.specs.declared.fate.Fate.TheVariants.{Finished, Interrupted, Removed}
+use Rattle.spool_model.specs.JobTable.{JobTable, entry_at}
+use Rattle.mail_notes.specs.declared.note.Note.{Note}
+use Rattle.mail_notes.specs.declared.note.Note.TheVariants.{Dropped, Noted, Sent}
+use Rattle.mail_notes.specs.declared.note.NotedJob.{NotedJob}
+use Rattle.mail_notes.specs.Notices.{notice_text}
+
+-- what notices are made of: the mail program, the table of jobs, and the notes with the new ones
+pub record Mailing : Type 0 where
+  pub program : List ℕ
+  pub table : JobTable
+  pub notes : List Note
+
+-- the step of a turn that tells of an end; a job that was removed has none
+abbrev pub step_of : ℕ → Fate → Option TurnStepText
+step_of number (Finished ending) = Some (step.Ended number ending)
+step_of number Interrupted = Some (step.Interrupted number)
+step_of number Removed = None
+
+-- the job of the number is done, and this step tells of its end
+pub record IsEndOf (table : JobTable) (number : ℕ) (end : TurnStepText) : Type 0 where
+  pub fate : Fate
+  pub done : entry_at table number ≡ Some (Done fate)
+  pub told : step_of number fate ≡ Some end
+
+-- the script is the notice of the number's end, for its job as it was noted
+pub record IsNoticeOf (of : Mailing) (number : ℕ) (script : List ℕ) : Type 0 where
+  pub job : NotedJob
+  pub noted : Contains of.notes (Noted job)
+  pub number_is : job.number ≡ number
+  pub end : TurnStepText
+  pub ended : IsEndOf of.table number end
+  pub script_is : script ≡ notice_text of.program job (turn_text end)
+
+-- how nice a notice is
+abbrev pub notice_nice : ℕ
+notice_nice = 19
+
+-- this was handed over for the note that the notice of the number was sent
+pub record IsHandedFor (of : Mailing) (number : ℕ) (handed : Handed) : Type 0 where
+  pub number_is : handed.number ≡ number
+  pub notice : IsNoticeOf of number handed.script
+  pub nice : handed.nice ≡ notice_nice
+
+-- what one note hands over: that a notice was sent its script, another note nothing
+abbrev pub HandsOne : Mailing → Note → List Handed → Type 0
+HandsOne of (Sent number) given = (handed : Handed) × IsHandedFor of number handed × (given ≡ handed ∷ [])
+HandsOne of (Noted job) given = given ≡ []
+HandsOne of (Dropped number) given = given ≡ []
+
+-- what notes hand over, one after the other
+abbrev pub Hands : Mailing → List Note → List Handed → Type 0
+Hands of [] given = given ≡ []
+Hands of (note ∷ later) given =
+    (first : List Handed) × (rest : List Handed) × HandsOne of note first × Hands of later rest × (given ≡ first ++ rest)
+
+-- The last note is that a notice was sent which was not handed over yet; those before it have handed over these.
+pub record LacksLast (of : Mailing) (notes : List Note) (given : List Handed) : Type 0 where
+  pub earlier : List Note
+  pub number : ℕ
+  pub ends : notes ≡ earlier ++ Sent number ∷ []
+  pub hands : Hands of earlier given
+
+-- What was handed over once these notes stand. That a notice was sent stands before it is handed over, so that of the last
+-- note may be wanting.
+abbrev pub HandsByNow : Mailing → List Note → List Handed → Type 0
+HandsByNow of notes given = Hands of notes given ⊎ LacksLast of notes given

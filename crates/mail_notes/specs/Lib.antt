@@ -1,0 +1,9 @@
+pub mod Book
+pub mod Hands
+pub mod Laws
+pub mod Lines
+pub mod Names
+pub mod Notes
+pub mod Notices
+pub mod Runs
+pub mod inside

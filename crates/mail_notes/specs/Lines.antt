@@ -1,0 +1,92 @@
+-- The line of a note (own): a letter, the number in eight hexadecimal digits, and of a job that was seen its file, a flag
+-- and its user, with one space between.
+use Rattle.std.specs.Prelude.{◌≡◌, ◌<◌, ◌^◌, ◌++◌, [], ◌∷◌, ℕ, Bool, List, Option, None, Some, if◌then◌else◌}
+use Rattle.std.specs.List.{flat_map}
+use Rattle.hex_digits.specs.Digits.{digits_of}
+use Rattle.job_name.specs.JobName.{SpellsJobName}
+use Rattle.spool_model.specs.Users.{IsUserName}
+use Rattle.mail_notes.specs.declared.note.Note.{Note}
+use Rattle.mail_notes.specs.declared.note.Note.TheVariants.{Dropped, Noted, Sent}
+use Rattle.mail_notes.specs.declared.note.NotedJob.{NotedJob}
+use Rattle.mail_notes.specs.Notes.{number_of}
+
+-- the letter of a note
+abbrev pub letter_of : Note → ℕ
+letter_of (Noted job) = 78
+letter_of (Sent number) = 83
+letter_of (Dropped number) = 68
+
+-- the flag of a job: 1 where its notice is sent in any case, else 0
+abbrev pub flag_byte : Bool → ℕ
+flag_byte always = if always then 49 else 48
+
+-- the byte is a flag
+abbrev pub IsFlag : ℕ → Type 0
+IsFlag byte = (always : Bool) × (byte ≡ flag_byte always)
+
+-- what stands after the number of a job that was seen
+abbrev pub job_text : NotedJob → List ℕ
+job_text job = 32 ∷ (job.file ++ (32 ∷ flag_byte job.always ∷ 32 ∷ job.user))
+
+-- what stands after the number
+abbrev pub rest_text : Note → List ℕ
+rest_text (Noted job) = job_text job
+rest_text (Sent number) = []
+rest_text (Dropped number) = []
+
+-- the line of a note, without its newline
+abbrev pub note_text : Note → List ℕ
+note_text note = letter_of note ∷ 32 ∷ (digits_of (number_of note) ++ rest_text note)
+
+-- the line of a note
+abbrev pub note_line : Note → List ℕ
+note_line note = note_text note ++ 10 ∷ []
+
+-- the lines of notes
+abbrev pub notes_text : List Note → List ℕ
+notes_text notes = flat_map note_line notes
+
+-- the file of this name is that of the job of the number, in either form
+pub record IsFileOf (number : ℕ) (file : List ℕ) : Type 0 where
+  pub queue : ℕ
+  pub minute : ℕ
+  pub new_form : Bool
+  pub spelled : SpellsJobName file queue number minute new_form
+
+-- the file is that of the job, and the user's name is one
+pub record IsNotedJob (job : NotedJob) : Type 0 where
+  pub file : IsFileOf job.number job.file
+  pub user : IsUserName job.user
+
+-- the number fits eight digits
+abbrev pub Fits : ℕ → Type 0
+Fits number = number < 16 ^ 8
+
+-- the note can stand in a line
+abbrev pub IsNote : Note → Type 0
+IsNote (Noted job) = Fits job.number × IsNotedJob job
+IsNote (Sent number) = Fits number
+IsNote (Dropped number) = Fits number
+
+-- the text after this number is that of the job
+pub record IsJobText (number : ℕ) (rest : List ℕ) (job : NotedJob) : Type 0 where
+  pub number_is : job.number ≡ number
+  pub is : rest ≡ job_text job
+  pub of : IsNotedJob job
+
+-- the letter, the number and the text after it are those of the note
+pub record IsNoteText (letter number : ℕ) (rest : List ℕ) (note : Note) : Type 0 where
+  pub letter_is : letter ≡ letter_of note
+  pub number_is : number ≡ number_of note
+  pub rest_is : rest ≡ rest_text note
+  pub of : IsNote note
+
+-- the line spells the note
+pub record SpellsNote (line : List ℕ) (note : Note) : Type 0 where
+  pub is : line ≡ note_text note
+  pub of : IsNote note
+
+-- what is at the name of the file of notes holds these: an absent file holds none
+abbrev pub HoldsNotes : Option (List ℕ) → List Note → Type 0
+HoldsNotes None notes = notes ≡ []
+HoldsNotes (Some bytes) notes = bytes ≡ notes_text notes

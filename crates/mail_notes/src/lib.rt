@@ -1,0 +1,18 @@
+//! The notes of the mail of jobs: a job was seen, its notice was sent or dropped; their lines, what they say of each
+//! job, the text of a notice, and what a crash leaves of a run of notes.
+#![tactic(auto)]
+
+mod book;
+mod laws;
+mod line;
+mod names;
+mod note;
+mod notice;
+
+pub use book::{MailBook, MailStanding};
+pub use laws::{
+    mail_is_none_of_the_stores, note_files_are_texts, notes_can_be_written, runs_of_notes_join,
+};
+pub use names::{mail_name, mail_temp_name, notice_name};
+pub use note::{Note, NotedJob};
+pub use notice::{NOTICE_NICE, notice_text};

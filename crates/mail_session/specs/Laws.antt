@@ -1,0 +1,55 @@
+-- How the parts of a session of mail join.
+use Rattle.std.specs.Prelude.{◌≡◌, ◌≢◌, ◌++◌, [], ℕ, List, IsSome, Contains}
+use Rattle.std.specs.FinMap as map
+use Rattle.host_calls.specs.declared.child.Asked.{Asked}
+use Rattle.host_calls.specs.declared.child.Handed.{Handed}
+use Rattle.host_calls.specs.World.{World, reading}
+use Rattle.spool_model.specs.JobTable.{JobTable}
+use Rattle.step_runs.specs.Calls.{ShowsAsBefore}
+use Rattle.step_runs.specs.Current.{Kept}
+use Rattle.step_runs.specs.WithoutScripts.{without_scripts}
+use Rattle.spool_store.specs.Recovering.{IsRecovered}
+use Rattle.whole_file.specs.Clearing.{AreCleared, IsClearing}
+use Rattle.whole_file.specs.Others.{ChangesFiles}
+use Rattle.mail_notes.specs.declared.note.Note.{Note}
+use Rattle.mail_notes.specs.declared.note.Note.TheVariants.{Noted}
+use Rattle.mail_notes.specs.declared.note.NotedJob.{NotedJob}
+use Rattle.mail_notes.specs.Hands.{Mailing}
+use Rattle.mail_notes.specs.Lines.{HoldsNotes}
+use Rattle.mail_notes.specs.Names.{IsMailName, mail_file, mail_temp}
+use Rattle.mail_notes.specs.Runs.{AreMade, AreStopped}
+use Rattle.mail_session.specs.declared.due.Due.{Due}
+use Rattle.mail_session.specs.Dues.{AreDue}
+use Rattle.mail_session.specs.Sessions.{HasPosted, IsCleared, IsOpened}
+use Rattle.mail_session.specs.Steps.{AreDuesOf}
+
+-- a recovery opens the session, with the notes that are read after it
+abbrev pub RecoveriesOpen : Type 0
+RecoveriesOpen = (kept : Kept) (notes : List Note) (start opened : World) →
+    ChangesFiles (ShowsAsBefore start.now.folder) start opened → (is : IsRecovered start.now.folder opened.now.folder kept) →
+    HoldsNotes (map.get (reading opened) mail_file) notes → IsOpened notes is.table start opened
+
+-- where these files of mail are removed, one that is being made among them, the notes may be made
+abbrev pub LeftoversAreCleared : Type 0
+LeftoversAreCleared = (notes : List Note) (table : JobTable) (names : List (List ℕ)) (start opened cleared : World) →
+    IsOpened notes table start opened → ((name : List ℕ) → Contains names name → IsMailName name × (name ≢ mail_file)) →
+    (IsSome (map.get (reading opened) mail_temp) → Contains names mail_temp) →
+    ChangesFiles (IsClearing names opened.now.folder) opened cleared →
+    (names ≢ [] → AreCleared names opened.now.folder cleared.now.folder) → IsCleared notes table start cleared
+
+-- notes that were made then post the session
+abbrev pub SessionsPost : Type 0
+SessionsPost = (of : Mailing) (notes new_ones : List Note) (given : List Handed) (questions : List Asked) (table : JobTable)
+    (start cleared end : World) → IsCleared notes table start cleared → AreMade of notes new_ones given questions cleared end →
+    HasPosted of notes new_ones table start end
+
+-- and so do notes that were stopped, as far as they came
+abbrev pub StoppedSessionsPost : Type 0
+StoppedSessionsPost = (of : Mailing) (notes new_ones next : List Note) (given : List Handed) (questions : List Asked)
+    (table : JobTable) (start cleared end : World) → IsCleared notes table start cleared →
+    AreStopped of notes new_ones next given questions cleared end → HasPosted of notes (new_ones ++ next) table start end
+
+-- what is due of the jobs that wait, by what a store keeps of the table, is due
+abbrev pub DuesAreDue : Type 0
+DuesAreDue = (of : Mailing) (notes : List Note) (table : JobTable) (dues : List Due) → table ≡ without_scripts of.table →
+    ((job : NotedJob) → Contains notes (Noted job) → Contains of.notes (Noted job)) → AreDuesOf table notes dues → AreDue of dues

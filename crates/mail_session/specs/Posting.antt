@@ -1,0 +1,60 @@
+-- What is due is noted and handed over (own): how far that came, and what it leaves.
+use Rattle.std.specs.Prelude.{◌≡◌, ◌++◌, [], ◌∷◌, ℕ, Bool, true, List, Option, Some, None, Result, Ok, Err, IfOk, map}
+use Rattle.host_calls.specs.declared.child.Child.{Child}
+use Rattle.host_calls.specs.declared.child.Handed.{Handed}
+use Rattle.host_calls.specs.declared.fault.HostFault.{HostFault}
+use Rattle.host_calls.specs.declared.fault.HostFault.TheVariants.{Failed}
+use Rattle.host_calls.specs.Causes.{HasCause}
+use Rattle.host_calls.specs.Folder.{IsInNoImage}
+use Rattle.host_calls.specs.Session.{IsInside, KeepsCounts, Session}
+use Rattle.host_calls.specs.World.{World}
+use Rattle.daemon_turn.specs.declared.kid.Kid.{Kid}
+use Rattle.daemon_turn.specs.Kids.{started_numbers}
+use Rattle.mail_notes.specs.declared.note.Note.{Note}
+use Rattle.mail_notes.specs.Hands.{Mailing}
+use Rattle.mail_notes.specs.Lines.{notes_text}
+use Rattle.mail_notes.specs.Names.{mail_temp}
+use Rattle.mail_notes.specs.Notes.{AreFirst}
+use Rattle.mail_notes.specs.Runs.{AreMade, AreStopped, IsReady}
+use Rattle.mail_session.specs.declared.due.Due.{Due}
+use Rattle.mail_session.specs.Dues.{AreDue, notes_of, sent_numbers}
+
+-- the kid of a child that came of the number's notice, if one did
+abbrev pub kids_of : ℕ → Option Child → List Kid
+kids_of number None = []
+kids_of number (Some child) = record { number = number; child = child } ∷ []
+
+-- The notes that were made, those that may stand too where it was stopped, and the kids that came.
+pub record Part : Type 0 where
+  pub made : List Note
+  pub next : List Note
+  pub added : List Kid
+
+-- what is left where the notes were made, and where they were stopped
+abbrev pub PartEnds : Mailing → List Note → Part → List Handed → World → World → Result (Unit {0}) HostFault → Type 0
+PartEnds of notes part given old new (Ok done) = AreMade of notes part.made given [] old new
+PartEnds of notes part given old new (Err fault) = AreStopped of notes part.made part.next given [] old new
+
+-- these were handed over, and the kids are the children that came of them
+pub record Gives (of : Mailing) (notes : List Note) (part : Part) (old new : World) (result : Result (Unit {0}) HostFault) : Type 0 where
+  pub given : List Handed
+  pub numbered : started_numbers given ≡ map (λ kid. kid.number) part.added
+  pub ends : PartEnds of notes part given old new result
+
+-- What is due was noted after the notes of the text, or the first of it, by a file fault or want of memory, and the kids
+-- and the numbers of the notices that were handed over were added to those before.
+pub record Posts (program : List ℕ) (tells : Bool) (before after : Session) (old new : World) (dues : List Due) (was is : List ℕ)
+    (kids more : List Kid) (sent gone : List ℕ) (result : Result (Unit {0}) HostFault) : Type 0 where
+  pub part : Part
+  pub inside : IsInside after
+  pub counts : KeepsCounts before after
+  pub cause : HasCause Failed before.file_faults after.file_faults result
+  pub children : after.children ≡ before.children ++ map (λ kid. kid.child) part.added
+  pub prefix : AreFirst (part.made ++ part.next) (notes_of dues)
+  pub all : IfOk result (λ done. part.made ≡ notes_of dues)
+  pub text : IfOk result (λ done. is ≡ was ++ notes_text part.made)
+  pub kids_are : more ≡ kids ++ part.added
+  pub sent_are : gone ≡ sent ++ sent_numbers part.made
+  pub no_temp : tells ≡ true → IfOk result (λ done. IsInNoImage new.now.folder mail_temp)
+  pub files : tells ≡ true → (of : Mailing) (notes : List Note) → of.program ≡ program → IsReady notes old.now.folder →
+      was ≡ notes_text notes → AreDue of dues → Gives of notes part old new result

@@ -1,0 +1,101 @@
+//! What is due is noted and handed over, one after another.
+ghost use Rattle.std.specs.Prelude.{◌≡◌, ◌+◌, ◌≤◌, ◌++◌, ◌∷◌, [], IsTrue, OnOk, length, vec_capacity, vec_len};
+ghost use Rattle.host_calls.specs.Folder.{IsInNoImage};
+ghost use Rattle.host_calls.specs.Session.{IsInside};
+ghost use Rattle.mail_notes.specs.Lines.{note_line};
+ghost use Rattle.mail_notes.specs.Names.{mail_temp};
+ghost use Rattle.mail_session.specs.Dues.{note_of};
+ghost use Rattle.mail_session.specs.Posting.{Posts, kids_of};
+
+use crate::Due;
+use crate::due::note_of;
+use crate::places::place_notes;
+use crate::send::send;
+use daemon_turn::Kid;
+use host_calls::{Child, Host, HostFault};
+use listing_text::TurnStepText;
+use mail_notes::{NotedJob, notice_text};
+use record_lines::LineRecord;
+use std::alloc::{AllocError, Global};
+
+/// Notes what is due, in order, each after the notes of the text, and hands each notice over once its note stands. The
+/// child of a notice is a kid.
+pub fn post_all<H: Host>(
+    alloc: Global,
+    host: &mut H,
+    program: &[u8],
+    dues: &[Due],
+    text: &mut Vec<u8>,
+    kids: &mut Vec<Kid>,
+    sent: &mut Vec<u32>,
+) -> Result<(), HostFault>
+    requires inside { IsInside (H.session host.old) }
+    requires no_temp { IsTrue H.tells → IsInNoImage (H.world host.old).now.folder mail_temp }
+    requires kids { vec_len kids.old + length dues.now ≤ vec_capacity kids.old }
+    requires sent { vec_len sent.old + length dues.now ≤ vec_capacity sent.old }
+    ensures { Posts program.now H.tells (H.session host.old) (H.session host.new)
+        (H.world host.old) (H.world host.new) dues.now text.old.items text.new.items
+        kids.old.items kids.new.items sent.old.items sent.new.items result }
+{
+    for due in dues {
+        post(alloc, host, program, due, text, kids, sent)?;
+    }
+    Ok(())
+}
+
+// Notes one thing that is due, and hands its notice over, where it is one.
+fn post<H: Host>(
+    alloc: Global,
+    host: &mut H,
+    program: &[u8],
+    due: &Due,
+    text: &mut Vec<u8>,
+    kids: &mut Vec<Kid>,
+    sent: &mut Vec<u32>,
+) -> Result<(), HostFault>
+    requires inside { IsInside (H.session host.old) }
+    requires no_temp { IsTrue H.tells → IsInNoImage (H.world host.old).now.folder mail_temp }
+    requires kids { vec_len kids.old + 1 ≤ vec_capacity kids.old }
+    requires sent { vec_len sent.old + 1 ≤ vec_capacity sent.old }
+    ensures posts { Posts program.now H.tells (H.session host.old) (H.session host.new)
+        (H.world host.old) (H.world host.new) (due.now ∷ []) text.old.items text.new.items
+        kids.old.items kids.new.items sent.old.items sent.new.items result }
+    ensures kids { vec_len kids.new ≤ vec_len kids.old + 1 }
+    ensures kids_room { vec_capacity kids.new ≡ vec_capacity kids.old }
+    ensures sent { vec_len sent.new ≤ vec_len sent.old + 1 }
+    ensures sent_room { vec_capacity sent.new ≡ vec_capacity sent.old }
+{
+    add_note(text, due)?;
+    match due {
+        Due::Send(job, end) => {
+            let script = notice_text(alloc, program, job, end)?;
+            let child = send(alloc, host, job.number, script.as_slice(), text.as_slice())?;
+            sent.push_reserved(job.number);
+            keep_kid(kids, job.number, child);
+            Ok(())
+        }
+        Due::Drop(_) => place_notes(alloc, host, text.as_slice()),
+    }
+}
+
+// Puts the line of the note after the text.
+fn add_note(text: &mut Vec<u8>, due: &Due) -> Result<(), AllocError>
+    ensures { OnOk result (text.new.items ≡ text.old.items ++ note_line (note_of due.now)) }
+{
+    let note = note_of(due);
+    note.write(text)?;
+    text.push(b'\n')?;
+    Ok(())
+}
+
+// Keeps the child that came of the number's notice, if one did.
+fn keep_kid(kids: &mut Vec<Kid>, number: u32, child: Option<Child>)
+    requires { vec_len kids.old + 1 ≤ vec_capacity kids.old }
+    ensures items { kids.new.items ≡ kids.old.items ++ kids_of number child }
+    ensures len { vec_len kids.new ≤ vec_len kids.old + 1 }
+    ensures capacity { vec_capacity kids.new ≡ vec_capacity kids.old }
+{
+    if let Some(child) = child {
+        kids.push_reserved(Kid { number, child });
+    }
+}

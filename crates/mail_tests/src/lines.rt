@@ -1,0 +1,62 @@
+//! Files of notes, and their first bad lines.
+use mail_notes::{MailBook, MailStanding, Note};
+use record_lines::{LinesFault, read_lines, read_records_can_be_written, text_of};
+use std::test::Fail;
+
+#[test]
+fn a_file_of_each_kind_of_line(rt: HostRuntime) -> Result<(), Fail> {
+    let alloc = rt.alloc();
+    let text =
+        b"N 00000001 a0000000101b968a0 1 ann\nN 00000002 Z0000201b968a0 0 a.b_c-$+@\nS 00000001\nN 0000000a b0000000a01b968a0 1 root\nD 00000002\n".as_slice();
+    let mut book = MailBook::new(alloc);
+    let read = read_lines::<Note, MailBook>(alloc, text, &mut book)?;
+    read_records_can_be_written::<Note>(text);
+    let written = text_of(alloc, read.as_slice())?;
+    assert_eq!(rt; written.as_slice(), text);
+    let waiting = book.waiting(alloc)?;
+    assert_eq!(rt; waiting.len(), 1);
+    assert_eq!(rt; waiting[0].number, 10);
+    assert_eq!(rt; waiting[0].file.as_bytes(), b"b0000000a01b968a0".as_slice());
+    assert_eq!(rt; waiting[0].user.as_bytes(), b"root".as_slice());
+    assert!(rt; waiting[0].always);
+    assert!(rt; matches!(book.standing(1), Some(MailStanding::Closed)));
+    assert!(rt; book.standing(3).is_none());
+    Ok(())
+}
+
+#[test]
+fn first_bad_lines(rt: HostRuntime) -> Result<(), Fail> {
+    let cases: [(&[u8], usize); 19] = [
+        (b"S 00000001\n", 0),
+        (b"D 00000001\n", 0),
+        (b"N 00000001 a0000000101b968a0 1 ann", 0),
+        (b"N 00000001 a0000000101b968a0 1 ann\n\n", 35),
+        (
+            b"N 00000001 a0000000101b968a0 1 ann\nN 00000001 a0000000101b968a0 1 ann\n",
+            35,
+        ),
+        (
+            b"N 00000001 a0000000101b968a0 1 ann\nS 00000001\nD 00000001\n",
+            46,
+        ),
+        (b"N 00000001 a0000000101b968a0 1 ann\nS 00000002\n", 35),
+        (b"N 00000001 a0000000101b968a0 1 ann\nS 00000001 \n", 35),
+        (b"n 00000001 a0000000101b968a0 1 ann\n", 0),
+        (b"N 0000000G a0000000101b968a0 1 ann\n", 0),
+        (b"N 00000001 a0000000201b968a0 1 ann\n", 0),
+        (b"N 00000001 a0000000101b968a 1 ann\n", 0),
+        (b"N 00000000 a0000000001b968a0 1 ann\n", 0),
+        (b"N 00000001 a0000000101b968a0 2 ann\n", 0),
+        (b"N 00000001 a0000000101b968a0 1 -nn\n", 0),
+        (b"N 00000001 a0000000101b968a0 1 \n", 0),
+        (b"N 00000001 a0000000101b968a0  1 ann\n", 0),
+        (b"N 00000001  a0000000101b968a0 1 ann\n", 0),
+        (b"N 00000001 a0000000101b968a0 1 a n\n", 0),
+    ];
+    for (text, offset) in cases {
+        let mut book = MailBook::new(rt.alloc());
+        let fault = read_lines::<Note, MailBook>(rt.alloc(), text, &mut book).err();
+        assert_eq!(rt; fault, Some(LinesFault::At(offset)), "{text:?}");
+    }
+    Ok(())
+}

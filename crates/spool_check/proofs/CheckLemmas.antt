@@ -1,0 +1,397 @@
+-- Visits of folders, and what is left in them.
+use Rattle.std.proofs.Common.{◌≡◌, ◌≤◌, ◌++◌, [], ◌∷◌, ℕ, Bool, true, List, take, length, arith, refl, sym, ap, subst, ◌∙◌, inl, inr, append-nil}
+use Rattle.std.specs.Prelude.{Result, Ok, Err, IfOk, IfErr, IsErr, IsErrAnd, false}
+use Rattle.at_words.specs.Answers.{Answers}
+use Rattle.at_words.specs.declared.fault.WordsFault.{WordsFault}
+use Rattle.at_words.specs.declared.fault.WordsFault.TheVariants as words
+use Rattle.command_rules.specs.Causes.{cause_in, cause_of_entry, cause_of_host, error_of, words_cause}
+use Rattle.command_rules.specs.declared.command_error.CommandError.{CommandError}
+use Rattle.command_rules.specs.Sinks.{IsPut, IsPutInPart, SinkAt}
+use Rattle.command_rules.proofs.SpoolLemmas.{goes_on_none}
+use Rattle.cause_output.proofs.PutLemmas.{part_of_put}
+use Rattle.host_calls.specs.Causes.{Rose}
+use Rattle.host_calls.specs.declared.damage.Damage.{Damage}
+use Rattle.host_calls.specs.declared.fault.EnterFault.{EnterFault}
+use Rattle.host_calls.specs.declared.fault.EnterFault.TheVariants as entry
+use Rattle.host_calls.specs.declared.fault.HostFault.{HostFault}
+use Rattle.host_calls.specs.declared.fault.HostFault.TheVariants as host
+use Rattle.host_calls.specs.Folder.{Files, IsImage}
+use Rattle.host_calls.specs.World.{GoesOn, World, reading}
+use Rattle.listing_text.specs.declared.cause.Cause.{Cause}
+use Rattle.listing_text.specs.declared.cause.Cause.TheVariants.{Done, Refused, FileFault, InputFault, OutputFault, Busy, Memory, Damaged, StillRunning, Faulty}
+use Rattle.listing_text.specs.declared.refusal.Refusal.TheVariants.{TargetNotEmpty}
+use Rattle.spool_faults.specs.Faults.{faults_of}
+use Rattle.spool_faults.specs.Listed.{LeavesFolder}
+use Rattle.spool_salvage.specs.Salvaging.{IsRefused, IsSalvaging}
+use Rattle.spool_salvage.specs.declared.fault.SalvageFault.{SalvageFault}
+use Rattle.spool_salvage.specs.declared.fault.SalvageFault.TheVariants as fault
+use Rattle.whole_file.specs.Others.{ChangesFiles}
+use Rattle.whole_file.proofs.OthersLemmas.{changes_none}
+use Rattle.spool_check.specs.Checking.{Checks, Does, FindsBy, IsChecked, IsSalvaged, IsUnrefused, PrintsBy, Writes, WritesBy, WritesWhere}
+use Rattle.spool_check.specs.inside.Looking.{IsOfLooking, IsOfSaving, IsOfTelling, Tells, cause_by, salvage_cause}
+use Rattle.spool_check.specs.Outside.{FolderAt, HasRisen, OutsideAt, StreamAt, Visit, handed}
+use Rattle.spool_check.specs.Telling.{fault_lines, verdict_of}
+
+-- Visits.
+
+pub leaves_same : (world : World) → LeavesFolder world world
+leaves_same world = record { same = refl; files = changes_none (IsImage world.now.folder) world }
+
+-- none was made
+abbrev pub visit_none : (at : FolderAt) → Visit at at
+visit_none at = record {
+  first = at.world;
+  last = at.world;
+  begun = λ tells. goes_on_none at.world at.world refl;
+  over = λ tells. goes_on_none at.world at.world refl;
+  alone = λ tells alone. (refl, refl);
+}
+
+-- the session could not begin
+abbrev pub visit_refused : (old new : FolderAt) → (old.tells ≡ true → GoesOn old.world new.world) → (old.tells ≡ true → old.alone ≡ true → new.world ≡ old.world) → Visit old new
+visit_refused old new goes same = record {
+  first = new.world;
+  last = new.world;
+  begun = goes;
+  over = λ tells. goes_on_none new.world new.world refl;
+  alone = λ tells alone. (same tells alone, refl);
+}
+
+-- it began and ended
+abbrev pub visit_made : (old new : FolderAt) (first last : World) → (old.tells ≡ true → GoesOn old.world first) → (old.tells ≡ true → old.alone ≡ true → first ≡ old.world) → (old.tells ≡ true → GoesOn last new.world) → (old.tells ≡ true → old.alone ≡ true → new.world ≡ last) → Visit old new
+visit_made old new first last begun same over left = record {
+  first = first;
+  last = last;
+  begun = begun;
+  over = over;
+  alone = λ tells alone. (same tells alone, sym (left tells alone));
+}
+
+-- Answers.
+
+pub not_ok : {T E : Type 0} (result : Result T E) (P : T → Type 0) → IsErr result → IfOk result P
+not_ok (Ok value) P is = let impossible : false ≡ true = is in cc
+not_ok (Err fault) P is = tt
+
+pub same_stop : {T : Type 0} (result : Result T CommandError) (stopped : CommandError) → IsErrAnd result (λ other. other ≡ stopped) → cause_in result ≡ stopped.cause
+same_stop (Ok value) stopped is = absurd is
+same_stop (Err other) stopped is = ap (λ (error : CommandError). error.cause) is
+
+pub stop_by : (result : Result Cause CommandError) (stopped : CommandError) → IsErrAnd result (λ other. other ≡ stopped) → cause_by result ≡ stopped.cause
+stop_by (Ok value) stopped is = absurd is
+stop_by (Err other) stopped is = ap (λ (error : CommandError). error.cause) is
+
+-- What is left in the new folder.
+
+pub writes_none : (files : Files) (to : FolderAt) (cause : Cause) → WritesBy cause files to.world to.world → Writes files to to cause
+writes_none files to cause by = record {
+  visit = visit_none to;
+  leaves = λ tells. changes_none (IsSalvaging files to.world.now.folder) to.world;
+  by = λ tells. by;
+}
+
+looking_writes : (files : Files) (world : World) (cause : Cause) → IsOfLooking cause → WritesBy cause files world world
+looking_writes files world FileFault of = tt
+looking_writes files world Busy of = refl
+looking_writes files world Memory of = tt
+looking_writes files world Done of = absurd of
+looking_writes files world (Refused refusal) of = absurd of
+looking_writes files world InputFault of = absurd of
+looking_writes files world OutputFault of = absurd of
+looking_writes files world (Damaged damage) of = absurd of
+looking_writes files world StillRunning of = absurd of
+looking_writes files world Faulty of = absurd of
+
+telling_writes : (files : Files) (world : World) (cause : Cause) → IsOfTelling cause → WritesBy cause files world world
+telling_writes files world OutputFault of = refl
+telling_writes files world Memory of = tt
+telling_writes files world FileFault of = absurd of
+telling_writes files world Busy of = absurd of
+telling_writes files world Done of = absurd of
+telling_writes files world (Refused refusal) of = absurd of
+telling_writes files world InputFault of = absurd of
+telling_writes files world (Damaged damage) of = absurd of
+telling_writes files world StillRunning of = absurd of
+telling_writes files world Faulty of = absurd of
+
+pub stopped_looking : (files : Files) (to : FolderAt) (cause : Cause) → IsOfLooking cause → Writes files to to cause
+stopped_looking files to cause of = writes_none files to cause (looking_writes files to.world cause of)
+
+pub stopped_telling : (files : Files) (to : FolderAt) (cause : Cause) → IsOfTelling cause → Writes files to to cause
+stopped_telling files to cause of = writes_none files to cause (telling_writes files to.world cause of)
+
+-- the new folder could not be entered
+pub entry_looking : (fault : EnterFault) → IsOfLooking (cause_of_entry fault)
+entry_looking entry.Taken = tt
+entry_looking entry.Failed = tt
+entry_looking entry.Memory = tt
+
+pub entry_writes : {T : Type 0} (files : Files) (old new : FolderAt) (fault : EnterFault) (result : Result T CommandError) → IsErrAnd result (λ stopped. stopped ≡ error_of (cause_of_entry fault)) → (old.tells ≡ true → GoesOn old.world new.world) → (old.tells ≡ true → old.alone ≡ true → new.world ≡ old.world) → Writes files old new (cause_in result)
+entry_writes files old new fault (Ok value) is goes same = absurd is
+entry_writes files old new fault (Err stopped) is goes same =
+    let entered : Writes files old new (cause_of_entry fault) = record {
+      visit = visit_refused old new goes same;
+      leaves = λ tells. changes_none (IsSalvaging files new.world.now.folder) new.world;
+      by = λ tells. looking_writes files new.world (cause_of_entry fault) (entry_looking fault);
+    } in
+    subst (λ (error : CommandError). Writes files old new error.cause) (sym is) entered
+
+-- it was filled, or not
+pub filled_writes : (files : Files) (old new : FolderAt) (visit : Visit old new) → (old.tells ≡ true → ChangesFiles (IsSalvaging files visit.first.now.folder) visit.first visit.last) → (old.tells ≡ true → IsSalvaged files visit.first visit.last) → Writes files old new Done
+filled_writes files old new visit changes filled = record { visit = visit; leaves = changes; by = filled }
+
+fault_writes : (files : Files) (first last : World) (of : SalvageFault) → (of ≡ fault.NotEmpty → IsRefused first last) → WritesBy (salvage_cause of) files first last
+fault_writes files first last fault.FromFailed refused = tt
+fault_writes files first last fault.ToFailed refused = tt
+fault_writes files first last fault.NotEmpty refused = refused refl
+fault_writes files first last fault.Memory refused = tt
+
+pub unfilled_writes : (files : Files) (old new : FolderAt) (visit : Visit old new) (of : SalvageFault) (stopped : CommandError) → stopped ≡ error_of (salvage_cause of) → (old.tells ≡ true → ChangesFiles (IsSalvaging files visit.first.now.folder) visit.first visit.last) → (old.tells ≡ true → of ≡ fault.NotEmpty → IsRefused visit.first visit.last) → Writes files old new stopped.cause
+unfilled_writes files old new visit of stopped is changes refused =
+    let writes : Writes files old new (salvage_cause of) = record { visit = visit; leaves = changes; by = λ tells. fault_writes files visit.first visit.last of (refused tells) } in
+    subst (λ (error : CommandError). Writes files old new error.cause) (sym is) writes
+
+-- all faults were told, with the new folder written or not
+pub verdict_writes : (files : Files) (old new : FolderAt) (faults : List Damage) (cause : Cause) → cause ≡ verdict_of faults → Writes files old new Done → Writes files old new cause
+verdict_writes files old new [] cause is writes = subst (Writes files old new) (sym is) writes
+verdict_writes files old new (one ∷ later) cause is writes = subst (Writes files old new) (sym is) (record { visit = writes.visit; leaves = writes.leaves; by = writes.by })
+
+-- What is found.
+
+pub verdict_finds : (faults : List Damage) (cause : Cause) → cause ≡ verdict_of faults → FindsBy cause faults
+verdict_finds [] cause is = subst (λ (of : Cause). FindsBy of []) (sym is) refl
+verdict_finds (one ∷ later) cause is = subst (λ (of : Cause). FindsBy of (one ∷ later)) (sym is) (λ none. cc)
+
+pub looking_finds : (faults : List Damage) (cause : Cause) → IsOfLooking cause → FindsBy cause faults
+looking_finds faults FileFault of = tt
+looking_finds faults Busy of = tt
+looking_finds faults Memory of = tt
+looking_finds faults Done of = absurd of
+looking_finds faults (Refused refusal) of = absurd of
+looking_finds faults InputFault of = absurd of
+looking_finds faults OutputFault of = absurd of
+looking_finds faults (Damaged damage) of = absurd of
+looking_finds faults StillRunning of = absurd of
+looking_finds faults Faulty of = absurd of
+
+pub telling_finds : (faults : List Damage) (cause : Cause) → IsOfTelling cause → FindsBy cause faults
+telling_finds faults OutputFault of = tt
+telling_finds faults Memory of = tt
+telling_finds faults FileFault of = absurd of
+telling_finds faults Busy of = absurd of
+telling_finds faults Done of = absurd of
+telling_finds faults (Refused refusal) of = absurd of
+telling_finds faults InputFault of = absurd of
+telling_finds faults (Damaged damage) of = absurd of
+telling_finds faults StillRunning of = absurd of
+telling_finds faults Faulty of = absurd of
+
+pub saving_finds : (faults : List Damage) (cause : Cause) → IsOfSaving cause → FindsBy cause faults
+saving_finds faults FileFault of = tt
+saving_finds faults Busy of = tt
+saving_finds faults Memory of = tt
+saving_finds faults (Refused refusal) of = tt
+saving_finds faults Done of = absurd of
+saving_finds faults InputFault of = absurd of
+saving_finds faults OutputFault of = absurd of
+saving_finds faults (Damaged damage) of = absurd of
+saving_finds faults StillRunning of = absurd of
+saving_finds faults Faulty of = absurd of
+
+-- What is put.
+
+silent_part : (lines : List ℕ) (at : SinkAt) → IsPutInPart lines at at
+silent_part lines at = record { count = 0; content = sym (append-nil at.content); later = omega arith }
+
+pub looking_prints : (lines : List ℕ) (at : SinkAt) (cause : Cause) → IsOfLooking cause → PrintsBy cause lines at at
+looking_prints lines at FileFault of = silent_part lines at
+looking_prints lines at Busy of = silent_part lines at
+looking_prints lines at Memory of = silent_part lines at
+looking_prints lines at Done of = absurd of
+looking_prints lines at (Refused refusal) of = absurd of
+looking_prints lines at InputFault of = absurd of
+looking_prints lines at OutputFault of = absurd of
+looking_prints lines at (Damaged damage) of = absurd of
+looking_prints lines at StillRunning of = absurd of
+looking_prints lines at Faulty of = absurd of
+
+saving_prints : (lines : List ℕ) (old new : SinkAt) (cause : Cause) → IsOfSaving cause → IsPut lines old new → PrintsBy cause lines old new
+saving_prints lines old new FileFault of put = part_of_put lines old new put
+saving_prints lines old new Busy of put = part_of_put lines old new put
+saving_prints lines old new Memory of put = part_of_put lines old new put
+saving_prints lines old new (Refused refusal) of put = put
+saving_prints lines old new Done of put = absurd of
+saving_prints lines old new InputFault of put = absurd of
+saving_prints lines old new OutputFault of put = absurd of
+saving_prints lines old new (Damaged damage) of put = absurd of
+saving_prints lines old new StillRunning of put = absurd of
+saving_prints lines old new Faulty of put = absurd of
+
+told_all : (faults : List Damage) (lines : List ℕ) (old new : SinkAt) (verdict : Cause) → verdict ≡ verdict_of faults → PrintsBy verdict lines old new → IsPut lines old new
+told_all [] lines old new verdict is prints = subst (λ (of : Cause). PrintsBy of lines old new) is prints
+told_all (one ∷ later) lines old new verdict is prints = subst (λ (of : Cause). PrintsBy of lines old new) is prints
+
+pub stopped_saving : (faults : List Damage) (lines : List ℕ) (old new : SinkAt) (verdict cause : Cause) → verdict ≡ verdict_of faults → PrintsBy verdict lines old new → IsOfSaving cause → PrintsBy cause lines old new
+stopped_saving faults lines old new verdict cause is prints of = saving_prints lines old new cause of (told_all faults lines old new verdict is prints)
+
+-- Nothing is refused without a salvage.
+
+pub looking_unrefused : (cause : Cause) → IsOfLooking cause → IsUnrefused cause
+looking_unrefused FileFault of = tt
+looking_unrefused Busy of = tt
+looking_unrefused Memory of = tt
+looking_unrefused Done of = absurd of
+looking_unrefused (Refused refusal) of = absurd of
+looking_unrefused InputFault of = absurd of
+looking_unrefused OutputFault of = absurd of
+looking_unrefused (Damaged damage) of = absurd of
+looking_unrefused StillRunning of = absurd of
+looking_unrefused Faulty of = absurd of
+
+pub telling_unrefused : (cause : Cause) → IsOfTelling cause → IsUnrefused cause
+telling_unrefused OutputFault of = tt
+telling_unrefused Memory of = tt
+telling_unrefused FileFault of = absurd of
+telling_unrefused Busy of = absurd of
+telling_unrefused Done of = absurd of
+telling_unrefused (Refused refusal) of = absurd of
+telling_unrefused InputFault of = absurd of
+telling_unrefused (Damaged damage) of = absurd of
+telling_unrefused StillRunning of = absurd of
+telling_unrefused Faulty of = absurd of
+
+pub verdict_unrefused : (faults : List Damage) (cause : Cause) → cause ≡ verdict_of faults → IsUnrefused cause
+verdict_unrefused [] cause is = subst IsUnrefused (sym is) tt
+verdict_unrefused (one ∷ later) cause is = subst IsUnrefused (sym is) tt
+
+-- The parts together.
+
+looking_where : (salvage tells : Bool) (files : Files) (to : FolderAt) (cause : Cause) → IsOfLooking cause → WritesWhere salvage tells files to to cause
+looking_where true tells files to cause of = λ told. stopped_looking files to cause of
+looking_where false tells files to cause of = (refl, looking_unrefused cause of)
+
+-- nothing was told
+pub look_stopped : (salvage tells : Bool) (first last : World) (to : FolderAt) (at : StreamAt) (cause : Cause) → (tells ≡ true → LeavesFolder first last) → IsOfLooking cause → Checks salvage tells first last to to at at cause
+look_stopped salvage tells first last to at cause leaves of = record {
+  leaves = leaves;
+  prints = λ told out. looking_prints (fault_lines (faults_of (reading first))) at.sink cause of;
+  finds = λ told. looking_finds (faults_of (reading first)) cause of;
+  writes = looking_where salvage tells (reading first) to cause of;
+}
+
+-- the folder could not be surveyed
+host_looking : (fault : HostFault) → IsOfLooking (cause_of_host fault)
+host_looking host.Failed = tt
+host_looking host.Memory = tt
+
+pub host_stop : (result : Result Cause CommandError) (fault : HostFault) → IsErrAnd result (λ made. made ≡ error_of (cause_of_host fault)) → IsOfLooking (cause_by result)
+host_stop (Ok cause) fault is = absurd is
+host_stop (Err stopped) fault is = subst (λ (error : CommandError). IsOfLooking error.cause) (sym is) (host_looking fault)
+
+pub entry_stop : (result : Result Cause CommandError) (fault : EnterFault) → IsErrAnd result (λ made. made ≡ error_of (cause_of_entry fault)) → IsOfLooking (cause_by result)
+entry_stop (Ok cause) fault is = absurd is
+entry_stop (Err stopped) fault is = subst (λ (error : CommandError). IsOfLooking error.cause) (sym is) (entry_looking fault)
+
+-- the lines could not be put
+telling_where : (salvage tells : Bool) (files : Files) (to : FolderAt) (cause : Cause) → IsOfTelling cause → WritesWhere salvage tells files to to cause
+telling_where true tells files to cause of = λ told. stopped_telling files to cause of
+telling_where false tells files to cause of = (refl, telling_unrefused cause of)
+
+pub tell_stopped : (salvage tells : Bool) (first last : World) (to : FolderAt) (list : List Damage) (was is : StreamAt) (stopped : CommandError) → (tells ≡ true → LeavesFolder first last) → (tells ≡ true → list ≡ faults_of (reading first)) → Tells was.tells list was.sink is.sink (Err stopped) → Checks salvage tells first last to to was is stopped.cause
+tell_stopped salvage tells first last to list was is stopped leaves same told = record {
+  leaves = leaves;
+  prints = λ known out. subst (λ (faults : List Damage). PrintsBy stopped.cause (fault_lines faults) was.sink is.sink) (same known) (told.prints out);
+  finds = λ known. telling_finds (faults_of (reading first)) stopped.cause told.stopped;
+  writes = telling_where salvage tells (reading first) to stopped.cause told.stopped;
+}
+
+-- all faults were told
+pub record Told (tells : Bool) (first : World) (was is : StreamAt) (verdict : Cause) : Type 0 where
+  pub verdict_is : tells ≡ true → verdict ≡ verdict_of (faults_of (reading first))
+  pub prints : tells ≡ true → was.tells ≡ true → PrintsBy verdict (fault_lines (faults_of (reading first))) was.sink is.sink
+
+pub tell_done : (tells : Bool) (first : World) (list : List Damage) (was is : StreamAt) (verdict : Cause) → (tells ≡ true → list ≡ faults_of (reading first)) → Tells was.tells list was.sink is.sink (Ok verdict) → Told tells first was is verdict
+tell_done tells first list was is verdict same told = record {
+  verdict_is = λ known. told.verdict ∙ ap verdict_of (same known);
+  prints = λ known out. subst (λ (faults : List Damage). PrintsBy verdict (fault_lines faults) was.sink is.sink) (same known) (told.prints out);
+}
+
+-- the new folder could not be written
+pub save_stopped : (tells : Bool) (first last : World) (to_old to_new : FolderAt) (was is : StreamAt) (verdict cause : Cause) → (tells ≡ true → LeavesFolder first last) → Told tells first was is verdict → IsOfSaving cause → (tells ≡ true → Writes (reading first) to_old to_new cause) → Checks true tells first last to_old to_new was is cause
+save_stopped tells first last to_old to_new was is verdict cause leaves told of writes = record {
+  leaves = leaves;
+  prints = λ known out. stopped_saving (faults_of (reading first)) (fault_lines (faults_of (reading first))) was.sink is.sink verdict cause (told.verdict_is known) (told.prints known out) of;
+  finds = λ known. saving_finds (faults_of (reading first)) cause of;
+  writes = writes;
+}
+
+-- it was written
+pub save_done : (tells : Bool) (first last : World) (to_old to_new : FolderAt) (was is : StreamAt) (verdict : Cause) → (tells ≡ true → LeavesFolder first last) → Told tells first was is verdict → (tells ≡ true → Writes (reading first) to_old to_new Done) → Checks true tells first last to_old to_new was is verdict
+save_done tells first last to_old to_new was is verdict leaves told writes = record {
+  leaves = leaves;
+  prints = told.prints;
+  finds = λ known. verdict_finds (faults_of (reading first)) verdict (told.verdict_is known);
+  writes = λ known. verdict_writes (reading first) to_old to_new (faults_of (reading first)) verdict (told.verdict_is known) (writes known);
+}
+
+-- without a salvage
+pub listed : (tells : Bool) (first last : World) (to : FolderAt) (list : List Damage) (was is : StreamAt) (result : Result Cause CommandError) → (tells ≡ true → LeavesFolder first last) → (tells ≡ true → list ≡ faults_of (reading first)) → Tells was.tells list was.sink is.sink result → Checks false tells first last to to was is (cause_by result)
+listed tells first last to list was is (Ok verdict) leaves same told =
+    let all : Told tells first was is verdict = tell_done tells first list was is verdict same told in
+    record {
+      leaves = leaves;
+      prints = all.prints;
+      finds = λ known. verdict_finds (faults_of (reading first)) verdict (all.verdict_is known);
+      writes = (refl, verdict_unrefused list verdict told.verdict);
+    }
+listed tells first last to list was is (Err stopped) leaves same told = tell_stopped false tells first last to list was is stopped leaves same told
+
+-- no file and no lock is at fault where the lines are told
+telling_no_file : (cause : Cause) → IsOfTelling cause → ¬ (cause ≡ FileFault)
+telling_no_file OutputFault of = λ is. cc
+telling_no_file Memory of = λ is. cc
+telling_no_file FileFault of = absurd of
+telling_no_file Busy of = absurd of
+telling_no_file Done of = absurd of
+telling_no_file (Refused refusal) of = absurd of
+telling_no_file InputFault of = absurd of
+telling_no_file (Damaged damage) of = absurd of
+telling_no_file StillRunning of = absurd of
+telling_no_file Faulty of = absurd of
+
+telling_no_lock : (cause : Cause) → IsOfTelling cause → ¬ (cause ≡ Busy)
+telling_no_lock OutputFault of = λ is. cc
+telling_no_lock Memory of = λ is. cc
+telling_no_lock FileFault of = absurd of
+telling_no_lock Busy of = absurd of
+telling_no_lock Done of = absurd of
+telling_no_lock (Refused refusal) of = absurd of
+telling_no_lock InputFault of = absurd of
+telling_no_lock (Damaged damage) of = absurd of
+telling_no_lock StillRunning of = absurd of
+telling_no_lock Faulty of = absurd of
+
+verdict_no_fault : (faults : List Damage) → ¬ (verdict_of faults ≡ FileFault) × ¬ (verdict_of faults ≡ Busy)
+verdict_no_fault [] = (λ is. cc, λ is. cc)
+verdict_no_fault (one ∷ later) = (λ is. cc, λ is. cc)
+
+pub tells_no_file : (tells : Bool) (list : List Damage) (was is : SinkAt) (result : Result Cause CommandError) → Tells tells list was is result → ¬ (cause_by result ≡ FileFault)
+tells_no_file tells list was is (Ok verdict) told = λ same. (verdict_no_fault list).0 (sym told.verdict ∙ same)
+tells_no_file tells list was is (Err stopped) told = telling_no_file stopped.cause told.stopped
+
+pub tells_no_lock : (tells : Bool) (list : List Damage) (was is : SinkAt) (result : Result Cause CommandError) → Tells tells list was is result → ¬ (cause_by result ≡ Busy)
+tells_no_lock tells list was is (Ok verdict) told = λ same. (verdict_no_fault list).1 (sym told.verdict ∙ same)
+tells_no_lock tells list was is (Err stopped) told = telling_no_lock stopped.cause told.stopped
+
+-- the words could not be read, or ask for nothing
+unread : (asked : Result Bool WordsFault) (old : OutsideAt) → Does asked old old Memory
+unread (Ok salvage) old = record {
+  visit = visit_none old.from;
+  checks = look_stopped salvage old.from.tells old.from.world old.from.world old.to old.out Memory (λ told. leaves_same old.from.world) tt;
+}
+unread (Err fault) old = (refl, inr refl)
+
+pub does_nothing : (asked : Result Bool WordsFault) (old : OutsideAt) (fault : WordsFault) → Answers asked (Err fault) → Does asked old old (words_cause fault)
+does_nothing asked old words.Usage answers = subst (λ (of : Result Bool WordsFault). Does of old old (words_cause words.Usage)) answers (refl, inl refl)
+does_nothing asked old words.BadQueue answers = subst (λ (of : Result Bool WordsFault). Does of old old (words_cause words.BadQueue)) answers (refl, inl refl)
+does_nothing asked old words.Memory answers = unread asked old

@@ -1,5 +1,0 @@
-use Rattle.spool_check.proofs.StartsKept.{starts_are_not_pending as law}
-use Rattle.spool_check.proofs.laws.starts_are_not_pending.Goals as goal
-
-pub returns : goal.returns
-returns c = law

@@ -1,0 +1,6 @@
+use Rattle.clap.specs.Simple.{app_of}
+use Rattle.spool_check.proofs.WordLemmas.{made_with_salvage}
+use Rattle.spool_check.proofs.words.command.Goals as goal
+
+pub returns : goal.returns
+returns c = made_with_salvage c.with_long_flag.result (app_of c.bare_command.result) c.bare_command.ensures c.with_long_flag.ensures

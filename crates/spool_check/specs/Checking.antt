@@ -1,0 +1,102 @@
+-- What the checker leaves (own): the lines of the faults, what is written into the new folder, and how it ends.
+use Rattle.std.specs.Prelude.{◌≡◌, ◌≢◌, ◌⊎◌, [], ℕ, Bool, true, false, List, Result, Ok, Err, codes}
+use Rattle.at_words.specs.declared.fault.WordsFault.{WordsFault}
+use Rattle.cause_output.specs.Saying.{IsSaid}
+use Rattle.command_rules.specs.Causes.{words_cause}
+use Rattle.command_rules.specs.Sinks.{IsCut, IsPut, IsPutInPart, SinkAt}
+use Rattle.host_calls.specs.declared.damage.Damage.{Damage}
+use Rattle.host_calls.specs.Folder.{Files}
+use Rattle.host_calls.specs.World.{World, reading}
+use Rattle.listing_text.specs.declared.cause.Cause.{Cause}
+use Rattle.listing_text.specs.declared.cause.Cause.TheVariants.{Done, Refused, FileFault, InputFault, OutputFault, Busy, Memory, Damaged, StillRunning, Faulty}
+use Rattle.listing_text.specs.declared.refusal.Refusal.{Refusal}
+use Rattle.listing_text.specs.declared.refusal.Refusal.TheVariants.{TargetNotEmpty}
+use Rattle.spool_faults.specs.Faults.{faults_of}
+use Rattle.spool_faults.specs.Listed.{LeavesFolder}
+use Rattle.spool_salvage.specs.Salvaging.{EachShowsSalvaged, IsRefused, IsSalvaging, is_spool}
+use Rattle.whole_file.specs.Others.{ChangesFiles}
+use Rattle.spool_check.specs.Outside.{FolderAt, OutsideAt, StreamAt, Visit}
+use Rattle.spool_check.specs.Telling.{fault_lines}
+
+-- What is put on the output, by the cause: all lines where every fault was told, else a prefix of them.
+abbrev pub PrintsBy : Cause → List ℕ → SinkAt → SinkAt → Type 0
+PrintsBy Done lines old new = IsPut lines old new
+PrintsBy Faulty lines old new = IsPut lines old new
+PrintsBy (Refused refusal) lines old new = IsPut lines old new
+PrintsBy OutputFault lines old new = IsCut lines old new
+PrintsBy FileFault lines old new = IsPutInPart lines old new
+PrintsBy Busy lines old new = IsPutInPart lines old new
+PrintsBy Memory lines old new = IsPutInPart lines old new
+PrintsBy InputFault lines old new = ⊥
+PrintsBy (Damaged damage) lines old new = ⊥
+PrintsBy StillRunning lines old new = ⊥
+
+-- where all was done there is a fault, or there is none
+abbrev pub FindsBy : Cause → List Damage → Type 0
+FindsBy Done faults = faults ≡ []
+FindsBy Faulty faults = faults ≢ []
+FindsBy _ faults = Unit {0}
+
+-- The new folder had no file of a spool, and each of its images shows the table that is saved of the files.
+pub record IsSalvaged (files : Files) (first last : World) : Type 0 where
+  pub empty : is_spool (reading first) ≡ false
+  pub shows : EachShowsSalvaged files last.now.folder
+
+-- what a refusal leaves: the new folder is a spool, and was left as it is
+abbrev pub RefusedBy : Refusal → World → World → Type 0
+RefusedBy TargetNotEmpty first last = IsRefused first last
+RefusedBy _ first last = ⊥
+
+-- what is left in the new folder, by the cause
+abbrev pub WritesBy : Cause → Files → World → World → Type 0
+WritesBy Done files first last = IsSalvaged files first last
+WritesBy Faulty files first last = IsSalvaged files first last
+WritesBy (Refused refusal) files first last = RefusedBy refusal first last
+WritesBy OutputFault files first last = last ≡ first
+WritesBy Busy files first last = last ≡ first
+WritesBy FileFault files first last = Unit {0}
+WritesBy Memory files first last = Unit {0}
+WritesBy InputFault files first last = ⊥
+WritesBy (Damaged damage) files first last = ⊥
+WritesBy StillRunning files first last = ⊥
+
+-- The new folder was visited. At each moment an image is one of the visit's start, or shows no job, or the table that is
+-- saved of the files.
+pub record Writes (files : Files) (old new : FolderAt) (cause : Cause) : Type 0 where
+  pub visit : Visit old new
+  pub leaves : old.tells ≡ true → ChangesFiles (IsSalvaging files visit.first.now.folder) visit.first visit.last
+  pub by : old.tells ≡ true → WritesBy cause files visit.first visit.last
+
+-- nothing was refused
+abbrev pub IsUnrefused : Cause → Type 0
+IsUnrefused (Refused refusal) = ⊥
+IsUnrefused _ = Unit {0}
+
+-- without a salvage the new folder is left alone
+abbrev pub WritesWhere : Bool → Bool → Files → FolderAt → FolderAt → Cause → Type 0
+WritesWhere false tells files old new cause = (new ≡ old) × IsUnrefused cause
+WritesWhere true tells files old new cause = tells ≡ true → Writes files old new cause
+
+-- What was done within a visit of the folder that is checked. It is left as it was, its faults are told, and the new folder is written.
+pub record Checks (salvage tells : Bool) (first last : World) (to_old to_new : FolderAt) (was is : StreamAt) (cause : Cause) : Type 0 where
+  pub leaves : tells ≡ true → LeavesFolder first last
+  pub prints : tells ≡ true → was.tells ≡ true → PrintsBy cause (fault_lines (faults_of (reading first))) was.sink is.sink
+  pub finds : tells ≡ true → FindsBy cause (faults_of (reading first))
+  pub writes : WritesWhere salvage tells (reading first) to_old to_new cause
+
+-- Such a visit, of the folder that is checked.
+pub record IsChecked (salvage : Bool) (old new : OutsideAt) (cause : Cause) : Type 0 where
+  pub visit : Visit old.from new.from
+  pub checks : Checks salvage old.from.tells visit.first visit.last old.to new.to old.out new.out cause
+
+-- What was done, by what the words ask for. Where they ask for nothing nothing was touched, and the cause says so, unless no
+-- memory was found to read them.
+abbrev pub Does : Result Bool WordsFault → OutsideAt → OutsideAt → Cause → Type 0
+Does (Ok salvage) old new cause = IsChecked salvage old new cause
+Does (Err fault) old new cause = (new ≡ old) × ((cause ≡ words_cause fault) ⊎ (cause ≡ Memory))
+
+-- How the checker ends: what it did, and the line of its cause, which is said under its name.
+pub record Ends (asked : Result Bool WordsFault) (old new : OutsideAt) (err_old err_new : StreamAt) (final : Cause) : Type 0 where
+  pub cause : Cause
+  pub does : Does asked old new cause
+  pub says : IsSaid (codes "atcheck") err_old.tells cause err_old.sink err_new.sink final

@@ -1,0 +1,99 @@
+-- The parts of a check (own).
+use Rattle.std.specs.Prelude.{◌≡◌, ◌⊎◌, ◌≤◌, Bool, true, List, Result, Ok, Err, IfErr, IfOk}
+use Rattle.command_rules.specs.declared.command_error.CommandError.{CommandError}
+use Rattle.command_rules.specs.Sinks.{SinkAt}
+use Rattle.host_calls.specs.Causes.{Rose}
+use Rattle.host_calls.specs.declared.damage.Damage.{Damage}
+use Rattle.host_calls.specs.Session.{Session}
+use Rattle.host_calls.specs.World.{reading}
+use Rattle.listing_text.specs.declared.cause.Cause.{Cause}
+use Rattle.listing_text.specs.declared.cause.Cause.TheVariants.{Done, Refused, FileFault, InputFault, OutputFault, Busy, Memory, Damaged, StillRunning, Faulty}
+use Rattle.listing_text.specs.declared.refusal.Refusal.{Refusal}
+use Rattle.listing_text.specs.declared.refusal.Refusal.TheVariants.{TargetNotEmpty}
+use Rattle.spool_faults.specs.Faults.{faults_of}
+use Rattle.spool_faults.specs.Listed.{LeavesFolder}
+use Rattle.spool_salvage.specs.declared.fault.SalvageFault.{SalvageFault}
+use Rattle.spool_salvage.specs.declared.fault.SalvageFault.TheVariants as fault
+use Rattle.spool_check.specs.Checking.{PrintsBy}
+use Rattle.spool_check.specs.Outside.{FolderAt, Visit}
+use Rattle.spool_check.specs.Telling.{fault_lines, verdict_of}
+
+-- the cause of an answer: the one that it gives, or that stopped it
+abbrev pub cause_by : Result Cause CommandError → Cause
+cause_by (Ok cause) = cause
+cause_by (Err stopped) = stopped.cause
+
+-- the cause of a fault of a salvage
+abbrev pub salvage_cause : SalvageFault → Cause
+salvage_cause fault.FromFailed = FileFault
+salvage_cause fault.ToFailed = FileFault
+salvage_cause fault.NotEmpty = Refused TargetNotEmpty
+salvage_cause fault.Memory = Memory
+
+-- the folder could not be looked at
+abbrev pub IsOfLooking : Cause → Type 0
+IsOfLooking FileFault = Unit {0}
+IsOfLooking Busy = Unit {0}
+IsOfLooking Memory = Unit {0}
+IsOfLooking Done = ⊥
+IsOfLooking (Refused refusal) = ⊥
+IsOfLooking InputFault = ⊥
+IsOfLooking OutputFault = ⊥
+IsOfLooking (Damaged damage) = ⊥
+IsOfLooking StillRunning = ⊥
+IsOfLooking Faulty = ⊥
+
+-- the lines could not be put
+abbrev pub IsOfTelling : Cause → Type 0
+IsOfTelling OutputFault = Unit {0}
+IsOfTelling Memory = Unit {0}
+IsOfTelling FileFault = ⊥
+IsOfTelling Busy = ⊥
+IsOfTelling Done = ⊥
+IsOfTelling (Refused refusal) = ⊥
+IsOfTelling InputFault = ⊥
+IsOfTelling (Damaged damage) = ⊥
+IsOfTelling StillRunning = ⊥
+IsOfTelling Faulty = ⊥
+
+-- the refusal of a new folder that is a spool
+abbrev pub IsOfTarget : Refusal → Type 0
+IsOfTarget TargetNotEmpty = Unit {0}
+IsOfTarget _ = ⊥
+
+-- the new folder could not be written
+abbrev pub IsOfSaving : Cause → Type 0
+IsOfSaving FileFault = Unit {0}
+IsOfSaving Busy = Unit {0}
+IsOfSaving Memory = Unit {0}
+IsOfSaving (Refused refusal) = IsOfTarget refusal
+IsOfSaving Done = ⊥
+IsOfSaving InputFault = ⊥
+IsOfSaving OutputFault = ⊥
+IsOfSaving (Damaged damage) = ⊥
+IsOfSaving StillRunning = ⊥
+IsOfSaving Faulty = ⊥
+
+-- a fault of a file, or a lock that was taken, comes only where its count rose
+pub record Rises (old new : Session) (cause : Cause) : Type 0 where
+  pub file_fault : cause ≡ FileFault → Rose old.file_faults new.file_faults
+  pub busy : cause ≡ Busy → Rose old.taken new.taken
+
+-- so it is of two folders
+pub record RisesOfBoth (one_old one_new other_old other_new : Session) (cause : Cause) : Type 0 where
+  pub file_fault : cause ≡ FileFault → Rose one_old.file_faults one_new.file_faults ⊎ Rose other_old.file_faults other_new.file_faults
+  pub busy : cause ≡ Busy → Rose one_old.taken one_new.taken ⊎ Rose other_old.taken other_new.taken
+
+-- The folder was visited and left as it was, and these are its faults.
+pub record Looks (old new : FolderAt) (faults : List Damage → Type 0) : Type 0 where
+  pub visit : Visit old new
+  pub leaves : old.tells ≡ true → LeavesFolder visit.first visit.last
+  pub found : old.tells ≡ true → faults (faults_of (reading visit.first))
+
+-- The faults were told, or their lines could not be put.
+pub record Tells (tells : Bool) (faults : List Damage) (old new : SinkAt) (result : Result Cause CommandError) : Type 0 where
+  pub later : old.faults ≤ new.faults
+  pub failed : cause_by result ≡ OutputFault → Rose old.faults new.faults
+  pub verdict : IfOk result (λ cause. cause ≡ verdict_of faults)
+  pub stopped : IfErr result (λ stopped. IsOfTelling stopped.cause)
+  pub prints : tells ≡ true → PrintsBy (cause_by result) (fault_lines faults) old new

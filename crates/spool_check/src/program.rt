@@ -1,0 +1,123 @@
+//! The checker as a program.
+ghost use Rattle.std.specs.Prelude.{◌≡◌, false, map, string_bytes};
+ghost use Rattle.host_calls.specs.Session.{IsLeft, IsOutside};
+ghost use Rattle.listing_text.specs.Cause.{status_of};
+ghost use Rattle.spool_check.specs.Checking.{Does, Ends, IsChecked};
+ghost use Rattle.spool_check.specs.inside.Looking.{cause_by};
+ghost use Rattle.spool_check.specs.Outside.{FolderAt, HasRisen, folder_at, handed, outside_at, stream_at};
+ghost use Rattle.spool_check.specs.Words.{check_asked};
+
+use crate::look::look;
+use crate::save::check_and_save;
+use crate::tell::tell;
+use crate::words::asks_to_salvage;
+use cause_output::say_cause;
+use command_rules::{CommandError, cause_of_words};
+use host_calls::{Host, Sink};
+use listing_text::{Cause, Status};
+use std::alloc::Global;
+
+// The name under which the cause is said.
+const TOOL: &str = "atcheck";
+
+/// Tells every fault of the folder, a line each, and where the words ask for it writes what is saved of it into the new
+/// folder. The first of the words stands for the program's name, whatever it is.
+pub fn check_program<H: Host, G: Host, O: Sink, E: Sink>(
+    alloc: Global,
+    words: &[String],
+    from: &mut H,
+    to: &mut G,
+    out: &mut O,
+    err: &mut E,
+) -> Status
+    requires from { IsOutside (H.session from.old) }
+    requires to { IsOutside (G.session to.old) }
+    ensures code { result ≡ status_of result.cause }
+    ensures from { IsLeft (H.session from.old) (H.session from.new) }
+    ensures to { IsLeft (G.session to.old) (G.session to.new) }
+    ensures out_made { (O.outlet out.new).made_as ≡ (O.outlet out.old).made_as }
+    ensures err_made { (E.outlet err.new).made_as ≡ (E.outlet err.old).made_as }
+    ensures risen { HasRisen (outside_at H.Host G.Host O.Sink from.old to.old out.old)
+        (outside_at H.Host G.Host O.Sink from.new to.new out.new) result.cause }
+    ensures ends { Ends (check_asked (map string_bytes words.now))
+        (outside_at H.Host G.Host O.Sink from.old to.old out.old)
+        (outside_at H.Host G.Host O.Sink from.new to.new out.new)
+        (stream_at E.Sink err.old) (stream_at E.Sink err.new) result.cause }
+{
+    let cause = carry_out(alloc, words, from, to, out);
+    Status::of(say_cause(alloc, TOOL, cause, err))
+}
+
+// Does what the words ask for. The line of the cause is still to be said.
+fn carry_out<H: Host, G: Host, O: Sink>(
+    alloc: Global,
+    words: &[String],
+    from: &mut H,
+    to: &mut G,
+    out: &mut O,
+) -> Cause
+    requires from { IsOutside (H.session from.old) }
+    requires to { IsOutside (G.session to.old) }
+    ensures from { IsLeft (H.session from.old) (H.session from.new) }
+    ensures to { IsLeft (G.session to.old) (G.session to.new) }
+    ensures made_as { (O.outlet out.new).made_as ≡ (O.outlet out.old).made_as }
+    ensures risen { HasRisen (outside_at H.Host G.Host O.Sink from.old to.old out.old)
+        (outside_at H.Host G.Host O.Sink from.new to.new out.new) result }
+    ensures does { Does (check_asked (map string_bytes words.now))
+        (outside_at H.Host G.Host O.Sink from.old to.old out.old)
+        (outside_at H.Host G.Host O.Sink from.new to.new out.new) result }
+{
+    match asks_to_salvage(alloc, words) {
+        Ok(salvage) => check(alloc, salvage, from, to, out),
+        Err(fault) => cause_of_words(fault),
+    }
+}
+
+fn check<H: Host, G: Host, O: Sink>(
+    alloc: Global,
+    salvage: bool,
+    from: &mut H,
+    to: &mut G,
+    out: &mut O,
+) -> Cause
+    requires from { IsOutside (H.session from.old) }
+    requires to { IsOutside (G.session to.old) }
+    ensures from { IsLeft (H.session from.old) (H.session from.new) }
+    ensures to { IsLeft (G.session to.old) (G.session to.new) }
+    ensures made_as { (O.outlet out.new).made_as ≡ (O.outlet out.old).made_as }
+    ensures risen { HasRisen (outside_at H.Host G.Host O.Sink from.old to.old out.old)
+        (outside_at H.Host G.Host O.Sink from.new to.new out.new) result }
+    ensures checked { IsChecked salvage (outside_at H.Host G.Host O.Sink from.old to.old out.old)
+        (outside_at H.Host G.Host O.Sink from.new to.new out.new) result }
+{
+    if salvage {
+        cause_of(check_and_save(alloc, from, to, out))
+    } else {
+        cause_of(list(alloc, from, out))
+    }
+}
+
+fn cause_of(ended: Result<Cause, CommandError>) -> Cause
+    ensures { result ≡ cause_by ended }
+{
+    match ended {
+        Ok(cause) => cause,
+        Err(stopped) => stopped.cause,
+    }
+}
+
+// Tells the faults of the folder. Its session is over before the lines are put: a slow reader holds no lock.
+fn list<H: Host, O: Sink>(alloc: Global, from: &mut H, out: &mut O) -> Result<Cause, CommandError>
+    requires { IsOutside (H.session from.old) }
+    ensures left { IsLeft (H.session from.old) (H.session from.new) }
+    ensures made_as { (O.outlet out.new).made_as ≡ (O.outlet out.old).made_as }
+    ensures risen { (to : FolderAt) → HasRisen
+        (handed (folder_at H.Host from.old) to (stream_at O.Sink out.old))
+        (handed (folder_at H.Host from.new) to (stream_at O.Sink out.new)) (cause_by result) }
+    ensures checked { (to : FolderAt) → IsChecked false
+        (handed (folder_at H.Host from.old) to (stream_at O.Sink out.old))
+        (handed (folder_at H.Host from.new) to (stream_at O.Sink out.new)) (cause_by result) }
+{
+    let found = look(alloc, from)?;
+    tell(alloc, found.faults.as_slice(), out)
+}

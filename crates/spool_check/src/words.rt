@@ -1,0 +1,33 @@
+//! The words of the checker.
+ghost use Rattle.std.specs.Prelude.{◌≡◌, IfOk, map, string_bytes};
+ghost use Rattle.at_words.specs.Answers.{Answers};
+ghost use Rattle.clap.specs.Simple.{app_of};
+ghost use Rattle.spool_check.specs.Words.{check_app, check_asked, flags_asked};
+
+use at_words::{WordsFault, bare_command, has_flag, parsed, with_long_flag};
+use clap::Command;
+use std::alloc::{AllocError, Global};
+
+// Whether the words ask for a salvage. The first of them stands for the program's name; without it they ask for nothing.
+pub(crate) fn asks_to_salvage(alloc: Global, words: &[String]) -> Result<bool, WordsFault>
+    ensures { Answers (check_asked (map string_bytes words.now)) result }
+{
+    if words.is_empty() {
+        return Err(WordsFault::Usage);
+    }
+    read(alloc, words)
+}
+
+fn read(alloc: Global, words: &[String]) -> Result<bool, WordsFault>
+    ensures { Answers (flags_asked (map string_bytes words.now)) result }
+{
+    let command = command(alloc)?;
+    let matches = parsed(command, words)?;
+    Ok(has_flag(&matches, "salvage"))
+}
+
+fn command<'a>(alloc: Global) -> Result<Command<'a>, AllocError>
+    ensures { IfOk result (λ made. app_of made ≡ check_app) }
+{
+    with_long_flag(alloc, bare_command(alloc, "atcheck"), "salvage")
+}

@@ -1,0 +1,154 @@
+-- The files that are found are those that count, by their first bytes.
+use Rattle.std.proofs.Common.{◌≡◌, ℕ, zero, suc, ◌+◌, ◌<◌, ◌≤◌, Bool, true, false, cond, not, arith, List, Option, Some, None, [], ◌∷◌, ◌++◌, length, get_or, map, take, drop, sym, ap, subst, ◌∙◌, refl, inl, inr}
+use Rattle.std.specs.Prelude.{◌||◌, IsSome, nat_lt, option_map}
+use Rattle.std.specs.BTreeSet.{BTreeSet, contains}
+use Rattle.std.specs.List.{cons_option, filter, filter_map}
+use Rattle.std.specs.FinMap as finite
+use Rattle.std.specs.FinMap.{entries}
+use Rattle.std.specs.Ordering.{nat_cmp}
+use Rattle.std.proofs.lemmas.Bool.Decides.{nat_tests}
+use Rattle.std.proofs.lemmas.List.{append-nil, get_or-map, length-map, map-append, take_all, take_more}
+use Rattle.std.proofs.lemmas.List.Elements.{filter-append, filter_map-append}
+use Rattle.std.proofs.lemmas.List.Folds.{list_any-append}
+use Rattle.host_calls.specs.Folder.{Files}
+use Rattle.job_name.specs.declared.job.JobName.{JobName}
+use Rattle.job_name.specs.JobName.{NamedJob, SpellsJobName, job_named}
+use Rattle.job_name.proofs.NamedJobs.{name_given, name_spelled}
+use Rattle.job_script.specs.Header.{HasHeader, IsHeaderFault}
+use Rattle.job_script.specs.HeaderIn.{header_in, header_place}
+use Rattle.job_script.proofs.HeaderInLemmas.{header_in-none, header_in-some, header_place-fault}
+use Rattle.start_journal.specs.declared.mark.Mark.{Mark}
+use Rattle.start_journal.specs.Marks.{decides, is_decided}
+use Rattle.spool_shows.specs.JobFiles.{JobFile, counts, counts_as, file_named, header_fault_in, job_file, job_files}
+use Rattle.spool_shows.proofs.Membership.{Has}
+use Rattle.spool_shows.proofs.EntryLists.{entry_is_file}
+use Rattle.spool_shows.proofs.ShownEntries.{some_same}
+use Rattle.spool_faults.specs.inside.Finding.{AreDecided, IsCounted, job_of_name, prefix_of}
+
+-- The place of a header's fault.
+
+is_less : (one other : ℕ) → nat_lt one other ≡ true → one < other
+is_less one other is = grind (arith, nat_tests)
+
+neither_less : (one other : ℕ) → nat_lt one other ≡ false → nat_lt other one ≡ false → one ≡ other
+neither_less one other is also = grind (arith, nat_tests)
+
+one_fault : (bytes : List ℕ) (place other : ℕ) → IsHeaderFault bytes place → IsHeaderFault bytes other → place ≡ other
+one_fault bytes place other one two = by_test (nat_lt place other) refl (nat_lt other place) refl where
+  by_test : (less : Bool) → nat_lt place other ≡ less → (more : Bool) → nat_lt other place ≡ more → place ≡ other
+  by_test true is more also = absurd (one.longest other (is_less place other is) two.within two.prefix)
+  by_test false is true also = absurd (two.longest place (is_less other place also) one.within one.prefix)
+  by_test false is false also = neither_less place other is also
+
+pub fault_read : (bytes : List ℕ) (place : ℕ) → IsHeaderFault bytes place → header_fault_in bytes (header_in bytes) ≡ Some place
+fault_read bytes place fault =
+    ap (header_fault_in bytes) ((header_in-none bytes).1 fault.none)
+    ∙ ap Some (one_fault bytes (header_place bytes) place (header_place-fault bytes fault.none) fault)
+
+pub no_fault_read : (bytes : List ℕ) → HasHeader bytes → header_fault_in bytes (header_in bytes) ≡ None
+no_fault_read bytes has = ap (header_fault_in bytes) ((header_in-some bytes has.user has.mail).1 has.header)
+
+-- Which files count.
+
+pub counted_some : (marks : List Mark) (decided : BTreeSet ℕ) (name : List ℕ) (job : JobName) → AreDecided marks decided → job_named name ≡ Some (job_of_name job) → false ≡ contains nat_cmp decided job.number → IsCounted marks name (Some job)
+counted_some marks decided name job are named is = (ap (counts_as marks) named ∙ ap not (sym (is ∙ are job.number)), named)
+
+pub counted_none : (marks : List Mark) (decided : BTreeSet ℕ) (name : List ℕ) (job : JobName) → AreDecided marks decided → job_named name ≡ Some (job_of_name job) → true ≡ contains nat_cmp decided job.number → counts marks name ≡ false
+counted_none marks decided name job are named is = ap (counts_as marks) named ∙ ap not (sym (is ∙ are job.number))
+
+-- a name that spells no job
+pub not_named : (name : List ℕ) → ((queue number minute : ℕ) (new_form : Bool) → ¬ (SpellsJobName name queue number minute new_form)) → job_named name ≡ None
+not_named name none = by_named (job_named name) refl where
+  by_named : (named : Option NamedJob) → job_named name ≡ named → job_named name ≡ None
+  by_named None is = is
+  by_named (Some job) is = absurd (none job.queue job.number job.minute job.new_form (name_spelled name job is))
+
+pub none_named : (marks : List Mark) (name : List ℕ) → ((queue number minute : ℕ) (new_form : Bool) → ¬ (SpellsJobName name queue number minute new_form)) → counts marks name ≡ false
+none_named marks name none = ap (counts_as marks) (not_named name none)
+
+pub named_job : (name : List ℕ) (job : JobName) → SpellsJobName name job.queue job.number job.minute job.new_form → job_named name ≡ Some (job_of_name job)
+named_job name job spelled = name_given name job.queue job.number job.minute job.new_form spelled
+
+-- the decided numbers, with one mark more
+pub decided_pass : (number : ℕ) (marks : List Mark) (place : ℕ) (other : Mark) (old new : Bool) → place < length marks → old ≡ is_decided number (take place marks) → new ≡ (old || decides number (get_or marks place other)) → new ≡ is_decided number (take (place + 1) marks)
+decided_pass number marks place other old new inside before is =
+    let one : Mark = get_or marks place other in
+    is ∙ ap (λ b. b || decides number one) before
+    ∙ ap (λ b. is_decided number (take place marks) || b) (last_of (decides number one))
+    ∙ sym (list_any-append (decides number) (take place marks) (one ∷ []))
+    ∙ ap (is_decided number) (sym (take_more marks place other inside)) where
+      last_of : (b : Bool) → b ≡ (b || false)
+      last_of true = refl
+      last_of false = refl
+
+pub decided_all : (marks : List Mark) (place : ℕ) (decided : BTreeSet ℕ) → length marks ≤ place → AreDecided (take place marks) decided → AreDecided marks decided
+decided_all marks place decided past are = subst (λ list. AreDecided list decided) (take_all place marks past) are
+
+-- One file more.
+
+-- the bytes that are read are the first ones
+pub prefix_read : (held : Option (List ℕ)) (bytes prefix : List ℕ) → held ≡ Some bytes → option_map (λ b. take 60 (drop 0 b)) held ≡ Some prefix → prefix ≡ take 60 bytes
+prefix_read held bytes prefix is read = sym (some_same (sym (ap (option_map (λ b. take 60 (drop 0 b))) is) ∙ read))
+
+pub counted_found : (marks : List Mark) (name bytes prefix : List ℕ) (job : JobName) (old new : List JobFile) → IsCounted marks name (Some job) → new ≡ old ++ record { name = name; job = job_of_name job; bytes = prefix } ∷ [] → prefix ≡ bytes → new ≡ old ++ job_files marks ((name, bytes) ∷ [])
+counted_found marks name bytes prefix job old new counted more same =
+    more ∙ ap (λ (b : List ℕ). old ++ record { name = name; job = job_of_name job; bytes = b } ∷ []) same
+    ∙ ap (λ list. old ++ list) (sym (
+    ap (λ b. filter_map job_file (cond b ((name, bytes) ∷ []) [])) counted.0 ∙ ap (λ one. cons_option (file_named name bytes one) []) counted.1))
+
+pub other_found : (marks : List Mark) (name bytes : List ℕ) (old : List JobFile) → counts marks name ≡ false → old ≡ old ++ job_files marks ((name, bytes) ∷ [])
+other_found marks name bytes old fails =
+    sym (append-nil old) ∙ ap (λ list. old ++ list) (sym (ap (λ b. filter_map job_file (cond b ((name, bytes) ∷ []) [])) fails))
+
+-- The files so far.
+
+has_at : {X : Type 0} → (xs : List X) (place : ℕ) (x : X) → place < length xs → Has xs (get_or xs place x)
+has_at [] place x inside = absurd (omega arith)
+has_at (first ∷ later) zero x inside = inl refl
+has_at (first ∷ later) (suc place) x inside = inr (has_at later place x (omega arith))
+
+job_files_append : (marks : List Mark) (one other : List (List ℕ × List ℕ)) → job_files marks (one ++ other) ≡ job_files marks one ++ job_files marks other
+job_files_append marks one other =
+    ap (filter_map job_file) (filter-append (λ (file : List ℕ × List ℕ). counts marks file.0) one other)
+    ∙ filter_map-append job_file (filter (λ (file : List ℕ × List ℕ). counts marks file.0) one) (filter (λ (file : List ℕ × List ℕ). counts marks file.0) other)
+
+-- the name at a place is that of the entry there
+record IsEntry (files : Files) (place : ℕ) (name : List ℕ) : Type 0 where
+  inside : place < length (entries files)
+  bytes : List ℕ
+  at : get_or (entries files) place (name, []) ≡ (name, bytes)
+  held : finite.get files name ≡ Some bytes
+
+entry_at_place : (files : Files) (names : List (List ℕ)) (place : ℕ) (name : List ℕ) → names ≡ finite.keys files → place < length names → name ≡ get_or names place name → IsEntry files place name
+entry_at_place files names place name are inside here =
+    let none : List ℕ = [] in
+    let entry : List ℕ × List ℕ = get_or (entries files) place (name, none) in
+    let within : place < length (entries files) = omega (arith, ap length are, length-map (entries files) (λ (e : List ℕ × List ℕ). e.0)) in
+    let named : name ≡ entry.0 = here ∙ ap (λ list. get_or list place name) are ∙ get_or-map (λ (e : List ℕ × List ℕ). e.0) (entries files) place (name, none) name within in
+    let at : entry ≡ (name, entry.1) = λ i. (sym named i, entry.1) in
+    record {
+      inside = within;
+      bytes = entry.1;
+      at = at;
+      held = entry_is_file files name entry.1 (subst (Has (entries files)) at (has_at (entries files) place (name, none) within));
+    }
+
+pub held_at : (files here : Files) (names : List (List ℕ)) (place : ℕ) (name : List ℕ) → names ≡ finite.keys files → here ≡ files → place < length names → name ≡ get_or names place name → IsSome (finite.get here name)
+held_at files here names place name are same inside at =
+    subst IsSome (sym (ap (λ (fs : Files). finite.get fs name) same ∙ (entry_at_place files names place name are inside at).held)) refl
+
+pub found_more : (marks : List Mark) (files here : Files) (names : List (List ℕ)) (place : ℕ) (name : List ℕ) (old new : List JobFile) → names ≡ finite.keys files → here ≡ files → place < length names → name ≡ get_or names place name → old ≡ job_files marks (map prefix_of (take place (entries files)))
+    → ((bytes : List ℕ) → finite.get here name ≡ Some bytes → new ≡ old ++ job_files marks ((name, take 60 bytes) ∷ []))
+    → new ≡ job_files marks (map prefix_of (take (place + 1) (entries files)))
+found_more marks files here names place name old new are same inside at before found =
+    let entry : IsEntry files place name = entry_at_place files names place name are inside at in
+    let more : take (place + 1) (entries files) ≡ take place (entries files) ++ (name, entry.bytes) ∷ [] = take_more (entries files) place (name, []) entry.inside ∙ ap (λ e. take place (entries files) ++ e ∷ []) entry.at in
+    found entry.bytes (ap (λ (fs : Files). finite.get fs name) same ∙ entry.held)
+    ∙ ap (λ list. list ++ job_files marks ((name, take 60 entry.bytes) ∷ [])) before
+    ∙ sym (job_files_append marks (map prefix_of (take place (entries files))) ((name, take 60 entry.bytes) ∷ []))
+    ∙ ap (job_files marks) (sym (ap (map prefix_of) more ∙ map-append prefix_of (take place (entries files)) ((name, entry.bytes) ∷ [])))
+
+pub found_all : (marks : List Mark) (files : Files) (names : List (List ℕ)) (place : ℕ) (found : List JobFile) → names ≡ finite.keys files → length names ≤ place → found ≡ job_files marks (map prefix_of (take place (entries files))) → found ≡ job_files marks (map prefix_of (entries files))
+found_all marks files names place found are after so =
+    let past : length (entries files) ≤ place = omega (arith, ap length are, length-map (entries files) (λ (e : List ℕ × List ℕ). e.0)) in
+    so ∙ ap (λ list. job_files marks (map prefix_of list)) (take_all place (entries files) past)

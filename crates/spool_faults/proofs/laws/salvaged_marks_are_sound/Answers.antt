@@ -1,0 +1,8 @@
+use Rattle.std.specs.FinMap.{entries, find}
+use Rattle.host_calls.specs.Folder.{name_cmp}
+use Rattle.start_journal.specs.Journals.{journal_file}
+use Rattle.spool_faults.proofs.AddedMarks.{saved_sound}
+use Rattle.spool_faults.proofs.laws.salvaged_marks_are_sound.Goals as goal
+
+pub returns : goal.returns
+returns c files = saved_sound (find name_cmp journal_file (entries files)) (entries files)

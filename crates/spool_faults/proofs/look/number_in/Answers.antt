@@ -1,0 +1,10 @@
+use Rattle.std.proofs.Common.{sym, ap}
+use Rattle.sequence_file.specs.LastNumber.{last_in}
+use Rattle.spool_faults.proofs.Planned.{number_read}
+use Rattle.spool_faults.proofs.look.number_in.Goals as goal
+
+pub returns-in-None : goal.returns-in-None
+returns-in-None c = sym (ap last_in c.in-None.is)
+
+pub returns-in-Some : goal.returns-in-Some
+returns-in-Some c = number_read c.args.content.now _ c.as_slice.result.now c.read.result c.in-Some.is c.as_slice.ensures c.read.ensures.number c.read.ensures.name c.read.ensures.damaged

@@ -1,0 +1,8 @@
+use Rattle.std.proofs.Common.{◌≡◌, ◌++◌, [], take}
+use Rattle.std.specs.List.{filter_map}
+use Rattle.spool_faults.specs.inside.Finding.{file_first}
+use Rattle.spool_faults.specs.inside.Saving.{name_unless}
+use Rattle.spool_faults.proofs.plan.names_left.Given as goal
+
+abbrev pub invariant-loop-file : goal.invariant-loop-file
+invariant-loop-file l = l.names.items ≡ [] ++ filter_map (λ file. name_unless l.decided (file_first file)) (take l.file-index l.files)

@@ -1,0 +1,106 @@
+-- What is saved of a spool folder (own): the marks and the files that are taken of it, what is added to the marks, and
+-- the table that these make.
+use Rattle.std.specs.Prelude.{◌++◌, [], ◌∷◌, ℕ, Bool, not, List, Option, None, Result, Ok, Err, map, nat_lt, option_map, if◌then◌else◌}
+use Rattle.std.specs.FinMap.{entries, find}
+use Rattle.std.specs.List.{filter, filter_map}
+use Rattle.host_calls.specs.declared.damage.Damage.{Damage}
+use Rattle.host_calls.specs.Folder.{Files, name_cmp}
+use Rattle.job_name.specs.JobName.{NamedJob, job_named}
+use Rattle.sequence_file.specs.LastNumber.{last_in}
+use Rattle.sequence_file.specs.Sequence.{sequence_file}
+use Rattle.spool_faults.specs.Faults.{files_taken}
+use Rattle.spool_model.specs.declared.number.TheConstants.{LAST_NUMBER}
+use Rattle.spool_model.specs.JobTable.{JobTable}
+use Rattle.spool_shows.specs.JobFiles.{JobFile}
+use Rattle.spool_shows.specs.Shown.{mark_damage, table_shown}
+use Rattle.start_journal.specs.declared.mark.Mark.{Mark}
+use Rattle.start_journal.specs.declared.mark.Mark.TheVariants.{Removed, Started, Ended, Interrupted, Forgotten, Batch}
+use Rattle.start_journal.specs.Journals.{journal_file}
+use Rattle.start_journal.specs.Marks.{is_decided, is_named, number_of}
+use Rattle.start_journal.specs.Taken.{journal_faults, marks_taken}
+
+-- a start is given up that is not decided, and whose number has no file that is taken, or one of another queue
+abbrev pub given_up : List Mark → List JobFile → Mark → Option Mark
+given_up marks files (Started number queue second) =
+    option_map (λ damage. Interrupted number) (mark_damage marks files 0 (Started number queue second))
+given_up marks files (Removed number) = None
+given_up marks files (Ended number ending) = None
+given_up marks files (Interrupted number) = None
+given_up marks files (Forgotten number) = None
+given_up marks files (Batch second) = None
+
+-- no mark names the number of the file
+abbrev pub is_unnamed : List Mark → JobFile → Bool
+is_unnamed marks file = not (is_named file.job.number marks)
+
+-- the mark that takes a job back
+abbrev pub removal : JobFile → Mark
+removal file = Removed file.job.number
+
+-- Where the journal has a fault, a mark may be lost: a job that no mark names is taken back, since it may have run.
+abbrev pub taken_back : List Mark → List JobFile → List Damage → List Mark
+taken_back marks files [] = []
+taken_back marks files (fault ∷ later) = map removal (filter (is_unnamed marks) files)
+
+-- the marks that are taken, and those that are added to them; no fault for a number above the last one counts here
+abbrev pub marks_with : List Mark → List JobFile → List Damage → List Mark
+marks_with marks files faults = marks ++ (filter_map (given_up marks files) marks ++ taken_back marks files faults)
+
+-- the marks that are saved, where the journal has this content
+abbrev pub saved_marks : Option (List ℕ) → List (List ℕ × List ℕ) → List Mark
+saved_marks journal files =
+    marks_with (marks_taken journal) (files_taken (marks_taken journal) files) (journal_faults LAST_NUMBER journal)
+
+-- the file's number is not decided
+abbrev pub is_left : List Mark → JobFile → Bool
+is_left marks file = not (is_decided file.job.number marks)
+
+-- the files that are saved: those that are taken, of numbers that no saved mark decides
+abbrev pub saved_files : Option (List ℕ) → List (List ℕ × List ℕ) → List JobFile
+saved_files journal files = filter (is_left (saved_marks journal files)) (files_taken (marks_taken journal) files)
+
+-- the greatest of a number and of others
+abbrev pub greatest : ℕ → List ℕ → ℕ
+greatest least [] = least
+greatest least (number ∷ later) = greatest (if nat_lt least number then number else least) later
+
+-- the last number that the sequence file gives, 0 where it gives none
+abbrev pub last_told : Result ℕ Damage → ℕ
+last_told (Ok last) = last
+last_told (Err damage) = 0
+
+-- the number of a job's name
+abbrev pub number_named : List ℕ → Option ℕ
+number_named name = option_map (λ (job : NamedJob). job.number) (job_named name)
+
+-- the numbers in the names of all files of jobs
+abbrev pub name_numbers : List (List ℕ × List ℕ) → List ℕ
+name_numbers files = filter_map (λ (file : List ℕ × List ℕ). number_named file.0) files
+
+-- the number that counts as drawn last: the greatest of the sequence file, the marks that are taken and the names
+abbrev pub saved_last : Result ℕ Damage → Option (List ℕ) → List (List ℕ × List ℕ) → ℕ
+saved_last last journal files =
+    greatest (greatest (last_told last) (filter_map number_of (marks_taken journal))) (name_numbers files)
+
+-- the table that is saved
+abbrev pub saved_after : Result ℕ Damage → Option (List ℕ) → List (List ℕ × List ℕ) → JobTable
+saved_after last journal files = table_shown (saved_last last journal files) (saved_marks journal files) (saved_files journal files)
+
+-- that of files that stand in byte order of their names
+abbrev pub all_saved : List (List ℕ × List ℕ) → JobTable
+all_saved files = saved_after (last_in (find name_cmp sequence_file files)) (find name_cmp journal_file files) files
+
+-- the table that is saved of a folder
+unfoldable pub salvaged : Files → JobTable
+salvaged files = all_saved (entries files)
+
+-- what a salvage writes: the last number, the marks and the files
+abbrev pub last_of_salvage : Files → ℕ
+last_of_salvage files =
+    saved_last (last_in (find name_cmp sequence_file (entries files))) (find name_cmp journal_file (entries files)) (entries files)
+
+abbrev pub marks_of_salvage : Files → List Mark
+marks_of_salvage files = saved_marks (find name_cmp journal_file (entries files)) (entries files)
+
+abbrev pub files_of_salvage : Files → List JobFile
+files_of_salvage files = saved_files (find name_cmp journal_file (entries files)) (entries files)

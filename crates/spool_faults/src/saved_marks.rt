@@ -1,0 +1,153 @@
+//! The marks that are saved: those that are taken of the journal, and those that are added to them.
+ghost use Rattle.std.specs.Prelude.{◌≡◌, ◌++◌, ◌||◌, [], ℕ, List, IfOk, IfSome, OnOk, option_to_list};
+ghost use Rattle.std.specs.BTreeSet.{contains};
+ghost use Rattle.std.specs.List.{filter_map};
+ghost use Rattle.std.specs.Ordering.{nat_cmp};
+ghost use Rattle.host_calls.specs.declared.damage.Damage.{Damage};
+ghost use Rattle.spool_faults.specs.Faults.{first_files};
+ghost use Rattle.spool_faults.specs.Salvaged.{given_up, marks_with};
+ghost use Rattle.spool_faults.specs.inside.Finding.{AreDecided, AreFirst, AreQueues, file_first};
+ghost use Rattle.spool_faults.specs.inside.Saving.{AreNamed, is_faulty, removal_unless};
+ghost use Rattle.spool_shows.specs.JobFiles.{JobFile};
+ghost use Rattle.start_journal.specs.declared.mark.Mark.{Mark};
+ghost use Rattle.start_journal.specs.Journals.{AreWritable};
+ghost use Rattle.start_journal.specs.Marks.{names};
+ghost use Rattle.start_journal.specs.Slots.{IsWritable};
+
+use crate::first_files::{FirstFile, FirstFiles};
+use crate::job_faults::start_fault;
+use start_journal::{Mark, TakenMark};
+use std::alloc::{AllocError, Global};
+use std::collections::{BTreeMap, BTreeSet};
+
+// The marks that are saved, where these are taken of the journal: each start that is given up ends, and where marks
+// may be lost, each job that none names is taken back.
+pub(crate) fn saved_marks(
+    alloc: Global,
+    marks: &[Mark],
+    decided: &BTreeSet<u32>,
+    firsts: &FirstFiles,
+    lost: bool,
+) -> Result<Vec<Mark>, AllocError>
+    ensures writable { AreWritable marks.now → IfOk result (λ saved. AreWritable saved.items) }
+    ensures saved { (files : List JobFile) (faults : List Damage) → AreDecided marks.now decided.now
+        → AreFirst files firsts.now → lost ≡ is_faulty faults
+        → IfOk result (λ saved. saved.items ≡ marks_with marks.now (first_files [] files) faults) }
+{
+    let mut saved = Vec::new(alloc);
+    saved.extend_from_slice(marks)?;
+    give_up(marks, decided, &firsts.queues, &mut saved)?;
+    if lost {
+        let named = named(alloc, marks)?;
+        take_back(firsts.files.as_slice(), &named, &mut saved)?;
+    }
+    Ok(saved)
+}
+
+// Puts the end of each start that is given up to the marks before it.
+fn give_up(
+    marks: &[Mark],
+    decided: &BTreeSet<u32>,
+    queues: &BTreeMap<u32, u8>,
+    saved: &mut Vec<Mark>,
+) -> Result<(), AllocError>
+    ensures writable { OnOk result (AreWritable marks.now → AreWritable saved.old.items
+        → AreWritable saved.new.items) }
+    ensures saved { OnOk result ((all : List Mark) (files : List JobFile) → AreDecided all decided.now
+        → AreQueues files queues.now
+        → saved.new.items ≡ saved.old.items ++ filter_map (given_up all files) marks.now) }
+{
+    for mark in marks {
+        keep(saved, given_up(*mark, decided, queues))?;
+    }
+    Ok(())
+}
+
+// The end of the start, if it is given up.
+fn given_up(mark: Mark, decided: &BTreeSet<u32>, queues: &BTreeMap<u32, u8>) -> Option<Mark>
+    ensures writable { IsWritable mark → IfSome result IsWritable }
+    ensures given { (all : List Mark) (files : List JobFile) → AreDecided all decided.now
+        → AreQueues files queues.now → result ≡ given_up all files mark }
+{
+    match mark {
+        Mark::Started { number, .. } => {
+            match start_fault(TakenMark { place: 0, mark }, decided, queues) {
+                Some(_) => Some(Mark::Interrupted(number)),
+                None => None,
+            }
+        }
+        Mark::Removed(_)
+        | Mark::Ended { .. }
+        | Mark::Interrupted(_)
+        | Mark::Forgotten(_)
+        | Mark::Batch(_) => None,
+    }
+}
+
+// Takes back each job that no mark names.
+fn take_back(
+    files: &[FirstFile],
+    named: &BTreeSet<u32>,
+    saved: &mut Vec<Mark>,
+) -> Result<(), AllocError>
+    ensures writable { OnOk result (AreWritable saved.old.items → AreWritable saved.new.items) }
+    ensures saved { OnOk result (saved.new.items
+        ≡ saved.old.items ++ filter_map (λ file. removal_unless named.now (file_first file)) files.now) }
+{
+    for file in files {
+        keep(saved, taken_back(*file, named))?;
+    }
+    Ok(())
+}
+
+// The mark that takes the job back, if none names it.
+fn taken_back(file: FirstFile, named: &BTreeSet<u32>) -> Option<Mark>
+    ensures writable { IfSome result IsWritable }
+    ensures taken { result ≡ removal_unless named.now (file_first file) }
+{
+    if named.contains(&file.job.number) {
+        None
+    } else {
+        Some(Mark::Removed(file.job.number))
+    }
+}
+
+// Puts the mark to those before it, if there is one.
+fn keep(saved: &mut Vec<Mark>, mark: Option<Mark>) -> Result<(), AllocError>
+    ensures writable { OnOk result (IfSome mark IsWritable → AreWritable saved.old.items
+        → AreWritable saved.new.items) }
+    ensures saved { OnOk result (saved.new.items ≡ saved.old.items ++ option_to_list mark) }
+{
+    if let Some(mark) = mark {
+        saved.push(mark)?;
+    }
+    Ok(())
+}
+
+// The numbers that the marks name.
+fn named(alloc: Global, marks: &[Mark]) -> Result<BTreeSet<u32>, AllocError>
+    ensures { IfOk result (AreNamed marks.now) }
+{
+    let mut named = BTreeSet::new(alloc);
+    for mark in marks {
+        name(&mut named, *mark)?;
+    }
+    Ok(named)
+}
+
+fn name(named: &mut BTreeSet<u32>, mark: Mark) -> Result<(), AllocError>
+    ensures { OnOk result ((number : ℕ) → contains nat_cmp named.new number
+        ≡ (contains nat_cmp named.old number || names number mark)) }
+{
+    match mark {
+        Mark::Removed(number)
+        | Mark::Interrupted(number)
+        | Mark::Forgotten(number)
+        | Mark::Ended { number, .. }
+        | Mark::Started { number, .. } => {
+            named.insert(number)?;
+        }
+        Mark::Batch(_) => {}
+    }
+    Ok(())
+}

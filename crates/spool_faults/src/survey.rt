@@ -1,0 +1,40 @@
+//! The faults of a folder, and what is to be written for what is saved of it, by one look.
+ghost use Rattle.std.specs.Prelude.{◌≡◌, IfOk, IsTrue};
+ghost use Rattle.host_calls.specs.Session.{CallsInside, IsInside};
+ghost use Rattle.host_calls.specs.World.{reading};
+ghost use Rattle.spool_faults.specs.Faults.{faults_of};
+ghost use Rattle.spool_faults.specs.Listed.{LeavesFolder};
+ghost use Rattle.spool_faults.specs.Plan.{IsPlanOf};
+
+use crate::FaultList;
+use crate::look::take_look;
+use crate::plan::{Plan, plan_of};
+use host_calls::{Host, HostFault};
+use std::alloc::Global;
+
+/// The faults of a folder, and what is to be written for what is saved of it.
+#[derive(Drop)]
+pub struct Survey {
+    pub faults: FaultList,
+    pub plan: Plan,
+}
+
+/// The faults of the folder, which is settled first, and what is to be written for what is saved of it. Nothing is
+/// changed.
+pub fn take_survey<H: Host>(alloc: Global, host: &mut H) -> Result<Survey, HostFault>
+    requires { IsInside (H.session host.old) }
+    ensures inside { CallsInside HostFault.Failed (H.session host.old) (H.session host.new) result }
+    ensures leaves { IsTrue H.tells → LeavesFolder (H.world host.old) (H.world host.new) }
+    ensures faults { IsTrue H.tells → IfOk result (λ survey. survey.faults ≡ faults_of (reading (H.world host.old))) }
+    ensures plan { IsTrue H.tells → IfOk result (λ survey. IsPlanOf (reading (H.world host.old))
+        survey.plan.names.items survey.plan.journal.items survey.plan.sequence.items) }
+{
+    host.settle(alloc)?;
+    let mut faults = Vec::new(alloc);
+    let look = take_look(alloc, host, &mut faults)?;
+    let plan = plan_of(alloc, &look, faults.as_slice())?;
+    Ok(Survey {
+        faults: FaultList { faults },
+        plan,
+    })
+}

@@ -1,0 +1,203 @@
+-- What a crash leaves of a folder while it is filled.
+use Rattle.std.proofs.Common.{◌≡◌, ◌⊎◌, ℕ, true, false, List, [], sym, ap, subst, ◌∙◌, refl, inl, inr}
+use Rattle.std.specs.Prelude.{Some, None, Result, Ok, Err, OnOk, is_some}
+use Rattle.std.specs.FinMap as map
+use Rattle.host_calls.specs.Folder.{Files, Folder, IsImage}
+use Rattle.host_calls.specs.World.{World, reading}
+use Rattle.job_name.specs.JobName.{job_named}
+use Rattle.sequence_file.specs.Sequence.{sequence_file}
+use Rattle.spool_faults.specs.Listed.{LeavesFolder}
+use Rattle.spool_faults.specs.Plan.{IsPlanOf}
+use Rattle.spool_faults.specs.Salvaged.{salvaged}
+use Rattle.spool_salvage.specs.inside.Copying.{EachHas, EachHasCopies, IsBare, IsCertain, IsCopyName}
+use Rattle.spool_salvage.specs.Salvaging.{EachShowsSalvaged, IsSalvaging, is_of_spool, is_spool}
+use Rattle.spool_salvage.specs.declared.fault.SalvageFault.{SalvageFault}
+use Rattle.spool_shows.specs.Laws.{ShowsNoEntry}
+use Rattle.spool_shows.specs.Shown.{Shows}
+use Rattle.spool_shows.proofs.NameLemmas.{job_name_apart, journal_apart, journal_no_job, sequence_apart, sequence_no_job, temporary_no_job, differ_by}
+use Rattle.spool_shows.proofs.ShownHeaders.{folders_without_sequence_show_no_entry}
+use Rattle.start_journal.specs.Journals.{journal_file}
+use Rattle.whole_file.specs.Others.{ChangesFiles, IsEither, LeavesOthers}
+use Rattle.whole_file.specs.Placing.{IsPlaced, IsPlacing}
+use Rattle.whole_file.specs.Temporary.{temporary_file}
+use Rattle.whole_file.proofs.ChangesJoined.{changes_end, changes_on, changes_weaker, left_alone}
+use Rattle.whole_file.proofs.OthersLemmas.{changes_none}
+use Rattle.spool_salvage.proofs.BareFolders.{bare_each, copy_of_spool, either_of_spool, job_of_spool, journal_of_spool, sequence_of_spool, temp_of_spool}
+use Rattle.spool_salvage.proofs.CopyLemmas.{alone_end, alone_on, kept_each}
+use Rattle.spool_salvage.proofs.PlanLemmas.{is_salvage, salvages_show}
+
+-- The table, or no entry.
+abbrev ShowsPart : Files → Files → Type 0
+ShowsPart files image = ShowsNoEntry image ⊎ Shows image (salvaged files)
+
+-- Whole calls.
+
+-- a call that places a file leaves the others alone
+pub placing_alone : (temp target bytes : List ℕ) (old new : World) → ChangesFiles (IsPlacing temp target bytes old.now.folder) old new → ChangesFiles (LeavesOthers (IsEither temp target) old.now.folder) old new
+placing_alone temp target bytes old new changes = changes_weaker _ _ old new (λ image placing. placing.alone) changes
+
+start_salvaging : (files : Files) (start : Folder) (image : Files) → IsImage start image → IsSalvaging files start image
+start_salvaging files start image is = record { alone = left_alone (λ name. is_of_spool name ≡ true) start image is; shows = inl is }
+
+-- a call after others, which leaves what shows no entry, or the table
+pub salvaging_then : (files : Files) (may_change : List ℕ → Type 0) (Q : Files → Type 0) (start middle new : World) → ((name : List ℕ) → may_change name → is_of_spool name ≡ true) → ((image : Files) → Q image → LeavesOthers may_change middle.now.folder image) → ((image : Files) → Q image → ShowsPart files image) → ChangesFiles (IsSalvaging files start.now.folder) start middle → ChangesFiles Q middle new → ChangesFiles (IsSalvaging files start.now.folder) start new
+salvaging_then files may_change Q start middle new of alone shows before after =
+    let spool : List ℕ → Type 0 = λ name. is_of_spool name ≡ true in
+    changes_on (IsSalvaging files start.now.folder) Q (IsSalvaging files start.now.folder) start middle new
+    (λ image is. is)
+    (λ image is. record {
+      alone = alone_on spool may_change start.now.folder middle.now.folder image of
+          (λ other was. (changes_end (IsSalvaging files start.now.folder) start middle before (start_salvaging files start.now.folder) other was).alone)
+          (alone image is);
+      shows = inr (shows image is);
+    })
+    before after
+
+-- what is left alone and had no sequence file has none, and shows no entry
+no_entry_left : (may_change : List ℕ → Type 0) (folder : Folder) (image : Files) → ¬ (may_change sequence_file) → EachHas sequence_file None folder → LeavesOthers may_change folder image → ShowsNoEntry image
+no_entry_left may_change folder image other none left =
+    folders_without_sequence_show_no_entry image (left.others sequence_file other ∙ none left.from left.was)
+
+no_copy : (name : List ℕ) → ¬ (name ≡ temporary_file) → job_named name ≡ None → ¬ (IsCopyName name)
+no_copy name not_temp none copy = elim copy [
+  | inl is ↦ not_temp is
+  | inr job ↦ let impossible : false ≡ true = sym (ap is_some none) ∙ job in cc
+]
+
+sequence_no_copy : ¬ (IsCopyName sequence_file)
+sequence_no_copy = no_copy sequence_file (differ_by sequence_file temporary_file refl) sequence_no_job
+
+journal_no_copy : ¬ (IsCopyName journal_file)
+journal_no_copy = no_copy journal_file (differ_by journal_file temporary_file refl) journal_no_job
+
+-- The journal is placed.
+
+-- the name was given these bytes
+pub record HasPut (name bytes : List ℕ) (old new : World) : Type 0 where
+  pub changes : ChangesFiles (IsPlacing temporary_file name bytes old.now.folder) old new
+  pub placed : IsPlaced temporary_file name bytes old.now.folder new.now.folder
+
+pub has_put : (target name bytes : List ℕ) (old new : World) → target ≡ name → ChangesFiles (IsPlacing temporary_file target bytes old.now.folder) old new → IsPlaced temporary_file target bytes old.now.folder new.now.folder → HasPut name bytes old new
+has_put target name bytes old new is changes placed = record {
+  changes = subst (λ (n : List ℕ). ChangesFiles (IsPlacing temporary_file n bytes old.now.folder) old new) is changes;
+  placed = subst (λ (n : List ℕ). IsPlaced temporary_file n bytes old.now.folder new.now.folder) is placed;
+}
+
+pub journal_leaves : (files : Files) (target bytes : List ℕ) (start new : World) → target ≡ journal_file → IsBare start.now.folder → ChangesFiles (IsPlacing temporary_file target bytes start.now.folder) start new → ChangesFiles (IsSalvaging files start.now.folder) start new
+journal_leaves files target bytes start new is bare changes =
+    salvaging_then files (IsEither temporary_file journal_file) (LeavesOthers (IsEither temporary_file journal_file) start.now.folder) start start new
+    (λ name either. either_of_spool temporary_file journal_file name temp_of_spool journal_of_spool either)
+    (λ image left. left)
+    (λ image left. inl (no_entry_left (IsEither temporary_file journal_file) start.now.folder image sequence_apart (bare_each start.now.folder bare sequence_file sequence_of_spool) left))
+    (changes_none (IsSalvaging files start.now.folder) start)
+    (placing_alone temporary_file journal_file bytes start new
+    (subst (λ (n : List ℕ). ChangesFiles (IsPlacing temporary_file n bytes start.now.folder) start new) is changes))
+
+pub record HasJournal (bytes : List ℕ) (folder : Folder) : Type 0 where
+  pub no_sequence : EachHas sequence_file None folder
+  pub journal : EachHas journal_file (Some bytes) folder
+
+journal_stands : (bytes : List ℕ) (start new : World) → IsBare start.now.folder → HasPut journal_file bytes start new → HasJournal bytes new.now.folder
+journal_stands bytes start new bare put = record {
+  no_sequence = kept_each (IsEither temporary_file journal_file) start new sequence_file None sequence_apart (placing_alone temporary_file journal_file bytes start new put.changes) (bare_each start.now.folder bare sequence_file sequence_of_spool);
+  journal = put.placed.placed;
+}
+
+no_copies : (files : Files) (bytes : List ℕ) (start new : World) → IsBare start.now.folder → HasPut journal_file bytes start new → EachHasCopies files [] new.now.folder
+no_copies files bytes start new bare put = λ image is name job named.
+    kept_each (IsEither temporary_file journal_file) start new name None
+    (job_name_apart temporary_file journal_file name job temporary_no_job journal_no_job named)
+    (placing_alone temporary_file journal_file bytes start new put.changes)
+    (bare_each start.now.folder bare name (job_of_spool name (ap is_some named))) image is
+
+-- The files of jobs are copied.
+
+copies_leave : (files : Files) (bytes : List ℕ) (start middle new : World) → HasJournal bytes middle.now.folder → ChangesFiles (IsSalvaging files start.now.folder) start middle → ChangesFiles (LeavesOthers IsCopyName middle.now.folder) middle new → ChangesFiles (IsSalvaging files start.now.folder) start new
+copies_leave files bytes start middle new has before changes =
+    salvaging_then files IsCopyName (LeavesOthers IsCopyName middle.now.folder) start middle new
+    copy_of_spool
+    (λ image is. is)
+    (λ image is. inl (no_entry_left IsCopyName middle.now.folder image sequence_no_copy has.no_sequence is))
+    before changes
+
+pub copying_leaves : (files : Files) (bytes : List ℕ) (start middle new : World) → IsBare start.now.folder → HasPut journal_file bytes start middle → ChangesFiles (LeavesOthers IsCopyName middle.now.folder) middle new → ChangesFiles (IsSalvaging files start.now.folder) start new
+copying_leaves files bytes start middle new bare put changes =
+    copies_leave files bytes start middle new (journal_stands bytes start middle bare put)
+    (journal_leaves files journal_file bytes start middle refl bare put.changes) changes
+
+-- a folder that has the journal and the copies of these names
+pub record IsFilled (files : Files) (names : List (List ℕ)) (bytes : List ℕ) (start now : World) : Type 0 where
+  pub has : HasJournal bytes now.now.folder
+  pub copies : EachHasCopies files names now.now.folder
+  pub before : ChangesFiles (IsSalvaging files start.now.folder) start now
+
+pub is_filled : (files : Files) (names : List (List ℕ)) (bytes : List ℕ) (start middle new : World) → IsBare start.now.folder → HasPut journal_file bytes start middle → ChangesFiles (LeavesOthers IsCopyName middle.now.folder) middle new → (EachHasCopies files [] middle.now.folder → EachHasCopies files names new.now.folder) → IsFilled files names bytes start new
+is_filled files names bytes start middle new bare put changes copies =
+    let has : HasJournal bytes middle.now.folder = journal_stands bytes start middle bare put in
+    record {
+      has = record {
+        no_sequence = kept_each IsCopyName middle new sequence_file None sequence_no_copy changes has.no_sequence;
+        journal = kept_each IsCopyName middle new journal_file (Some bytes) journal_no_copy changes has.journal;
+      };
+      copies = copies (no_copies files bytes start middle bare put);
+      before = copying_leaves files bytes start middle new bare put changes;
+    }
+
+-- The sequence file is placed.
+
+-- an image with the sequence file, else like one of a folder that was filled, shows the table
+filled_shows : (files : Files) (names : List (List ℕ)) (journal sequence : List ℕ) (folder : Folder) (image : Files) → IsPlanOf files names journal sequence → HasJournal journal folder → EachHasCopies files names folder → LeavesOthers (IsEither temporary_file sequence_file) folder image → map.get image sequence_file ≡ Some sequence → Shows image (salvaged files)
+filled_shows files names journal sequence folder image plan has copies left placed =
+    salvages_show files image (is_salvage files names journal sequence image plan placed
+    (left.others journal_file journal_apart ∙ has.journal left.from left.was)
+    (λ name job named. left.others name (job_name_apart temporary_file sequence_file name job temporary_no_job sequence_no_job named) ∙ copies left.from left.was name job named))
+
+sequence_shows : (files : Files) (names : List (List ℕ)) (journal sequence : List ℕ) (folder : Folder) (image : Files) → IsPlanOf files names journal sequence → HasJournal journal folder → EachHasCopies files names folder → IsPlacing temporary_file sequence_file sequence folder image → ShowsPart files image
+sequence_shows files names journal sequence folder image plan has copies placing = elim placing.placed [
+  | inl same ↦ inl (folders_without_sequence_show_no_entry image (same ∙ has.no_sequence placing.alone.from placing.alone.was))
+  | inr new ↦ inr (filled_shows files names journal sequence folder image plan has copies placing.alone new)
+]
+
+pub sequence_leaves : (files : Files) (names : List (List ℕ)) (journal sequence target : List ℕ) (start middle new : World) → target ≡ sequence_file → IsPlanOf files names journal sequence → IsFilled files names journal start middle → ChangesFiles (IsPlacing temporary_file target sequence middle.now.folder) middle new → ChangesFiles (IsSalvaging files start.now.folder) start new
+sequence_leaves files names journal sequence target start middle new is plan filled changes =
+    salvaging_then files (IsEither temporary_file sequence_file) (IsPlacing temporary_file sequence_file sequence middle.now.folder) start middle new
+    (λ name either. either_of_spool temporary_file sequence_file name temp_of_spool sequence_of_spool either)
+    (λ image placing. placing.alone)
+    (λ image placing. sequence_shows files names journal sequence middle.now.folder image plan filled.has filled.copies placing)
+    filled.before
+    (subst (λ (n : List ℕ). ChangesFiles (IsPlacing temporary_file n sequence middle.now.folder) middle new) is changes)
+
+all_show : (files : Files) (names : List (List ℕ)) (journal sequence : List ℕ) (start middle new : World) → IsPlanOf files names journal sequence → IsFilled files names journal start middle → HasPut sequence_file sequence middle new → EachShowsSalvaged files new.now.folder
+all_show files names journal sequence start middle new plan filled put = λ image is.
+    filled_shows files names journal sequence middle.now.folder image plan filled.has filled.copies
+    (alone_end (IsEither temporary_file sequence_file) middle new (placing_alone temporary_file sequence_file sequence middle new put.changes) image is) (put.placed.placed image is)
+
+pub sequence_stands : {T : Type 0} (files : Files) (names : List (List ℕ)) (journal sequence target : List ℕ) (start middle new : World) (result : Result T SalvageFault) → target ≡ sequence_file → IsPlanOf files names journal sequence → IsFilled files names journal start middle → ChangesFiles (IsPlacing temporary_file target sequence middle.now.folder) middle new → OnOk result (IsPlaced temporary_file target sequence middle.now.folder new.now.folder) → OnOk result (EachShowsSalvaged files new.now.folder)
+sequence_stands files names journal sequence target start middle new (Ok value) is plan filled changes placed =
+    all_show files names journal sequence start middle new plan filled (has_put target sequence_file sequence middle new is changes placed)
+sequence_stands files names journal sequence target start middle new (Err fault) is plan filled changes placed = tt
+
+-- The folder is settled first.
+
+pub opened_leaves : (files : Files) (old new : World) → LeavesFolder old new → ChangesFiles (IsSalvaging files old.now.folder) old new
+opened_leaves files old new leaves = changes_weaker _ _ old new (start_salvaging files old.now.folder) leaves.files
+
+pub opened_then : (files : Files) (old middle new : World) → LeavesFolder old middle → ChangesFiles (IsSalvaging files middle.now.folder) middle new → ChangesFiles (IsSalvaging files old.now.folder) old new
+opened_then files old middle new leaves after =
+    let spool : List ℕ → Type 0 = λ name. is_of_spool name ≡ true in
+    let was : (image : Files) → IsImage middle.now.folder image → IsImage old.now.folder image = changes_end (IsImage old.now.folder) old middle leaves.files (λ image is. is) in
+    changes_on (IsImage old.now.folder) (IsSalvaging files middle.now.folder) (IsSalvaging files old.now.folder) old middle new
+    (start_salvaging files old.now.folder)
+    (λ image is. record {
+      alone = alone_on spool spool old.now.folder middle.now.folder image (λ name of. of) (λ other at. left_alone spool old.now.folder other (was other at)) is.alone;
+      shows = elim is.shows [
+        | inl at ↦ inl (was image at)
+        | inr shows ↦ inr shows
+      ];
+    })
+    leaves.files after
+
+-- a folder that is settled and has no file of a spool
+pub bare_by : {T : Type 0} (result : Result T SalvageFault) (settled new : World) → new ≡ settled → IsCertain settled.now.folder → OnOk result (is_spool (reading settled) ≡ false) → OnOk result (IsBare new.now.folder)
+bare_by (Ok value) settled new same certain empty = subst (λ (world : World). IsBare world.now.folder) (sym same) (record { certain = certain; bare = empty })
+bare_by (Err fault) settled new same certain empty = tt

@@ -1,0 +1,5 @@
+pub mod BareFolders
+pub mod CopyLemmas
+pub mod FaultLemmas
+pub mod FillLemmas
+pub mod PlanLemmas

@@ -1,0 +1,20 @@
+use Rattle.std.proofs.Common.{ap}
+use Rattle.std.specs.Prelude.{Err}
+use Rattle.host_calls.specs.World.{reading}
+use Rattle.spool_salvage.specs.declared.fault.SalvageFault.TheVariants.{FromFailed}
+use Rattle.spool_salvage.proofs.FaultLemmas.{no_other, unmoved}
+use Rattle.spool_salvage.proofs.FillLemmas.{opened_leaves, opened_then}
+use Rattle.spool_salvage.proofs.filling.fill.Goals as goal
+
+pub returns-in_err-open-clause-from : goal.returns-in_err-open-clause-from
+returns-in_err-open-clause-from g c =
+    unmoved FromFailed (g.H.Host.session c.args.from.now) c.from_residual.result c.requires.inside_from
+    (no_other c.in_err-open.field-0.0 FromFailed c.from_residual.result (λ is. c.in_err-open.ensures.not_source (ap Err is)) c.from_residual.ensures.1)
+
+pub returns-in_err-open-clause-files : goal.returns-in_err-open-clause-files
+returns-in_err-open-clause-files g c = λ tells told.
+    opened_leaves (reading (g.H.Host.world c.args.from.now)) (g.G.Host.world c.args.to.now) (g.G.Host.world c.open.new.to) (c.in_err-open.ensures.leaves told)
+
+pub returns-clause-files : goal.returns-clause-files
+returns-clause-files g c = λ tells told.
+    opened_then (reading (g.H.Host.world c.args.from.now)) (g.G.Host.world c.args.to.now) (g.G.Host.world c.open.new.to) (g.G.Host.world c.write.new.to) (c.in_ok-open.ensures.leaves told) (c.write.ensures.files tells told)

@@ -1,0 +1,29 @@
+-- Faults of the two folders (own).
+use Rattle.host_calls.specs.declared.fault.HostFault.{HostFault}
+use Rattle.host_calls.specs.declared.fault.HostFault.TheVariants.{Failed, Memory as NoMemory}
+use Rattle.spool_salvage.specs.declared.fault.SalvageFault.{SalvageFault}
+use Rattle.spool_salvage.specs.declared.fault.SalvageFault.TheVariants.{FromFailed, ToFailed, NotEmpty, Memory}
+
+-- a fault of the folder that is salvaged
+abbrev pub of_source : HostFault → SalvageFault
+of_source Failed = FromFailed
+of_source NoMemory = Memory
+
+-- a fault of the new folder
+abbrev pub of_target : HostFault → SalvageFault
+of_target Failed = ToFailed
+of_target NoMemory = Memory
+
+-- a fault that the folder that is salvaged may have
+abbrev pub IsOfSource : SalvageFault → Type 0
+IsOfSource FromFailed = Unit {0}
+IsOfSource Memory = Unit {0}
+IsOfSource ToFailed = ⊥
+IsOfSource NotEmpty = ⊥
+
+-- a fault that a call on the new folder may have
+abbrev pub IsOfTarget : SalvageFault → Type 0
+IsOfTarget ToFailed = Unit {0}
+IsOfTarget Memory = Unit {0}
+IsOfTarget FromFailed = ⊥
+IsOfTarget NotEmpty = ⊥

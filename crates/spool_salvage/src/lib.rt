@@ -1,0 +1,16 @@
+//! Writing what is saved of a spool folder into another folder, a new one.
+//!
+//! The journal comes first, then the files of jobs, each a copy, and the sequence file last. A folder without a sequence
+//! file shows no job, whatever else it has, so a crash on the way leaves a folder that shows no job, or all that is saved.
+#![tactic(auto)]
+
+mod copying;
+mod fault;
+mod filling;
+mod salvaging;
+mod source;
+mod target;
+
+pub use fault::SalvageFault;
+pub use filling::fill;
+pub use salvaging::salvage;

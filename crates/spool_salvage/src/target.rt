@@ -1,0 +1,111 @@
+//! The new folder.
+ghost use Rattle.std.specs.Prelude.{◌≡◌, ◌≢◌, false, true, Err, IfErr, IsTrue, OnOk, is_some};
+ghost use Rattle.std.specs.List.{list_any};
+ghost use Rattle.host_calls.specs.Folder.{IsInNoImage};
+ghost use Rattle.host_calls.specs.Session.{CallsInside, IsInside};
+ghost use Rattle.host_calls.specs.World.{reading};
+ghost use Rattle.job_name.specs.JobName.{job_named};
+ghost use Rattle.spool_faults.specs.Listed.{LeavesFolder};
+ghost use Rattle.spool_salvage.specs.inside.Copying.{IsBare, IsCertain};
+ghost use Rattle.spool_salvage.specs.Faults.{IsOfTarget};
+ghost use Rattle.spool_salvage.specs.Salvaging.{is_of_spool, is_spool};
+ghost use Rattle.whole_file.specs.Others.{ChangesFiles};
+ghost use Rattle.whole_file.specs.Placing.{IsPlaced, IsPlacing};
+ghost use Rattle.whole_file.specs.Temporary.{temporary_file};
+
+use crate::SalvageFault;
+use crate::fault::of_target;
+use host_calls::{Host, Name};
+use job_name::JobName;
+use std::alloc::Global;
+use whole_file::{place, temporary_name};
+
+// Settles the folder, and refuses one that has files of a spool.
+pub(crate) fn open<G: Host>(alloc: Global, to: &mut G) -> Result<(), SalvageFault>
+    requires { IsInside (G.session to.old) }
+    ensures inside { CallsInside SalvageFault.ToFailed (G.session to.old) (G.session to.new) result }
+    ensures not_source { result ≢ Err SalvageFault.FromFailed }
+    ensures leaves { IsTrue G.tells → LeavesFolder (G.world to.old) (G.world to.new) }
+    ensures refused { IsTrue G.tells → result ≡ Err SalvageFault.NotEmpty → is_spool (reading (G.world to.old)) ≡ true }
+    ensures empty { IsTrue G.tells → OnOk result (IsBare (G.world to.new).now.folder) }
+{
+    settle(alloc, to)?;
+    refuse_spool(alloc, to)
+}
+
+fn settle<G: Host>(alloc: Global, to: &mut G) -> Result<(), SalvageFault>
+    requires { IsInside (G.session to.old) }
+    ensures inside { CallsInside SalvageFault.ToFailed (G.session to.old) (G.session to.new) result }
+    ensures of { IfErr result IsOfTarget }
+    ensures leaves { IsTrue G.tells → LeavesFolder (G.world to.old) (G.world to.new) }
+    ensures settled { IsTrue G.tells → OnOk result (IsCertain (G.world to.new).now.folder) }
+{
+    match to.settle(alloc) {
+        Ok(()) => Ok(()),
+        Err(fault) => Err(of_target(fault)),
+    }
+}
+
+fn refuse_spool<G: Host>(alloc: Global, to: &mut G) -> Result<(), SalvageFault>
+    requires { IsInside (G.session to.old) }
+    ensures inside { CallsInside SalvageFault.ToFailed (G.session to.old) (G.session to.new) result }
+    ensures not_source { result ≢ Err SalvageFault.FromFailed }
+    ensures looks { IsTrue G.tells → G.world to.new ≡ G.world to.old }
+    ensures refused { IsTrue G.tells → result ≡ Err SalvageFault.NotEmpty → is_spool (reading (G.world to.old)) ≡ true }
+    ensures empty { IsTrue G.tells → OnOk result (is_spool (reading (G.world to.old)) ≡ false) }
+{
+    let names = match to.names(alloc) {
+        Ok(names) => names,
+        Err(fault) => return Err(of_target(fault)),
+    };
+    if is_any_of_spool(names.as_slice()) {
+        return Err(SalvageFault::NotEmpty);
+    }
+    Ok(())
+}
+
+fn is_any_of_spool(names: &[Name]) -> bool
+    ensures { result ≡ list_any is_of_spool names.now }
+{
+    names.iter().any(|name| is_of_spool(name.as_bytes()))
+}
+
+// Whether the name is that of a file of a spool.
+fn is_of_spool(name: &[u8]) -> bool
+    ensures { result ≡ is_of_spool name.now }
+{
+    name == b".SEQ".as_slice()
+        || name == b".JRN".as_slice()
+        || name == b".TMP".as_slice()
+        || is_of_job(name)
+}
+
+pub(crate) fn is_of_job(name: &[u8]) -> bool
+    ensures { result ≡ is_some (job_named name.now) }
+{
+    JobName::read(name).is_some()
+}
+
+// Gives the target these bytes, so that a crash leaves it as it was or whole.
+pub(crate) fn put<G: Host>(
+    alloc: Global,
+    to: &mut G,
+    target: &Name,
+    bytes: &[u8],
+) -> Result<(), SalvageFault>
+    requires inside { IsInside (G.session to.old) }
+    requires differ { temporary_file ≢ target.now }
+    requires no_temp { IsTrue G.tells → IsInNoImage (G.world to.old).now.folder temporary_file }
+    ensures inside { CallsInside SalvageFault.ToFailed (G.session to.old) (G.session to.new) result }
+    ensures of { IfErr result IsOfTarget }
+    ensures files { IsTrue G.tells
+        → ChangesFiles (IsPlacing temporary_file target.now bytes.now (G.world to.old).now.folder)
+        (G.world to.old) (G.world to.new) }
+    ensures placed { IsTrue G.tells → OnOk result (IsPlaced temporary_file target.now bytes.now
+        (G.world to.old).now.folder (G.world to.new).now.folder) }
+{
+    match place(alloc, to, &temporary_name(), target, bytes) {
+        Ok(()) => Ok(()),
+        Err(fault) => Err(of_target(fault)),
+    }
+}

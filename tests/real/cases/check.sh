@@ -1,0 +1,127 @@
+# The checker, and what it saves.
+
+# The checker lists these lines, and says that there are faults.
+faulty() { call atcheck "$@" </dev/null; ended 9 "$lines" $'atcheck: spool has faults\n'; }
+# The folder, byte by byte.
+bytes_of() { (cd "$1" && find . -type f | sort | while read -r file; do printf '%s ' "$file"; md5sum <"$file"; done); }
+# Three jobs, two of which wait and one of which has run, and a fourth that was taken back.
+day_of_jobs() {
+  needs_atd; opened
+  with 'echo one' at now; took 1
+  call atd -s </dev/null; [ "$status" = 0 ] || fail "atd: $(cat err)"
+  with 'echo two' at now; with 'echo three' at -t 203001010000; with 'echo four' at now
+  call atrm 4 </dev/null; ended 0 '' ''
+}
+
+case_check_a_whole_spool() {
+  day_of_jobs
+  bytes_of "$spool" >before
+  call atcheck "$spool" </dev/null; ended 0 '' ''
+  call atcheck "$spool" --salvage </dev/null; ended 0 '' ''
+  call atcheck "$spool" "$PWD/new" --salvage </dev/null; ended 0 '' ''
+  bytes_of "$spool" | cmp -s - before || fail 'the checked folder is changed'
+  : >new/at.deny
+  user=root with '' atq; cp out listed
+  spool=$PWD/new user=root with '' atq
+  cmp -s out listed || fail "the salvaged folder lists $(cat out)"
+  call atcheck "$spool" "$PWD/new" --salvage </dev/null; refused 1 'atcheck: target not empty'
+}
+
+case_check_refused() {
+  opened
+  for words in 'x y' '--salvage --salvage' '-s' 'a b c --salvage'; do
+    # shellcheck disable=SC2086
+    call atcheck "$spool" $words </dev/null
+    [ "$status $(cat err)" = '1 atcheck: usage' ] || fail "$words: status $status: $(cat err)"
+  done
+  call atcheck </dev/null; refused 1 'atcheck: usage'
+  call atcheck --salvage </dev/null; refused 1 'atcheck: usage'
+  call atcheck "$PWD/mistyped" </dev/null; refused 2 'atcheck: spool fault'
+  [ -z "$(ls -d mistyped* 2>/dev/null)" ] || fail "a mistyped folder is made: $(ls -d mistyped*)"
+  call atcheck "$PWD/mistyped" "$PWD/new" --salvage </dev/null; refused 2 'atcheck: spool fault'
+  [ -z "$(ls -d mistyped* new* 2>/dev/null)" ] || fail "a folder is made: $(ls -d mistyped* new*)"
+  call atcheck "$spool" "$spool" --salvage </dev/null; refused 5 'atcheck: spool busy'
+  status=0; printf 0 >"$spool/.SEQ"; bare "$bin/atcheck" "$spool" >/dev/full 2>err </dev/null || status=$?
+  [ "$status" = 4 ] || fail "a full device: status $status: $(cat err)"
+}
+
+# Each damage is listed, and what is saved has none.
+case_check_damages() {
+  day_of_jobs
+  cp -a "$spool" whole
+  second=$(basename "$(file_of 2)") third=$(basename "$(file_of 3)")
+  for damage in sequence journal header twice all; do
+    rm -rf "$spool" new; cp -a whole "$spool"
+    lines=''
+    case $damage in sequence | all) printf 0000000 >"$spool/.SEQ"; lines+=$'.SEQ damaged at 7\n' ;; esac
+    case $damage in
+      journal | all)
+        head -c 70 "$spool/.JRN" >torn && mv torn "$spool/.JRN"
+        lines+=$'.JRN damaged at 64\n' ;;
+    esac
+    case $damage in header | all) printf '#!/bin/sh\nexit\n' >"$spool/$second"; lines+="$second damaged at 10"$'\n' ;; esac
+    case $damage in twice | all) cp "$spool/$third" "$spool/b${third#?}"; lines+="b${third#?} damaged at 0"$'\n' ;; esac
+    bytes_of "$spool" >before
+    faulty "$spool"
+    faulty "$spool" --salvage
+    faulty "$spool" "$PWD/new" --salvage
+    bytes_of "$spool" | cmp -s - before || fail "$damage: the checked folder is changed"
+    call atcheck "$PWD/new" </dev/null; ended 0 '' ''
+  done
+}
+
+# A salvage that is killed leaves a folder with damage or without jobs, and the next one goes into a folder of its own.
+case_check_salvage_that_is_killed() {
+  day_of_jobs
+  printf 0 >"$spool/.SEQ"; measured; span=$((span + 8))
+  for round in $(seq 20); do
+    killed /dev/null said atcheck "$spool" "$PWD/new_$round" --salvage
+    if [ -e "new_$round/.SEQ" ]; then
+      call atcheck "$PWD/new_$round" </dev/null; ended 0 '' ''
+    fi
+  done
+  lines=$'.SEQ damaged at 1\n'
+  faulty "$spool" "$PWD/last" --salvage
+  call atcheck "$PWD/last" </dev/null; ended 0 '' ''
+}
+
+# The walk, by the script, and an atd that goes on after it.
+case_check_walk() {
+  doored; day_of_jobs
+  second=$(file_of 2)
+  printf 0000000 >"$spool/.SEQ"; printf '#!/bin/sh\nexit\n' >"$second"; cp "$(file_of 3)" "$spool/b$(basename "$(file_of 3)" | cut -c 2-)"
+  bytes_of "$spool" >before
+  extra=(LOGNAME=ann ATSPOOL="$spool")
+  status=0; printf 'n\n' | env -i PATH=/usr/bin:/bin "${extra[@]}" "$door/atsalvage" "$spool" >out 2>err || status=$?
+  [ "$status" = 1 ] || fail "a no: status $status: $(cat out err)"
+  bytes_of "$spool" | cmp -s - before || fail 'a no changes the folder'
+  [ -z "$(ls -d spool.new* spool.bad 2>/dev/null)" ] || fail "a no leaves $(ls -d spool.new* spool.bad)"
+  mkdir spool.bad; knock atsalvage --yes; [ "$status" = 1 ] || fail "with an old folder there: $status"
+  rmdir spool.bad
+  knock atsalvage --yes
+  [ "$status" = 0 ] || fail "status $status: $(cat out err)"
+  grep -qx "not in it: $PWD/spool.bad/$(basename "$second")" out || fail "what is not saved is not told: $(cat out)"
+  bytes_of spool.bad | cmp -s - before || fail 'the old folder is changed'
+  [ -e "$spool/at.deny" ] && [ -z "$(ls -d spool.new* 2>/dev/null)" ] || fail "it leaves $(ls -d spool.new*)"
+  knock atsalvage; [ "$status" = 0 ] || fail "a whole spool: $status: $(cat err)"
+  with 'echo later' at now; took 5
+  call atd -s </dev/null; ended 0 $'job 5 handed over\njob 5 exit 0\n' ''
+  with '' atq; [ "$(cut -f 1 out)" = 3 ] || fail "it lists $(cat out)"
+}
+
+# It asks no more of a folder than atq does.
+case_check_many_jobs() {
+  opened
+  with 'true' at -t 203001010000; took 1
+  job=$(file_of 1)
+  for number in $(seq 2 10000); do printf '%s/a%08x%s\n' "$spool" "$number" "${job: -8}"; done | xargs -n 1000 sh -c 'job=$0; for file; do cp "$job" "$file"; done' "$job"
+  printf '%08x\n' 10000 >"$spool/.SEQ"
+  time_of() { ( TIMEFORMAT='%U %S'; time bare "$@" >/dev/null 2>&1 </dev/null ) 2>&1 | awk '{ printf "%d", ($1 + $2) * 1000 }'; }
+  user=root; time_of "$bin/atq" >/dev/null
+  listed=999999 checked=999999
+  for _ in 1 2 3 4 5; do
+    took=$(time_of "$bin/atq"); [ "$took" -ge "$listed" ] || listed=$took
+    took=$(time_of "$bin/atcheck" "$spool"); [ "$took" -ge "$checked" ] || checked=$took
+  done
+  [ "$checked" -le $((2 * listed)) ] || fail "10,000 jobs are checked in $checked ms and listed in $listed ms"
+}
