@@ -107,7 +107,7 @@ done
 # How long outputs stay, and the units. That of the machine is not for a home folder.
 unit() {
     mkdir -p "$(dirname "$2")"
-    sed "s|@SBINDIR@|$PREFIX/sbin|" "$1" >"$2"
+    sed "s|@SBINDIR@|$PREFIX/sbin|; s|@LIBEXEC@|$libexec|" "$1" >"$2"
     chmod 644 "$2"
 }
 file "$here/packaging/systemd/coefhird-user.tmpfiles" "$to/share/user-tmpfiles.d/coefhird.conf"

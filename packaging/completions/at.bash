@@ -1,4 +1,4 @@
-# Completions of at, batch, atq, atrm, atd, atday, ataccount, atcheck, atsalvage, atout and atwhen for bash.
+# Completions of at, batch, atq, atrm, atd, atday, ataccount, atpost, atcron, atcrontab, atcheck, atsalvage, atout and atwhen for bash.
 
 _coefhird_jobs() { atq 2>/dev/null | cut -f 1; }
 
@@ -77,6 +77,29 @@ _coefhird_folder_or() {
 
 _coefhird_ataccount() { _coefhird_folder_or '--show' "${COMP_WORDS[COMP_CWORD]}"; }
 
+_coefhird_atpost() {
+    COMPREPLY=()
+    case ${COMP_WORDS[COMP_CWORD-1]} in
+        --send) compopt -o filenames 2>/dev/null; mapfile -t COMPREPLY < <(compgen -f -- "${COMP_WORDS[COMP_CWORD]}") ;;
+        --turns) ;;
+        *) _coefhird_folder_or '--send --turns' "${COMP_WORDS[COMP_CWORD]}" ;;
+    esac
+}
+
+_coefhird_atcron() {
+    COMPREPLY=()
+    case ${COMP_WORDS[COMP_CWORD-1]} in
+        -f) compopt -o filenames 2>/dev/null; mapfile -t COMPREPLY < <(compgen -f -- "${COMP_WORDS[COMP_CWORD]}") ;;
+        --turns) ;;
+        *) _coefhird_folder_or '-f --turns' "${COMP_WORDS[COMP_CWORD]}" ;;
+    esac
+}
+
+_coefhird_atcrontab() {
+    compopt -o filenames 2>/dev/null
+    mapfile -t COMPREPLY < <(compgen -W '-e -l -r' -- "${COMP_WORDS[COMP_CWORD]}"; compgen -f -- "${COMP_WORDS[COMP_CWORD]}")
+}
+
 _coefhird_atcheck() { _coefhird_folder_or '--salvage' "${COMP_WORDS[COMP_CWORD]}"; }
 
 _coefhird_atsalvage() { _coefhird_folder_or '--yes' "${COMP_WORDS[COMP_CWORD]}"; }
@@ -96,6 +119,9 @@ complete -F _coefhird_atrm atrm
 complete -F _coefhird_atd atd
 complete -F _coefhird_atday atday
 complete -F _coefhird_ataccount ataccount
+complete -F _coefhird_atpost atpost
+complete -F _coefhird_atcron atcron
+complete -F _coefhird_atcrontab atcrontab
 complete -F _coefhird_atcheck atcheck
 complete -F _coefhird_atsalvage atsalvage
 complete -F _coefhird_atout atout

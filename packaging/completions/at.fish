@@ -1,4 +1,4 @@
-# Completions of at, batch, atq, atrm, atd, atday, ataccount, atcheck, atsalvage, atout and atwhen for fish.
+# Completions of at, batch, atq, atrm, atd, atday, ataccount, atpost, atcron, atcrontab, atcheck, atsalvage, atout and atwhen for fish.
 
 function __coefhird_jobs
     atq 2>/dev/null
@@ -45,6 +45,18 @@ complete -c atday -l make -x -d 'make so many events'
 
 complete -c ataccount -f -a '(__fish_complete_directories)'
 complete -c ataccount -l show -d 'print a line for each user and queue'
+
+complete -c atpost -f -a '(__fish_complete_directories)'
+complete -c atpost -l send -r -F -d 'what notices are handed to'
+complete -c atpost -l turns -x -d 'make so many sessions and end'
+
+complete -c atcron -f -a '(__fish_complete_directories)'
+complete -c atcron -s f -r -F -d 'the crontab'
+complete -c atcron -l turns -x -d 'make so many turns and end'
+
+complete -c atcrontab -s e -d 'edit the crontab'
+complete -c atcrontab -s l -d 'print the crontab'
+complete -c atcrontab -s r -d 'remove the crontab'
 
 complete -c atcheck -f -a '(__fish_complete_directories)'
 complete -c atcheck -l salvage -d 'write what can be saved into the second folder'

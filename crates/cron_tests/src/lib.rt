@@ -1,4 +1,5 @@
-//! Crontabs and the minutes at which their entries are due, by examples from outside.
+//! Crontabs, the minutes at which their entries are due, their marks, and the program that submits what is due, by examples
+//! from outside.
 #![tactic(auto)]
 
 #[cfg(test)]
@@ -6,6 +7,14 @@ mod commands;
 #[cfg(test)]
 mod crontabs;
 #[cfg(test)]
+mod fuses;
+#[cfg(test)]
+mod marks;
+#[cfg(test)]
 mod minutes;
+#[cfg(test)]
+mod outside;
+#[cfg(test)]
+mod program;
 #[cfg(test)]
 mod readings;

@@ -1,5 +1,5 @@
 -- What holds of all notes, and how runs of notes join.
-use Rattle.std.specs.Prelude.{◌≡◌, ◌++◌, [], ℕ, List}
+use Rattle.std.specs.Prelude.{◌≡◌, ◌↔◌, ◌++◌, [], ℕ, List, Some}
 use Rattle.host_calls.specs.declared.child.Asked.{Asked}
 use Rattle.host_calls.specs.declared.child.Handed.{Handed}
 use Rattle.host_calls.specs.World.{World}
@@ -7,8 +7,8 @@ use Rattle.record_lines.specs.Lines.{AreSpelled, CanBeSpelled}
 use Rattle.step_runs.specs.Current.{IsSpoolName}
 use Rattle.mail_notes.specs.declared.note.Note.{Note}
 use Rattle.mail_notes.specs.Hands.{Mailing}
-use Rattle.mail_notes.specs.Lines.{IsNote, SpellsNote, notes_text}
-use Rattle.mail_notes.specs.Names.{IsMailName}
+use Rattle.mail_notes.specs.Lines.{Fits, IsNote, SpellsNote, notes_text}
+use Rattle.mail_notes.specs.Names.{IsMailName, notice_file, notice_number}
 use Rattle.mail_notes.specs.Runs.{AreMade, AreStopped, IsReady}
 
 -- a note that can stand in a line has one without a newline
@@ -37,6 +37,11 @@ NotesAreStoppedAfter = (of : Mailing) (notes first later next : List Note) (give
     (questions others : List Asked) (start middle end : World) →
     AreMade of notes first given questions start middle → AreStopped of (notes ++ first) later next more others middle end →
     AreStopped of notes (first ++ later) next (given ++ more) (questions ++ others) start end
+
+-- a name is that of a notice exactly where its number is read of it
+abbrev pub NoticeNumbersAreRead : Type 0
+NoticeNumbersAreRead = (name : List ℕ) (number : ℕ) →
+    (notice_number name ≡ Some number) ↔ (Fits number × (name ≡ notice_file number))
 
 -- the store keeps nothing under a name of mail
 abbrev pub MailIsNoneOfTheStores : Type 0

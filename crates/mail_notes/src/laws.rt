@@ -1,5 +1,5 @@
 //! What holds of all notes, each law as the contract of a function.
-ghost use Rattle.mail_notes.specs.Laws.{MailIsNoneOfTheStores, NoNotesAreMade, NoteFilesAreTexts, NotesAreMadeAfter, NotesAreStoppedAfter, NotesCanBeWritten};
+ghost use Rattle.mail_notes.specs.Laws.{MailIsNoneOfTheStores, NoNotesAreMade, NoteFilesAreTexts, NoticeNumbersAreRead, NotesAreMadeAfter, NotesAreStoppedAfter, NotesCanBeWritten};
 
 /// A note whose number fits eight digits, whose file is that of its job and whose user's name is one can be written.
 pub fn notes_can_be_written()
@@ -21,4 +21,9 @@ pub fn runs_of_notes_join()
 /// No file of mail is one of the store's.
 pub fn mail_is_none_of_the_stores()
     ensures { MailIsNoneOfTheStores }
+{}
+
+/// The number that is read of a name is the one whose notice has it.
+pub fn notice_numbers_are_read()
+    ensures { NoticeNumbersAreRead }
 {}

@@ -11,8 +11,9 @@ mod notice;
 
 pub use book::{MailBook, MailStanding};
 pub use laws::{
-    mail_is_none_of_the_stores, note_files_are_texts, notes_can_be_written, runs_of_notes_join,
+    mail_is_none_of_the_stores, note_files_are_texts, notes_can_be_written,
+    notice_numbers_are_read, runs_of_notes_join,
 };
-pub use names::{mail_name, mail_temp_name, notice_name};
+pub use names::{mail_name, mail_temp_name, notice_name, notice_number};
 pub use note::{Note, NotedJob};
 pub use notice::{NOTICE_NICE, notice_text};

@@ -1,8 +1,8 @@
 //! The names of the files of mail.
 ghost use Rattle.std.specs.Prelude.{◌≡◌};
-ghost use Rattle.mail_notes.specs.Names.{mail_file, mail_temp, notice_file};
+ghost use Rattle.mail_notes.specs.Names.{mail_file, mail_temp, notice_file, notice_number};
 
-use hex_digits::digits_of;
+use hex_digits::{digits_of, read};
 use host_calls::Name;
 
 /// The name of the file of the notes.
@@ -25,4 +25,20 @@ pub fn notice_name(number: u32) -> Name
 {
     let [a, b, c, d, e, f, g, h] = digits_of(number);
     Name::of(&[b'm', b'a', b'i', b'l', b'.', a, b, c, d, e, f, g, h]).unwrap()
+}
+
+/// The number of the job whose notice has this name. None where it is not that of a notice.
+pub fn notice_number(name: &Name) -> Option<u32>
+    ensures { result ≡ notice_number name.now }
+{
+    let bytes = name.as_bytes();
+    if bytes.len() != 13 {
+        return None;
+    }
+    let (prefix, digits) = bytes.split_at(5);
+    if prefix != b"mail.".as_slice() {
+        return None;
+    }
+    let number = read(digits)?;
+    Some(number as u32)
 }

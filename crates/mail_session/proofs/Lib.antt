@@ -1,5 +1,16 @@
+pub mod AskingLemmas
+pub mod CarryLemmas
 pub mod DueLemmas
+pub mod MailerLemmas
+pub mod MakeLemmas
+pub mod NewsLemmas
+pub mod NoteNewsLemmas
 pub mod NotingLemmas
+pub mod PlanLemmas
 pub mod PostLemmas
+pub mod ReadLemmas
 pub mod SendLemmas
+pub mod SentNumberLemmas
 pub mod SessionLemmas
+pub mod StaleLemmas
+pub mod WorkLemmas

@@ -30,6 +30,8 @@ use Rattle.mail_session.specs.declared.due.Due.TheVariants.{Drop, Send}
 use Rattle.mail_session.specs.Dues.{AreDue, note_of, notes_of, sent_numbers}
 use Rattle.mail_session.specs.Posting.{Gives, Part, PartEnds, Posts, kids_of}
 use Rattle.mail_session.specs.inside.Sending.{Places, Sends}
+use Rattle.mail_session.specs.NoticeFiles.{ReadsBeside}
+use Rattle.mail_session.proofs.ReadLemmas.{reads_both, reads_none, reads_placed}
 use Rattle.mail_session.proofs.NotingLemmas.{notes_made, notes_stopped}
 use Rattle.mail_session.proofs.SendLemmas.{no_fault, not_memory, same_fault}
 
@@ -51,16 +53,17 @@ posts_none program tells session world was kids sent inside no_temp = record {
   kids_are = sym (append-nil kids);
   sent_are = sym (append-nil sent);
   no_temp = no_temp;
+  reads = λ known. reads_none world;
   files = λ known of notes same ready text due. record { given = []; numbered = refl; ends = no_notes_are_made of notes world ready };
 }
 
 -- Lists of two parts.
 
-lines_join : (first later : List Note) → notes_text (first ++ later) ≡ notes_text first ++ notes_text later
+pub lines_join : (first later : List Note) → notes_text (first ++ later) ≡ notes_text first ++ notes_text later
 lines_join [] later = refl
 lines_join (note ∷ first) later = ap (λ text. note_line note ++ text) (lines_join first later) ∙ sym (append_assoc (note_line note) (notes_text first) (notes_text later))
 
-sent_join : (first later : List Note) → sent_numbers (first ++ later) ≡ sent_numbers first ++ sent_numbers later
+pub sent_join : (first later : List Note) → sent_numbers (first ++ later) ≡ sent_numbers first ++ sent_numbers later
 sent_join [] later = refl
 sent_join (Sent number ∷ first) later = ap (λ numbers. number ∷ numbers) (sent_join first later)
 sent_join (Noted job ∷ first) later = sent_join first later
@@ -127,6 +130,8 @@ posts_then program tells before between after start middle end dues others was t
   sent_are = other.sent_are ∙ ap (λ (l : List ℕ). l ++ sent_numbers other.part.made) one.sent_are ∙ append_assoc sent (sent_numbers one.part.made) (sent_numbers other.part.made)
       ∙ ap (λ (l : List ℕ). sent ++ l) (sym (sent_join one.part.made other.part.made));
   no_temp = other.no_temp;
+  reads = λ known. subst (λ (l : List ℕ). IfOk result (λ done. ReadsBeside l start end)) (sym (sent_join one.part.made other.part.made))
+      (reads_both (sent_numbers one.part.made) (sent_numbers other.part.made) start middle end result (one.reads known) (other.reads known));
   files = λ known of notes same ready text_is due.
       let first : Gives of notes one.part start middle (Ok tt) = one.files known of notes same ready text_is (due_first of dues others due) in
       let made : AreMade of notes one.part.made first.given [] start middle = first.ends in
@@ -162,6 +167,7 @@ posts_longer program tells before after old new dues others was is kids more sen
   kids_are = posts.kids_are;
   sent_are = posts.sent_are;
   no_temp = λ known. tt;
+  reads = λ known. tt;
   files = λ known of notes same ready text_is due.
       let gives = posts.files known of notes same ready text_is (due_first of dues others due) in
       record { given = gives.given; numbered = gives.numbered; ends = gives.ends };
@@ -191,6 +197,7 @@ module _ (program : List ℕ) (tells : Bool) (before : Session) (old : World) (d
     kids_are = sym (append-nil kids);
     sent_are = sym (append-nil sent);
     no_temp = λ known. tt;
+    reads = λ known. tt;
     files = λ known of notes same ready text_is is_due.
         let made = no_notes_are_made of notes old ready in
         record {
@@ -240,6 +247,7 @@ module _ (program : List ℕ) (tells : Bool) (before after : Session) (old new :
     kids_are = sym (append-nil kids);
     sent_are = sym (append-nil sent);
     no_temp = λ known. (places known).placed.no_temp;
+    reads = λ known. reads_placed is old new (places known).placed;
     files = λ known of notes same ready text_is due. record {
       given = [];
       numbered = refl;
@@ -262,6 +270,7 @@ module _ (program : List ℕ) (tells : Bool) (before after : Session) (old new :
     kids_are = sym (append-nil kids);
     sent_are = sym (append-nil sent);
     no_temp = λ known. tt;
+    reads = λ known. tt;
     files = λ known of notes same ready text_is due. record {
       given = [];
       numbered = refl;
@@ -310,6 +319,7 @@ module _ (program : List ℕ) (tells : Bool) (before after : Session) (old new :
     kids_are = kept;
     sent_are = noted;
     no_temp = sends.no_temp;
+    reads = sends.reads;
     files = λ known of notes same ready text_is due.
         let ends = sends.files known of notes ready (text_with notes (Sent job.number) was is added text_is) (notice_of of same due) in
         record { given = ends.0 ∷ []; numbered = started_of_one job.number child ends.0 ends.1.number_is ends.2; ends = ends.3 };
@@ -329,6 +339,7 @@ module _ (program : List ℕ) (tells : Bool) (before after : Session) (old new :
     kids_are = sym (append-nil kids);
     sent_are = sym (append-nil sent);
     no_temp = λ known. tt;
+    reads = λ known. tt;
     files = λ known of notes same ready text_is due. record {
       given = [];
       numbered = refl;

@@ -24,6 +24,7 @@ use Rattle.mail_notes.specs.Names.{IsMailName, mail_file, mail_temp, notice_file
 use Rattle.mail_notes.specs.Runs.{AreMade, AreStopped, IsAlong, IsReady}
 use Rattle.mail_notes.proofs.RunLemmas.{notes_are_made_after, notes_are_stopped_after}
 use Rattle.mail_session.specs.inside.Sending.{HandsNoticeOver, IsHandingOver, Places, Sends, SendingEnds, added_by}
+use Rattle.mail_session.proofs.ReadLemmas.{reads_after, reads_sent}
 use Rattle.mail_session.proofs.NotingLemmas.{alone_end, along_all, leaves_placing, notes_stopped, notice_elsewhere, notice_made, notice_stopped, ready_placed}
 
 pub no_fault : {T : Type 0} (value : T) (fault : HostFault) → ◌≡◌ {A = Result T HostFault} (Ok value) (Err fault) → ⊥
@@ -188,6 +189,7 @@ module _ (tells : Bool) (before : Session) (old : World) (number : ℕ) (script 
     children = calls.stays.children ∙ sym (append-nil before.children);
     cause = record { later = calls.cause.later; rose = λ bad. calls.cause.rose (ap (λ (of : HostFault). Err of) (same_fault fault Failed bad)) };
     no_temp = λ known. tt;
+    reads = λ known. tt;
     files = λ known of notes ready text_is notice. notice_stopped of notes (Sent number ∷ []) number script old new ready (places known).changes;
   }
 
@@ -210,6 +212,7 @@ module _ (tells : Bool) (before : Session) (old : World) (number : ℕ) (script 
         rose = λ bad. omega (arith, first.stays.counts.file_faults, calls.cause.rose (ap (λ (of : HostFault). Err of) (same_fault fault Failed bad)));
       };
       no_temp = λ known. tt;
+      reads = λ known. tt;
       files = λ known of notes ready text_is notice. let made = made_first known of notes ready in
           ends_after of notes number old middle new (Err fault) made
           (notes_stopped of (notes ++ []) (Sent number ∷ []) text middle new made.ready (text_after notes text_is) (lacking of number) (then known).changes);
@@ -227,6 +230,8 @@ module _ (tells : Bool) (before : Session) (old : World) (number : ℕ) (script 
         rose = λ bad. absurd (hands.no_fault bad);
       };
       no_temp = λ known. no_temp_after result noted new (then known).placed.no_temp (hands.files known);
+      reads = λ known. reads_after number result old noted new
+          (reads_sent number script text old middle noted (places known) (then known) (notice_held number script text old middle noted (places known) (then known))) (hands.files known);
       files = λ known of notes ready text_is notice. let made = made_first known of notes ready in
           ends_after of notes number old middle new result made
           (handing_ends of (notes ++ []) number script text middle noted new made.ready (text_after notes text_is) notice

@@ -4,7 +4,7 @@ use Rattle.std.specs.Prelude.{Contains, IsSome}
 use Rattle.std.specs.FinMap as map
 use Rattle.host_calls.specs.declared.child.Handed.{Handed}
 use Rattle.host_calls.specs.Folder.{Files, Folder, IsImage}
-use Rattle.host_calls.specs.World.{LeavesOnly, World, reading}
+use Rattle.host_calls.specs.World.{HasEachImage, LeavesOnly, World, reading}
 use Rattle.host_calls.proofs.WorldLemmas.{leaves_then, leaves_weaker}
 use Rattle.spool_model.specs.JobTable.{JobTable}
 use Rattle.step_runs.specs.Calls.{ShowsAsBefore}
@@ -20,7 +20,7 @@ use Rattle.mail_notes.specs.Names.{IsMailName, mail_file, mail_temp}
 use Rattle.mail_notes.specs.Runs.{IsAlong}
 use Rattle.mail_notes.proofs.NameLemmas.{mail_is_none_of_the_stores}
 use Rattle.mail_session.specs.Laws.{LeftoversAreCleared, RecoveriesOpen, SessionsPost, StoppedSessionsPost}
-use Rattle.mail_session.specs.Sessions.{IsCleared, IsOpened, IsPosted, IsUntouched, ShowsBeside}
+use Rattle.mail_session.specs.Sessions.{HasPosted, IsCleared, IsOpened, IsPosted, IsUntouched, ShowsBeside}
 
 -- Recovery.
 
@@ -31,14 +31,21 @@ untouched_by start image handed is = record {
   as_many = is.1;
 }
 
+-- a recovery leaves each image as one of the start was
+pub recovery_leaves : (start opened : World) → ChangesFiles (ShowsAsBefore start.now.folder) start opened → LeavesOnly (IsUntouched start.now) start opened
+recovery_leaves start opened changes = leaves_weaker _ _ start opened (untouched_by start) changes.leaves
+
+pub recovery_now : (start opened : World) → ChangesFiles (ShowsAsBefore start.now.folder) start opened → HasEachImage (IsUntouched start.now) opened.now
+recovery_now start opened changes image of_it = untouched_by start image opened.now.handed (
+  changes_end (ShowsAsBefore start.now.folder) start opened changes
+      (λ one was. record { from = one; was = was; same = refl; others = λ name other. refl }) image of_it,
+  changes.handed,
+)
+
 pub recoveries_open : RecoveriesOpen
 recoveries_open kept notes start opened changes is holds = record {
-  leaves = leaves_weaker _ _ start opened (untouched_by start) changes.leaves;
-  now = λ image of_it. untouched_by start image opened.now.handed (
-    changes_end (ShowsAsBefore start.now.folder) start opened changes
-        (λ one was. record { from = one; was = was; same = refl; others = λ name other. refl }) image of_it,
-    changes.handed,
-  );
+  leaves = recovery_leaves start opened changes;
+  now = recovery_now start opened changes;
   handed = changes.handed;
   shows = is.current.shows;
   holds = holds;
@@ -173,4 +180,23 @@ stopped_sessions_post of notes new_ones next given questions table start cleared
   leaves = leaves_posted of notes (new_ones ++ next) table start cleared end is stopped.leaves;
   now = λ image of_it. along_posted of notes (new_ones ++ next) table start cleared is image end.now.handed (stopped.now image of_it);
   shows = shows_still notes table start cleared end.now.folder is (λ image of_it. (stopped.now image of_it).alone);
+}
+
+-- A session that was stopped while files were removed.
+pub clearing_posts : (of : Mailing) (notes new_ones : List Note) (table : JobTable) (names : List (List ℕ)) (start opened cleared : World) → IsOpened notes table start opened →
+    ((name : List ℕ) → Contains names name → IsMailName name × (name ≢ mail_file)) → ChangesFiles (IsClearing names opened.now.folder) opened cleared →
+    HasPosted of notes new_ones table start cleared
+unfolding clearing_end alone_clearing
+clearing_posts of notes new_ones table names start opened cleared is of_mail changes = record {
+  leaves = leaves_then (IsPosted of notes new_ones start.now) start opened cleared
+      (leaves_weaker (IsUntouched start.now) (IsPosted of notes new_ones start.now) start opened (untouched_posted of notes new_ones start) is.leaves)
+      (leaves_weaker _ (IsPosted of notes new_ones start.now) opened cleared
+      (λ image handed gone. untouched_posted of notes new_ones start image handed (untouched_still notes table names start opened cleared is of_mail changes image handed gone)) changes.leaves);
+  now = λ image of_it. untouched_posted of notes new_ones start image cleared.now.handed
+      (untouched_still notes table names start opened cleared is of_mail changes image cleared.now.handed
+      (clearing_end notes table names start opened cleared is of_mail changes image of_it, changes.handed));
+  shows = λ image of_it.
+      let clearing = clearing_end notes table names start opened cleared is of_mail changes image of_it in
+      shows_the_same IsMailName mail_is_none_of_the_stores opened.now.folder image (alone_clearing notes table names start opened cleared is of_mail changes image clearing)
+      ∙ is.shows clearing.alone.from clearing.alone.was;
 }

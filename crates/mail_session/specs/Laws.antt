@@ -1,8 +1,10 @@
 -- How the parts of a session of mail join.
-use Rattle.std.specs.Prelude.{◌≡◌, ◌≢◌, ◌++◌, [], ℕ, List, IsSome, Contains}
+use Rattle.std.specs.Prelude.{◌≡◌, ◌≢◌, ◌++◌, [], ℕ, List, Option, IsSome, Contains}
 use Rattle.std.specs.FinMap as map
 use Rattle.host_calls.specs.declared.child.Asked.{Asked}
+use Rattle.host_calls.specs.declared.child.Ending.{Ending}
 use Rattle.host_calls.specs.declared.child.Handed.{Handed}
+use Rattle.host_calls.specs.Folder.{Files}
 use Rattle.host_calls.specs.World.{World, reading}
 use Rattle.spool_model.specs.JobTable.{JobTable}
 use Rattle.step_runs.specs.Calls.{ShowsAsBefore}
@@ -11,16 +13,20 @@ use Rattle.step_runs.specs.WithoutScripts.{without_scripts}
 use Rattle.spool_store.specs.Recovering.{IsRecovered}
 use Rattle.whole_file.specs.Clearing.{AreCleared, IsClearing}
 use Rattle.whole_file.specs.Others.{ChangesFiles}
+use Rattle.daemon_turn.specs.declared.kid.Kid.{Kid}
+use Rattle.daemon_turn.specs.Decisions.{questions}
 use Rattle.mail_notes.specs.declared.note.Note.{Note}
 use Rattle.mail_notes.specs.declared.note.Note.TheVariants.{Noted}
 use Rattle.mail_notes.specs.declared.note.NotedJob.{NotedJob}
 use Rattle.mail_notes.specs.Hands.{Mailing}
 use Rattle.mail_notes.specs.Lines.{HoldsNotes}
 use Rattle.mail_notes.specs.Names.{IsMailName, mail_file, mail_temp}
-use Rattle.mail_notes.specs.Runs.{AreMade, AreStopped}
+use Rattle.mail_notes.specs.Runs.{AreMade, AreStopped, IsReady}
 use Rattle.mail_session.specs.declared.due.Due.{Due}
+use Rattle.mail_session.specs.Asking.{asked_besides}
 use Rattle.mail_session.specs.Dues.{AreDue}
 use Rattle.mail_session.specs.Sessions.{HasPosted, IsCleared, IsOpened}
+use Rattle.mail_session.specs.Stale.{AreStaleFiles, stale_names}
 use Rattle.mail_session.specs.Steps.{AreDuesOf}
 
 -- a recovery opens the session, with the notes that are read after it
@@ -36,6 +42,15 @@ LeftoversAreCleared = (notes : List Note) (table : JobTable) (names : List (List
     (IsSome (map.get (reading opened) mail_temp) → Contains names mail_temp) →
     ChangesFiles (IsClearing names opened.now.folder) opened cleared →
     (names ≢ [] → AreCleared names opened.now.folder cleared.now.folder) → IsCleared notes table start cleared
+
+-- a question to kids changes no file, hands nothing over and makes no note
+abbrev pub QuestionsMakeNoNote : Type 0
+QuestionsMakeNoNote = (of : Mailing) (notes : List Note) (kids : List Kid) (answers : List (Option Ending)) (world : World) →
+    IsReady notes world.now.folder → AreMade of notes [] [] (questions kids answers) world (asked_besides kids answers world)
+
+-- the files that are left over are files of mail, none of them that of the notes, and one that is being made is among them
+abbrev pub StaleFilesAreOfMail : Type 0
+StaleFilesAreOfMail = (kids : List Kid) (files : Files) → AreStaleFiles (stale_names kids files) files
 
 -- notes that were made then post the session
 abbrev pub SessionsPost : Type 0

@@ -1,7 +1,14 @@
+pub mod Asking
 pub mod Dues
 pub mod Laws
+pub mod Leaving
+pub mod News
+pub mod NoticeFiles
+pub mod Noting
+pub mod PostState
 pub mod Posting
 pub mod Reading
 pub mod Sessions
+pub mod Stale
 pub mod Steps
 pub mod inside

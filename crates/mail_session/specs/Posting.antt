@@ -18,6 +18,7 @@ use Rattle.mail_notes.specs.Notes.{AreFirst}
 use Rattle.mail_notes.specs.Runs.{AreMade, AreStopped, IsReady}
 use Rattle.mail_session.specs.declared.due.Due.{Due}
 use Rattle.mail_session.specs.Dues.{AreDue, notes_of, sent_numbers}
+use Rattle.mail_session.specs.NoticeFiles.{ReadsBeside}
 
 -- the kid of a child that came of the number's notice, if one did
 abbrev pub kids_of : ℕ → Option Child → List Kid
@@ -56,5 +57,6 @@ pub record Posts (program : List ℕ) (tells : Bool) (before after : Session) (o
   pub kids_are : more ≡ kids ++ part.added
   pub sent_are : gone ≡ sent ++ sent_numbers part.made
   pub no_temp : tells ≡ true → IfOk result (λ done. IsInNoImage new.now.folder mail_temp)
+  pub reads : tells ≡ true → IfOk result (λ done. ReadsBeside (sent_numbers part.made) old new)
   pub files : tells ≡ true → (of : Mailing) (notes : List Note) → of.program ≡ program → IsReady notes old.now.folder →
       was ≡ notes_text notes → AreDue of dues → Gives of notes part old new result

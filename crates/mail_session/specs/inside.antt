@@ -1,1 +1,5 @@
+pub mod Ending
+pub mod Planning
 pub mod Sending
+pub mod Staying
+pub mod Working

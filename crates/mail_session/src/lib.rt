@@ -1,17 +1,32 @@
 //! What is due of the mail of jobs is noted in the spool, and the notices are handed over.
 #![tactic(auto)]
 
+mod ask;
 mod due;
 mod dues;
 mod hand_over;
 mod laws;
+mod line;
+mod mailer;
+mod news;
+mod noting;
 mod places;
+mod plan;
 mod post;
 mod read;
+mod report;
 mod send;
+mod stale;
+mod work;
 
+pub use ask::ask_kids;
 pub use due::Due;
 pub use dues::dues_of;
-pub use laws::{dues_are_due, sessions_of_mail_join};
+pub use laws::{dues_are_due, removals_and_questions_may_come, sessions_of_mail_join};
+pub use mailer::Post;
+pub use news::news_of;
+pub use noting::{add_news, note_news};
 pub use post::post_all;
 pub use read::{ReadNotes, read_notes};
+pub use report::PostReport;
+pub use stale::stale_names;

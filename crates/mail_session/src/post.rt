@@ -9,13 +9,13 @@ ghost use Rattle.mail_session.specs.Posting.{Posts, kids_of};
 
 use crate::Due;
 use crate::due::note_of;
+use crate::line::add_line;
 use crate::places::place_notes;
 use crate::send::send;
 use daemon_turn::Kid;
 use host_calls::{Child, Host, HostFault};
 use listing_text::TurnStepText;
 use mail_notes::{NotedJob, notice_text};
-use record_lines::LineRecord;
 use std::alloc::{AllocError, Global};
 
 /// Notes what is due, in order, each after the notes of the text, and hands each notice over once its note stands. The
@@ -83,9 +83,7 @@ fn add_note(text: &mut Vec<u8>, due: &Due) -> Result<(), AllocError>
     ensures { OnOk result (text.new.items ≡ text.old.items ++ note_line (note_of due.now)) }
 {
     let note = note_of(due);
-    note.write(text)?;
-    text.push(b'\n')?;
-    Ok(())
+    add_line(text, &note)
 }
 
 // Keeps the child that came of the number's notice, if one did.

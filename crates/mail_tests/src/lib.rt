@@ -1,7 +1,15 @@
-//! Mail: notes and notices, by examples from outside.
+//! Mail: notes, notices, sessions and the program, by examples from outside.
 #![tactic(auto)]
 
+#[cfg(test)]
+mod crashes;
+#[cfg(test)]
+mod folders;
 #[cfg(test)]
 mod lines;
 #[cfg(test)]
 mod notices;
+#[cfg(test)]
+mod program;
+#[cfg(test)]
+mod sessions;

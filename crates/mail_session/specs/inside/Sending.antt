@@ -16,6 +16,7 @@ use Rattle.mail_notes.specs.Hands.{IsHandedFor, IsNoticeOf, Mailing, notice_nice
 use Rattle.mail_notes.specs.Lines.{notes_text}
 use Rattle.mail_notes.specs.Names.{mail_temp, notice_file}
 use Rattle.mail_notes.specs.Runs.{AreMade, AreStopped, IsReady}
+use Rattle.mail_session.specs.NoticeFiles.{ReadsBeside}
 
 -- a file of mail was placed, or not
 pub record Places (target bytes : List ℕ) (old new : World) (result : Result (Unit {0}) HostFault) : Type 0 where
@@ -66,5 +67,6 @@ pub record Sends (tells : Bool) (before after : Session) (old new : World) (numb
   pub children : after.children ≡ before.children ++ added_by result
   pub cause : HasCause Failed before.file_faults after.file_faults result
   pub no_temp : tells ≡ true → IfOk result (λ child. IsInNoImage new.now.folder mail_temp)
+  pub reads : tells ≡ true → IfOk result (λ child. ReadsBeside (number ∷ []) old new)
   pub files : tells ≡ true → (of : Mailing) (notes : List Note) → IsReady notes old.now.folder →
       text ≡ notes_text (notes ++ Sent number ∷ []) → IsNoticeOf of number script → SendingEnds of notes number old new result

@@ -1,0 +1,9 @@
+//! What the program is asked for.
+use host_calls::Text;
+
+/// The mail program, and the number of sessions.
+#[derive(Drop)]
+pub(crate) struct PostRequest {
+    pub(crate) program: Text,
+    pub(crate) turns: u64,
+}

@@ -1,0 +1,14 @@
+pub mod NameLemmas
+pub mod PlacingLemmas
+pub mod SubmitLemmas
+pub mod LoopLemmas
+pub mod MarkLemmas
+pub mod DueLemmas
+pub mod WorkLemmas
+pub mod SessionLemmas
+pub mod MarkedLemmas
+pub mod OneLemmas
+pub mod WorksLemmas
+pub mod CauseLemmas
+pub mod MinuteLemmas
+pub mod CutLemmas

@@ -1,0 +1,247 @@
+-- No minute comes twice.
+use Rattle.std.proofs.Common.{◌≡◌, ◌≢◌, ◌⊎◌, ◌≤◌, ◌<◌, ◌≤ℤ◌, ◌++◌, ℕ, suc, Bool, true, false, List, [], ◌∷◌, sym, ap, subst, ◌∙◌, refl, inl, inr, arith, le_refl, ℤ, pos, negsuc, All, length, get_or}
+use Rattle.std.specs.Prelude.{◌^◌, AllPairs, Option, Some, None, take}
+use Rattle.std.proofs.lemmas.Int.{ints}
+use Rattle.std.specs.FinMap as finite
+use Rattle.std.proofs.lemmas.List.Elements.{All-cons, All-nil}
+use Rattle.std.proofs.lemmas.List.Kept.{AllPairs-cons}
+use Rattle.clock_range.specs.declared.range.TheConstants.{LAST_SECOND}
+use Rattle.clock_range.specs.ClockRange.{IsClockMinute, IsClockSecond, minute_at}
+use Rattle.hex_digits.specs.Digits.{SpellsNumber, digits_of}
+use Rattle.hex_digits.proofs.DigitLemmas.{one_number}
+use Rattle.hex_digits.proofs.EightDigits.{digits_spelled}
+use Rattle.host_calls.specs.Folder.{Files, Folder, IsImage}
+use Rattle.host_calls.specs.World.{World, reading}
+use Rattle.host_calls.proofs.FolderLemmas.{reading_is_image}
+use Rattle.whole_file.proofs.ChangesJoined.{changes_end, left_alone}
+use Rattle.spool_model.specs.declared.job.Job.{Job}
+use Rattle.spool_model.specs.JobTable.{JobTable}
+use Rattle.cron_mark.specs.Mark.{IsMark, IsMarkText, mark_text}
+use Rattle.cron_mark.specs.Names.{mark_file}
+use Rattle.cron_session.proofs.NameLemmas.{file_beside, temp_apart}
+use Rattle.cron_session.specs.declared.report.CronEnd.{CronEnd}
+use Rattle.cron_session.specs.declared.report.CronEnd.TheVariants.{Done, Busy, FileFault, Damaged, QueueFull, NumbersUsedUp, Memory}
+use Rattle.cron_session.specs.Leaving.{CronLeaves, IsIdle, IsSpoolOrTemp, IsStopped, IsUnmarked, IsWhole}
+use Rattle.cron_session.specs.Minutes.{AcceptApart, Beside, CronEvent, CronPassFrom, CronPassed, CutOff, Ended, KeepsMark, MayAcceptAt, NoMinuteComesTwice, PassesAs, SetsMark}
+use Rattle.cron_session.specs.Steps.{AreToSubmit, Cron, IsBefore, minute_of, numbers_after}
+
+-- each image of the folder has the mark of this minute or of a later one
+record HasMarkFrom (minute : ℕ) (folder : Folder) : Type 0 where
+  marked_in : (image : Files) → IsImage folder image → (marked : ℕ) × (minute ≤ marked) × IsMark (finite.get image mark_file) (Some marked)
+
+-- A mark is of one minute.
+
+clock_minutes_fit : (minute : ℕ) → IsClockMinute minute → minute < 16 ^ 8
+clock_minutes_fit minute is = omega arith
+
+one_minute : (text : List ℕ) (first second : ℕ) → IsMarkText text first → IsMarkText text second → first ≡ second
+one_minute text first second of_first of_second =
+    let texts : mark_text first ≡ mark_text second = sym of_first.text_is ∙ of_second.text_is in
+    let digits : digits_of first ≡ digits_of second = ap (take 8) texts in
+    one_number (digits_of second) first second
+    (subst (λ bytes. SpellsNumber bytes first) digits (digits_spelled first (clock_minutes_fit first of_first.minute_is)))
+    (digits_spelled second (clock_minutes_fit second of_second.minute_is))
+
+-- where a file has the mark of a minute, the mark is of no other, and there is one
+one_mark : (content : Option (List ℕ)) (minute : ℕ) (marked : Option ℕ) → IsMark content (Some minute) → IsMark content marked →
+    marked ≡ Some minute
+one_mark None minute marked is other = absurd (let none : Some minute ≡ None = is in cc)
+one_mark (Some text) minute None is other = absurd other
+one_mark (Some text) minute (Some another) is other = ap Some (one_minute text another minute other is)
+
+mark_of : (content : Option (List ℕ)) (minute : ℕ) → IsClockMinute minute → content ≡ Some (mark_text minute) → IsMark content (Some minute)
+mark_of content minute clock is = subst (λ at. IsMark at (Some minute)) (sym is) (record { minute_is = clock; text_is = refl })
+
+-- the minute of a second of the clock is one of its minutes
+minute_in_range : (second : ℤ) → IsClockSecond second → IsClockMinute (minute_at second)
+minute_in_range (pos second) clock = let high : pos second ≤ℤ LAST_SECOND = clock.high in grind (arith, ints)
+minute_in_range (negsuc second) clock = omega arith
+
+minute_of_clock : (cron : Cron) → IsClockSecond cron.now → IsClockMinute (minute_of cron)
+minute_of_clock cron second = minute_in_range cron.now second
+
+-- What a session leaves of the mark.
+
+-- an image has the mark of an image of before, or jobs were to be submitted and it has the mark of the minute
+abbrev pub IsMarkedSo : Cron → World → Files → Type 0
+IsMarkedSo cron old image =
+    ((from : Files) × IsImage old.now.folder from × (finite.get image mark_file ≡ finite.get from mark_file))
+    ⊎ ((table : JobTable) × (jobs : List Job) × AreToSubmit cron (reading old) table jobs
+    × (finite.get image mark_file ≡ Some (mark_text (minute_of cron))))
+
+-- the name of the mark is none that a session changes before it sets the mark
+mark_is_beside : ¬ (IsSpoolOrTemp mark_file)
+mark_is_beside (inl spool) = file_beside spool
+mark_is_beside (inr temp) = temp_apart (sym temp)
+
+pub unmarked_keeps : (old : World) (image : Files) → IsUnmarked old.now.folder image →
+    (from : Files) × IsImage old.now.folder from × (finite.get image mark_file ≡ finite.get from mark_file)
+unmarked_keeps old image is = (is.alone.from, is.alone.was, is.alone.others mark_file mark_is_beside)
+
+idle_keeps : (numbers : List ℕ) (old new : World) → IsIdle numbers old new → KeepsMark old.now.folder new.now.folder
+idle_keeps numbers old new idle image is =
+    unmarked_keeps old image (changes_end (IsUnmarked old.now.folder) old new idle.unmarked
+    (λ files was. record { alone = left_alone IsSpoolOrTemp old.now.folder files was; same = refl }) image is)
+
+whole_sets : (cron : Cron) (numbers : List ℕ) (old new : World) → IsWhole cron numbers old new → SetsMark cron old new
+whole_sets cron numbers old new whole = record {
+  table = whole.table;
+  jobs = whole.jobs;
+  are = whole.submits.are;
+  marked = λ image is. (whole.stands image is).0;
+}
+
+stopped_marks : (cron : Cron) (numbers : List ℕ) (old new : World) → IsStopped cron numbers old new → (image : Files) →
+    IsImage new.now.folder image → IsMarkedSo cron old image
+stopped_marks cron numbers old new stopped image is = elim (stopped.ends image is) [
+  | inl before ↦ inl (unmarked_keeps old image before.1)
+  | inr come ↦ inr (stopped.table, stopped.made ++ (stopped.next ++ stopped.later), stopped.submits.are, come.marked)
+]
+
+-- where numbers were accepted, it was stopped after the mark
+stopped_sets : (cron : Cron) (numbers : List ℕ) (old new : World) → numbers ≢ [] → IsStopped cron numbers old new → SetsMark cron old new
+stopped_sets cron numbers old new some stopped = record {
+  table = stopped.table;
+  jobs = stopped.made ++ (stopped.next ++ stopped.later);
+  are = stopped.submits.are;
+  marked = λ image is. elim (stopped.ends image is) [
+    | inl before ↦ absurd (some (stopped.numbers_are
+        ∙ ap (λ (made : List Job). numbers_after stopped.table.last (length made)) before.0))
+    | inr come ↦ come.marked
+  ];
+}
+
+either_marks : (cron : Cron) (numbers : List ℕ) (old new : World) → IsIdle numbers old new ⊎ IsStopped cron numbers old new →
+    (image : Files) → IsImage new.now.folder image → IsMarkedSo cron old image
+either_marks cron numbers old new leaves image is = elim leaves [
+  | inl idle ↦ inl (idle_keeps numbers old new idle image is)
+  | inr stopped ↦ stopped_marks cron numbers old new stopped image is
+]
+
+either_sets : (cron : Cron) (numbers : List ℕ) (old new : World) → numbers ≢ [] →
+    IsIdle numbers old new ⊎ IsStopped cron numbers old new → SetsMark cron old new
+either_sets cron numbers old new some leaves = elim leaves [
+  | inl idle ↦ absurd (some idle.none)
+  | inr stopped ↦ stopped_sets cron numbers old new some stopped
+]
+
+-- each image of a session's end is marked so
+session_marks : (cron : Cron) (numbers : List ℕ) (old new : World) (end : CronEnd) → CronLeaves cron numbers old new end →
+    (image : Files) → IsImage new.now.folder image → IsMarkedSo cron old image
+session_marks cron numbers old new Done leaves image is = elim leaves [
+  | inl quiet ↦ inl (idle_keeps numbers old new quiet.idle image is)
+  | inr whole ↦ inr (whole.table, whole.jobs, whole.submits.are, (whole.stands image is).0)
+]
+session_marks cron numbers old new Busy leaves image is =
+    inl (image, subst (λ (world : World). IsImage world.now.folder image) leaves.1 is, refl)
+session_marks cron numbers old new (Damaged damage) leaves image is = inl (idle_keeps numbers old new leaves.1 image is)
+session_marks cron numbers old new QueueFull leaves image is = inl (idle_keeps numbers old new leaves.1 image is)
+session_marks cron numbers old new NumbersUsedUp leaves image is = inl (idle_keeps numbers old new leaves.1 image is)
+session_marks cron numbers old new FileFault leaves image is = either_marks cron numbers old new leaves image is
+session_marks cron numbers old new Memory leaves image is = either_marks cron numbers old new leaves image is
+
+-- a session that accepted numbers has set the mark
+session_sets : (cron : Cron) (numbers : List ℕ) (old new : World) (end : CronEnd) → numbers ≢ [] →
+    CronLeaves cron numbers old new end → SetsMark cron old new
+session_sets cron numbers old new Done some leaves = elim leaves [
+  | inl quiet ↦ absurd (some quiet.idle.none)
+  | inr whole ↦ whole_sets cron numbers old new whole
+]
+session_sets cron numbers old new Busy some leaves = absurd (some leaves.0)
+session_sets cron numbers old new (Damaged damage) some leaves = absurd (some leaves.1.none)
+session_sets cron numbers old new QueueFull some leaves = absurd (some leaves.1.none)
+session_sets cron numbers old new NumbersUsedUp some leaves = absurd (some leaves.1.none)
+session_sets cron numbers old new FileFault some leaves = either_sets cron numbers old new some leaves
+session_sets cron numbers old new Memory some leaves = either_sets cron numbers old new some leaves
+
+-- Over events.
+
+-- jobs are to be submitted at a later minute than that of each mark
+later_than : (minute : ℕ) (cron : Cron) (old : World) (table : JobTable) (jobs : List Job) → HasMarkFrom minute old.now.folder →
+    AreToSubmit cron (reading old) table jobs → minute < minute_of cron
+later_than minute cron old table jobs from are =
+    let here = from.marked_in (reading old) (reading_is_image old.now.folder) in
+    let marked : are.marked ≡ Some here.0 = one_mark (finite.get (reading old) mark_file) here.0 are.marked here.2 are.mark in
+    let before : here.0 < minute_of cron = subst (IsBefore (minute_of cron)) marked are.before in
+    let least : minute ≤ here.0 = here.1 in
+    omega arith
+
+keeps_from : (minute : ℕ) (old new : Folder) → HasMarkFrom minute old → KeepsMark old new → HasMarkFrom minute new
+keeps_from minute old new from keeps = record {
+  marked_in = λ image is.
+      let before = keeps image is in
+      let here = from.marked_in before.0 before.1 in
+      (here.0, here.1, subst (λ content. IsMark content (Some here.0)) (sym before.2) here.2);
+}
+
+-- where it was set, each image has the mark of its minute
+sets_from : (cron : Cron) (old new : World) → IsClockSecond cron.now → SetsMark cron old new → HasMarkFrom (minute_of cron) new.now.folder
+sets_from cron old new second sets = record {
+  marked_in = λ image is. (
+    minute_of cron,
+    le_refl (minute_of cron),
+    mark_of (finite.get image mark_file) (minute_of cron) (minute_of_clock cron second) (sets.marked image is),
+  );
+}
+
+lower_from : (low high : ℕ) (folder : Folder) → low ≤ high → HasMarkFrom high folder → HasMarkFrom low folder
+lower_from low high folder less from = record {
+  marked_in = λ image is.
+      let here = from.marked_in image is in
+      let least : low ≤ here.0 = let most : high ≤ here.0 = here.1 in omega arith in
+      (here.0, least, here.2);
+}
+
+-- an event keeps marks from a minute on
+event_from : (minute : ℕ) (event : CronEvent) (old new : World) → HasMarkFrom minute old.now.folder → PassesAs event old new →
+    HasMarkFrom minute new.now.folder
+event_from minute (Ended cron end numbers) old new from passes = record {
+  marked_in = λ image is. elim (session_marks cron numbers old new end passes.1 image is) [
+    | inl before ↦
+        let here = from.marked_in before.0 before.1 in
+        (here.0, here.1, subst (λ content. IsMark content (Some here.0)) (sym before.2) here.2)
+    | inr come ↦
+        let later : minute < minute_of cron = later_than minute cron old come.0 come.1 from come.2 in
+        let least : minute ≤ minute_of cron = omega arith in
+        (minute_of cron, least, mark_of (finite.get image mark_file) (minute_of cron) (minute_of_clock cron passes.0) come.3)
+  ];
+}
+event_from minute (CutOff cron true) old new from passes =
+    let later : minute < minute_of cron = later_than minute cron old passes.1.table passes.1.jobs from passes.1.are in
+    let least : minute ≤ minute_of cron = omega arith in
+    lower_from minute (minute_of cron) new.now.folder least (sets_from cron old new passes.0 passes.1)
+event_from minute (CutOff cron false) old new from passes = keeps_from minute old.now.folder new.now.folder from passes
+event_from minute Beside old new from passes = keeps_from minute old.now.folder new.now.folder from passes
+
+-- an event that may accept at a minute has set its mark
+accepts_sets : (minute : ℕ) (event : CronEvent) (old new : World) → MayAcceptAt minute event → PassesAs event old new →
+    (cron : Cron) × (minute_of cron ≡ minute) × IsClockSecond cron.now × SetsMark cron old new
+accepts_sets minute (Ended cron end numbers) old new accepts passes =
+    (cron, accepts.0, passes.0, session_sets cron numbers old new end accepts.1 passes.1)
+accepts_sets minute (CutOff cron true) old new accepts passes = (cron, accepts.0, passes.0, passes.1)
+accepts_sets minute (CutOff cron false) old new accepts passes = absurd (let impossible : false ≡ true = accepts.1 in cc)
+accepts_sets minute Beside old new accepts passes = absurd accepts
+
+-- and none does where each image has a mark from the minute on
+none_accepts : (minute : ℕ) (events : List CronPassed) (old : World) → HasMarkFrom minute old.now.folder → CronPassFrom old events →
+    All (λ passed. MayAcceptAt minute passed.event → ⊥) events
+none_accepts minute [] old from pass = All-nil (λ passed. MayAcceptAt minute passed.event → ⊥)
+none_accepts minute (passed ∷ later) old from pass =
+    All-cons (λ passed. MayAcceptAt minute passed.event → ⊥) passed later
+    (λ accepts.
+    let set = accepts_sets minute passed.event old passed.left accepts pass.0 in
+    let after : minute < minute_of set.0 = later_than minute set.0 old set.3.table set.3.jobs from set.3.are in
+    let same : minute_of set.0 ≡ minute = set.1 in
+    omega arith)
+    (none_accepts minute later passed.left (event_from minute passed.event old passed.left from pass.0) pass.1)
+
+pub no_minute_comes_twice : NoMinuteComesTwice
+no_minute_comes_twice [] old pass = λ i j d before within. absurd (omega arith)
+no_minute_comes_twice (passed ∷ later) old pass =
+    AllPairs-cons AcceptApart passed later
+    (λ k d within minute first second.
+    let set = accepts_sets minute passed.event old passed.left first pass.0 in
+    let from : HasMarkFrom minute passed.left.now.folder =
+    subst (λ least. HasMarkFrom least passed.left.now.folder) set.1 (sets_from set.0 old passed.left set.2 set.3) in
+    none_accepts minute later passed.left from pass.1 k d within second)
+    (no_minute_comes_twice later passed.left pass.1)

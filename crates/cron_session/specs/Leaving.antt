@@ -1,0 +1,141 @@
+-- What a session of a crontab leaves, by its end (own).
+use Rattle.std.specs.Prelude.{◌≡◌, ◌⊎◌, ◌≤◌, ◌+◌, ◌++◌, [], ℕ, Bool, true, List, Some, Err, length}
+use Rattle.std.specs.FinMap as finite
+use Rattle.host_calls.specs.declared.damage.Damage.{Damage}
+use Rattle.host_calls.specs.Causes.{Rose}
+use Rattle.host_calls.specs.Folder.{Files, Folder, IsImage, reading_of}
+use Rattle.host_calls.specs.Session.{IsLeft, Session}
+use Rattle.host_calls.specs.World.{World, reading}
+use Rattle.whole_file.specs.Others.{ChangesFiles, IsEither, LeavesOthers}
+use Rattle.spool_model.specs.declared.job.Job.{Job}
+use Rattle.spool_model.specs.declared.step.Step.{Step}
+use Rattle.spool_model.specs.JobTable.{JobTable}
+use Rattle.spool_model.specs.Steps.{AreLegal, after_steps}
+use Rattle.spool_shows.specs.Shown.{Shows, shown_by}
+use Rattle.step_runs.specs.Current.{IsSpoolName}
+use Rattle.step_runs.specs.Made.{ShowsAfterPrefix}
+use Rattle.cron_mark.specs.Mark.{IsMarkDamage, mark_text}
+use Rattle.cron_mark.specs.Names.{mark_file, mark_temp}
+use Rattle.cron_session.specs.declared.report.CronEnd.{CronEnd}
+use Rattle.cron_session.specs.declared.report.CronEnd.TheVariants.{Done, Busy, FileFault, Damaged, QueueFull, NumbersUsedUp, Memory}
+use Rattle.cron_session.specs.Steps.{AreToSubmit, AreTooMany, Cron, HasRoomFor, IsMarkedAlready, LackNumbers, minute_of, numbers_after, submissions}
+
+-- a host at one moment
+pub record CronAt : Type 0 where
+  pub session : Session
+  pub world : World
+
+-- a name of the store's, or of the mark that is being made
+abbrev pub IsSpoolOrTemp : List ℕ → Type 0
+IsSpoolOrTemp name = IsSpoolName name ⊎ (name ≡ mark_temp)
+
+-- a name under which a session changes something
+abbrev pub IsCronName : List ℕ → Type 0
+IsCronName name = IsSpoolName name ⊎ IsEither mark_temp mark_file name
+
+-- The image shows what an image of the start shows, and has the mark and the other files of that one.
+pub record IsUnmarked (start : Folder) (image : Files) : Type 0 where
+  pub alone : LeavesOthers IsSpoolOrTemp start image
+  pub same : shown_by image ≡ shown_by alone.from
+
+-- The image has the mark of the minute, and shows the table after these steps and a prefix of the next ones.
+pub record HasCome (minute : ℕ) (table : JobTable) (steps next : List Step) (image : Files) : Type 0 where
+  pub marked : finite.get image mark_file ≡ Some (mark_text minute)
+  pub shows : ShowsAfterPrefix table steps next image
+
+-- The image has the mark of the minute, shows the table after a prefix of the steps, and has the other files of an image
+-- of the start.
+pub record IsMarked (minute : ℕ) (table : JobTable) (steps : List Step) (start : Folder) (image : Files) : Type 0 where
+  pub come : HasCome minute table [] steps image
+  pub others : LeavesOthers IsCronName start image
+
+-- what an image of each moment of a session is
+abbrev pub IsOnTheMark : ℕ → JobTable → List Step → Folder → Files → Type 0
+IsOnTheMark minute table steps start image = IsUnmarked start image ⊎ IsMarked minute table steps start image
+
+-- the names of other files read as before
+abbrev pub KeepsOtherFiles : Folder → Folder → Type 0
+KeepsOtherFiles old new =
+    (name : List ℕ) → ¬ (IsCronName name) → finite.get (reading_of new) name ≡ finite.get (reading_of old) name
+
+-- Nothing was submitted, and the mark stays: each image is unmarked.
+pub record IsIdle (numbers : List ℕ) (old new : World) : Type 0 where
+  pub none : numbers ≡ []
+  pub unmarked : ChangesFiles (IsUnmarked old.now.folder) old new
+
+-- The mark was there already: there was nothing to do.
+pub record IsQuiet (cron : Cron) (numbers : List ℕ) (old new : World) : Type 0 where
+  pub already : IsMarkedAlready cron (reading old)
+  pub idle : IsIdle numbers old new
+
+-- There was room for the jobs that were to be submitted, and each image of each moment is on the mark.
+pub record Submits (cron : Cron) (table : JobTable) (jobs : List Job) (old new : World) : Type 0 where
+  pub are : AreToSubmit cron (reading old) table jobs
+  pub room : HasRoomFor table (length jobs)
+  pub legal : AreLegal table (submissions table.last jobs)
+  pub files : ChangesFiles (IsOnTheMark (minute_of cron) table (submissions table.last jobs) old.now.folder) old new
+
+-- each image of the folder has the mark of the minute, and shows the table after all of the steps
+abbrev pub EachIsWhole : ℕ → JobTable → List Step → Folder → Type 0
+EachIsWhole minute table steps folder =
+    (image : Files) → IsImage folder image →
+    (finite.get image mark_file ≡ Some (mark_text minute)) × Shows image (after_steps table steps)
+
+-- All jobs were submitted, under the numbers after the last one.
+pub record IsWhole (cron : Cron) (numbers : List ℕ) (old new : World) : Type 0 where
+  pub table : JobTable
+  pub jobs : List Job
+  pub submits : Submits cron table jobs old new
+  pub stands : EachIsWhole (minute_of cron) table (submissions table.last jobs) new.now.folder
+  pub others : KeepsOtherFiles old.now.folder new.now.folder
+  pub numbers_are : numbers ≡ numbers_after table.last (length jobs)
+
+-- Some jobs were submitted, under the numbers after the last one, and it was stopped there or at the next job: each image
+-- has the mark, and shows the table after the steps of these jobs and a prefix of the next one's. Where it was stopped
+-- before the first job, an image may be unmarked.
+pub record IsStopped (cron : Cron) (numbers : List ℕ) (old new : World) : Type 0 where
+  pub table : JobTable
+  pub made : List Job
+  pub next : List Job
+  pub later : List Job
+  pub few : length next ≤ 1
+  pub submits : Submits cron table (made ++ (next ++ later)) old new
+  pub ends : (image : Files) → IsImage new.now.folder image →
+      ((made ≡ []) × IsUnmarked old.now.folder image)
+      ⊎ HasCome (minute_of cron) table (submissions table.last made) (submissions (table.last + length made) next) image
+  pub numbers_are : numbers ≡ numbers_after table.last (length made)
+
+-- the store is damaged, or else the mark
+abbrev pub IsDamage : Files → Damage → Type 0
+IsDamage files damage =
+    (shown_by files ≡ Err damage)
+    ⊎ ((table : JobTable) × Shows files table × IsMarkDamage (finite.get files mark_file) damage)
+
+-- what a session leaves, by its end
+abbrev pub CronLeaves : Cron → List ℕ → World → World → CronEnd → Type 0
+CronLeaves cron numbers old new Done = IsQuiet cron numbers old new ⊎ IsWhole cron numbers old new
+CronLeaves cron numbers old new Busy = (numbers ≡ []) × (new ≡ old)
+CronLeaves cron numbers old new (Damaged damage) = IsDamage (reading old) damage × IsIdle numbers old new
+CronLeaves cron numbers old new QueueFull = AreTooMany cron (reading old) × IsIdle numbers old new
+CronLeaves cron numbers old new NumbersUsedUp = LackNumbers cron (reading old) × IsIdle numbers old new
+CronLeaves cron numbers old new FileFault = IsIdle numbers old new ⊎ IsStopped cron numbers old new
+CronLeaves cron numbers old new Memory = IsIdle numbers old new ⊎ IsStopped cron numbers old new
+
+-- where no job was begun, no number was accepted
+abbrev pub IfUnread : CronEnd → Type 0 → Type 0
+IfUnread Busy none = none
+IfUnread (Damaged damage) none = none
+IfUnread QueueFull none = none
+IfUnread NumbersUsedUp none = none
+IfUnread Done none = Unit {0}
+IfUnread FileFault none = Unit {0}
+IfUnread Memory none = Unit {0}
+
+-- A session of a crontab. Of every host: it is left, no child came or went, and why it ended so. Of a host that tells its
+-- files and is alone: what it leaves.
+pub record CronsTo (tells alone : Bool) (cron : Cron) (old new : CronAt) (end : CronEnd) (numbers : List ℕ) : Type 0 where
+  pub left : IsLeft old.session new.session
+  pub busy : end ≡ Busy → Rose old.session.taken new.session.taken
+  pub fault : end ≡ FileFault → Rose old.session.file_faults new.session.file_faults
+  pub unread : IfUnread end (numbers ≡ [])
+  pub leaves : tells ≡ true → alone ≡ true → CronLeaves cron numbers old.world new.world end

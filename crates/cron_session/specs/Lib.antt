@@ -1,0 +1,4 @@
+pub mod Leaving
+pub mod Minutes
+pub mod Steps
+pub mod inside

@@ -1,0 +1,21 @@
+-- Whether so many jobs may be submitted (own).
+use Rattle.std.specs.Prelude.{◌≤◌, ◌<◌, ◌+◌, ℕ}
+use Rattle.spool_model.specs.declared.number.TheConstants.{LAST_NUMBER}
+use Rattle.spool_model.specs.JobTable.{JobTable}
+use Rattle.spool_model.specs.Lists.{live_count}
+use Rattle.spool_store.specs.declared.fault.StoreFault.{StoreFault}
+use Rattle.spool_store.specs.declared.fault.StoreFault.TheVariants.{Damaged, FileFault, Memory, NumbersUsedUp, QueueFull}
+use Rattle.spool_store.specs.declared.submit.TheConstants.{MAX_LIVE}
+
+-- there is room for so many jobs more, and no number for each
+pub record IsUsedUpFor (table : JobTable) (count : ℕ) : Type 0 where
+  pub room : live_count table + count ≤ MAX_LIVE
+  pub few : LAST_NUMBER < table.last + count
+
+-- why so many jobs are not submitted: there is no room, or else no number for each, or want of memory
+abbrev pub IsRoomFault : JobTable → ℕ → StoreFault → Type 0
+IsRoomFault table count QueueFull = MAX_LIVE < live_count table + count
+IsRoomFault table count NumbersUsedUp = IsUsedUpFor table count
+IsRoomFault table count Memory = Unit {0}
+IsRoomFault table count FileFault = ⊥
+IsRoomFault table count (Damaged damage) = ⊥

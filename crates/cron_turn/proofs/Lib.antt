@@ -1,0 +1,4 @@
+pub mod ProgramLemmas
+pub mod ReadLemmas
+pub mod RunLemmas
+pub mod WordLemmas

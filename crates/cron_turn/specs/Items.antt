@@ -1,0 +1,99 @@
+-- The sessions of a crontab (own): the rest after each, and what is said of it.
+use Rattle.std.specs.Prelude.{◌≡◌, ◌≢◌, ◌⊎◌, ◌≤◌, ◌-◌, ◌%◌, ℕ, ℤ, Bool, true, List, codes, unsigned_abs}
+use Rattle.host_calls.specs.Causes.{Rose}
+use Rattle.listing_text.specs.declared.cause.Cause.{Cause}
+use Rattle.listing_text.specs.declared.cause.Cause.TheVariants as cause
+use Rattle.listing_text.specs.declared.refusal.Refusal.TheVariants as refusal
+use Rattle.listing_text.specs.Cause.{cause_line_of}
+use Rattle.command_rules.specs.Sinks.{IsCut, IsPut, IsSilent, SinkAt}
+use Rattle.cron_text.specs.declared.entry.CronEntry.{CronEntry}
+use Rattle.cron_session.specs.declared.report.CronEnd.{CronEnd}
+use Rattle.cron_session.specs.declared.report.CronEnd.TheVariants.{Done, Busy, FileFault, Damaged, QueueFull, NumbersUsedUp, Memory}
+use Rattle.cron_turn.specs.declared.item.TheConstants.{LONGEST_REST, SHORT_REST}
+
+-- A session: the clock's answer, what the file gave, the entries that it spells, and what the session reported.
+pub record Item : Type 0 where
+  pub now : ℤ
+  pub bytes : List ℕ
+  pub entries : List CronEntry
+  pub end : CronEnd
+  pub numbers : List ℕ
+
+-- the name of the program, which begins its lines
+abbrev pub program_name : List ℕ
+program_name = codes "atcron"
+
+-- the seconds of the rest after a session: up to the next full minute where it was done, else a short one
+abbrev pub rest_after : CronEnd → ℤ → ℕ
+rest_after Done now = LONGEST_REST - unsigned_abs now % LONGEST_REST
+rest_after Busy now = SHORT_REST
+rest_after FileFault now = SHORT_REST
+rest_after (Damaged damage) now = SHORT_REST
+rest_after QueueFull now = SHORT_REST
+rest_after NumbersUsedUp now = SHORT_REST
+rest_after Memory now = SHORT_REST
+
+-- the cause of a session's end
+abbrev pub cause_of_end : CronEnd → Cause
+cause_of_end Done = cause.Done
+cause_of_end Busy = cause.Busy
+cause_of_end FileFault = cause.FileFault
+cause_of_end (Damaged damage) = cause.Damaged damage
+cause_of_end QueueFull = cause.Refused refusal.QueueFull
+cause_of_end NumbersUsedUp = cause.Refused refusal.NumbersUsedUp
+cause_of_end Memory = cause.Memory
+
+-- the line of a session's end; one that was done has none
+abbrev pub end_line : CronEnd → List ℕ
+end_line end = cause_line_of program_name (cause_of_end end)
+
+-- What is said of a session after which another may come: its line. That of want of memory may be wanting.
+abbrev pub SaysEnd : CronEnd → SinkAt → SinkAt → Type 0
+SaysEnd Memory old new = IsSilent old new ⊎ IsPut (end_line Memory) old new
+SaysEnd Done old new = IsPut (end_line Done) old new
+SaysEnd Busy old new = IsPut (end_line Busy) old new
+SaysEnd FileFault old new = IsPut (end_line FileFault) old new
+SaysEnd (Damaged damage) old new = ⊥
+SaysEnd QueueFull old new = IsPut (end_line QueueFull) old new
+SaysEnd NumbersUsedUp old new = IsPut (end_line NumbersUsedUp) old new
+
+-- the session found no damage, so another may come
+abbrev pub MayGoOn : CronEnd → Type 0
+MayGoOn (Damaged damage) = ⊥
+MayGoOn Done = Unit {0}
+MayGoOn Busy = Unit {0}
+MayGoOn FileFault = Unit {0}
+MayGoOn QueueFull = Unit {0}
+MayGoOn NumbersUsedUp = Unit {0}
+MayGoOn Memory = Unit {0}
+
+-- what is said of a session after which another comes
+pub record GoesOnSaying (tells : Bool) (end : CronEnd) (old new : SinkAt) : Type 0 where
+  pub goes_on : MayGoOn end
+  pub later : old.faults ≤ new.faults
+  pub says : tells ≡ true → SaysEnd end old new
+
+-- its line was cut, since its put failed
+pub record IsCutOff (tells : Bool) (end : CronEnd) (old new : SinkAt) : Type 0 where
+  pub goes_on : MayGoOn end
+  pub rose : Rose old.faults new.faults
+  pub cut : tells ≡ true → IsCut (end_line end) old new
+
+-- its line found no memory, and is not that of want of memory
+pub record IsUnsaid (tells : Bool) (end : CronEnd) (old new : SinkAt) : Type 0 where
+  pub goes_on : MayGoOn end
+  pub wanted : end ≢ Memory
+  pub silent : tells ≡ true → IsSilent old new
+
+-- what is said of a session that is the last one, by the cause for which it is: the line of a damage is still to be put
+abbrev pub EndsSaying : Bool → CronEnd → SinkAt → SinkAt → Cause → Type 0
+EndsSaying tells end old new (cause.Damaged damage) = (end ≡ Damaged damage) × (new ≡ old)
+EndsSaying tells end old new cause.OutputFault = IsCutOff tells end old new
+EndsSaying tells end old new cause.Memory = IsUnsaid tells end old new
+EndsSaying tells end old new cause.Done = ⊥
+EndsSaying tells end old new (cause.Refused refused) = ⊥
+EndsSaying tells end old new cause.FileFault = ⊥
+EndsSaying tells end old new cause.InputFault = ⊥
+EndsSaying tells end old new cause.Busy = ⊥
+EndsSaying tells end old new cause.StillRunning = ⊥
+EndsSaying tells end old new cause.Faulty = ⊥

@@ -1,0 +1,6 @@
+pub mod Items
+pub mod Outside
+pub mod Running
+pub mod Sessions
+pub mod Words
+pub mod inside

@@ -1,0 +1,123 @@
+-- One session of the program (own): the clock is read, then the file, and the session is made; or how the program ends
+-- there.
+use Rattle.std.specs.Prelude.{◌≡◌, ◌⊎◌, ◌+◌, ◌≤◌, ◌<◌, ℕ, ℤ, Bool, true, List, Option, Some, None, length}
+use Rattle.clock_range.specs.ClockRange.{IsClockSecond}
+use Rattle.host_calls.specs.Causes.{Rose}
+use Rattle.host_calls.specs.Clock.{with_now, with_rest}
+use Rattle.host_calls.specs.Inputs.{AreReadOnce, IsPrefixOf}
+use Rattle.listing_text.specs.declared.cause.Cause.{Cause}
+use Rattle.listing_text.specs.declared.cause.Cause.TheVariants.{Done, Refused, FileFault, InputFault, OutputFault, Busy, Memory, Damaged, StillRunning, Faulty}
+use Rattle.listing_text.specs.declared.refusal.Refusal.TheVariants.{BadClock, BadCrontab, TooLong}
+use Rattle.command_rules.specs.declared.caller.Caller.{Caller}
+use Rattle.cron_text.specs.declared.crontab.TheConstants.{MAX_CRONTAB}
+use Rattle.cron_text.specs.Crontab.{IsFirstBad, SpellsCrontab}
+use Rattle.cron_session.specs.Leaving.{CronsTo}
+use Rattle.cron_session.specs.Steps.{Cron}
+use Rattle.cron_turn.specs.Items.{EndsSaying, Item}
+use Rattle.cron_turn.specs.Outside.{ClockAt, InputAt, RunAt, Telling}
+
+-- the clock answered the second, and no load was read
+pub record ReadsClock (tells : Bool) (now : ℤ) (old new : ClockAt) : Type 0 where
+  pub known : tells ≡ true → new.answers ≡ with_now now old.answers
+  pub readers : new.readers ≡ old.readers
+
+-- a rest of so many seconds
+pub record Rests (tells : Bool) (seconds : ℕ) (old new : ClockAt) : Type 0 where
+  pub known : tells ≡ true → new.answers ≡ with_rest seconds old.answers
+  pub readers : new.readers ≡ old.readers
+
+-- the inputs were asked once for a file
+pub record AsksFile (old new : InputAt) : Type 0 where
+  pub contents : new.contents ≡ old.contents
+  pub once : AreReadOnce old.sources new.sources
+  pub later : old.sources.input_faults ≤ new.sources.input_faults
+
+-- they gave these first bytes of it: one more at most than a crontab has
+pub record ReadsFile (tells : Bool) (path bytes : List ℕ) (old new : InputAt) : Type 0 where
+  pub asks : AsksFile old new
+  pub given : tells ≡ true → IsPrefixOf (old.contents.file path) (MAX_CRONTAB + 1) bytes
+
+-- a rest of the clock before a session, if it is not the first
+abbrev pub RestsOn : Bool → Option ℕ → ClockAt → ClockAt → Type 0
+RestsOn tells None old new = new ≡ old
+RestsOn tells (Some seconds) old new = Rests tells seconds old new
+
+-- a rest before the next session, if it is not the first: nothing else changes
+pub record RestsBefore (tells : Bool) (rest : Option ℕ) (old new : RunAt) : Type 0 where
+  pub clock : RestsOn tells rest old.clock new.clock
+  pub spool : new.spool ≡ old.spool
+  pub input : new.input ≡ old.input
+  pub said : new.said ≡ old.said
+
+-- what the session of an item is to do
+abbrev pub cron_of : Caller → Item → Cron
+cron_of caller item = record { context = caller.context; zone = caller.zone; entries = item.entries; now = item.now }
+
+-- The session of the item was made: at the second that the clock answered, on the entries that the file spelled then.
+pub record IsMade (tells : Telling) (caller : Caller) (path : List ℕ) (item : Item) (old new : RunAt) : Type 0 where
+  pub now : IsClockSecond item.now
+  pub clock : ReadsClock tells.clock item.now old.clock new.clock
+  pub input : ReadsFile tells.input path item.bytes old.input new.input
+  pub few : length item.bytes ≤ MAX_CRONTAB
+  pub spelled : SpellsCrontab item.bytes item.entries
+  pub session : CronsTo tells.files tells.alone (cron_of caller item) old.spool new.spool item.end item.numbers
+
+-- no session was made, and nothing was said
+pub record IsUnmade (old new : RunAt) : Type 0 where
+  pub spool : new.spool ≡ old.spool
+  pub said : new.said ≡ old.said
+
+-- the clock answered a second out of its range
+pub record StopsAtClock (tells : Telling) (old new : RunAt) : Type 0 where
+  pub now : ℤ
+  pub out : ¬ (IsClockSecond now)
+  pub clock : ReadsClock tells.clock now old.clock new.clock
+  pub input : new.input ≡ old.input
+  pub unmade : IsUnmade old new
+
+-- the file was asked for, after the clock had answered a second in its range
+pub record StopsAtFile (tells : Telling) (old new : RunAt) : Type 0 where
+  pub now : ℤ
+  pub range : IsClockSecond now
+  pub clock : ReadsClock tells.clock now old.clock new.clock
+  pub input : AsksFile old.input new.input
+  pub unmade : IsUnmade old new
+
+-- and gave bytes of which this holds
+pub record StopsAtText (tells : Telling) (path : List ℕ) (IsSo : List ℕ → Type 0) (old new : RunAt) : Type 0 where
+  pub at_file : StopsAtFile tells old new
+  pub bytes : List ℕ
+  pub given : tells.input ≡ true → IsPrefixOf (old.input.contents.file path) (MAX_CRONTAB + 1) bytes
+  pub so : IsSo bytes
+
+-- the text is no longer than a crontab, and this is its first bad line
+pub record IsBadAt (line : ℕ) (bytes : List ℕ) : Type 0 where
+  pub few : length bytes ≤ MAX_CRONTAB
+  pub first : IsFirstBad bytes line
+
+-- Why no session was made: the clock, the inputs, a text that is too long or has a bad line, or want of memory.
+abbrev pub StopsBefore : Telling → List ℕ → RunAt → RunAt → Cause → Type 0
+StopsBefore tells path old new (Refused BadClock) = StopsAtClock tells old new
+StopsBefore tells path old new (Refused TooLong) = StopsAtText tells path (λ bytes. MAX_CRONTAB < length bytes) old new
+StopsBefore tells path old new (Refused (BadCrontab line)) = StopsAtText tells path (IsBadAt line) old new
+StopsBefore tells path old new (Refused _) = ⊥
+StopsBefore tells path old new InputFault =
+    StopsAtFile tells old new × Rose old.input.sources.input_faults new.input.sources.input_faults
+StopsBefore tells path old new Memory = StopsAtFile tells old new
+StopsBefore tells path old new Done = ⊥
+StopsBefore tells path old new FileFault = ⊥
+StopsBefore tells path old new OutputFault = ⊥
+StopsBefore tells path old new Busy = ⊥
+StopsBefore tells path old new (Damaged damage) = ⊥
+StopsBefore tells path old new StillRunning = ⊥
+StopsBefore tells path old new Faulty = ⊥
+
+-- a session was made, and is the last one for this cause
+pub record StopsAfter (tells : Telling) (caller : Caller) (path : List ℕ) (old new : RunAt) (cause : Cause) : Type 0 where
+  pub item : Item
+  pub made : IsMade tells caller path item old new
+  pub says : EndsSaying tells.errors item.end old.said new.said cause
+
+-- how the program ends at one session more
+abbrev pub Stops : Telling → Caller → List ℕ → RunAt → RunAt → Cause → Type 0
+Stops tells caller path old new cause = StopsBefore tells path old new cause ⊎ StopsAfter tells caller path old new cause

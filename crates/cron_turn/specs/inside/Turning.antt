@@ -1,0 +1,126 @@
+-- How one session more goes, by its parts (own).
+use Rattle.std.specs.Prelude.{◌≡◌, ◌⊎◌, ◌≤◌, ◌<◌, ℕ, Bool, true, List, Option, Some, None, Result, Ok, Err, IsErrOf, length}
+use Rattle.host_calls.specs.Causes.{Rose}
+use Rattle.host_calls.specs.declared.fault.SinkFault.{SinkFault}
+use Rattle.host_calls.specs.declared.fault.SinkFault.TheVariants as sink
+use Rattle.listing_text.specs.declared.cause.Cause.{Cause}
+use Rattle.listing_text.specs.declared.cause.Cause.TheVariants as cause
+use Rattle.listing_text.specs.declared.refusal.Refusal.TheVariants.{BadCrontab, TooLong}
+use Rattle.command_rules.specs.declared.caller.Caller.{Caller}
+use Rattle.command_rules.specs.declared.command_error.CommandError.{CommandError}
+use Rattle.command_rules.specs.Sinks.{IsCut, IsPut, IsSilent, SinkAt}
+use Rattle.host_calls.specs.declared.damage.Damage.{Damage}
+use Rattle.cron_text.specs.declared.crontab.TheConstants.{MAX_CRONTAB}
+use Rattle.cron_text.specs.declared.entry.CronEntry.{CronEntry}
+use Rattle.cron_text.specs.Crontab.{SpellsCrontab}
+use Rattle.cron_session.specs.declared.report.CronEnd.{CronEnd}
+use Rattle.cron_session.specs.declared.report.CronEnd.TheVariants.{Done, Busy, FileFault, Damaged, QueueFull, NumbersUsedUp, Memory}
+use Rattle.cron_turn.specs.Items.{EndsSaying, GoesOnSaying, Item, rest_after}
+use Rattle.cron_turn.specs.Outside.{InputAt, RunAt, Telling}
+use Rattle.cron_turn.specs.Running.{Serves}
+use Rattle.cron_turn.specs.Sessions.{AsksFile, IsBadAt, IsMade, ReadsFile, Stops}
+
+-- what was said of a session, by whether a further one may come
+abbrev pub Says : Bool → CronEnd → SinkAt → SinkAt → Option Cause → Type 0
+Says tells end old new None = GoesOnSaying tells end old new
+Says tells end old new (Some cause) = EndsSaying tells end old new cause
+
+-- the line was put, or cut where its put failed, or nothing of it was put where there was no memory for it
+abbrev pub PutsOne : List ℕ → SinkAt → SinkAt → Result (Unit {0}) SinkFault → Type 0
+PutsOne text old new (Ok done) = IsPut text old new
+PutsOne text old new (Err sink.Failed) = IsCut text old new
+PutsOne text old new (Err sink.Memory) = IsSilent old new
+
+-- and the count of failed puts
+pub record PutsLine (tells : Bool) (text : List ℕ) (old new : SinkAt) (result : Result (Unit {0}) SinkFault) : Type 0 where
+  pub later : old.faults ≤ new.faults
+  pub failed : IsErrOf result sink.Failed → Rose old.faults new.faults
+  pub puts : tells ≡ true → PutsOne text old new result
+
+-- the damage that the session found, if it found one
+abbrev pub damage_in : CronEnd → Option Damage
+damage_in (Damaged damage) = Some damage
+damage_in Done = None
+damage_in Busy = None
+damage_in FileFault = None
+damage_in QueueFull = None
+damage_in NumbersUsedUp = None
+damage_in Memory = None
+
+-- the line of want of memory may be wanting
+abbrev pub unless_memory : CronEnd → Option Cause
+unless_memory Memory = None
+unless_memory Done = Some cause.Memory
+unless_memory Busy = Some cause.Memory
+unless_memory FileFault = Some cause.Memory
+unless_memory (Damaged damage) = Some cause.Memory
+unless_memory QueueFull = Some cause.Memory
+unless_memory NumbersUsedUp = Some cause.Memory
+
+-- why no further session is made, by what came of the line of one
+abbrev pub after_put : CronEnd → Result (Unit {0}) SinkFault → Option Cause
+after_put end (Ok done) = None
+after_put end (Err sink.Failed) = Some cause.OutputFault
+after_put end (Err sink.Memory) = unless_memory end
+
+-- why a text gives no entries
+abbrev pub StopsText : List ℕ → Cause → Type 0
+StopsText bytes (cause.Refused TooLong) = MAX_CRONTAB < length bytes
+StopsText bytes (cause.Refused (BadCrontab line)) = IsBadAt line bytes
+StopsText bytes (cause.Refused _) = ⊥
+StopsText bytes cause.Memory = Unit {0}
+StopsText bytes cause.Done = ⊥
+StopsText bytes cause.FileFault = ⊥
+StopsText bytes cause.InputFault = ⊥
+StopsText bytes cause.OutputFault = ⊥
+StopsText bytes cause.Busy = ⊥
+StopsText bytes (cause.Damaged damage) = ⊥
+StopsText bytes cause.StillRunning = ⊥
+StopsText bytes cause.Faulty = ⊥
+
+-- the entries that the text spells, or why there are none
+abbrev pub IsOfText : List ℕ → Result (List CronEntry) CommandError → Type 0
+IsOfText bytes (Ok entries) = (length bytes ≤ MAX_CRONTAB) × SpellsCrontab bytes entries
+IsOfText bytes (Err stopped) = StopsText bytes stopped.cause
+
+-- the file gave a text, which answers so
+pub record GaveText (tells : Bool) (path : List ℕ) (old new : InputAt) (result : Result (List CronEntry) CommandError) : Type 0 where
+  pub bytes : List ℕ
+  pub reads : ReadsFile tells path bytes old new
+  pub of_text : IsOfText bytes result
+
+-- why the file gave no text
+abbrev pub IsUnread : InputAt → InputAt → Cause → Type 0
+IsUnread old new cause.InputFault = AsksFile old new × Rose old.sources.input_faults new.sources.input_faults
+IsUnread old new cause.Memory = AsksFile old new
+IsUnread old new cause.Done = ⊥
+IsUnread old new (cause.Refused refusal) = ⊥
+IsUnread old new cause.FileFault = ⊥
+IsUnread old new cause.OutputFault = ⊥
+IsUnread old new cause.Busy = ⊥
+IsUnread old new (cause.Damaged damage) = ⊥
+IsUnread old new cause.StillRunning = ⊥
+IsUnread old new cause.Faulty = ⊥
+
+-- the entries of the file, or why there are none
+abbrev pub ReadsEntries : Bool → List ℕ → InputAt → InputAt → Result (List CronEntry) CommandError → Type 0
+ReadsEntries tells path old new (Ok entries) = GaveText tells path old new (Ok entries)
+ReadsEntries tells path old new (Err stopped) = GaveText tells path old new (Err stopped) ⊎ IsUnread old new stopped.cause
+
+-- a session was made after which another may come, before which so many seconds are to be rested
+pub record GoesOn (tells : Telling) (caller : Caller) (path : List ℕ) (next : Option ℕ) (old new : RunAt) : Type 0 where
+  pub item : Item
+  pub made : IsMade tells caller path item old new
+  pub says : GoesOnSaying tells.errors item.end old.said new.said
+  pub next_is : next ≡ Some (rest_after item.end item.now)
+
+-- one session more, after the rest, by whether a further one may come
+abbrev pub Turns : Telling → Caller → List ℕ → Option ℕ → RunAt → RunAt → Option Cause → Type 0
+Turns tells caller path next old new None = GoesOn tells caller path next old new
+Turns tells caller path next old new (Some cause) = Stops tells caller path old new cause
+
+-- so many sessions were made
+pub record HasServed (tells : Telling) (caller : Caller) (path : List ℕ) (count : ℕ) (rest : Option ℕ) (first now : RunAt) : Type 0 where
+  pub items : List Item
+  pub counted : length items ≡ count
+  pub serves : Serves tells caller path first items rest now

@@ -1,0 +1,44 @@
+//! What comes of a session's end: the rest after it, and the cause that is said of it.
+ghost use Rattle.std.specs.Prelude.{◌≡◌};
+ghost use Rattle.clock_range.specs.ClockRange.{IsClockSecond};
+ghost use Rattle.cron_turn.specs.Items.{cause_of_end, rest_after};
+
+use cron_session::CronEnd;
+use listing_text::{Cause, Refusal};
+
+/// The longest rest between two sessions, in seconds: one that was done is followed at the next full minute.
+pub const LONGEST_REST: u32 = 60;
+
+/// The rest after a session that was not done, in seconds.
+pub const SHORT_REST: u32 = 1;
+
+// The seconds of the rest after a session.
+pub(crate) fn rest_after(end: &CronEnd, now: i64) -> u32
+    requires { IsClockSecond now }
+    ensures { result ≡ rest_after end.now now }
+{
+    match end {
+        CronEnd::Done => LONGEST_REST - (now.unsigned_abs() % u64::from(LONGEST_REST)) as u32,
+        CronEnd::Busy => SHORT_REST,
+        CronEnd::FileFault => SHORT_REST,
+        CronEnd::Damaged(_) => SHORT_REST,
+        CronEnd::QueueFull => SHORT_REST,
+        CronEnd::NumbersUsedUp => SHORT_REST,
+        CronEnd::Memory => SHORT_REST,
+    }
+}
+
+// The end of a session, as the cause of a line.
+pub(crate) fn cause_of_end(end: &CronEnd) -> Cause
+    ensures { result ≡ cause_of_end end.now }
+{
+    match end {
+        CronEnd::Done => Cause::Done,
+        CronEnd::Busy => Cause::Busy,
+        CronEnd::FileFault => Cause::FileFault,
+        CronEnd::Damaged(damage) => Cause::Damaged(*damage),
+        CronEnd::QueueFull => Cause::Refused(Refusal::QueueFull),
+        CronEnd::NumbersUsedUp => Cause::Refused(Refusal::NumbersUsedUp),
+        CronEnd::Memory => Cause::Memory,
+    }
+}

@@ -1,0 +1,119 @@
+//! The program: what its words ask for, done.
+ghost use Rattle.std.specs.Prelude.{◌≡◌, ◌<◌, map, string_bytes};
+ghost use Rattle.host_calls.specs.Session.{IsOutside};
+ghost use Rattle.listing_text.specs.Cause.{status_of};
+ghost use Rattle.cron_turn.specs.Outside.{StaysSo, run_at, telling};
+ghost use Rattle.cron_turn.specs.Running.{CarriesOut, CronRuns, HasRisen, WorksUnless, caller_refused, refused_zone};
+ghost use Rattle.cron_turn.specs.Words.{cron_asked};
+
+use crate::run::run;
+use crate::say::PROGRAM;
+use crate::words::{CronRequest, request};
+use cause_output::say_cause;
+use civil_minute::Zone;
+use command_rules::{Caller, CommandError, cause_of_words};
+use host_calls::{Host, Inputs, Readings, Sink};
+use job_script::check;
+use listing_text::{Cause, Refusal, Status};
+use std::alloc::Global;
+
+/// Makes sessions of a crontab, one after another: each reads the clock and the crontab, and submits a job of each entry
+/// that is due at this minute, unless that minute was had before. The first of the words stands for the program's name,
+/// whatever it is.
+pub fn cron_program<H: Host, R: Readings, I: Inputs, E: Sink>(
+    alloc: Global,
+    words: &[String],
+    caller: &Caller,
+    host: &mut H,
+    readings: &mut R,
+    inputs: &mut I,
+    err: &mut E,
+) -> Status
+    requires outside { IsOutside (H.session host.old) }
+    requires umask { caller.now.context.umask < 512 }
+    ensures code { result ≡ status_of result.cause }
+    ensures err_made { (E.outlet err.new).made_as ≡ (E.outlet err.old).made_as }
+    ensures stays { StaysSo (run_at H.Host R.Readings I.Inputs E.Sink host.old readings.old inputs.old err.old)
+        (run_at H.Host R.Readings I.Inputs E.Sink host.new readings.new inputs.new err.new) }
+    ensures risen { HasRisen (run_at H.Host R.Readings I.Inputs E.Sink host.old readings.old inputs.old err.old)
+        (run_at H.Host R.Readings I.Inputs E.Sink host.new readings.new inputs.new err.new) result.cause }
+    ensures runs { CronRuns (cron_asked (map string_bytes words.now))
+        (telling H.Host R.Readings I.Inputs E.Sink) caller.now
+        (run_at H.Host R.Readings I.Inputs E.Sink host.old readings.old inputs.old err.old)
+        (run_at H.Host R.Readings I.Inputs E.Sink host.new readings.new inputs.new err.new) result.cause }
+{
+    let cause = carry_out(alloc, words, caller, host, readings, inputs, err);
+    Status::of(say_cause(alloc, PROGRAM, cause, err))
+}
+
+// Does what the words ask for. The line of the cause is still to be said.
+fn carry_out<H: Host, R: Readings, I: Inputs, E: Sink>(
+    alloc: Global,
+    words: &[String],
+    caller: &Caller,
+    host: &mut H,
+    readings: &mut R,
+    inputs: &mut I,
+    err: &mut E,
+) -> Cause
+    requires outside { IsOutside (H.session host.old) }
+    requires umask { caller.now.context.umask < 512 }
+    ensures err_made { (E.outlet err.new).made_as ≡ (E.outlet err.old).made_as }
+    ensures stays { StaysSo (run_at H.Host R.Readings I.Inputs E.Sink host.old readings.old inputs.old err.old)
+        (run_at H.Host R.Readings I.Inputs E.Sink host.new readings.new inputs.new err.new) }
+    ensures does { CarriesOut (cron_asked (map string_bytes words.now))
+        (telling H.Host R.Readings I.Inputs E.Sink) caller.now
+        (run_at H.Host R.Readings I.Inputs E.Sink host.old readings.old inputs.old err.old)
+        (run_at H.Host R.Readings I.Inputs E.Sink host.new readings.new inputs.new err.new) result }
+{
+    match request(alloc, words) {
+        Ok(request) => run_unless(alloc, &request, caller, host, readings, inputs, err),
+        Err(fault) => cause_of_words(fault),
+    }
+}
+
+// Makes the sessions, unless the caller is refused.
+fn run_unless<H: Host, R: Readings, I: Inputs, E: Sink>(
+    alloc: Global,
+    request: &CronRequest,
+    caller: &Caller,
+    host: &mut H,
+    readings: &mut R,
+    inputs: &mut I,
+    err: &mut E,
+) -> Cause
+    requires outside { IsOutside (H.session host.old) }
+    requires umask { caller.now.context.umask < 512 }
+    ensures err_made { (E.outlet err.new).made_as ≡ (E.outlet err.old).made_as }
+    ensures stays { StaysSo (run_at H.Host R.Readings I.Inputs E.Sink host.old readings.old inputs.old err.old)
+        (run_at H.Host R.Readings I.Inputs E.Sink host.new readings.new inputs.new err.new) }
+    ensures works { WorksUnless (caller_refused caller.now)
+        (telling H.Host R.Readings I.Inputs E.Sink) caller.now request.now
+        (run_at H.Host R.Readings I.Inputs E.Sink host.old readings.old inputs.old err.old)
+        (run_at H.Host R.Readings I.Inputs E.Sink host.new readings.new inputs.new err.new) result }
+{
+    match refused(caller) {
+        Some(cause) => cause,
+        None => run(alloc, request, caller, host, readings, inputs, err),
+    }
+}
+
+// What the caller is refused for: its user, its directory, its variables, then its zone.
+fn refused(caller: &Caller) -> Option<Cause>
+    ensures { result ≡ caller_refused caller.now }
+{
+    match check(&caller.context) {
+        Ok(()) => refused_zone(&caller.zone),
+        Err(fault) => Some(CommandError::from(fault).cause),
+    }
+}
+
+fn refused_zone(zone: &Zone) -> Option<Cause>
+    ensures { result ≡ refused_zone zone.now }
+{
+    match zone {
+        Zone::Unreadable => Some(Cause::Refused(Refusal::BadZone)),
+        Zone::Utc => None,
+        Zone::Rules(_) => None,
+    }
+}

@@ -1,0 +1,57 @@
+//! The words of the program.
+ghost use Rattle.std.specs.Prelude.{◌≡◌, IfOk, map, string_bytes};
+ghost use Rattle.clap.specs.Matches.{found_of};
+ghost use Rattle.clap.specs.Simple.{app_of};
+ghost use Rattle.clap.specs.Walk.{rows_of};
+ghost use Rattle.at_words.specs.Answers.{Answers, asked_of};
+ghost use Rattle.cron_turn.specs.Words.{cron_app, cron_asked, crontab_asked};
+
+use at_words::{WordsFault, bare_command, parsed, turns_of, value, with_long, with_value};
+use clap::{ArgMatches, Command};
+use host_calls::Text;
+use std::alloc::{AllocError, Global};
+
+/// A crontab, by its path, and how many sessions are to be made on it.
+#[derive(Drop)]
+pub(crate) struct CronRequest {
+    pub(crate) file: Text,
+    pub(crate) turns: u64,
+}
+
+// What the words ask for, the first of which stands for the program's name; without it they ask for nothing.
+pub(crate) fn request(alloc: Global, words: &[String]) -> Result<CronRequest, WordsFault>
+    ensures { Answers (cron_asked (map string_bytes words.now)) result }
+{
+    if words.is_empty() {
+        return Err(WordsFault::Usage);
+    }
+    read(alloc, words)
+}
+
+fn read(alloc: Global, words: &[String]) -> Result<CronRequest, WordsFault>
+    ensures { Answers (asked_of cron_app crontab_asked (map string_bytes words.now)) result }
+{
+    let command = command(alloc)?;
+    let matches = parsed(command, words)?;
+    asked(alloc, &matches)
+}
+
+fn command<'a>(alloc: Global) -> Result<Command<'a>, AllocError>
+    ensures { IfOk result (λ made. app_of made ≡ cron_app) }
+{
+    let file = with_value(alloc, bare_command(alloc, "atcron"), "file", 'f')?;
+    with_long(alloc, file, "turns")
+}
+
+fn asked(alloc: Global, matches: &ArgMatches) -> Result<CronRequest, WordsFault>
+    ensures { Answers (crontab_asked (rows_of (found_of matches.now))) result }
+{
+    let Some(file) = value(matches, "file") else {
+        return Err(WordsFault::Usage);
+    };
+    let Some(turns) = turns_of(value(matches, "turns")) else {
+        return Err(WordsFault::Usage);
+    };
+    let file = Text::of(alloc, file)?;
+    Ok(CronRequest { file, turns })
+}

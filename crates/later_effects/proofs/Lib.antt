@@ -1,0 +1,5 @@
+pub mod OnlyJobs
+pub mod StartedJobs
+pub mod LaterLemmas
+pub mod NoticeLemmas
+pub mod RestLemmas

@@ -1,0 +1,2 @@
+pub mod LaterEffects
+pub mod Laws

@@ -1,0 +1,86 @@
+//! What a session of mail will do is known before its first change.
+ghost use Rattle.std.specs.Prelude.{◌≡◌, IfErr, IfOk, IsTrue, List};
+ghost use Rattle.host_calls.specs.Session.{CallsInside, IsInside};
+ghost use Rattle.mail_notes.specs.Book.{IsBookOf};
+ghost use Rattle.mail_notes.specs.declared.note.Note.{Note};
+ghost use Rattle.mail_session.specs.Steps.{AreDuesOf};
+ghost use Rattle.mail_session.specs.inside.Planning.{Plans, PlansOn};
+ghost use Rattle.spool_model.specs.JobTable.{JobTable};
+ghost use Rattle.spool_store.specs.Faults.{IsOfReading};
+ghost use Rattle.step_runs.specs.Current.{IsCurrent};
+
+use crate::news::news_of;
+use crate::noting::add_news;
+use crate::stale::stale_names;
+use crate::{Due, ReadNotes, dues_of, read_notes};
+use daemon_turn::Kid;
+use host_calls::{Host, Name};
+use mail_notes::{MailBook, NotedJob};
+use spool_store::{Store, StoreFault};
+use std::alloc::{AllocError, Global};
+
+// What a session will do.
+#[derive(Drop)]
+pub(crate) struct MailPlan {
+    // The jobs that are noted.
+    pub(crate) news: Vec<NotedJob>,
+    // What is due of those that were noted before.
+    pub(crate) dues: Vec<Due>,
+    // The text of the notes, and of the new ones after them.
+    pub(crate) text: Vec<u8>,
+    // The names of the files of mail that are left over.
+    pub(crate) stale: Vec<Name>,
+}
+
+// Recovers the store, and reads what a session with these kids will do.
+pub(crate) fn make_plan<H: Host>(
+    alloc: Global,
+    host: &mut H,
+    kids: &[Kid],
+) -> Result<MailPlan, StoreFault>
+    requires { IsInside (H.session host.old) }
+    ensures inside { CallsInside StoreFault.FileFault (H.session host.old) (H.session host.new) result }
+    ensures of_reading { IfErr result IsOfReading }
+    ensures plans { Plans H.tells (H.world host.old) (H.world host.new) kids.now result }
+{
+    let store = Store::recover(alloc, host)?;
+    plan_on(alloc, host, &store, kids)
+}
+
+// What a session will do on the store.
+fn plan_on<H: Host>(
+    alloc: Global,
+    host: &mut H,
+    store: &Store,
+    kids: &[Kid],
+) -> Result<MailPlan, StoreFault>
+    requires inside { IsInside (H.session host.old) }
+    requires current { IsTrue H.tells → (table : JobTable)
+        × IsCurrent store.now (H.world host.old).now.folder table }
+    ensures inside { CallsInside StoreFault.FileFault (H.session host.old) (H.session host.new) result }
+    ensures of_reading { IfErr result IsOfReading }
+    ensures looks { IsTrue H.tells → H.world host.new ≡ H.world host.old }
+    ensures plans { PlansOn H.tells (H.world host.old) store.now kids.now result }
+{
+    let ReadNotes { mut text, book } = read_notes(alloc, host)?;
+    let news = news_of(alloc, host, store, &book)?;
+    let dues = dues_now(alloc, store, &book)?;
+    let stale = stale_names(alloc, host, kids)?;
+    add_news(&mut text, news.as_slice())?;
+    Ok(MailPlan {
+        news,
+        dues,
+        text,
+        stale,
+    })
+}
+
+// What is due of the jobs that wait by the book.
+fn dues_now(alloc: Global, store: &Store, book: &MailBook) -> Result<Vec<Due>, AllocError>
+    ensures { IfOk result (λ dues. (notes : List Note) → IsBookOf notes book.now
+        → AreDuesOf store.now.table notes dues.items) }
+{
+    let jobs = book.waiting(alloc)?;
+    let dues = dues_of(alloc, store, jobs.as_slice())?;
+    Ok(dues)
+}

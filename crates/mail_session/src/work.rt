@@ -1,0 +1,122 @@
+//! The work of a session of mail.
+ghost use Rattle.std.specs.Prelude.{◌≡◌, ◌+◌, ◌≤◌, [], IfOk, IsTrue, vec_capacity, vec_len};
+ghost use Rattle.host_calls.specs.Folder.{IsInNoImage};
+ghost use Rattle.host_calls.specs.Session.{IsInside};
+ghost use Rattle.daemon_turn.specs.Kids.{AreChildren};
+ghost use Rattle.mail_notes.specs.Names.{mail_temp};
+ghost use Rattle.mail_session.specs.inside.Working.{CarriesOut, Makes, MayCarryOut, Works};
+
+use crate::ask::ask_kids;
+use crate::noting::note_news;
+use crate::plan::{MailPlan, make_plan};
+use crate::post::post_all;
+use daemon_turn::Kid;
+use host_calls::{Host, HostFault};
+use spool_store::StoreFault;
+use std::alloc::{AllocError, Global};
+use whole_file::clear;
+
+// The length of the line that a notice was sent, or that there is none.
+const LINE: usize = 11;
+
+// Makes the steps of a session, with the kids that there are, and keeps the numbers of the notices that were sent.
+pub(crate) fn work<H: Host>(
+    alloc: Global,
+    host: &mut H,
+    program: &[u8],
+    kids: &mut Vec<Kid>,
+    sent: &mut Vec<u32>,
+) -> Result<(), StoreFault>
+    requires inside { IsInside (H.session host.old) }
+    requires children { AreChildren (H.session host.old).children kids.old.items }
+    requires none { sent.old.items ≡ [] }
+    ensures { Works H.tells
+        (record {
+          session = H.session host.old;
+          world = H.world host.old;
+          post = record { program = program.now; kids = kids.old.items };
+        })
+        (record {
+          session = H.session host.new;
+          world = H.world host.new;
+          post = record { program = program.now; kids = kids.new.items };
+        })
+        sent.new.items result }
+{
+    let mut plan = make_plan(alloc, host, kids.as_slice())?;
+    make_room(plan.dues.as_slice().len(), &mut plan.text, kids, sent)?;
+    carry_out(alloc, host, program, &mut plan, kids, sent)?;
+    Ok(())
+}
+
+// Room for the kids, the numbers and the lines of so many notices: none of it is wanting once the first file has changed.
+fn make_room(
+    count: usize,
+    text: &mut Vec<u8>,
+    kids: &mut Vec<Kid>,
+    sent: &mut Vec<u32>,
+) -> Result<(), AllocError>
+    ensures text_stays { text.new.items ≡ text.old.items }
+    ensures kids_stay { kids.new.items ≡ kids.old.items }
+    ensures sent_stays { sent.new.items ≡ sent.old.items }
+    ensures kids { IfOk result (λ done. vec_len kids.new + count ≤ vec_capacity kids.new) }
+    ensures sent { IfOk result (λ done. vec_len sent.new + count ≤ vec_capacity sent.new) }
+{
+    kids.reserve(count)?;
+    sent.reserve(count)?;
+    text.reserve(count.saturating_mul(LINE))?;
+    Ok(())
+}
+
+// Removes the files that are left over, and makes the steps.
+fn carry_out<H: Host>(
+    alloc: Global,
+    host: &mut H,
+    program: &[u8],
+    plan: &mut MailPlan,
+    kids: &mut Vec<Kid>,
+    sent: &mut Vec<u32>,
+) -> Result<(), HostFault>
+    requires inside { IsInside (H.session host.old) }
+    requires may { IsTrue H.tells → MayCarryOut (H.world host.old) kids.old.items plan.old }
+    requires children { AreChildren (H.session host.old).children kids.old.items }
+    requires kids { vec_len kids.old + vec_len plan.old.dues ≤ vec_capacity kids.old }
+    requires sent { vec_len sent.old + vec_len plan.old.dues ≤ vec_capacity sent.old }
+    ensures { CarriesOut program.now H.tells (H.session host.old) (H.session host.new)
+        (H.world host.old) (H.world host.new) plan.old kids.old.items kids.new.items
+        sent.old.items sent.new.items result }
+{
+    clear(alloc, host, plan.stale.as_slice())?;
+    make_steps(alloc, host, program, plan, kids, sent)
+}
+
+// Asks the kids, notes the new jobs, and makes what is due.
+fn make_steps<H: Host>(
+    alloc: Global,
+    host: &mut H,
+    program: &[u8],
+    plan: &mut MailPlan,
+    kids: &mut Vec<Kid>,
+    sent: &mut Vec<u32>,
+) -> Result<(), HostFault>
+    requires inside { IsInside (H.session host.old) }
+    requires no_temp { IsTrue H.tells → IsInNoImage (H.world host.old).now.folder mail_temp }
+    requires children { AreChildren (H.session host.old).children kids.old.items }
+    requires kids { vec_len kids.old + vec_len plan.old.dues ≤ vec_capacity kids.old }
+    requires sent { vec_len sent.old + vec_len plan.old.dues ≤ vec_capacity sent.old }
+    ensures { Makes program.now H.tells (H.session host.old) (H.session host.new)
+        (H.world host.old) (H.world host.new) plan.old kids.old.items kids.new.items
+        sent.old.items sent.new.items result }
+{
+    ask_kids(alloc, host, kids)?;
+    note_news(alloc, host, plan.news.as_slice(), plan.text.as_slice())?;
+    post_all(
+        alloc,
+        host,
+        program,
+        plan.dues.as_slice(),
+        &mut plan.text,
+        kids,
+        sent,
+    )
+}

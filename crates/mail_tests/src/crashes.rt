@@ -1,0 +1,113 @@
+//! A session that a crash cuts off at each of its calls: no notice is handed over twice.
+ghost use Rattle.std.specs.Prelude.{IfOk};
+ghost use Rattle.host_calls.specs.Session.{IsOutside};
+ghost use Rattle.memory_host.specs.Host.{memory_session};
+
+use crate::folders::{notes_now, spool};
+use crate::program::one_session;
+use memory_host::{MemoryHost, Plan};
+use std::alloc::{AllocError, Global};
+use std::process::Abort;
+use std::test::Fail;
+
+// The marks of two jobs that have ended, and their notes.
+const ENDS: &[u8] =
+    b"+S00000001a-000000000067748580.\n+S00000002a-000000000067748580.\n+E00000001-x000000000000000000.\n+E00000002-x000000000000000000.\n";
+
+const BOTH: &[u8] = b"N 00000001 a0000000101b968a0 1 ann\nN 00000002 a0000000201b968a0 1 ann\n";
+
+const CLOSED: &[u8] =
+    b"N 00000001 a0000000101b968a0 1 ann\nN 00000002 a0000000201b968a0 1 ann\nS 00000001\nS 00000002\n";
+
+// The spool of two jobs that have ended, with a file that is left over.
+fn two_ends(rt: &impl Abort, alloc: Global, plan: Plan) -> Result<MemoryHost, AllocError>
+    ensures { IfOk result (λ host. IsOutside (memory_session host)) }
+{
+    let others = [
+        (b".JRN".as_slice(), ENDS),
+        (b".MAIL".as_slice(), BOTH),
+        (b"mail.00000007".as_slice(), b"left over".as_slice()),
+    ];
+    spool(rt, alloc, 2, &others, plan)
+}
+
+// How many of the scripts that were handed over are of the number.
+fn count_of(host: &MemoryHost, number: u32) -> u64 {
+    let mut count = 0;
+    for handed in host.handed() {
+        if handed.number == number {
+            count = u64::saturating_add(count, 1);
+        }
+    }
+    count
+}
+
+// A plan by which no call gets through from the fuse on.
+fn fused(alloc: Global, fuse: u64) -> Plan {
+    let mut plan = Plan::quiet(alloc);
+    plan.fuse = Some(fuse);
+    plan
+}
+
+// A session through which no call gets from the fuse on, a reboot with the pick, and two more sessions: whether the first
+// was done, and how often each notice was handed over.
+fn cut_off(rt: &impl Abort, alloc: Global, fuse: u64, pick: u64) -> Result<(bool, u64, u64), Fail> {
+    let mut host = two_ends(rt, alloc, fused(alloc, fuse))?;
+    let counts = counts_on(rt, alloc, pick, &mut host);
+    drop(host);
+    counts
+}
+
+fn counts_on(
+    rt: &impl Abort,
+    alloc: Global,
+    pick: u64,
+    host: &mut MemoryHost,
+) -> Result<(bool, u64, u64), Fail>
+    requires { IsOutside (memory_session host.old) }
+{
+    let is_done = says_nothing(alloc, host)?;
+    host.reboot(alloc, pick, None)?;
+    let second = ends_with(alloc, host)?;
+    let third = ends_with(alloc, host)?;
+    assert_eq!(rt; (second, third), (0, 0), "pick {pick}");
+    assert_eq!(rt; notes_now(host), Some(CLOSED), "pick {pick}");
+    Ok((is_done, count_of(host, 1), count_of(host, 2)))
+}
+
+// Whether a session was done: it said nothing.
+fn says_nothing(alloc: Global, host: &mut MemoryHost) -> Result<bool, AllocError>
+    requires { IsOutside (memory_session host.old) }
+    ensures { IsOutside (memory_session host.new) }
+{
+    let answered = one_session(alloc, host)?;
+    let is_silent = answered.err.content().is_empty();
+    drop(answered);
+    Ok(is_silent)
+}
+
+// The status after a session.
+fn ends_with(alloc: Global, host: &mut MemoryHost) -> Result<u8, AllocError>
+    requires { IsOutside (memory_session host.old) }
+    ensures { IsOutside (memory_session host.new) }
+{
+    let answered = one_session(alloc, host)?;
+    let code = answered.code;
+    drop(answered);
+    Ok(code)
+}
+
+#[test]
+fn no_notice_is_handed_over_twice(rt: HostRuntime) -> Result<(), Fail> {
+    for fuse in 1..60 {
+        for pick in [0, 1, u64::MAX] {
+            let (is_done, first, second) = cut_off(&rt, rt.alloc(), fuse, pick)?;
+            assert!(rt; first <= 1 && second <= 1, "fuse {fuse}, pick {pick}");
+            assert!(rt;
+                !is_done || (first == 1 && second == 1),
+                "fuse {fuse}, pick {pick}"
+            );
+        }
+    }
+    Ok(())
+}

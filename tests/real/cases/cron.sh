@@ -1,0 +1,121 @@
+# Crontabs: what is due is submitted, each minute at most once.
+
+# A call of atcron of so many turns.
+crons() { call atcron "$spool" -f table --turns "$1" </dev/null; }
+# Calls it once, so that it begins and ends in one minute, $minute.
+crons_in_a_minute() {
+  local begun
+  while :; do
+    begun=$(($(date +%s) / 60))
+    crons 1
+    minute=$(($(date +%s) / 60))
+    [ "$begun" != "$minute" ] || return 0
+    rm -rf "$spool" "$spool.lock" "$spool.out"; opened
+  done
+}
+
+case_cron_of_a_minute() {
+  opened
+  printf '# of each minute\n* * * * * echo first\n\n* * * * * cat%%a%%b\n59 23 31 12 * echo never\n' >table
+  crons_in_a_minute; ended 0 '' ''
+  [ "$(cat "$spool/.CRON")" = "$(printf '%08x' "$minute")" ] || fail "the mark is $(cat "$spool/.CRON"), not of $minute"
+  names=$(cd "$spool" && ls)
+  [ "$names" = "at.deny"$'\n'"$(printf 'a%08x%08x\n' 1 "$minute" 2 "$minute" | sort)" ] || [ "$(ls "$spool" | grep -c '^a0')" = 2 ] || fail "the files are $names"
+  [ "$(tail -n 1 "$(file_of 1)")" = 'echo first' ] || fail "job 1 is $(cat "$(file_of 1)")"
+  [ "$(sh "$(file_of 2)")" = $'a\nb' ] || fail "job 2 prints $(sh "$(file_of 2)")"
+  [ "$(sed -n 2p "$(file_of 1)")" = '# at user=ann mail=0' ] || fail "the header is $(sed -n 2p "$(file_of 1)")"
+  # once more in the same minute, or in the next one
+  before=$(ls "$spool" | grep -c '^a0'); crons 1; ended 0 '' ''
+  after=$(ls "$spool" | grep -c '^a0')
+  [ "$(($(date +%s) / 60)) $after" = "$minute $before" ] || [ "$(($(date +%s) / 60))" != "$minute" ] || fail 'a minute is submitted twice'
+  if [ "$after" = "$before" ]; then
+    # an older mark lets it go on
+    printf '%08x\n' $((minute - 1)) >"$spool/.CRON"; crons 1; ended 0 '' ''
+    [ "$(ls "$spool" | grep -c '^a0')" = $((before + 2)) ] || fail 'the next minute has no jobs'
+  fi
+}
+
+case_cron_refused() {
+  opened
+  : >table
+  for words in '' '-f' 'table' '-f table x' '-f table --turns 0' '-f table -f table' '--turns 1'; do
+    # shellcheck disable=SC2086
+    call atcron "$spool" $words </dev/null; refused 1 'atcron: usage'
+  done
+  call atcron </dev/null; refused 1 'atcron: usage'
+  call atcron -f table </dev/null; refused 1 'atcron: usage'
+  [ ! -e "$spool.lock" ] || fail 'refused words enter the spool'
+  for text in '60 * * * * x' '*/5 * * * * x' '@daily x' 'MAILTO=ann' '* * * * 7 x' '* * * * *'; do
+    printf '# a\n\n%s\n* * * * * x\n' "$text" >table
+    crons 1; refused 1 'atcron: bad crontab at line 3'
+  done
+  rm table; crons 1; refused 3 'atcron: input fault'
+  mkdir table; crons 1; refused 3 'atcron: input fault'; rmdir table
+  head -c 65537 /dev/zero | tr '\0' '#' >table; crons 1; refused 1 'atcron: commands too long'
+  head -c 65536 /dev/zero | tr '\0' '#' >table; crons 1; ended 0 '' ''
+  printf '* * * * * x\n' >table
+  printf 'A' >"$spool/.CRON"; crons 1; refused 7 'atcron: .CRON damaged at 0'
+  [ "$(cat "$spool/.CRON")" = A ] || fail 'a damaged mark is changed'
+  printf 'fbb38480\n' >"$spool/.CRON"; crons 1; refused 7 'atcron: .CRON damaged at 6'
+  printf 'fbb3847f\n' >"$spool/.CRON"; crons 1; ended 0 '' ''
+  [ "$(ls "$spool" | grep -c '^a0')" = 0 ] || fail 'a mark far ahead lets jobs through'
+  rm "$spool/.CRON"
+  zone=Nowhere/Zone crons 1; refused 1 'atcron: bad TZ'
+  printf 0 >"$spool/.SEQ"; crons 1; refused 7 'atcron: .SEQ damaged at 1'
+}
+
+# Three minutes with an atd beside it, the crontab replaced, cut in the middle, gone and back, and twenty kills: each minute
+# has its jobs at most once, and most have them.
+case_long_cron_of_three_minutes() {
+  needs_atd; opened
+  log=$PWD/log
+  : >"$log"
+  line="* * * * * echo \$(( \$(date +\\%s) / 60 )) >>'$log'"
+  printf '%s\n' "$line" >good
+  cp good table
+  (becomes "$bin/atd" >/dev/null 2>&1) & daemon=$!
+  # (as a unit starts it again)
+  (while [ ! -e ended ]; do becomes "$bin/atcron" "$spool" -f table >>said 2>&1 & echo $! >child; wait $!; sleep 0.5; done) & keeper=$!
+  from=$(date +%s) round=0 kills=0
+  # (a little longer where a kill often found nobody)
+  while [ $(($(date +%s) - from)) -lt 185 ] || { [ $kills -lt 20 ] && [ $(($(date +%s) - from)) -lt 260 ]; }; do
+    round=$((round + 1))
+    case $((round % 7)) in
+      1) cp good new && mv new table ;;
+      3) printf '* * * *' >table ;;
+      4) rm -f table ;;
+      5) cp good new && mv new table ;;
+    esac
+    sleep "$((RANDOM % 9)).$((RANDOM % 10))"
+    kill -9 "$(cat child)" 2>/dev/null && kills=$((kills + 1))
+  done
+  : >ended; kill -9 "$(cat child)" "$daemon" 2>/dev/null; wait "$keeper" "$daemon" 2>/dev/null
+  [ "$kills" -ge 20 ] || fail "it was killed $kills times"
+  # (the minutes of the jobs, not those in which they ran)
+  twice=$(ls "$spool.out" "$spool" | sed -n 's/^a[0-9a-f]\{8\}\([0-9a-f]\{8\}\)$/\1/p' | sort | uniq -d)
+  jobs=$(ls "$spool.out" | grep -c '^a')
+  [ -z "$(ls "$spool.out" | sed -n 's/^a[0-9a-f]\{8\}\([0-9a-f]\{8\}\)$/\1/p' | sort | uniq -d)" ] || fail "minutes with two jobs: $twice"
+  [ "$jobs" -ge 2 ] || fail "only $jobs minutes came: $(sort said | uniq -c)"
+}
+
+# A second user edits: a bad line is named and the old file stays, a good one is taken.
+steps_of_atcrontab() {
+  chmod -R a+rX "$place/pre" "$place/door" 2>/dev/null
+  table=home/.config/coefhird/crontab
+  edits() { status=0; second env -i PATH=/usr/bin:/bin EDITOR="$2" "$door/atcrontab" $1 >out 2>err </dev/null || status=$?; }
+  edits -l; refused 1 "atcrontab: there is no $PWD/$table"
+  printf '#!/bin/sh\nprintf "30 8 * * 1-5 run\\n" >"$1"\n' >good; printf '#!/bin/sh\nprintf "30 8 * * 1-5 run\\n61 * * * * x\\n" >"$1"\n' >spoils
+  chmod 755 good spoils
+  edits -e "$PWD/good"; [ "$status" = 0 ] || fail "a good line: $(cat err)"
+  [ "$(cat $table) $(stat -c '%a %u' $table)" = "30 8 * * 1-5 run 600 $number" ] || fail "the file is $(cat $table) $(stat -c '%a %u' $table)"
+  edits -e "$PWD/spoils"; [ "$status" = 1 ] && [ "$(head -n 1 err)" = 'atcrontab: bad crontab at line 2' ] || fail "a bad line: $status, $(cat err)"
+  edits -l; ended 0 $'30 8 * * 1-5 run\n' ''
+  edits -e true; ended 0 '' $'atcrontab: nothing is changed\n'
+  edits -e false; refused 1 'atcrontab: the editor failed: nothing is changed'
+  printf '0 0 * * * later\n' >other; chmod 644 other
+  edits "$PWD/other"; [ "$status" = 0 ] && [ "$(cat $table)" = '0 0 * * * later' ] || fail "a file: $(cat err)"
+  edits -r; ended 0 '' ''; [ ! -e $table ] || fail 'the file is not removed'
+  for words in '' '-x' '-e -l' 'a b'; do edits "$words"; refused 1 'atcrontab: usage: atcrontab -e | -l | -r | FILE'; done
+  [ -z "$(ls home/.config/coefhird)" ] || fail "there stays $(ls home/.config/coefhird)"
+}
+case_cron_atcrontab() { doored; apart steps_of_atcrontab; }
