@@ -25,13 +25,14 @@ use Rattle.step_runs.specs.Current.{Kept}
 use Rattle.step_runs.specs.WithoutScripts.{entry_without_script, without_scripts}
 use Rattle.step_runs.proofs.WithoutScriptsLemmas.{entries_are_without_scripts}
 use Rattle.whole_file.specs.Others.{ChangesFiles, IsEither}
+use Rattle.whole_file.specs.Replacing.{IsCertainAt}
 use Rattle.whole_file.proofs.ChangesJoined.{changes_end, changes_on, changes_weaker, left_alone}
 use Rattle.at_account.specs.Accounting.{IsAccounted, IsAccounting}
 use Rattle.at_account.specs.Counting.{AreCounted, GivesRecords, IsAccountDamage}
 use Rattle.at_account.specs.Names.{account_file, account_temp}
 use Rattle.at_account.specs.Showing.{IsShown}
 use Rattle.at_account.specs.inside.Filing as file
-use Rattle.at_account.specs.inside.Filing.{EachGives, IsCertainAt, IsWriting}
+use Rattle.at_account.specs.inside.Filing.{EachGives, IsWriting}
 use Rattle.at_account.specs.inside.Inside.{IsCounted, IsOfWork, StopsCounting, StopsInside}
 use Rattle.at_account.proofs.NameLemmas.{both_beside, file_beside, temp_beside}
 

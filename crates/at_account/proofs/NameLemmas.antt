@@ -1,35 +1,19 @@
 -- The names of accounts are none of the store's, and differ.
-use Rattle.std.proofs.Common.{◌≡◌, ◌≢◌, ◌∙◌, ℕ, true, false, List, inl, inr, refl, sym, subst}
-use Rattle.std.specs.Str.{bytes_eq}
-use Rattle.std.proofs.lemmas.Slice.Eq.{bytes_eq-Decides}
-use Rattle.sequence_file.specs.Sequence.{sequence_file}
+use Rattle.std.proofs.Common.{◌≢◌, refl}
+use Rattle.spool_shows.proofs.NameLemmas.{differ_by}
 use Rattle.spool_store.specs.Beside.{IsBeside}
-use Rattle.spool_store.proofs.BesideLemmas.{AreBeside}
-use Rattle.start_journal.specs.Journals.{journal_file}
-use Rattle.step_runs.specs.Current.{IsSpoolName}
+use Rattle.spool_store.proofs.BesideLemmas.{AreBeside, beside_by, two_beside}
 use Rattle.whole_file.specs.Others.{IsEither}
-use Rattle.whole_file.specs.Temporary.{temporary_file}
 use Rattle.at_account.specs.Names.{account_file, account_temp}
 
--- names that a test tells apart
-apart : (first second : List ℕ) → bytes_eq first second ≡ false → first ≢ second
-apart first second test same = let impossible : true ≡ false = sym ((bytes_eq-Decides first second).1 same) ∙ test in cc
-
 pub file_beside : IsBeside account_file
-file_beside (inl is) = apart account_file sequence_file refl is
-file_beside (inr (inl is)) = apart account_file journal_file refl is
-file_beside (inr (inr (inl is))) = apart account_file temporary_file refl is
-file_beside (inr (inr (inr named))) = let impossible : false ≡ true = named in cc
+file_beside = beside_by account_file refl refl refl refl
 
 pub temp_beside : IsBeside account_temp
-temp_beside (inl is) = apart account_temp sequence_file refl is
-temp_beside (inr (inl is)) = apart account_temp journal_file refl is
-temp_beside (inr (inr (inl is))) = apart account_temp temporary_file refl is
-temp_beside (inr (inr (inr named))) = let impossible : false ≡ true = named in cc
+temp_beside = beside_by account_temp refl refl refl refl
 
 pub both_beside : AreBeside (IsEither account_temp account_file)
-both_beside name (inl is) spool = temp_beside (subst IsSpoolName is spool)
-both_beside name (inr is) spool = file_beside (subst IsSpoolName is spool)
+both_beside = two_beside account_temp account_file temp_beside file_beside
 
 pub temp_apart : account_temp ≢ account_file
-temp_apart = apart account_temp account_file refl
+temp_apart = differ_by account_temp account_file refl

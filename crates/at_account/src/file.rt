@@ -1,18 +1,17 @@
 //! The file of accounts, read and replaced.
-ghost use Rattle.std.specs.Prelude.{◌≡◌, [], ◌∷◌, Some, All, IfErr, IfOk, IsTrue, OnOk};
+ghost use Rattle.std.specs.Prelude.{◌≡◌, Some, All, IfErr, IfOk, IsTrue, OnOk};
 ghost use Rattle.std.specs.FinMap as map;
 ghost use Rattle.account_records.specs.Lines.{SpellsRecord};
 ghost use Rattle.command_rules.specs.Causes.{error_of};
-ghost use Rattle.host_calls.specs.Folder.{IsInNoImage};
 ghost use Rattle.host_calls.specs.Session.{CallsInside, IsInside};
 ghost use Rattle.host_calls.specs.World.{reading};
 ghost use Rattle.listing_text.specs.declared.cause.Cause.TheVariants as cause;
 ghost use Rattle.record_lines.specs.Lines.{CanBeSpelled};
-ghost use Rattle.whole_file.specs.Clearing.{IsClearing};
 ghost use Rattle.whole_file.specs.Others.{ChangesFiles};
 ghost use Rattle.whole_file.specs.Placing.{IsPlacing};
+ghost use Rattle.whole_file.specs.Replacing.{IsCertainAt};
 ghost use Rattle.at_account.specs.Names.{account_file, account_temp};
-ghost use Rattle.at_account.specs.inside.Filing.{EachGives, IsCertainAt, IsOfHost, IsOfReading, IsPlacedAt, IsWriting, ReadsAccount};
+ghost use Rattle.at_account.specs.inside.Filing.{EachGives, IsOfHost, IsOfReading, IsPlacedAt, IsWriting, ReadsAccount};
 
 use crate::{account_name, account_temporary_name};
 use account_totals::Account;
@@ -21,7 +20,7 @@ use host_calls::{Damage, Host, HostFault};
 use listing_text::Cause;
 use record_lines::{LinesFault, text_of};
 use std::alloc::Global;
-use whole_file::{clear, content, place};
+use whole_file::{content, replace};
 
 // The account of the file; one without records where there is no file.
 pub(crate) fn read_account<H: Host>(alloc: Global, host: &mut H) -> Result<Account, CommandError>
@@ -72,12 +71,12 @@ pub(crate) fn write_account<H: Host>(
     ensures written { IsTrue H.tells → OnOk result (EachGives account.now (H.world host.new).now.folder) }
 {
     let text = text_of(alloc, account.records())?;
-    replace(alloc, host, text.as_slice())?;
+    replace_text(alloc, host, text.as_slice())?;
     Ok(())
 }
 
 // Gives the file these bytes.
-fn replace<H: Host>(alloc: Global, host: &mut H, bytes: &[u8]) -> Result<(), HostFault>
+fn replace_text<H: Host>(alloc: Global, host: &mut H, bytes: &[u8]) -> Result<(), HostFault>
     requires inside { IsInside (H.session host.old) }
     requires certain { IsTrue H.tells → IsCertainAt account_temp (H.world host.old).now.folder }
     ensures inside { CallsInside HostFault.Failed (H.session host.old) (H.session host.new) result }
@@ -86,30 +85,11 @@ fn replace<H: Host>(alloc: Global, host: &mut H, bytes: &[u8]) -> Result<(), Hos
         (H.world host.old) (H.world host.new) }
     ensures placed { IsTrue H.tells → OnOk result (IsPlacedAt account_file bytes.now (H.world host.new).now.folder) }
 {
-    clear_temporary(alloc, host)?;
-    place(
+    replace(
         alloc,
         host,
         &account_temporary_name(),
         &account_name(),
         bytes,
     )
-}
-
-// Removes what was left of a file of accounts that was being made.
-fn clear_temporary<H: Host>(alloc: Global, host: &mut H) -> Result<(), HostFault>
-    requires inside { IsInside (H.session host.old) }
-    requires certain { IsTrue H.tells → IsCertainAt account_temp (H.world host.old).now.folder }
-    ensures inside { CallsInside HostFault.Failed (H.session host.old) (H.session host.new) result }
-    ensures files { IsTrue H.tells
-        → ChangesFiles (IsClearing (account_temp ∷ []) (H.world host.old).now.folder)
-        (H.world host.old) (H.world host.new) }
-    ensures gone { IsTrue H.tells → OnOk result (IsInNoImage (H.world host.new).now.folder account_temp) }
-{
-    let temporary = account_temporary_name();
-    if content(alloc, host, &temporary)?.is_none() {
-        return Ok(());
-    }
-    clear(alloc, host, &[temporary])?;
-    Ok(())
 }

@@ -1,15 +1,33 @@
 -- What a tool's words ask for, by what the parse of them answers.
-use Rattle.std.proofs.Common.{◌≡◌, [], ◌∷◌, List, Result, Ok, Err, sym, subst, refl}
+use Rattle.std.proofs.Common.{◌≡◌, ◌∙◌, ◌==◌, [], ◌∷◌, true, List, Result, Ok, Err, IfOk, arith, length, map, sym, subst, refl}
+use Rattle.std.proofs.lemmas.Bool.{eqb-true}
+use Rattle.std.specs.declared.alloc.AllocError.{AllocError}
 use Rattle.clap.specs.Faults.{fault_of}
 use Rattle.clap.specs.Kinds.{Kinds}
 use Rattle.clap.specs.Matches.{found_of}
-use Rattle.clap.specs.Simple.{App, matches_of}
-use Rattle.clap.specs.Walk.{Row, Text, rows_of}
+use Rattle.clap.specs.Simple.{App, app_of, matches_of, with_rule}
+use Rattle.clap.specs.Walk.{Row, Rule, Text, rows_of}
+use Rattle.clap.specs.declared.builder.command.Command.{Command}
 use Rattle.clap.specs.declared.parser.matches.ArgMatches.{ArgMatches}
 use Rattle.at_words.specs.Answers.{Answers, asked_of, if_taken}
 use Rattle.at_words.specs.Parsing.{Parses}
 use Rattle.at_words.specs.declared.fault.WordsFault.{WordsFault}
 use Rattle.at_words.specs.declared.fault.WordsFault.TheVariants.{Usage, BadQueue, Memory}
+
+-- a command with the argument
+abbrev pub with : Rule → App → App
+with rule app = with_rule app rule
+
+-- what the last argument makes of a command
+pub made_with : (result : Result Command AllocError) (base whole : App) (rule : Rule) → IfOk result (λ made. app_of made ≡ with_rule base rule)
+    → with_rule base rule ≡ whole → IfOk result (λ made. app_of made ≡ whole)
+made_with (Ok made) base whole rule is same = is ∙ same
+made_with (Err fault) base whole rule is same = tt
+
+-- where there is no word, there is none to read
+pub no_words : {W : Type 0} (text_of : W → Text) (words : List W) → (length words == 0) ≡ true → map text_of words ≡ []
+no_words text_of [] none = refl
+no_words text_of (word ∷ words) none = absurd (let length_is : length (word ∷ words) ≡ 0 = eqb-true (length (word ∷ words)) 0 none in omega arith)
 
 module _ {T : Type 0} where
   -- where there is some fault, the answer is that the words are not taken

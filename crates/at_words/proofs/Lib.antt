@@ -1,4 +1,4 @@
-mod AskLemmas
+pub mod AskLemmas
 mod CommandLemmas
 mod DigitLemmas
 mod LetterLemmas

@@ -14,7 +14,7 @@ use Rattle.spool_store.proofs.BesideLemmas.{shows_the_same, stays_current}
 use Rattle.step_runs.specs.Calls.{IsSteppingOn}
 use Rattle.step_runs.specs.Current.{EachShows, IsCurrent, IsSpoolName, Kept}
 use Rattle.whole_file.specs.Others.{ChangesFiles, IsEither}
-use Rattle.whole_file.specs.Placing.{IsPlacing}
+use Rattle.whole_file.specs.Placing.{IsPlaced, IsPlacing}
 use Rattle.whole_file.proofs.ChangesJoined.{changes_end, changes_on, changes_weaker, left_alone}
 use Rattle.whole_file.proofs.OthersLemmas.{one_or_other}
 use Rattle.cron_mark.specs.Mark.{mark_text}
@@ -22,7 +22,6 @@ use Rattle.cron_mark.specs.Names.{mark_file, mark_temp}
 use Rattle.cron_session.specs.Leaving.{HasCome, IsMarked, IsOnTheMark, IsUnmarked}
 use Rattle.cron_session.specs.Steps.{submissions}
 use Rattle.cron_session.specs.inside.Marking.{MarkingEnds, MarkingLeaves}
-use Rattle.cron_session.specs.inside.Placing.{HasMark}
 use Rattle.cron_session.specs.inside.Submitting.{IsPartOf, Part, SubmissionsLeave}
 use Rattle.cron_session.proofs.NameLemmas.{both_beside, file_beside}
 
@@ -88,7 +87,7 @@ mark_failed minute table jobs old new fault shows marks = record {
 
 -- The mark was placed.
 module _ (minute : ℕ) (table : JobTable) (kept : Kept) (old middle : World) (current : IsCurrent kept old.now.folder table)
-    (marks : ChangesFiles (IsMarking minute old.now.folder) old middle) (mark : HasMark minute old.now.folder middle.now.folder) where
+    (marks : ChangesFiles (IsMarking minute old.now.folder) old middle) (mark : IsPlaced mark_temp mark_file (mark_text minute) old.now.folder middle.now.folder) where
   -- what is kept is current still
   pub current_then : IsCurrent kept middle.now.folder table
   current_then = stays_current (IsEither mark_temp mark_file) both_beside kept table old.now.folder middle.now.folder current (record {

@@ -13,7 +13,6 @@ use Rattle.spool_store.specs.Faults.{IsOfStep, fault_of}
 use Rattle.step_runs.specs.Current.{Kept}
 use Rattle.whole_file.specs.Others.{ChangesFiles}
 use Rattle.cron_session.specs.inside.Marking.{MarksAndSubmits}
-use Rattle.cron_session.specs.inside.Placing.{HasMark}
 use Rattle.cron_session.specs.inside.Submitting.{SubmitsAll}
 use Rattle.cron_session.proofs.CauseLemmas.{memory_is_none}
 use Rattle.cron_session.proofs.MarkLemmas.{IsMarking, current_then, mark_failed, submitted_marked}
@@ -49,7 +48,7 @@ module _ (tells : Bool) (before between : Session) (old middle : World) (kept : 
 
   -- it was placed
   pub marks_submitted : (after : Session) (new : World) (is : List ℕ) (result : Result (Unit {0}) StoreFault) → CallsInside {T = Unit {0}} host.Failed before between (Ok tt) →
-      (tells ≡ true → HasMark minute old.now.folder middle.now.folder) → SubmitsAll tells between after middle new kept jobs was is result →
+      (tells ≡ true → IsPlaced mark_temp mark_file (mark_text minute) old.now.folder middle.now.folder) → SubmitsAll tells between after middle new kept jobs was is result →
       MarksAndSubmits tells before after old new kept minute jobs was is result
   marks_submitted after new is result inside mark submits = record {
     inside = record {

@@ -36,7 +36,7 @@ use Rattle.cron_session.specs.Leaving.{CronLeaves, IsIdle, IsOnTheMark, IsQuiet,
 use Rattle.cron_session.specs.Steps.{AreDueJobs, AreToSubmit, Cron, HasRoomFor, IsBefore, minute_of, numbers_after, submissions}
 use Rattle.cron_session.specs.inside.Due.{AreDueAt, cron_jobs}
 use Rattle.cron_session.specs.inside.Marking.{MarksAndSubmits}
-use Rattle.cron_session.specs.inside.Placing.{IsCertainAt}
+use Rattle.whole_file.specs.Replacing.{IsCertainAt}
 use Rattle.cron_session.specs.inside.Room.{IsRoomFault}
 use Rattle.cron_session.specs.inside.Working.{DueLeaves, IsBegun, IsRefused, IsUntouched, SubmitsDue, end_after}
 use Rattle.cron_session.proofs.CauseLemmas.{full_is_none, memory_is_none, used_up_is_none}

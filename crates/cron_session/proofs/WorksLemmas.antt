@@ -21,7 +21,7 @@ use Rattle.cron_mark.specs.Mark.{IsMark, IsMarkDamage}
 use Rattle.cron_mark.specs.Names.{mark_file, mark_temp}
 use Rattle.cron_session.specs.Leaving.{CronAt, CronLeaves}
 use Rattle.cron_session.specs.Steps.{Cron, IsBefore, minute_of}
-use Rattle.cron_session.specs.inside.Placing.{IsCertainAt}
+use Rattle.whole_file.specs.Replacing.{IsCertainAt}
 use Rattle.cron_session.specs.declared.report.CronEnd.TheVariants.{Damaged}
 use Rattle.cron_session.specs.inside.Working.{SubmitsDue, Works, end_by, is_since}
 use Rattle.cron_session.proofs.CauseLemmas.{ok_is_none, same_fault}

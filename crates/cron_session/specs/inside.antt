@@ -1,6 +1,5 @@
 pub mod Due
 pub mod Marking
-pub mod Placing
 pub mod Room
 pub mod Submitting
 pub mod Working

@@ -1,20 +1,19 @@
 //! The mark of a minute is placed, and then its jobs are submitted.
-ghost use Rattle.std.specs.Prelude.{◌≡◌, ◌+◌, ◌≤◌, ◌<◌, All, IsTrue, OnOk, length, vec_capacity, vec_len, ◌∷◌, []};
+ghost use Rattle.std.specs.Prelude.{◌≡◌, ◌+◌, ◌≤◌, ◌<◌, All, IsTrue, OnOk, length, vec_capacity, vec_len};
 ghost use Rattle.clock_range.specs.ClockRange.{IsClockMinute};
 ghost use Rattle.host_calls.specs.Session.{CallsInside, IsInside};
 ghost use Rattle.job_script.specs.Check.{IsFit};
 ghost use Rattle.job_script.specs.declared.writer.TheConstants.{MAX_COMMANDS};
 ghost use Rattle.spool_model.specs.JobTable.{JobTable};
 ghost use Rattle.step_runs.specs.Current.{IsCurrent};
-ghost use Rattle.whole_file.specs.Clearing.{IsClearing};
 ghost use Rattle.whole_file.specs.Others.{ChangesFiles};
-ghost use Rattle.whole_file.specs.Placing.{IsPlacing};
+ghost use Rattle.whole_file.specs.Placing.{IsPlaced, IsPlacing};
+ghost use Rattle.whole_file.specs.Replacing.{IsCertainAt};
 ghost use Rattle.cron_mark.specs.Mark.{mark_text};
 ghost use Rattle.cron_mark.specs.Names.{mark_file, mark_temp};
 ghost use Rattle.cron_session.specs.Steps.{HasRoomFor};
 ghost use Rattle.cron_session.specs.inside.Due.{cron_jobs};
 ghost use Rattle.cron_session.specs.inside.Marking.{MarksAndSubmits};
-ghost use Rattle.cron_session.specs.inside.Placing.{HasMark, HasNoTemp, IsCertainAt};
 
 use crate::submit::submit_all;
 use cron_mark::{mark_name, mark_temporary_name, mark_text};
@@ -22,7 +21,7 @@ use host_calls::{Bytes, Host, HostFault};
 use job_script::Context;
 use spool_store::{Store, StoreFault};
 use std::alloc::Global;
-use whole_file::{clear, content, place};
+use whole_file::replace;
 
 // Marks the minute, and then submits a job of each of the commands, in order.
 pub(crate) fn mark_and_submit<H: Host>(
@@ -60,33 +59,14 @@ fn place_mark<H: Host>(alloc: Global, host: &mut H, minute: u32) -> Result<(), H
         → ChangesFiles (IsPlacing mark_temp mark_file (mark_text minute) (H.world host.old).now.folder)
         (H.world host.old) (H.world host.new) }
     ensures placed { IsTrue H.tells
-        → OnOk result (HasMark minute (H.world host.old).now.folder (H.world host.new).now.folder) }
+        → OnOk result (IsPlaced mark_temp mark_file (mark_text minute)
+        (H.world host.old).now.folder (H.world host.new).now.folder) }
 {
-    clear_temporary(alloc, host)?;
-    place(
+    replace(
         alloc,
         host,
         &mark_temporary_name(),
         &mark_name(),
         &mark_text(minute),
     )
-}
-
-// Removes what was left of a mark that was being made.
-fn clear_temporary<H: Host>(alloc: Global, host: &mut H) -> Result<(), HostFault>
-    requires inside { IsInside (H.session host.old) }
-    requires certain { IsTrue H.tells → IsCertainAt mark_temp (H.world host.old).now.folder }
-    ensures inside { CallsInside HostFault.Failed (H.session host.old) (H.session host.new) result }
-    ensures files { IsTrue H.tells
-        → ChangesFiles (IsClearing (mark_temp ∷ []) (H.world host.old).now.folder)
-        (H.world host.old) (H.world host.new) }
-    ensures gone { IsTrue H.tells
-        → OnOk result (HasNoTemp (H.world host.old).now.folder (H.world host.new).now.folder) }
-{
-    let temporary = mark_temporary_name();
-    if content(alloc, host, &temporary)?.is_none() {
-        return Ok(());
-    }
-    clear(alloc, host, &[temporary])?;
-    Ok(())
 }

@@ -8,7 +8,7 @@ ghost use Rattle.host_calls.specs.Session.{IsInside};
 ghost use Rattle.job_script.specs.Check.{IsFit};
 ghost use Rattle.spool_model.specs.JobTable.{JobTable};
 ghost use Rattle.step_runs.specs.Current.{IsCurrent};
-ghost use Rattle.cron_session.specs.inside.Placing.{IsCertainAt};
+ghost use Rattle.whole_file.specs.Replacing.{IsCertainAt};
 ghost use Rattle.cron_session.specs.inside.Working.{SubmitsDue, Works, is_since};
 
 use crate::due::due_at;

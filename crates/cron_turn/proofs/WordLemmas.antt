@@ -1,71 +1,18 @@
 -- What the words ask for.
-use Rattle.std.proofs.Common.{◌≡◌, ◌∙◌, ◌==◌, [], ◌∷◌, true, false, List, length, map, refl, sym, subst, arith}
-use Rattle.std.specs.Prelude.{IfOk, Result, Ok, Err}
-use Rattle.std.specs.declared.alloc.AllocError.{AllocError}
-use Rattle.std.proofs.lemmas.Bool.{eqb-true}
-use Rattle.clap.specs.Faults.{fault_of, is_simple_and_free}
-use Rattle.clap.specs.Kinds.{Kinds}
-use Rattle.clap.specs.Matches.{found_of}
-use Rattle.clap.specs.Simple.{App, app_of, matches_of, with_rule}
-use Rattle.clap.specs.Walk.{Row, Rule, Text, rows_of}
-use Rattle.clap.specs.declared.builder.command.Command.{Command}
-use Rattle.clap.specs.declared.parser.matches.ArgMatches.{ArgMatches}
+use Rattle.std.proofs.Common.{◌≡◌, ◌==◌, [], ◌∷◌, true, false, List, length, map, refl}
+use Rattle.clap.specs.Faults.{is_simple_and_free}
+use Rattle.clap.specs.Walk.{Text}
 use Rattle.clap.proofs.OnLiterals.{clap_on_literals}
-use Rattle.at_words.specs.Answers.{Answers, asked_of, if_taken}
+use Rattle.at_words.specs.Answers.{asked_of}
 use Rattle.at_words.specs.Commands.{bare_app}
-use Rattle.at_words.specs.Parsing.{Parses}
-use Rattle.at_words.specs.declared.fault.WordsFault.{WordsFault}
-use Rattle.at_words.specs.declared.fault.WordsFault.TheVariants.{Usage, BadQueue, Memory}
 use Rattle.cron_turn.specs.Words.{cron_app, cron_asked, crontab_asked}
 
 pub cron_app-simple : is_simple_and_free cron_app ≡ true
 unfolding clap_on_literals bare_app cron_app
 cron_app-simple = refl
 
--- a command with the argument
-abbrev pub with : Rule → App → App
-with rule app = with_rule app rule
-
--- what the last argument makes of a command
-pub made_with : (result : Result Command AllocError) (base whole : App) (rule : Rule) → IfOk result (λ made. app_of made ≡ with_rule base rule) → with_rule base rule ≡ whole → IfOk result (λ made. app_of made ≡ whole)
-made_with (Ok made) base whole rule is same = is ∙ same
-made_with (Err fault) base whole rule is same = tt
-
 -- words with a first one
-pub asked_with_name : {W : Type 0} (text_of : W → Text) (words : List W) → (length words == 0) ≡ false → cron_asked (map text_of words) ≡ asked_of cron_app crontab_asked (map text_of words)
+pub asked_with_name : {W : Type 0} (text_of : W → Text) (words : List W) → (length words == 0) ≡ false
+    → cron_asked (map text_of words) ≡ asked_of cron_app crontab_asked (map text_of words)
 asked_with_name text_of [] none = let impossible : true ≡ false = none in cc
 asked_with_name text_of (word ∷ words) none = refl
-
--- and without
-pub asked_without_name : {W : Type 0} (text_of : W → Text) (words : List W) → (length words == 0) ≡ true → map text_of words ≡ []
-asked_without_name text_of [] none = refl
-asked_without_name text_of (word ∷ words) none = absurd (let length_is : length (word ∷ words) ≡ 0 = eqb-true (length (word ∷ words)) 0 none in omega arith)
-
-module _ {T : Type 0} where
-  -- where there is some fault, the answer is that the words are not taken
-  refused : (kinds : Kinds) (asked : Result T WordsFault) → ¬ (kinds ≡ []) → Answers (if_taken kinds asked) (Err Usage)
-  refused [] asked some = absurd (some refl)
-  refused (kind ∷ kinds) asked some = refl
-
-  -- what is asked for is an answer
-  pub answers_same : (asked result : Result T WordsFault) → result ≡ asked → Answers asked result
-  answers_same asked (Ok value) same = same
-  answers_same asked (Err Usage) same = same
-  answers_same asked (Err BadQueue) same = same
-  answers_same asked (Err Memory) same = tt
-
-  module _ (app : App) (asked : List Row → Result T WordsFault) (words : List Text) (made : App) (is : made ≡ app) where
-    -- the words are taken, and the answer is over their matches
-    pub asks_taken : (matches : ArgMatches) (result : Result T WordsFault) → Parses made words (Ok matches) → Answers (asked (rows_of (found_of matches))) result → Answers (asked_of app asked words) result
-    asks_taken matches result parses answers =
-        let parsed = subst (λ (app : App). Parses app words (Ok matches)) is parses in
-        subst (λ (kinds : Kinds). Answers (if_taken kinds (asked (matches_of app words))) result) (sym parsed.0)
-        (subst (λ (rows : List Row). Answers (asked rows) result) parsed.1 answers)
-
-    -- the words are not taken, or there is no memory
-    pub asks_refused : (fault : WordsFault) → Parses made words (Err fault) → Answers (asked_of app asked words) (Err fault)
-    asks_refused fault parses = by_fault fault (subst (λ (app : App). Parses app words (Err fault)) is parses) where
-      by_fault : (fault : WordsFault) → Parses app words (Err fault) → Answers (asked_of app asked words) (Err fault)
-      by_fault Usage parses = refused (fault_of app words) (asked (matches_of app words)) parses
-      by_fault BadQueue parses = absurd parses
-      by_fault Memory parses = tt

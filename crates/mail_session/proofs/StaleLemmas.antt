@@ -1,15 +1,11 @@
 -- Files of mail that are left over.
-use Rattle.std.proofs.Common.{◌≡◌, ◌≢◌, ◌∙◌, ℕ, Bool, true, false, List, Option, Some, None, [], ◌∷◌, filter, map, refl, sym, ap, subst, inl, inr, arith}
-use Rattle.std.specs.Prelude.{◌||◌, AllPairs, Contains, IsSome, nat_eq, not}
-use Rattle.std.specs.Cmp.Lexicographic.{bytes_decides, nat_list_cmp_total, pointwise}
+use Rattle.std.proofs.Common.{◌≡◌, ◌≢◌, ◌∙◌, ℕ, Bool, true, false, List, Option, Some, None, refl, sym, ap, inl, inr}
+use Rattle.std.specs.Prelude.{◌||◌, Contains, IsSome, nat_eq, not}
+use Rattle.std.specs.Cmp.Lexicographic.{bytes_decides, pointwise}
 use Rattle.std.specs.FinMap as finite
-use Rattle.std.specs.FinMap.{entries, entries_sorted}
 use Rattle.std.proofs.lemmas.Bool.{or_cases}
-use Rattle.std.proofs.lemmas.List.Elements.{All-contains_itself}
-use Rattle.std.proofs.lemmas.List.Kept.{AllPairs-cons}
 use Rattle.host_calls.specs.Folder.{Files}
-use Rattle.spool_shows.proofs.EntryLists.{AreApart, apart_filtered, apart_sorted, entry_is_file, file_is_entry}
-use Rattle.spool_shows.proofs.Membership.{Has, contained, filtered_has, has_contained, has_filtered, has_made, made_has}
+use Rattle.spool_shows.proofs.PickedNames.{picked_among, picked_are_files, picked_there}
 use Rattle.whole_file.specs.Clearing.{AreFiles}
 use Rattle.daemon_turn.specs.declared.kid.Kid.{Kid}
 use Rattle.daemon_turn.specs.Decisions.{has_kid}
@@ -44,53 +40,18 @@ stale_is_mail kids name is = elim (or_cases (pointwise nat_eq name mail_temp) (i
   | inr without ↦ inr (inr (of_number kids name (notice_number name) refl without))
 ]
 
--- Names that differ.
-
--- entries with keys apart have keys apart
-keys_apart : (es : List (List ℕ × List ℕ)) → AreApart (λ (e : List ℕ × List ℕ). e.0) es →
-    AreApart (λ (name : List ℕ). name) (map (λ (e : List ℕ × List ℕ). e.0) es)
-keys_apart [] apart = tt
-keys_apart (first ∷ later) apart = (
-  λ other has same.
-      let from : (e : List ℕ × List ℕ) × Has later e × (e.0 ≡ other) = made_has (λ (e : List ℕ × List ℕ). e.0) later other has in
-      apart.0 from.0 from.1 (from.2 ∙ same),
-  keys_apart later apart.1,
-)
-
--- names that are apart differ, one from each later one
-differ : (names : List (List ℕ)) → AreApart (λ (name : List ℕ). name) names → AllPairs (λ first second. first ≢ second) names
-differ [] apart = λ i j d less inside. absurd (omega (arith, inside))
-differ (first ∷ later) apart =
-    AllPairs-cons (λ one other. one ≢ other) first later
-    (λ k d inside same. apart.0 _ (has_contained later _ (All-contains_itself later k d inside)) (sym same))
-    (differ later apart.1)
-
 -- The files that are left over.
 module _ (kids : List Kid) (files : Files) where
   -- each is a file, and left over
   pub stale_there : (name : List ℕ) → Contains (stale_names kids files) name → IsSome (finite.get files name) × (is_stale kids name ≡ true)
-  stale_there name among =
-      let kept : Has (finite.keys files) name × (is_stale kids name ≡ true) =
-      filtered_has (is_stale kids) (finite.keys files) name (has_contained (stale_names kids files) name among) in
-      let from : (e : List ℕ × List ℕ) × Has (entries files) e × (e.0 ≡ name) = made_has (λ (e : List ℕ × List ℕ). e.0) (entries files) name kept.0 in
-      (subst (λ at. IsSome (finite.get files at)) from.2 (subst IsSome (sym (entry_is_file files from.0.0 from.0.1 from.1)) refl), kept.1)
-
-  among_held : (name : List ℕ) (held : Option (List ℕ)) → finite.get files name ≡ held → IsSome held → is_stale kids name ≡ true → Contains (stale_names kids files) name
-  among_held name None is some stale = absurd (let impossible : false ≡ true = some in cc)
-  among_held name (Some bytes) is some stale =
-      contained (stale_names kids files) name
-      (has_filtered (is_stale kids) (finite.keys files) name (has_made (λ (e : List ℕ × List ℕ). e.0) (entries files) (name, bytes) (file_is_entry files name bytes is)) stale)
+  stale_there name among = picked_there (is_stale kids) files name among
 
   -- and each file that is left over is among them
   pub stale_among : (name : List ℕ) → IsSome (finite.get files name) → is_stale kids name ≡ true → Contains (stale_names kids files) name
-  stale_among name some stale = among_held name (finite.get files name) refl some stale
+  stale_among name some stale = picked_among (is_stale kids) files name some stale
 
   pub stale_are_files : AreFiles (stale_names kids files) files
-  stale_are_files = record {
-    held = λ name among. (stale_there name among).0;
-    different = differ _ (apart_filtered (λ (name : List ℕ). name) (is_stale kids) (finite.keys files)
-        (keys_apart (entries files) (apart_sorted _ nat_list_cmp_total (entries files) (entries_sorted files))));
-  }
+  stale_are_files = picked_are_files (is_stale kids) files
 
   not_notes : (name : List ℕ) → is_stale kids name ≡ true → name ≡ mail_file → ⊥
   not_notes name stale same = let impossible : true ≡ false = sym stale ∙ ap (is_stale kids) same ∙ notes_stay kids in cc

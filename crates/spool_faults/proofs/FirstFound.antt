@@ -16,7 +16,8 @@ use Rattle.spool_faults.specs.declared.first_files.FirstFiles.{FirstFiles}
 use Rattle.spool_faults.specs.declared.found_file.FoundFile.{FoundFile}
 use Rattle.spool_faults.specs.Faults.{first_files, has_header}
 use Rattle.spool_faults.specs.inside.Finding.{AreFirst, bare, file_first, file_found, files_found, prefix_of}
-use Rattle.spool_faults.proofs.CutFiles.{cut, files_cut, queue_cut, queue_in}
+use Rattle.spool_shows.proofs.CutFiles.{cut, files_cut}
+use Rattle.spool_faults.proofs.CutFiles.{queue_cut, queue_in}
 use Rattle.spool_faults.proofs.JobFaults.{found_take, headed, queues_known, queues_more, queues_same, unheaded}
 
 -- the file, unless one of its number stands before it

@@ -30,7 +30,8 @@ use Rattle.start_journal.specs.Taken.{journal_faults, marks_of, marks_taken, tak
 use Rattle.spool_faults.specs.declared.found_file.FoundFile.{FoundFile}
 use Rattle.spool_faults.specs.Faults.{bound_by, faults_after, faults_of, files_faults, files_taken, has_header, jobs_faults, sequence_faults, starts_faults}
 use Rattle.spool_faults.specs.inside.Finding.{AreDecided, AreQueues, HasNumbers, file_found, files_found, numbers_from, prefix_of}
-use Rattle.spool_faults.proofs.CutFiles.{cut, faults_cut, files_cut, queue_in, queues_cut}
+use Rattle.spool_shows.proofs.CutFiles.{cut, files_cut}
+use Rattle.spool_faults.proofs.CutFiles.{faults_cut, queue_in, queues_cut}
 
 -- Files.
 

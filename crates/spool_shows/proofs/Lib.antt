@@ -2,6 +2,7 @@ pub mod AcceptLemmas
 pub mod ByNameLemmas
 pub mod ByNameReads
 pub mod Compacted
+pub mod CutFiles
 pub mod DeciderLemmas
 pub mod DrawLemmas
 pub mod EntryLemmas
@@ -9,6 +10,7 @@ pub mod EntryLists
 pub mod FileDamages
 pub mod FileLemmas
 pub mod FileOrder
+pub mod FilesSoFar
 pub mod FirstDamages
 pub mod FreshNumbers
 pub mod MarkTests
@@ -17,6 +19,7 @@ pub mod NameLemmas
 pub mod OldFormLemmas
 pub mod OneMark
 pub mod OtherLemmas
+pub mod PickedNames
 pub mod RewriteLemmas
 pub mod ShownEntries
 pub mod ShownHeaders

@@ -1,6 +1,7 @@
 -- Files beside the store's, of any names: what a change of them alone leaves.
 use Rattle.std.proofs.Common.{◌≡◌, ℕ, true, false, List, Option, Some, None, [], sym, subst, ◌∙◌, refl, inl, inr}
-use Rattle.std.specs.Prelude.{Contains, IsSome}
+use Rattle.std.specs.Prelude.{Contains, IsSome, is_some}
+use Rattle.std.specs.Str.{bytes_eq}
 use Rattle.std.specs.FinMap as finite
 use Rattle.host_calls.specs.Folder.{Files, Folder, IsImage, reading_of}
 use Rattle.job_name.specs.JobName.{NamedJob, job_named}
@@ -8,6 +9,7 @@ use Rattle.sequence_file.specs.Sequence.{sequence_file}
 use Rattle.spool_model.specs.JobTable.{JobTable}
 use Rattle.spool_shows.specs.JobFiles.{counts_as}
 use Rattle.spool_shows.specs.Shown.{shown_by}
+use Rattle.spool_shows.proofs.NameLemmas.{differ_by}
 use Rattle.spool_shows.proofs.OtherLemmas.{other_files_count_for_nothing}
 use Rattle.start_journal.specs.declared.mark.Mark.{Mark}
 use Rattle.start_journal.specs.Changing.{Gives}
@@ -21,6 +23,14 @@ use Rattle.spool_store.specs.Beside.{ClearingsBesideShowTheSame, IsBeside, Placi
 -- none of the names that may change is one of the store's
 abbrev pub AreBeside : (List ℕ → Type 0) → Type 0
 AreBeside may_change = (name : List ℕ) → may_change name → IsBeside name
+
+-- a name that tests tell from each of the store's
+pub beside_by : (name : List ℕ) → bytes_eq name sequence_file ≡ false → bytes_eq name journal_file ≡ false → bytes_eq name temporary_file ≡ false
+    → is_some (job_named name) ≡ false → IsBeside name
+beside_by name sequence journal temporary none (inl is) = differ_by name sequence_file sequence is
+beside_by name sequence journal temporary none (inr (inl is)) = differ_by name journal_file journal is
+beside_by name sequence journal temporary none (inr (inr (inl is))) = differ_by name temporary_file temporary is
+beside_by name sequence journal temporary none (inr (inr (inr named))) = let impossible : true ≡ false = sym named ∙ none in cc
 
 -- the file of a name that counts is one of the store's
 counted_is_spool : (marks : List Mark) (name : List ℕ) (named : Option NamedJob) → job_named name ≡ named → counts_as marks named ≡ true → IsSpoolName name
@@ -78,7 +88,7 @@ module _ (may_change : List ℕ → Type 0) (beside : AreBeside may_change) wher
       named_spool name job named = inr (inr (inr (subst IsSome (sym named) refl)))
 
 -- two names
-two_beside : (temp target : List ℕ) → IsBeside temp → IsBeside target → AreBeside (IsEither temp target)
+pub two_beside : (temp target : List ℕ) → IsBeside temp → IsBeside target → AreBeside (IsEither temp target)
 two_beside temp target of_temp of_target name (inl is) spool = of_temp (subst IsSpoolName is spool)
 two_beside temp target of_temp of_target name (inr is) spool = of_target (subst IsSpoolName is spool)
 

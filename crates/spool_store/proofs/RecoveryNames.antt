@@ -1,12 +1,9 @@
 -- The names of the files that count no more: which they are, and that each belongs to the store.
-use Rattle.std.proofs.Common.{◌≡◌, ℕ, true, false, List, Option, Some, None, [], ◌∷◌, map, sym, ap, subst, ◌∙◌, refl, inl, inr, arith}
-use Rattle.std.specs.Prelude.{◌≢◌, ◌||◌, AllPairs, Contains, IsSome, nat_eq}
-use Rattle.std.specs.Cmp.Lexicographic.{bytes_decides, nat_list_cmp_total, pointwise}
+use Rattle.std.proofs.Common.{◌≡◌, ℕ, true, false, List, Option, Some, None, sym, ap, subst, ◌∙◌, refl, inl, inr}
+use Rattle.std.specs.Prelude.{◌||◌, Contains, IsSome, nat_eq}
+use Rattle.std.specs.Cmp.Lexicographic.{bytes_decides, pointwise}
 use Rattle.std.specs.FinMap as finite
-use Rattle.std.specs.FinMap.{entries, entries_sorted}
 use Rattle.std.specs.List.{filter}
-use Rattle.std.proofs.lemmas.List.Elements.{All-contains_itself}
-use Rattle.std.proofs.lemmas.List.Kept.{AllPairs-cons}
 use Rattle.host_calls.specs.Folder.{Files}
 use Rattle.sequence_file.specs.Sequence.{sequence_file}
 use Rattle.whole_file.specs.Temporary.{temporary_file}
@@ -18,9 +15,8 @@ use Rattle.start_journal.proofs.MarkLemmas.{or_false, or_true}
 use Rattle.whole_file.specs.Clearing.{AreFiles}
 use Rattle.spool_shows.specs.JobFiles.{counts, counts_as}
 use Rattle.job_name.specs.JobName.{NamedJob, job_named}
-use Rattle.spool_shows.proofs.EntryLists.{AreApart, apart_filtered, apart_sorted, entry_is_file, file_is_entry}
-use Rattle.spool_shows.proofs.Membership.{Has, contained, filtered_has, has_contained, has_filtered, has_made, made_has}
 use Rattle.spool_shows.proofs.NameLemmas.{journal_no_job, sequence_no_job}
+use Rattle.spool_shows.proofs.PickedNames.{picked_among, picked_are_files, picked_there}
 use Rattle.step_runs.specs.Current.{IsSpoolName}
 use Rattle.spool_store.specs.inside.Survey.{is_decided_job, is_left_over}
 use Rattle.spool_store.proofs.KindLemmas.{not_temporary}
@@ -65,41 +61,17 @@ left_is_spool marks name is = elim (or_cases (pointwise nat_eq name temporary_fi
   is_job None decided = cc
   is_job (Some job) decided = refl
 
--- Names that differ.
-
--- entries with keys apart have keys apart
-keys_apart : (es : List (List ℕ × List ℕ)) → AreApart (λ (e : List ℕ × List ℕ). e.0) es → AreApart (λ (name : List ℕ). name) (map (λ (e : List ℕ × List ℕ). e.0) es)
-keys_apart [] apart = tt
-keys_apart (first ∷ later) apart = (
-  λ other has same.
-      let from : (e : List ℕ × List ℕ) × Has later e × (e.0 ≡ other) = made_has (λ (e : List ℕ × List ℕ). e.0) later other has in
-      apart.0 from.0 from.1 (from.2 ∙ same),
-  keys_apart later apart.1,
-)
-
--- names that are apart differ, one from each later one
-differ : (names : List (List ℕ)) → AreApart (λ (name : List ℕ). name) names → AllPairs (λ first second. first ≢ second) names
-differ [] apart = λ i j d less inside. absurd (omega (arith, inside))
-differ (first ∷ later) apart =
-    AllPairs-cons (λ one other. one ≢ other) first later
-    (λ k d inside same. apart.0 _ (has_contained later _ (All-contains_itself later k d inside)) (sym same))
-    (differ later apart.1)
-
 -- The names of the files of a folder that are left over.
 
 module _ (marks : List Mark) (files : Files) (names : List (List ℕ)) (are : names ≡ filter (is_left_over marks) (finite.keys files)) where
   -- each is a file, and left over
   pub left_there : (name : List ℕ) → Contains names name → IsSome (finite.get files name) × (is_left_over marks name ≡ true)
-  left_there name among =
-      let kept : Has (finite.keys files) name × (is_left_over marks name ≡ true) = filtered_has (is_left_over marks) (finite.keys files) name (has_contained _ name (subst (λ list. Contains list name) are among)) in
-      let from : (e : List ℕ × List ℕ) × Has (entries files) e × (e.0 ≡ name) = made_has (λ (e : List ℕ × List ℕ). e.0) (entries files) name kept.0 in
-      (subst (λ at. IsSome (finite.get files at)) from.2 (subst IsSome (sym (entry_is_file files from.0.0 from.0.1 from.1)) refl), kept.1)
+  left_there name among = picked_there (is_left_over marks) files name (subst (λ list. Contains list name) are among)
 
   -- and each file that is left over is among them
   pub left_among : (name bytes : List ℕ) → finite.get files name ≡ Some bytes → is_left_over marks name ≡ true → Contains names name
   left_among name bytes held left =
-      contained names name (subst (λ list. Has list name) (sym are)
-      (has_filtered (is_left_over marks) (finite.keys files) name (has_made (λ (e : List ℕ × List ℕ). e.0) (entries files) (name, bytes) (file_is_entry files name bytes held)) left))
+      subst (λ list. Contains list name) (sym are) (picked_among (is_left_over marks) files name (subst IsSome (sym held) refl) left)
 
   -- a name that is not left over is not among them
   pub stays_apart : (name : List ℕ) → is_left_over marks name ≡ false → ¬ (Contains names name)
@@ -107,8 +79,4 @@ module _ (marks : List Mark) (files : Files) (names : List (List ℕ)) (are : na
 
   -- so they are files, each once
   pub are_files : AreFiles names files
-  are_files = record {
-    held = λ name among. (left_there name among).0;
-    different = subst (AllPairs (λ first second. first ≢ second)) (sym are)
-        (differ _ (apart_filtered (λ (name : List ℕ). name) (is_left_over marks) (finite.keys files) (keys_apart (entries files) (apart_sorted _ nat_list_cmp_total (entries files) (entries_sorted files)))));
-  }
+  are_files = subst (λ list. AreFiles list files) (sym are) (picked_are_files (is_left_over marks) files)

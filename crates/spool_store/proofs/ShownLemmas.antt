@@ -28,7 +28,8 @@ use Rattle.spool_store.specs.inside.Survey.{AreSurveyedFiles, IsSurvey, is_left_
 use Rattle.spool_store.specs.inside.SurveyedJobs.{files_surveyed, old_form_numbers}
 use Rattle.spool_store.specs.inside.Tables.{IsTableShown}
 use Rattle.spool_store.proofs.RecoveryForms.{old_form_same}
-use Rattle.spool_store.proofs.PrefixLemmas.{cut, damage_of_jobs_same, files_cut, table_same}
+use Rattle.spool_shows.proofs.CutFiles.{cut, files_cut}
+use Rattle.spool_store.proofs.PrefixLemmas.{damage_of_jobs_same, table_same}
 
 -- Answers that are a damage.
 

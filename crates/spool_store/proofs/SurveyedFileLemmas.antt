@@ -13,18 +13,13 @@ use Rattle.start_journal.specs.Marks.{is_decided}
 use Rattle.spool_shows.specs.JobFiles.{JobFile, counts, counts_as, file_named, job_file, job_files}
 use Rattle.job_name.specs.JobName.{NamedJob, job_named}
 use Rattle.spool_shows.proofs.Membership.{Has, contained, has_contained, has_either}
-use Rattle.spool_shows.proofs.EntryLists.{entry_is_file}
-use Rattle.spool_shows.proofs.ShownEntries.{some_same}
+use Rattle.spool_shows.proofs.FilesSoFar.{IsEntry, entry_at_place, found_more}
 use Rattle.spool_store.specs.declared.surveyed_files.SurveyedFiles.{SurveyedFiles}
 use Rattle.spool_store.specs.declared.surveyed_files.Kind.TheVariants.{Counts}
 use Rattle.spool_store.specs.declared.surveyed_job.SurveyedJob.{SurveyedJob}
 use Rattle.spool_store.specs.inside.Survey.{AreSurveyedFiles, IsKind, prefix_of, is_left_over}
 use Rattle.spool_store.specs.inside.SurveyedJobs.{file_surveyed, files_surveyed, job_of_name}
 use Rattle.spool_store.specs.inside.Tables.{AreUndecided}
-
--- the bytes that are read are the first ones
-pub prefix_read : (held : Option (List ℕ)) (bytes prefix : List ℕ) → held ≡ Some bytes → option_map (λ b. take 60 (drop 0 b)) held ≡ Some prefix → prefix ≡ take 60 bytes
-prefix_read held bytes prefix is read = sym (some_same (sym (ap (option_map (λ b. take 60 (drop 0 b))) is) ∙ read))
 
 -- A file that counts.
 
@@ -83,41 +78,6 @@ one_left marks name left new passes is = is ∙ ap (λ b. left ++ cond b (name �
 
 -- The files so far.
 
-has_at : {X : Type 0} → (xs : List X) (place : ℕ) (x : X) → place < length xs → Has xs (get_or xs place x)
-has_at [] place x inside = absurd (omega arith)
-has_at (first ∷ later) zero x inside = inl refl
-has_at (first ∷ later) (suc place) x inside = inr (has_at later place x (omega arith))
-
-job_files_append : (marks : List Mark) (one other : List (List ℕ × List ℕ)) → job_files marks (one ++ other) ≡ job_files marks one ++ job_files marks other
-job_files_append marks one other =
-    ap (filter_map job_file) (filter-append (λ (file : List ℕ × List ℕ). counts marks file.0) one other)
-    ∙ filter_map-append job_file (filter (λ (file : List ℕ × List ℕ). counts marks file.0) one) (filter (λ (file : List ℕ × List ℕ). counts marks file.0) other)
-
--- the name at a place is that of the entry there
-record IsEntry (files : Files) (place : ℕ) (name : List ℕ) : Type 0 where
-  inside : place < length (entries files)
-  bytes : List ℕ
-  at : get_or (entries files) place (name, []) ≡ (name, bytes)
-  held : finite.get files name ≡ Some bytes
-
-entry_at_place : (files : Files) (names : List (List ℕ)) (place : ℕ) (name : List ℕ) → names ≡ finite.keys files → place < length names → name ≡ get_or names place name → IsEntry files place name
-entry_at_place files names place name are inside here =
-    let none : List ℕ = [] in
-    let entry : List ℕ × List ℕ = get_or (entries files) place (name, none) in
-    let within : place < length (entries files) = omega (arith, ap length are, length-map (entries files) (λ (e : List ℕ × List ℕ). e.0)) in
-    let named : name ≡ entry.0 = here ∙ ap (λ list. get_or list place name) are ∙ get_or-map (λ (e : List ℕ × List ℕ). e.0) (entries files) place (name, none) name within in
-    let at : entry ≡ (name, entry.1) = λ i. (sym named i, entry.1) in
-    record {
-      inside = within;
-      bytes = entry.1;
-      at = at;
-      held = entry_is_file files name entry.1 (subst (Has (entries files)) at (has_at (entries files) place (name, none) within));
-    }
-
-pub held_at : (files here : Files) (names : List (List ℕ)) (place : ℕ) (name : List ℕ) → names ≡ finite.keys files → here ≡ files → place < length names → name ≡ get_or names place name → IsSome (finite.get here name)
-held_at files here names place name are same inside at =
-    subst IsSome (sym (ap (λ (fs : Files). finite.get fs name) same ∙ (entry_at_place files names place name are inside at).held)) refl
-
 pub prefixes_more : (marks : List Mark) (files here : Files) (names : List (List ℕ)) (place : ℕ) (name : List ℕ) (old new : SurveyedFiles) → names ≡ finite.keys files → here ≡ files → place < length names → name ≡ get_or names place name → AreSurveyedFiles marks (take place (entries files)) old
     → ((bytes : List ℕ) → finite.get here name ≡ Some bytes → files_surveyed new.surveyed.items ≡ files_surveyed old.surveyed.items ++ job_files marks ((name, take 60 bytes) ∷ []))
     → new.leftover.items ≡ old.leftover.items ++ cond (is_left_over marks name) (name ∷ []) [] → AreSurveyedFiles marks (take (place + 1) (entries files)) new
@@ -125,11 +85,7 @@ prefixes_more marks files here names place name old new are same inside at surve
     let entry : IsEntry files place name = entry_at_place files names place name are inside at in
     let more : take (place + 1) (entries files) ≡ take place (entries files) ++ (name, entry.bytes) ∷ [] = take_more (entries files) place (name, []) entry.inside ∙ ap (λ e. take place (entries files) ++ e ∷ []) entry.at in
     record {
-      surveyed =
-          surveyed entry.bytes (ap (λ (fs : Files). finite.get fs name) same ∙ entry.held)
-          ∙ ap (λ list. list ++ job_files marks ((name, take 60 entry.bytes) ∷ [])) surveyed_files.surveyed
-          ∙ sym (job_files_append marks (map prefix_of (take place (entries files))) ((name, take 60 entry.bytes) ∷ []))
-          ∙ ap (job_files marks) (sym (ap (map prefix_of) more ∙ map-append prefix_of (take place (entries files)) ((name, entry.bytes) ∷ [])));
+      surveyed = found_more marks files here names place name (files_surveyed old.surveyed.items) (files_surveyed new.surveyed.items) are same inside at surveyed_files.surveyed surveyed;
       leftover =
           left ∙ ap (λ list. list ++ cond (is_left_over marks name) (name ∷ []) []) surveyed_files.leftover
           ∙ sym (filter-append (is_left_over marks) (map (λ (e : List ℕ × List ℕ). e.0) (take place (entries files))) (name ∷ []))

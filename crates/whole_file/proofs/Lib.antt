@@ -3,3 +3,4 @@ pub mod ClearLemmas
 pub mod ContentLemmas
 pub mod OthersLemmas
 pub mod PlaceLemmas
+pub mod ReplaceLemmas

@@ -1,4 +1,5 @@
 pub mod Clearing
 pub mod Others
 pub mod Placing
+pub mod Replacing
 pub mod Temporary

@@ -3,10 +3,12 @@
 
 mod clear_file;
 mod place_file;
+mod replace_file;
 mod temporary;
 mod whole_content;
 
 pub use clear_file::clear;
 pub use place_file::place;
+pub use replace_file::replace;
 pub use temporary::temporary_name;
 pub use whole_content::{content, whole};

@@ -3,7 +3,7 @@ use Rattle.std.specs.Prelude.{◌≡◌, ◌⊎◌, ℕ, List, Option, Some, Res
 use Rattle.std.specs.FinMap as finite
 use Rattle.account_records.specs.declared.record.AccountRecord.{AccountRecord}
 use Rattle.command_rules.specs.declared.command_error.CommandError.{CommandError}
-use Rattle.host_calls.specs.Folder.{Files, Folder, IsImage, reading_of}
+use Rattle.host_calls.specs.Folder.{Files, Folder, IsImage}
 use Rattle.listing_text.specs.declared.cause.Cause.{Cause}
 use Rattle.listing_text.specs.declared.cause.Cause.TheVariants.{Done, Refused, FileFault, InputFault, OutputFault, Busy, Memory, Damaged, StillRunning, Faulty}
 use Rattle.whole_file.specs.Others.{IsEither, LeavesOthers}
@@ -53,10 +53,6 @@ IsUnread content Faulty = ⊥
 abbrev pub ReadsAccount : Option (List ℕ) → Result (List AccountRecord) CommandError → Type 0
 ReadsAccount content (Ok records) = GivesRecords content records
 ReadsAccount content (Err stopped) = IsUnread content stopped.cause
-
--- each image has what the reading has under the name
-abbrev pub IsCertainAt : List ℕ → Folder → Type 0
-IsCertainAt name folder = (image : Files) → IsImage folder image → finite.get image name ≡ finite.get (reading_of folder) name
 
 -- each image has the bytes under the name
 abbrev pub IsPlacedAt : List ℕ → List ℕ → Folder → Type 0

@@ -13,7 +13,7 @@ use Rattle.whole_file.specs.Others.{ChangesFiles}
 use Rattle.cron_mark.specs.Names.{mark_temp}
 use Rattle.cron_session.specs.Leaving.{EachIsWhole, HasCome, IsOnTheMark, IsUnmarked, KeepsOtherFiles}
 use Rattle.cron_session.specs.Steps.{numbers_after, submissions}
-use Rattle.cron_session.specs.inside.Placing.{IsCertainAt}
+use Rattle.whole_file.specs.Replacing.{IsCertainAt}
 use Rattle.cron_session.specs.inside.Submitting.{IsPartOf, Part}
 
 -- where it was stopped, an image of the end is unmarked before the first job, or has the mark and shows the table after what

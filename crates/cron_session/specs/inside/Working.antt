@@ -16,7 +16,7 @@ use Rattle.cron_session.specs.declared.report.CronEnd.TheVariants.{Done, Busy, F
 use Rattle.cron_session.specs.Leaving.{CronAt, CronLeaves, IfUnread}
 use Rattle.cron_session.specs.Steps.{AreDueJobs, Cron, HasRoomFor, minute_of, numbers_after}
 use Rattle.cron_session.specs.inside.Marking.{MarkingLeaves}
-use Rattle.cron_session.specs.inside.Placing.{IsCertainAt}
+use Rattle.whole_file.specs.Replacing.{IsCertainAt}
 use Rattle.cron_session.specs.inside.Room.{IsRoomFault}
 use Rattle.cron_session.specs.inside.Submitting.{IsPartOf, Part}
 

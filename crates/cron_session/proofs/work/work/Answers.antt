@@ -2,7 +2,7 @@ use Rattle.std.proofs.Common.{◌∙◌, ℕ, subst, sym}
 use Rattle.host_calls.specs.World.{World}
 use Rattle.step_runs.specs.Current.{IsCurrent}
 use Rattle.cron_mark.specs.Names.{mark_temp}
-use Rattle.cron_session.specs.inside.Placing.{IsCertainAt}
+use Rattle.whole_file.specs.Replacing.{IsCertainAt}
 use Rattle.cron_session.proofs.WorkLemmas.{temp_certain}
 use Rattle.cron_session.specs.Steps.{Cron, IsBefore}
 use Rattle.cron_session.proofs.WorksLemmas.{due_worked, late_enough, marked_already, marked_before, not_read, not_recovered, works_at}

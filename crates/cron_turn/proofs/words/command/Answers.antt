@@ -1,8 +1,8 @@
 use Rattle.std.proofs.Common.{codes, ap, ◌∙◌}
 use Rattle.clap.specs.Simple.{app_of}
 use Rattle.at_words.specs.Commands.{long_rule, value_rule}
+use Rattle.at_words.proofs.AskLemmas.{made_with, with}
 use Rattle.cron_turn.specs.Words.{cron_app}
-use Rattle.cron_turn.proofs.WordLemmas.{made_with, with}
 use Rattle.cron_turn.proofs.words.command.Goals as goal
 
 pub returns : goal.returns

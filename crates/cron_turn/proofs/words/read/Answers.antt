@@ -1,8 +1,9 @@
 use Rattle.std.proofs.Common.{ap, ◌∙◌, map, string_bytes}
 use Rattle.std.proofs.lemmas.Result.{err_from_is_err_and}
 use Rattle.clap.specs.Faults.{is_simple_and_free}
+use Rattle.at_words.proofs.AskLemmas.{asks_refused, asks_taken}
 use Rattle.cron_turn.specs.Words.{cron_app, crontab_asked}
-use Rattle.cron_turn.proofs.WordLemmas.{asks_refused, asks_taken, cron_app-simple}
+use Rattle.cron_turn.proofs.WordLemmas.{cron_app-simple}
 use Rattle.cron_turn.proofs.words.read.Goals as goal
 
 pub parsed-requires : goal.parsed-requires

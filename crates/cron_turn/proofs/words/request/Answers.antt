@@ -1,11 +1,12 @@
 use Rattle.std.proofs.Common.{sym, ap, subst, ◌∙◌, string_bytes}
 use Rattle.at_words.specs.Answers.{Answers}
+use Rattle.at_words.proofs.AskLemmas.{no_words}
 use Rattle.cron_turn.specs.Words.{cron_asked}
-use Rattle.cron_turn.proofs.WordLemmas.{asked_with_name, asked_without_name}
+use Rattle.cron_turn.proofs.WordLemmas.{asked_with_name}
 use Rattle.cron_turn.proofs.words.request.Goals as goal
 
 pub returns-then-is_empty : goal.returns-then-is_empty
-returns-then-is_empty c = sym (ap cron_asked (asked_without_name string_bytes c.args.words.now (sym c.is_empty.ensures ∙ c.if-is_empty.true)))
+returns-then-is_empty c = sym (ap cron_asked (no_words string_bytes c.args.words.now (sym c.is_empty.ensures ∙ c.if-is_empty.true)))
 
 pub returns : goal.returns
 returns c = subst (λ asked. Answers asked c.read.result) (sym (asked_with_name string_bytes c.args.words.now (sym c.is_empty.ensures ∙ c.if-is_empty.false))) c.read.ensures

@@ -1,6 +1,7 @@
 use Rattle.std.proofs.Common.{◌∙◌}
 use Rattle.spool_faults.specs.inside.Finding.{files_found}
-use Rattle.spool_faults.proofs.FoundFiles.{counted_found, other_found, prefix_read}
+use Rattle.spool_shows.proofs.FilesSoFar.{prefix_read}
+use Rattle.spool_faults.proofs.FoundFiles.{counted_found, other_found}
 use Rattle.spool_faults.proofs.find_files.find_file.Goals as goal
 
 pub returns-in_ok-keep-in-Some-clause-found : goal.returns-in_ok-keep-in-Some-clause-found

@@ -1,6 +1,6 @@
 use Rattle.std.proofs.Common.{rules, ap, ◌∙◌, arith}
 use Rattle.host_calls.specs.World.{reading}
-use Rattle.spool_faults.proofs.FoundFiles.{found_all, found_more, held_at}
+use Rattle.spool_shows.proofs.FilesSoFar.{found_all, found_more, held_at}
 use Rattle.spool_faults.proofs.find_files.find_files.Goals as goal
 
 pub find_file-requires-clause-held : goal.find_file-requires-clause-held

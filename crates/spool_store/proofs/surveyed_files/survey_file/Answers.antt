@@ -1,5 +1,6 @@
 use Rattle.std.proofs.Common.{refl, ◌∙◌}
-use Rattle.spool_store.proofs.SurveyedFileLemmas.{counted_surveyed, counted_undecided, prefix_read, one_left, other_left, other_surveyed, same_undecided}
+use Rattle.spool_shows.proofs.FilesSoFar.{prefix_read}
+use Rattle.spool_store.proofs.SurveyedFileLemmas.{counted_surveyed, counted_undecided, one_left, other_left, other_surveyed, same_undecided}
 use Rattle.spool_store.proofs.surveyed_files.survey_file.Goals as goal
 
 pub returns-in_ok-add-in-Counts-clause-undecided : goal.returns-in_ok-add-in-Counts-clause-undecided

@@ -1,6 +1,7 @@
 use Rattle.std.proofs.Common.{rules, ap, ◌∙◌, arith}
 use Rattle.host_calls.specs.World.{reading}
-use Rattle.spool_store.proofs.SurveyedFileLemmas.{prefixes_all, prefixes_more, held_at}
+use Rattle.spool_shows.proofs.FilesSoFar.{held_at}
+use Rattle.spool_store.proofs.SurveyedFileLemmas.{prefixes_all, prefixes_more}
 use Rattle.spool_store.proofs.surveyed_files.survey_files.Goals as goal
 
 pub survey_file-requires-clause-held : goal.survey_file-requires-clause-held

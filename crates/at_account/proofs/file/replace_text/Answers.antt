@@ -1,0 +1,29 @@
+use Rattle.std.proofs.Common.{sym, subst, ◌∙◌}
+use Rattle.std.specs.Prelude.{ℕ, List}
+use Rattle.whole_file.specs.Others.{ChangesFiles}
+use Rattle.whole_file.specs.Placing.{IsPlacing}
+use Rattle.whole_file.specs.Replacing.{IsCertainAt}
+use Rattle.at_account.specs.Names.{account_file}
+use Rattle.at_account.proofs.FilingLemmas.{placed_under}
+use Rattle.at_account.proofs.NameLemmas.{temp_apart}
+use Rattle.at_account.proofs.file.replace_text.Goals as goal
+
+pub replace-requires-clause-differ : goal.replace-requires-clause-differ
+replace-requires-clause-differ g c = λ same. temp_apart (sym c.account_temporary_name.ensures ∙ same ∙ c.account_name.ensures)
+
+pub replace-requires-clause-certain : goal.replace-requires-clause-certain
+replace-requires-clause-certain g c = λ known.
+    subst (λ (name : List ℕ). IsCertainAt name (g.H.Host.world c.args.host.now).now.folder) (sym c.account_temporary_name.ensures) (c.requires.certain known)
+
+pub returns-clause-files : goal.returns-clause-files
+returns-clause-files g c = λ known.
+    let old = g.H.Host.world c.args.host.now in
+    let new = g.H.Host.world c.replace.new.host in
+    subst (λ temp. ChangesFiles (IsPlacing temp account_file c.args.bytes.now old.now.folder) old new) c.account_temporary_name.ensures
+    (subst (λ target. ChangesFiles (IsPlacing c.account_temporary_name.result target c.args.bytes.now old.now.folder) old new) c.account_name.ensures
+    (c.replace.ensures.files known))
+
+pub returns-clause-placed : goal.returns-clause-placed
+returns-clause-placed g c = λ known.
+    placed_under c.replace.result c.account_temporary_name.result c.account_name.result c.args.bytes.now (g.H.Host.world c.args.host.now).now.folder
+    (g.H.Host.world c.replace.new.host).now.folder c.account_name.ensures (c.replace.ensures.placed known)
