@@ -1,7 +1,8 @@
 -- Kids that are asked one after another.
-use Rattle.std.proofs.Common.{◌≡◌, ◌<◌, ◌+◌, ◌++◌, ℕ, zero, suc, Bool, true, List, [], ◌∷◌, append_assoc, append-nil, length, length-append, get_or, sym, ap, subst, ◌∙◌, refl, arith}
+use Rattle.std.proofs.Common.{◌≡◌, ◌<◌, ◌≤◌, ◌+◌, ◌++◌, ℕ, zero, suc, Bool, true, List, [], ◌∷◌, append_assoc, append-nil, length, length-append, get_or, sym, ap, subst, ◌∙◌, refl, arith}
 use Rattle.std.proofs.lemmas.List.Elements.{Contains-get_or}
-use Rattle.std.specs.Prelude.{Contains, IsErrAnd, Option, Result, Ok, Err}
+use Rattle.std.specs.Prelude.{Contains, IsErrAnd, Option, Result, Ok, Err, Vec}
+use Rattle.std.specs.declared.alloc.Global.{Global}
 use Rattle.host_calls.specs.declared.child.Asked.{Asked}
 use Rattle.host_calls.specs.declared.child.Child.{Child}
 use Rattle.host_calls.specs.declared.child.Ending.{Ending}
@@ -18,10 +19,10 @@ use Rattle.daemon_turn.specs.Kids.{AreChildren}
 use Rattle.daemon_turn.specs.Decisions.{end_of, ends, questions}
 
 -- so many of the kids have answered
-pub record HasAsked (tells : Bool) (kids : List Kid) (count : ℕ) (before after : List TurnStep) (old new : World) : Type 0 where
+pub record HasAsked (tells : Bool) (kids : List Kid) (count : ℕ) (known : List TurnStep) (old new : World) : Type 0 where
   pub answers : List (Option Ending)
   pub counted : length answers ≡ count
-  pub ended : after ≡ before ++ ends kids answers
+  pub ended : known ≡ ends kids answers
   pub asked : tells ≡ true → (kept : Kept) (table : JobTable) → IsCurrent kept old.now.folder table →
       AreMade table [] [] (questions kids answers) kept old new
 
@@ -33,11 +34,11 @@ pub questions_of_none : (kids : List Kid) → questions kids [] ≡ []
 questions_of_none [] = refl
 questions_of_none (kid ∷ kids) = refl
 
-pub none_asked : (tells : Bool) (kids : List Kid) (before : List TurnStep) (world : World) → HasAsked tells kids 0 before before world world
-none_asked tells kids before world = record {
+pub none_asked : (tells : Bool) (kids : List Kid) (world : World) → HasAsked tells kids 0 [] world world
+none_asked tells kids world = record {
   answers = [];
   counted = refl;
-  ended = sym (ap (λ (l : List TurnStep). before ++ l) (ends_of_none kids) ∙ append-nil before);
+  ended = sym (ends_of_none kids);
   asked = λ _ kept table current.
       subst (λ (asked : List Asked). AreMade table [] [] asked kept world world) (sym (questions_of_none kids)) (no_steps_are_made table kept world current);
 }
@@ -72,11 +73,11 @@ same_default (first ∷ items) (suc count) one other below = same_default items 
 pub at_place : {X : Type 0} (items : List X) (count : ℕ) (default : X) → count < length items → get_or items count default ≡ get_or items count (get_or items count default)
 at_place items count default below = same_default items count default (get_or items count default) below
 
-pub one_asked : (tells : Bool) (kids : List Kid) (count : ℕ) (before after last : List TurnStep) (old middle new : World) (default : Kid) (answer : Option Ending) →
-    count < length kids → HasAsked tells kids count before after old middle →
-    last ≡ after ++ end_of (get_or kids count default).number answer → (tells ≡ true → Asks (get_or kids count default).child middle new (Ok answer)) →
-    HasAsked tells kids (count + 1) before last old new
-one_asked tells kids count before after last old middle new default answer below has written asks =
+pub one_asked : (tells : Bool) (kids : List Kid) (count : ℕ) (known last : List TurnStep) (old middle new : World) (default : Kid) (answer : Option Ending) →
+    count < length kids → HasAsked tells kids count known old middle →
+    last ≡ known ++ end_of (get_or kids count default).number answer → (tells ≡ true → Asks (get_or kids count default).child middle new (Ok answer)) →
+    HasAsked tells kids (count + 1) last old new
+one_asked tells kids count known last old middle new default answer below has written asks =
     let kid : Kid = get_or kids count default in
     let at : kid ≡ get_or kids count kid = at_place kids count default below in
     let below_now : length has.answers < length kids = subst (λ (n : ℕ). n < length kids) (sym has.counted) below in
@@ -85,35 +86,32 @@ one_asked tells kids count before after last old middle new default answer below
       answers = has.answers ++ answer ∷ [];
       counted = omega (arith, has.counted, length-append has.answers (answer ∷ []));
       ended = written ∙ ap (λ (l : List TurnStep). l ++ end_of kid.number answer) has.ended
-          ∙ append_assoc before (ends kids has.answers) (end_of kid.number answer)
-          ∙ ap (λ (l : List TurnStep). before ++ l) (sym (ends_of_next kids has.answers kid answer below_now at_now));
+          ∙ sym (ends_of_next kids has.answers kid answer below_now at_now);
       asked = λ is kept table current.
           subst (λ (asked : List Asked). AreMade table [] [] asked kept old new) (sym (questions_of_next kids has.answers kid answer below_now at_now))
           (question_after table [] [] (questions kids has.answers) kept old middle new (has.asked is kept table current) kid.child answer (asks is));
     }
 
 -- all kids have answered
-pub all_asked : {E : Type 0} (tells : Bool) (kids : List Kid) (count : ℕ) (before after : List TurnStep) (old new : World) → count ≡ length kids →
-    HasAsked tells kids count before after old new → AsksAll {E = E} tells kids before after old new (Ok tt)
-all_asked tells kids count before after old new whole has = record {
+pub all_asked : {E : Type 0} (tells : Bool) (kids : List Kid) (count : ℕ) (known : Vec TurnStep Global) (old new : World) → count ≡ length kids →
+    HasAsked tells kids count known.items old new → AsksAll {E = E} tells kids old new (Ok known)
+all_asked tells kids count known old new whole has = record {
   answers = has.answers;
   few = omega (arith, has.counted, whole);
-  all = has.counted ∙ whole;
-  ended = has.ended;
+  all = (has.counted ∙ whole, has.ended);
   asked = has.asked;
 }
 
--- the next one could not be asked
-pub some_asked : {E : Type 0} (tells : Bool) (kids : List Kid) (count : ℕ) (before after : List TurnStep) (old middle new : World) (fault : E) (result : Result (Unit {0}) E) →
+-- the next one could not be asked, or its answer not be written down
+pub some_asked : {E : Type 0} (tells : Bool) (kids : List Kid) (count : ℕ) (known : List TurnStep) (old middle new : World) (fault : E) (result : Result (Vec TurnStep Global) E) →
     IsErrAnd result (λ other. other ≡ fault) →
-    count < length kids → HasAsked tells kids count before after old middle → (tells ≡ true → new ≡ middle) →
-    AsksAll {E = E} tells kids before after old new result
-some_asked tells kids count before after old middle new fault (Ok done) is below has same = absurd is
-some_asked tells kids count before after old middle new fault (Err other) is below has same = record {
+    count ≤ length kids → HasAsked tells kids count known old middle → (tells ≡ true → new ≡ middle) →
+    AsksAll {E = E} tells kids old new result
+some_asked tells kids count known old middle new fault (Ok done) is below has same = absurd is
+some_asked tells kids count known old middle new fault (Err other) is below has same = record {
   answers = has.answers;
   few = omega (arith, has.counted, below);
   all = tt;
-  ended = has.ended;
   asked = λ is kept table current.
       subst (AreMade table [] [] (questions kids has.answers) kept old) (sym (same is)) (has.asked is kept table current);
 }

@@ -1,6 +1,7 @@
 -- What is decided of running jobs, part by part.
 use Rattle.std.proofs.Common.{◌≡◌, ◌≤◌, ◌<◌, ◌-◌, ◌++◌, ◌||◌, ℕ, zero, suc, Bool, true, false, not, List, [], ◌∷◌, append_assoc, append-nil, drop, filter, length, length-drop, map, min, take, sym, ap, subst, ◌∙◌, refl, arith, inl, inr}
-use Rattle.std.specs.Prelude.{AllPairs, IfOk, IsErrAnd, Option, Some, None, Result, Ok, Err}
+use Rattle.std.specs.Prelude.{AllPairs, IfOk, IsErrAnd, Option, Some, None, Result, Ok, Err, Vec}
+use Rattle.std.specs.declared.alloc.Global.{Global}
 use Rattle.std.specs.List.{list_any}
 use Rattle.std.proofs.Math.Seq.{take-length}
 use Rattle.std.proofs.lemmas.Bool.{cases_lt}
@@ -90,12 +91,12 @@ children_stay before after kids stays are = subst (λ l. AreChildren l kids) (sy
 -- The steps that were made.
 
 -- steps that were made, and the next one, are a prefix of all
-pub made_prefix : (steps : List TurnStep) (made : ℕ) → (beyond : List TurnStep) × (steps ≡ (take made steps ++ take 1 (drop made steps)) ++ beyond)
-made_prefix steps made = (
-  drop 1 (drop made steps),
+pub made_prefix : (steps : List TurnStep) (made begun : ℕ) → (beyond : List TurnStep) × (steps ≡ (take made steps ++ take begun (drop made steps)) ++ beyond)
+made_prefix steps made begun = (
+  drop begun (drop made steps),
   sym (take-append-drop made steps)
-      ∙ ap (λ (l : List TurnStep). take made steps ++ l) (sym (take-append-drop 1 (drop made steps)))
-      ∙ sym (append_assoc (take made steps) (take 1 (drop made steps)) (drop 1 (drop made steps))),
+      ∙ ap (λ (l : List TurnStep). take made steps ++ l) (sym (take-append-drop begun (drop made steps)))
+      ∙ sym (append_assoc (take made steps) (take begun (drop made steps)) (drop begun (drop made steps))),
 )
 
 module _ (tells : Bool) (before : Session) (old : World) (kept : Kept) (kids : List Kid) (interrupted : List TurnStep) (was : List TurnStep) (lost_is : interrupted ≡ interrupts kept.table kids) where
@@ -104,9 +105,9 @@ module _ (tells : Bool) (before : Session) (old : World) (kept : Kept) (kids : L
       MakesAll tells before after old new kept interrupted was is (Err fault) → MakesDecisions tells before after old new kept kids was is result
   stopped_giving_up after new is fault (Ok store) err makes = absurd err
   stopped_giving_up after new is fault (Err other) err makes = subst (λ (of : StoreFault). MakesDecisions tells before after old new kept kids was is (Err of)) (sym err) (
-      let prefix = made_prefix interrupted makes.made in
+      let prefix = made_prefix interrupted makes.made makes.begun in
       record {
-        part = made_part interrupted makes.made (Err fault);
+        part = made_part interrupted makes.made makes.begun (Err fault);
         goes = makes_go tells before after old new kept interrupted was is (Err fault) makes;
         decided = record {
           answers = [];
@@ -114,7 +115,7 @@ module _ (tells : Bool) (before : Session) (old : World) (kept : Kept) (kids : L
           prefix = (
             prefix.0 ++ [],
             ap (λ (l : List TurnStep). l ++ ends kids []) (sym lost_is) ∙ ap (λ (l : List TurnStep). interrupted ++ l) (ends_of_none kids) ∙ append-nil interrupted ∙ prefix.1
-                ∙ ap (λ (l : List TurnStep). (take makes.made interrupted ++ take 1 (drop makes.made interrupted)) ++ l) (sym (append-nil prefix.0)),
+                ∙ ap (λ (l : List TurnStep). (take makes.made interrupted ++ take makes.begun (drop makes.made interrupted)) ++ l) (sym (append-nil prefix.0)),
           );
           all = tt;
           asked = sym (questions_of_none kids);
@@ -127,7 +128,7 @@ module _ (tells : Bool) (before : Session) (old : World) (kept : Kept) (kids : L
   -- after all of them
   module _ (first : Session) (given_up : World) (now : Kept) (between : List TurnStep) (makes : MakesAll tells before first old given_up kept interrupted was between (Ok now)) where
     abbrev giving : Part
-    giving = made_part interrupted makes.made (Ok now)
+    giving = made_part interrupted makes.made makes.begun (Ok now)
 
     given_all : take makes.made interrupted ≡ interrupted
     given_all = ap (λ (n : ℕ). take n interrupted) makes.all ∙ take-length interrupted
@@ -139,10 +140,10 @@ module _ (tells : Bool) (before : Session) (old : World) (kept : Kept) (kids : L
     given_up_table = makes.table_is ∙ ap (λ (steps : List TurnStep). after_steps kept.table (steps_of steps)) lost_is
 
     -- stopped at a question
-    pub stopped_asking : {E : Type 0} (after : Session) (new : World) (known_was known : List TurnStep) (asked : Result (Unit {0}) E) (result : Result Kept StoreFault) → IsErrAnd result (λ other. other ≡ Memory) →
-        StaysInside first after → AsksAll tells kids known_was known given_up new asked → MakesDecisions tells before after old new kept kids was between result
-    stopped_asking after new known_was known asked (Ok store) err stays asks = absurd err
-    stopped_asking after new known_was known asked (Err other) err stays asks = subst (λ (of : StoreFault). MakesDecisions tells before after old new kept kids was between (Err of)) (sym err) (record {
+    pub stopped_asking : {E : Type 0} (after : Session) (new : World) (asked : Result (Vec TurnStep Global) E) (result : Result Kept StoreFault) → IsErrAnd result (λ other. other ≡ Memory) →
+        StaysInside first after → AsksAll tells kids given_up new asked → MakesDecisions tells before after old new kept kids was between result
+    stopped_asking after new asked (Ok store) err stays asks = absurd err
+    stopped_asking after new asked (Err other) err stays asks = subst (λ (of : StoreFault). MakesDecisions tells before after old new kept kids was between (Err of)) (sym err) (record {
       part = joined giving (asked_part (questions kids asks.answers));
       goes = goes_then tells before first after old given_up new kept now giving (asked_part (questions kids asks.answers)) (Err Memory) giving_goes
           (memory_goes tells first after given_up new now (questions kids asks.answers) stays asks.asked);
@@ -163,10 +164,10 @@ module _ (tells : Bool) (before : Session) (old : World) (kept : Kept) (kids : L
     })
 
     -- all were asked, and their ends made, or the first of them
-    pub ended_all : {E : Type 0} (asked_at after : Session) (middle new : World) (known : List TurnStep) (is : List TurnStep) (result : Result Kept StoreFault) →
-        StaysInside first asked_at → (asks : AsksAll {E = E} tells kids [] known given_up middle (Ok tt)) → MakesAll tells asked_at after middle new now known between is result →
+    pub ended_all : {E : Type 0} (asked_at after : Session) (middle new : World) (told : Vec TurnStep Global) (known is : List TurnStep) (result : Result Kept StoreFault) →
+        StaysInside first asked_at → (asks : AsksAll {E = E} tells kids given_up middle (Ok told)) → known ≡ told.items → MakesAll tells asked_at after middle new now known between is result →
         MakesDecisions tells before after old new kept kids was is result
-    ended_all asked_at after middle new known is result stays asks ended = record {
+    ended_all asked_at after middle new told known is result stays asks same ended = record {
       part = whole;
       goes = goes_then tells before asked_at after old middle new kept now (joined giving (asked_part (questions kids asks.answers))) ending result
           (goes_then tells before first asked_at old given_up middle kept now giving (asked_part (questions kids asks.answers)) (Ok now) giving_goes
@@ -185,28 +186,31 @@ module _ (tells : Bool) (before : Session) (old : World) (kept : Kept) (kids : L
           ∙ ap (λ (l : List TurnStep). was ++ (l ++ take ended.made known)) (sym (append-nil (take makes.made interrupted)));
     } where
       ending : Part
-      ending = made_part known ended.made result
+      ending = made_part known ended.made ended.begun result
 
       whole : Part
       whole = joined (joined giving (asked_part (questions kids asks.answers))) ending
+
+      known_is : known ≡ ends kids asks.answers
+      known_is = same ∙ asks.all.1
 
       first_part : take makes.made interrupted ++ [] ≡ interrupts kept.table kids
       first_part = append-nil (take makes.made interrupted) ∙ given_all ∙ lost_is
 
       prefix_of : (of : Result Kept StoreFault) (makes_ends : MakesAll tells asked_at after middle new now known between is of) →
-          (beyond : List TurnStep) × (interrupts kept.table kids ++ ends kids asks.answers ≡ (((take makes.made interrupted ++ []) ++ take makes_ends.made known) ++ (made_part known makes_ends.made of).next) ++ beyond)
+          (beyond : List TurnStep) × (interrupts kept.table kids ++ ends kids asks.answers ≡ (((take makes.made interrupted ++ []) ++ take makes_ends.made known) ++ (made_part known makes_ends.made makes_ends.begun of).next) ++ beyond)
       prefix_of (Ok store) makes_ends = (
         [],
         ap (λ (l : List TurnStep). l ++ ends kids asks.answers) (sym first_part)
-            ∙ ap (λ (l : List TurnStep). (take makes.made interrupted ++ []) ++ l) (sym asks.ended ∙ sym (ap (λ (n : ℕ). take n known) makes_ends.all ∙ take-length known))
+            ∙ ap (λ (l : List TurnStep). (take makes.made interrupted ++ []) ++ l) (sym known_is ∙ sym (ap (λ (n : ℕ). take n known) makes_ends.all ∙ take-length known))
             ∙ sym (append-nil ((take makes.made interrupted ++ []) ++ take makes_ends.made known))
             ∙ sym (append-nil (((take makes.made interrupted ++ []) ++ take makes_ends.made known) ++ [])),
       )
       prefix_of (Err fault) makes_ends = (
-        (made_prefix known makes_ends.made).0,
+        (made_prefix known makes_ends.made makes_ends.begun).0,
         ap (λ (l : List TurnStep). l ++ ends kids asks.answers) (sym first_part)
-            ∙ ap (λ (l : List TurnStep). (take makes.made interrupted ++ []) ++ l) (sym asks.ended ∙ (made_prefix known makes_ends.made).1)
-            ∙ regroup (take makes.made interrupted ++ []) (take makes_ends.made known) (take 1 (drop makes_ends.made known)) (made_prefix known makes_ends.made).0,
+            ∙ ap (λ (l : List TurnStep). (take makes.made interrupted ++ []) ++ l) (sym known_is ∙ (made_prefix known makes_ends.made makes_ends.begun).1)
+            ∙ regroup (take makes.made interrupted ++ []) (take makes_ends.made known) (take makes_ends.begun (drop makes_ends.made known)) (made_prefix known makes_ends.made makes_ends.begun).0,
       ) where
         regroup : (a b c d : List TurnStep) → a ++ ((b ++ c) ++ d) ≡ ((a ++ b) ++ c) ++ d
         regroup a b c d = simp append_assoc
@@ -214,9 +218,9 @@ module _ (tells : Bool) (before : Session) (old : World) (kept : Kept) (kids : L
       all_of : (of : Result Kept StoreFault) (makes_ends : MakesAll tells asked_at after middle new now known between is of) →
           IfOk of (λ store. (length asks.answers ≡ length kids) × ((take makes.made interrupted ++ []) ++ take makes_ends.made known ≡ interrupts kept.table kids ++ ends kids asks.answers))
       all_of (Ok store) makes_ends = (
-        asks.all,
+        asks.all.0,
         ap (λ (l : List TurnStep). l ++ take makes_ends.made known) first_part
-            ∙ ap (λ (l : List TurnStep). interrupts kept.table kids ++ l) (ap (λ (n : ℕ). take n known) makes_ends.all ∙ take-length known ∙ asks.ended),
+            ∙ ap (λ (l : List TurnStep). interrupts kept.table kids ++ l) (ap (λ (n : ℕ). take n known) makes_ends.all ∙ take-length known ∙ known_is),
       )
       all_of (Err fault) makes_ends = tt
 
@@ -323,20 +327,11 @@ reported_slice interrupted all steps reported first counted lost_is same is coun
 
 -- What is known once all have answered.
 
-pub asked_as : {E : Type 0} (tells : Bool) (kids : List Kid) (was known : List TurnStep) (old new : World) (result : Result (Unit {0}) E) (done : Unit {0}) → result ≡ Ok done → was ≡ [] →
-    AsksAll tells kids was known old new result → AsksAll {E = E} tells kids [] known old new (Ok done)
-asked_as {E} tells kids was known old new result done is none asks =
-    subst (λ (l : List TurnStep). AsksAll {E = E} tells kids l known old new (Ok done)) none (subst (λ (of : Result (Unit {0}) E). AsksAll tells kids was known old new of) is asks)
-
-pub asked_slice : {E : Type 0} (tells : Bool) (kids : List Kid) (slice known : List TurnStep) (old new : World) → slice ≡ known →
-    AsksAll {E = E} tells kids [] known old new (Ok tt) → AsksAll {E = E} tells kids [] slice old new (Ok tt)
-asked_slice {E} tells kids slice known old new same asks = subst (λ (l : List TurnStep). AsksAll {E = E} tells kids [] l old new (Ok tt)) (sym same) asks
-
 -- what is kept is current still
-pub now_current : {E : Type 0} (tells : Bool) (before first : Session) (old given_up middle : World) (kept now : Kept) (interrupted : List TurnStep) (kids : List Kid) (was between known : List TurnStep) →
+pub now_current : {E : Type 0} (tells : Bool) (before first : Session) (old given_up middle : World) (kept now : Kept) (interrupted : List TurnStep) (kids : List Kid) (was between : List TurnStep) (told : Vec TurnStep Global) →
     (tells ≡ true → (table : JobTable) × IsCurrent kept old.now.folder table) → MakesAll tells before first old given_up kept interrupted was between (Ok now) →
-    AsksAll {E = E} tells kids [] known given_up middle (Ok tt) → tells ≡ true → (table : JobTable) × IsCurrent now middle.now.folder table
-now_current tells before first old given_up middle kept now interrupted kids was between known current makes asks is =
+    AsksAll {E = E} tells kids given_up middle (Ok told) → tells ≡ true → (table : JobTable) × IsCurrent now middle.now.folder table
+now_current tells before first old given_up middle kept now interrupted kids was between told current makes asks is =
     let table : JobTable = (current is).0 in
     let made = makes.files is table (current is).1 in
     (after_steps table (steps_of interrupted), (asks.asked is now (after_steps table (steps_of interrupted)) made.current).current)

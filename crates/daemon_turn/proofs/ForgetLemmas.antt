@@ -96,17 +96,17 @@ forgot_nothing tells session world kept was (Err other) err inside = subst (λ (
 pub forgot_all : (tells : Bool) (before after : Session) (old new : World) (kept : Kept) (steps was is : List TurnStep) (result : Result Kept StoreFault) → steps ≡ forgets kept.table →
     MakesAll tells before after old new kept steps was is result → Forgets tells before after old new kept was is result
 forgot_all tells before after old new kept steps was is result steps_are makes = record {
-  part = made_part steps makes.made result;
+  part = made_part steps makes.made makes.begun result;
   goes = makes_go tells before after old new kept steps was is result makes;
   forgotten = record { prefix = prefix_of result makes; all = all_of result makes; asked = refl; flags = refl; added = refl };
   written = makes.written;
 } where
   prefix_of : (of : Result Kept StoreFault) (made : MakesAll tells before after old new kept steps was is of) →
-      (later : List TurnStep) × (forgets kept.table ≡ (take made.made steps ++ (made_part steps made.made of).next) ++ later)
+      (later : List TurnStep) × (forgets kept.table ≡ (take made.made steps ++ (made_part steps made.made made.begun of).next) ++ later)
   prefix_of (Ok store) made = ([], sym steps_are ∙ sym (all_taken store made) ∙ sym (append-nil (take made.made steps)) ∙ sym (append-nil (take made.made steps ++ []))) where
     all_taken : (store : Kept) (made : MakesAll tells before after old new kept steps was is (Ok store)) → take made.made steps ≡ steps
     all_taken store made = ap (λ (n : ℕ). take n steps) made.all ∙ take-length steps
-  prefix_of (Err fault) made = (let prefix = made_prefix steps made.made in (prefix.0, sym steps_are ∙ prefix.1))
+  prefix_of (Err fault) made = (let prefix = made_prefix steps made.made made.begun in (prefix.0, sym steps_are ∙ prefix.1))
 
   all_of : (of : Result Kept StoreFault) (made : MakesAll tells before after old new kept steps was is of) → IfOk of (λ store. take made.made steps ≡ forgets kept.table)
   all_of (Ok store) made = ap (λ (n : ℕ). take n steps) made.all ∙ take-length steps ∙ steps_are

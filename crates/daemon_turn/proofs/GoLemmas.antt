@@ -11,17 +11,13 @@ use Rattle.host_calls.specs.Session.{IsInside, Session, StaysInside}
 use Rattle.host_calls.specs.World.{World}
 use Rattle.spool_model.specs.declared.step.Step.{Step}
 use Rattle.spool_model.specs.JobTable.{JobTable}
-use Rattle.spool_model.specs.Steps.{IsLegal, after_steps}
-use Rattle.step_runs.specs.Calls.{StoreCall}
+use Rattle.spool_model.specs.Steps.{after_steps}
 use Rattle.step_runs.specs.Current.{IsCurrent, Kept}
-use Rattle.step_runs.specs.Hands.{StartNothing}
 use Rattle.step_runs.specs.Made.{AreMade, AreStopped, IsStarted, flags_of}
 use Rattle.step_runs.proofs.HandsLemmas.{steps_then}
-use Rattle.step_runs.proofs.MadeLemmas.{calls_make_their_steps, calls_stop_at_their_step, made_steps_are_stopped, no_steps_are_made, steps_are_made_after, steps_are_stopped_after}
-use Rattle.step_runs.proofs.TurnLemmas.{legal_when_kept}
+use Rattle.step_runs.proofs.MadeLemmas.{made_steps_are_stopped, no_steps_are_made, steps_are_made_after, steps_are_stopped_after}
 use Rattle.spool_store.specs.declared.fault.StoreFault.{StoreFault}
 use Rattle.spool_store.specs.declared.fault.StoreFault.TheVariants.{FileFault, Memory}
-use Rattle.spool_store.specs.Stepping.{MakesStep}
 use Rattle.daemon_turn.specs.declared.kid.Kid.{Kid}
 use Rattle.daemon_turn.specs.declared.step.TurnStep.{TurnStep}
 use Rattle.daemon_turn.specs.declared.step.TurnStep.TheVariants.{HandedOver}
@@ -31,10 +27,7 @@ use Rattle.daemon_turn.specs.inside.Going.{Gives, Goes, Part, PartEnds, joined}
 use Rattle.daemon_turn.specs.inside.Handing.{HandsJobOver}
 use Rattle.daemon_turn.specs.inside.Making.{MakesAll}
 use Rattle.host_session.proofs.SessionLemmas.{counts_on, no_counts}
-use Rattle.daemon_turn.proofs.MakeLemmas.{without_scripts_is}
-
-no_fault : {T E : Type 0} (value : T) (fault : E) → ◌≡◌ {A = Result T E} (Ok value) (Err fault) → ⊥
-no_fault value fault is = cc
+use Rattle.daemon_turn.proofs.MakeLemmas.{no_fault, not_memory}
 
 -- no part
 abbrev pub no_part : Part
@@ -117,11 +110,11 @@ abbrev pub next_of : Result Kept StoreFault → List TurnStep → List TurnStep
 next_of (Ok kept) next = []
 next_of (Err fault) next = next
 
-abbrev pub made_part : List TurnStep → ℕ → Result Kept StoreFault → Part
-made_part steps made result = record { steps = take made steps; next = next_of result (take 1 (drop made steps)); questions = []; flags = []; added = [] }
+abbrev pub made_part : List TurnStep → ℕ → ℕ → Result Kept StoreFault → Part
+made_part steps made begun result = record { steps = take made steps; next = next_of result (take begun (drop made steps)); questions = []; flags = []; added = [] }
 
 pub makes_go : (tells : Bool) (before after : Session) (old new : World) (kept : Kept) (steps was is : List TurnStep) (result : Result Kept StoreFault) →
-    (makes : MakesAll tells before after old new kept steps was is result) → Goes tells before after old new kept (made_part steps makes.made result) result
+    (makes : MakesAll tells before after old new kept steps was is result) → Goes tells before after old new kept (made_part steps makes.made makes.begun result) result
 makes_go tells before after old new kept steps was is (Ok store) makes =
     let all : take makes.made steps ≡ steps = ap (λ (n : ℕ). take n steps) makes.all ∙ take-length steps in
     record {
@@ -168,9 +161,6 @@ asks_go tells before after old new kept questions stays asked = record {
   whole = refl;
   files = λ known table current. record { given = []; flagged = refl; numbered = refl; ends = asked known kept table current };
 }
-
-not_memory : {T : Type 0} → ◌≡◌ {A = Result T StoreFault} (Err Memory) (Err FileFault) → ⊥
-not_memory is = cc
 
 -- where memory is wanting
 pub memory_goes : (tells : Bool) (before after : Session) (old new : World) (kept : Kept) (questions : List Asked) → StaysInside before after →
@@ -257,49 +247,3 @@ hands_go tells before after old new kept number second (Err fault) hands = recor
 } where
   same_fault : (one : StoreFault) → ◌≡◌ {A = Result Kept StoreFault} (Err one) (Err FileFault) → one ≡ FileFault
   same_fault one is = cc
-
--- One step of the store.
-
-abbrev pub step_part : TurnStep → Result Kept StoreFault → Part
-step_part step (Ok kept) = record { steps = step ∷ []; next = []; questions = []; flags = []; added = [] }
-step_part step (Err fault) = record { steps = []; next = step ∷ []; questions = []; flags = []; added = [] }
-
-pub step_goes : (tells : Bool) (before after : Session) (old new : World) (kept : Kept) (step : TurnStep) (result : Result Kept StoreFault) →
-    IsLegal kept.table (step_of step) → StartNothing (step_of step ∷ []) → MakesStep tells before after old new kept (step_of step) result →
-    Goes tells before after old new kept (step_part step result) result
-step_goes tells before after old new kept step (Ok store) legal quiet makes = record {
-  inside = makes.inside.stays.inside;
-  counts = makes.inside.stays.counts;
-  cause = makes.inside.cause;
-  faults = tt;
-  children = makes.inside.stays.children ∙ sym (append-nil before.children);
-  table_is = makes.table_is;
-  whole = refl;
-  files = λ known table current.
-      let call : StoreCall {E = StoreFault} table (step_of step ∷ []) old new (Ok store) = makes.files known table current in
-      record {
-        given = [];
-        flagged = refl;
-        numbered = refl;
-        ends = calls_make_their_steps table (step_of step ∷ []) store old new
-            (legal_when_kept kept old.now.folder table (step_of step) current (subst (IsLegal kept.table) (sym (without_scripts_is step)) legal), tt) quiet current.shows call.files call.current call.others;
-      };
-}
-step_goes tells before after old new kept step (Err fault) legal quiet makes = record {
-  inside = makes.inside.stays.inside;
-  counts = makes.inside.stays.counts;
-  cause = makes.inside.cause;
-  faults = makes.faults;
-  children = makes.inside.stays.children ∙ sym (append-nil before.children);
-  table_is = tt;
-  whole = tt;
-  files = λ known table current.
-      let call : StoreCall {E = StoreFault} table (step_of step ∷ []) old new (Err fault) = makes.files known table current in
-      record {
-        given = [];
-        flagged = refl;
-        numbered = refl;
-        ends = calls_stop_at_their_step table (step_of step) old new
-            (legal_when_kept kept old.now.folder table (step_of step) current (subst (IsLegal kept.table) (sym (without_scripts_is step)) legal)) current.shows call.files;
-      };
-}

@@ -7,11 +7,12 @@ use Rattle.host_calls.specs.declared.child.Child.{Child}
 use Rattle.host_calls.specs.declared.child.Ending.TheVariants.{NotStarted}
 use Rattle.host_calls.specs.Session.{IsInside, Session}
 use Rattle.host_calls.specs.World.{World}
-use Rattle.spool_model.specs.declared.step.Step.TheVariants.{End, Start}
+use Rattle.spool_model.specs.declared.step.Step.TheVariants.{Start}
 use Rattle.spool_model.specs.JobTable.{IsPending, IsRunning, JobTable}
 use Rattle.spool_model.specs.Steps.{IsLegal, after_step, after_steps}
 use Rattle.step_runs.specs.Current.{IsCurrent, Kept}
 use Rattle.spool_store.specs.declared.fault.StoreFault.{StoreFault}
+use Rattle.spool_store.specs.declared.fault.StoreFault.TheVariants.{Memory}
 use Rattle.spool_store.specs.Stepping.{MayStep}
 use Rattle.spool_shows.proofs.Membership.{Has}
 use Rattle.daemon_turn.specs.declared.kid.Kid.{Kid}
@@ -21,10 +22,14 @@ use Rattle.daemon_turn.specs.Starting.{start_steps, starts}
 use Rattle.daemon_turn.specs.StepsOf.{number_of, steps_of}
 use Rattle.daemon_turn.specs.inside.Going.{Gives, Goes, Part, joined}
 use Rattle.daemon_turn.specs.inside.Handing.{HandsJobOver}
-use Rattle.daemon_turn.specs.inside.Launching.{AreStarted, EndsUnstarted, Launches, written_by}
+use Rattle.daemon_turn.specs.inside.Launching.{AreStarted, Launches}
+use Rattle.daemon_turn.specs.inside.Making.{MakesAll, MayMake}
 use Rattle.daemon_turn.specs.inside.Waiting.{AreWaiting, started_of}
 use Rattle.step_runs.proofs.ApartLemmas.{Apart, all_each, apart_differ, differ_apart, each_all}
-use Rattle.daemon_turn.proofs.GoLemmas.{goes_none, goes_then, handed_part, hands_go, no_part, step_goes, step_part}
+use Rattle.host_session.proofs.SessionLemmas.{stays_inside}
+use Rattle.step_runs.proofs.MadeLemmas.{no_steps_are_made}
+use Rattle.daemon_turn.proofs.DecideLemmas.{made_prefix}
+use Rattle.daemon_turn.proofs.GoLemmas.{asked_part, goes_none, goes_then, handed_part, hands_go, made_part, makes_go, memory_goes, no_part}
 use Rattle.daemon_turn.proofs.HandLemmas.{started_entry}
 use Rattle.daemon_turn.proofs.WaitLemmas.{waiting_after}
 
@@ -37,24 +42,25 @@ started_runs table after number second legal is =
 
 pub may_end : (tells : Bool) (before between : Session) (old middle : World) (kept store : Kept) (number : ℕ) (second : ℤ) → IsLegal kept.table (Start number second) →
     (tells ≡ true → (table : JobTable) × IsCurrent kept old.now.folder table) → HandsJobOver tells before between old middle kept number second (Ok (store, None)) →
-    MayStep tells between middle store (End number NotStarted)
+    MayMake tells between middle store (Ended number NotStarted ∷ [])
 may_end tells before between old middle kept store number second legal current hands = record {
   inside = hands.inside;
-  legal = started_runs kept.table store.table number second legal hands.table_is;
+  legal = (started_runs kept.table store.table number second legal hands.table_is, tt);
+  quiet = tt;
   current = λ known. (let first : (table : JobTable) × IsCurrent kept old.now.folder table = current known in
       (after_step first.0 (Start number second), (hands.files known first.0 first.1).made.current));
 }
 
 module _ (tells : Bool) (before between after : Session) (old middle new : World) (kept : Kept) (number : ℕ) (second : ℤ) (kids : List Kid) (was : List TurnStep) where
-  pub launched_not : (fault : StoreFault) (result : Result Kept StoreFault) → IsErrAnd result (λ other. other ≡ fault) →
-      HandsJobOver tells before between old middle kept number second (Err fault) → Launches tells before between old middle kept (number ∷ []) second kids kids was was result
-  launched_not fault (Ok store) is hands = absurd is
-  launched_not fault (Err other) is hands = subst (λ (of : StoreFault). Launches tells before between old middle kept (number ∷ []) second kids kids was was (Err of)) (sym is) (record {
+  pub launched_not : (fault : StoreFault) (more : List Kid) (is : List TurnStep) (result : Result Kept StoreFault) → IsErrAnd result (λ other. other ≡ fault) → more ≡ kids → is ≡ was →
+      HandsJobOver tells before between old middle kept number second (Err fault) → Launches tells before between old middle kept (number ∷ []) second kids more was is result
+  launched_not fault more is (Ok store) err same written hands = absurd err
+  launched_not fault more is (Err other) err same written hands = subst (λ (of : StoreFault). Launches tells before between old middle kept (number ∷ []) second kids more was is (Err of)) (sym err) (record {
     part = handed_part number second (Err fault);
     goes = hands_go tells before between old middle kept number second (Err fault) hands;
     started = record { few = omega arith; prefix = ([], refl); all = tt; numbered = refl; asked = refl };
-    written = sym (append-nil was);
-    kids_are = sym (append-nil kids);
+    written = written ∙ sym (append-nil was);
+    kids_are = same ∙ sym (append-nil kids);
   })
 
   pub launched : (store : Kept) (child : Child) (more : List Kid) (is : List TurnStep) → HandsJobOver tells before between old middle kept number second (Ok (store, Some child)) →
@@ -69,36 +75,45 @@ module _ (tells : Bool) (before between after : Session) (old middle new : World
   }
 
   -- no child came
-  unstarted_part : (store : Kept) (result : Result Kept StoreFault) → Part
-  unstarted_part store result = joined (handed_part number second (Ok (store, None))) (step_part (Ended number NotStarted) result)
+  abbrev ended : List TurnStep
+  ended = Ended number NotStarted ∷ []
 
-  unstarted : (store : Kept) (result : Result Kept StoreFault) → AreStarted (number ∷ []) second (joined (handed_part number second (Ok (store, None))) (step_part (Ended number NotStarted) result)) result
-  unstarted store (Ok last) = record { few = omega arith; prefix = ([], refl); all = (refl, refl); numbered = refl; asked = refl }
-  unstarted store (Err fault) = record { few = omega arith; prefix = ([], refl); all = tt; numbered = refl; asked = refl }
-
-  unstarted_steps : (result : Result Kept StoreFault) → (step_part (Ended number NotStarted) result).steps ≡ written_by (Ended number NotStarted) result
-  unstarted_steps (Ok last) = refl
-  unstarted_steps (Err fault) = refl
-
-  unstarted_kids : (result : Result Kept StoreFault) → (step_part (Ended number NotStarted) result).added ≡ []
-  unstarted_kids (Ok last) = refl
-  unstarted_kids (Err fault) = refl
-
-  pub launched_none : (store : Kept) (written is : List TurnStep) (result : Result Kept StoreFault) → HandsJobOver tells before between old middle kept number second (Ok (store, None)) →
-      IsLegal store.table (End number NotStarted) → written ≡ was ++ HandedOver number second ∷ [] →
-      EndsUnstarted tells between after middle new store number written is result →
-      Launches tells before after old new kept (number ∷ []) second kids kids was is result
-  launched_none store written is result hands legal first ends = record {
-    part = joined (handed_part number second (Ok (store, None))) (step_part (Ended number NotStarted) result);
-    goes = goes_then tells before between after old middle new kept store (handed_part number second (Ok (store, None))) (step_part (Ended number NotStarted) result) result
+  pub launched_none : (store : Kept) (more : List Kid) (written is : List TurnStep) (result : Result Kept StoreFault) → HandsJobOver tells before between old middle kept number second (Ok (store, None)) →
+      more ≡ kids → written ≡ was ++ HandedOver number second ∷ [] → MakesAll tells between after middle new store (Ended number NotStarted ∷ []) written is result →
+      Launches tells before after old new kept (number ∷ []) second kids more was is result
+  launched_none store more written is result hands same first makes = record {
+    part = joined (handed_part number second (Ok (store, None))) (made_part ended makes.made makes.begun result);
+    goes = goes_then tells before between after old middle new kept store (handed_part number second (Ok (store, None))) (made_part ended makes.made makes.begun result) result
         (hands_go tells before between old middle kept number second (Ok (store, None)) hands)
-        (step_goes tells between after middle new store (Ended number NotStarted) result legal tt ends.makes);
-    started = unstarted store result;
-    written = ends.written ∙ ap (λ (l : List TurnStep). l ++ written_by (Ended number NotStarted) result) first
-        ∙ append_assoc was (HandedOver number second ∷ []) (written_by (Ended number NotStarted) result)
-        ∙ ap (λ (l : List TurnStep). was ++ HandedOver number second ∷ l) (sym (unstarted_steps result));
-    kids_are = sym (ap (λ (l : List Kid). kids ++ l) (unstarted_kids result) ∙ append-nil kids);
-  }
+        (makes_go tells between after middle new store ended written is result makes);
+    started = started result makes;
+    written = makes.written ∙ ap (λ (l : List TurnStep). l ++ take makes.made ended) first ∙ append_assoc was (HandedOver number second ∷ []) (take makes.made ended);
+    kids_are = same ∙ sym (append-nil kids);
+  } where
+    started : (of : Result Kept StoreFault) (made : MakesAll tells between after middle new store ended written is of) →
+        AreStarted (number ∷ []) second (joined (handed_part number second (Ok (store, None))) (made_part ended made.made made.begun of)) of
+    started (Ok last) made =
+        let all : take made.made ended ≡ ended = ap (λ (n : ℕ). take n ended) made.all in
+        let steps : HandedOver number second ∷ take made.made ended ≡ HandedOver number second ∷ ended = ap (λ (l : List TurnStep). HandedOver number second ∷ l) all in
+        record { few = omega arith; prefix = ([], sym (append-nil ((HandedOver number second ∷ take made.made ended) ++ []) ∙ append-nil (HandedOver number second ∷ take made.made ended) ∙ steps)); all = (refl, steps); numbered = refl; asked = refl }
+    started (Err fault) made =
+        let prefix = made_prefix ended made.made made.begun in
+        record { few = omega arith; prefix = (prefix.0, ap (λ (l : List TurnStep). HandedOver number second ∷ l) prefix.1); all = tt; numbered = refl; asked = refl }
+
+-- there was no memory to write the start down
+pub launched_nothing : (tells : Bool) (session : Session) (world : World) (kept : Kept) (numbers : List ℕ) (second : ℤ) (kids more : List Kid) (was is : List TurnStep) (result : Result Kept StoreFault) →
+    IsErrAnd result (λ other. other ≡ Memory) → IsInside session → more ≡ kids → is ≡ was → Launches tells session session world world kept numbers second kids more was is result
+launched_nothing tells session world kept numbers second kids more was is (Ok store) err inside same written = absurd err
+launched_nothing tells session world kept numbers second kids more was is (Err other) err inside same written = subst (λ (of : StoreFault). Launches tells session session world world kept numbers second kids more was is (Err of)) (sym err) (record {
+  part = asked_part [];
+  goes = memory_goes tells session session world world kept [] (stays_inside session inside) (λ known now table current. no_steps_are_made table now world current);
+  started = record { few = omega arith; prefix = (starts numbers second [], refl); all = tt; numbered = none numbers; asked = refl };
+  written = written ∙ sym (append-nil was);
+  kids_are = same ∙ sym (append-nil kids);
+}) where
+  none : (all : List ℕ) → [] ≡ started_of all []
+  none [] = refl
+  none (number ∷ all) = refl
 
 -- The loop.
 
@@ -310,5 +325,6 @@ pub launches_at : (tells : Bool) (before after : Session) (old new : World) (kep
 launches_at tells before after old new kept numbers written second kids more was is result same launches =
     subst (λ (of : ℤ). Launches tells before after old new kept numbers of kids more was is result) same launches
 
-pub report_at : (was is : List TurnStep) (number : ℕ) (written second : ℤ) → written ≡ second → is ≡ was ++ HandedOver number written ∷ [] → is ≡ was ++ HandedOver number second ∷ []
-report_at was is number written second same pushed = pushed ∙ ap (λ (of : ℤ). was ++ HandedOver number of ∷ []) same
+pub report_at : (was before is : List TurnStep) (number : ℕ) (written second : ℤ) → written ≡ second → before ≡ was → is ≡ before ++ HandedOver number written ∷ [] → is ≡ was ++ HandedOver number second ∷ []
+report_at was before is number written second same kept pushed =
+    pushed ∙ ap (λ (of : ℤ). before ++ HandedOver number of ∷ []) same ∙ ap (λ (l : List TurnStep). l ++ HandedOver number second ∷ []) kept

@@ -16,10 +16,10 @@ use Rattle.step_runs.specs.Current.{IsCurrent, Kept}
 use Rattle.step_runs.specs.Hands.{StartNothing}
 use Rattle.step_runs.specs.Made.{AreMade, AreStopped}
 use Rattle.step_runs.proofs.HandsLemmas.{steps_then}
-use Rattle.step_runs.proofs.MadeLemmas.{no_steps_are_made}
+use Rattle.step_runs.proofs.MadeLemmas.{made_steps_are_stopped, no_steps_are_made}
 use Rattle.step_runs.proofs.TurnLemmas.{fault_after, legal_when_kept, step_after}
 use Rattle.spool_store.specs.declared.fault.StoreFault.{StoreFault}
-use Rattle.spool_store.specs.declared.fault.StoreFault.TheVariants.{FileFault}
+use Rattle.spool_store.specs.declared.fault.StoreFault.TheVariants.{FileFault, Memory}
 use Rattle.spool_store.specs.Faults.{IsOfStep}
 use Rattle.daemon_turn.specs.declared.step.TurnStep.{TurnStep}
 use Rattle.daemon_turn.specs.declared.step.TurnStep.TheVariants.{HandedOver, Ended, Interrupted, Forgotten}
@@ -116,7 +116,7 @@ module _ (tells : Bool) (was now : Kept) (steps : List TurnStep) (count : ℕ) (
 
   pub one_stopped : (fault : StoreFault) (new : World) →
       (tells ≡ true → (table : JobTable) → IsCurrent now middle.now.folder table → StoreCall {E = StoreFault} table (step_of step ∷ []) middle new (Err fault)) →
-      tells ≡ true → (table : JobTable) → IsCurrent was old.now.folder table → MakingEnds table steps count old new (Err fault)
+      tells ≡ true → (table : JobTable) → IsCurrent was old.now.folder table → MakingEnds table steps count 1 old new (Err fault)
   one_stopped fault new call is table current =
       let made : AreMade table (steps_of (take count steps)) [] [] now old middle = has.made is table current in
       subst (λ (l : List TurnStep). AreStopped table (steps_of (take count steps)) (steps_of l) [] [] old new) (sym next_is)
@@ -124,9 +124,12 @@ module _ (tells : Bool) (was now : Kept) (steps : List TurnStep) (count : ℕ) (
       (legal_on (after_steps table (steps_of (take count steps))) middle.now.folder made.current)
       (call is (after_steps table (steps_of (take count steps))) made.current))
 
--- an answer that is no fault
-no_fault : {T E : Type 0} (value : T) (fault : E) → ◌≡◌ {A = Result T E} (Ok value) (Err fault) → ⊥
+-- an answer that is no fault, and want of memory is none of a file
+pub no_fault : {T E : Type 0} (value : T) (fault : E) → ◌≡◌ {A = Result T E} (Ok value) (Err fault) → ⊥
 no_fault value fault is = cc
+
+pub not_memory : {T : Type 0} → ◌≡◌ {A = Result T StoreFault} (Err Memory) (Err FileFault) → ⊥
+not_memory is = cc
 
 -- all steps were made
 pub all_made : (tells : Bool) (before after : Session) (was now : Kept) (steps : List TurnStep) (count : ℕ) (old new : World) (earlier later : List TurnStep) →
@@ -139,28 +142,39 @@ all_made tells before after was now steps count old new earlier later whole stay
       faults = tt;
       table_is = has.table_is ∙ ap (λ (l : List TurnStep). after_steps was.table (steps_of l)) all_taken;
       made = count;
+      begun = 0;
       few = omega (arith, whole);
       all = whole;
       written = written;
       files = λ is table current. subst (λ (l : List TurnStep). AreMade table (steps_of l) [] [] now old new) all_taken (has.made is table current);
     }
 
--- the next step was stopped
-pub some_made : (tells : Bool) (before after : Session) (was : Kept) (steps : List TurnStep) (count : ℕ) (old new : World) (earlier later : List TurnStep) (fault : StoreFault) (result : Result Kept StoreFault) →
+-- the next step was stopped, or not begun
+pub some_made : (tells : Bool) (before after : Session) (was : Kept) (steps : List TurnStep) (count begun : ℕ) (old new : World) (earlier later : List TurnStep) (fault : StoreFault) (result : Result Kept StoreFault) →
     IsErrAnd result (λ other. other ≡ fault) → count < length steps → CallsInside {T = Kept} FileFault before after (Err fault) → IsOfStep fault → later ≡ earlier ++ take count steps →
-    (tells ≡ true → (table : JobTable) → IsCurrent was old.now.folder table → MakingEnds table steps count old new (Err fault)) →
+    (tells ≡ true → (table : JobTable) → IsCurrent was old.now.folder table → MakingEnds table steps count begun old new (Err fault)) →
     MakesAll tells before after old new was steps earlier later result
-some_made tells before after was steps count old new earlier later fault (Ok now) is below inside faults written files = absurd is
-some_made tells before after was steps count old new earlier later fault (Err other) is below inside faults written files = subst (λ (of : StoreFault). MakesAll tells before after old new was steps earlier later (Err of)) (sym is) (record {
+some_made tells before after was steps count begun old new earlier later fault (Ok now) is below inside faults written files = absurd is
+some_made tells before after was steps count begun old new earlier later fault (Err other) is below inside faults written files = subst (λ (of : StoreFault). MakesAll tells before after old new was steps earlier later (Err of)) (sym is) (record {
   inside = inside;
   faults = faults;
   table_is = tt;
   made = count;
+  begun = begun;
   few = omega (arith, below);
   all = tt;
   written = written;
   files = files;
 })
+
+-- there was no memory to write the next one down
+pub none_begun : (tells : Bool) (before after : Session) (was now : Kept) (steps : List TurnStep) (count : ℕ) (old new : World) (earlier later : List TurnStep) (result : Result Kept StoreFault) →
+    IsErrAnd result (λ other. other ≡ Memory) → count < length steps → StaysInside before after → HasMade tells was now steps count old new → later ≡ earlier ++ take count steps →
+    MakesAll tells before after old new was steps earlier later result
+none_begun tells before after was now steps count old new earlier later result err below stays has written =
+    some_made tells before after was steps count 0 old new earlier later Memory result err below
+    (record { stays = stays; cause = record { later = stays.counts.file_faults; rose = λ bad. absurd (not_memory bad) } }) tt written
+    (λ is table current. made_steps_are_stopped table (steps_of (take count steps)) [] [] now old new (has.made is table current))
 
 -- one step more is written down
 pub written_more : (steps : List TurnStep) (count : ℕ) (default : TurnStep) (earlier later last : List TurnStep) → count < length steps →

@@ -77,11 +77,11 @@ may_decide tells before after old new kept kids left is ordered children stays r
 without_none : (kids : List Kid) → without_ended [] kids ≡ kids
 without_none kids = all_kept (λ kid. not (list_any (tells_end_of kid.number) [])) kids (λ kid has. refl)
 
-pub unplanned : (tells : Bool) (session : Session) (world : World) (kept : Kept) (turn : Turn) (kids left : List Kid) (was is : List TurnStep) (result : Result (Unit {0}) StoreFault) →
-    IsErrAnd result (λ other. other ≡ fault.Memory) → MayDecide tells session world kept kids → left ≡ kids → was ≡ [] → is ≡ was → kids ≡ asked_kids kept.table turn.kids →
-    TurnsOn tells session session world world kept turn left is result
-unplanned tells session world kept turn kids left was is (Ok done) err may same none none_is are = absurd err
-unplanned tells session world kept turn kids left was is (Err other) err may same none none_is are = record {
+pub unplanned : (tells : Bool) (session : Session) (world : World) (kept : Kept) (turn : Turn) (kids : List Kid) (was : List TurnStep) (result : Result (Unit {0}) StoreFault) →
+    IsErrAnd result (λ other. other ≡ fault.Memory) → MayDecide tells session world kept kids → was ≡ [] → kids ≡ asked_kids kept.table turn.kids →
+    TurnsOn tells session session world world kept turn kids was result
+unplanned tells session world kept turn kids was (Ok done) err may none are = absurd err
+unplanned tells session world kept turn kids was (Err other) err may none are = record {
   outcome = Err fault.Memory;
   same = ap (λ (of : StoreFault). Err of) err;
   part = asked_part [];
@@ -89,14 +89,14 @@ unplanned tells session world kept turn kids left was is (Err other) err may sam
   answers = [];
   are = inl (record { few = omega arith; none = refl; prefix = (Rattle.daemon_turn.specs.Decisions.decisions kept.table turn.kids [], refl) });
   asked = sym (questions_of_none (asked_kids kept.table turn.kids));
-  written = none_is ∙ none;
+  written = none;
   kids = record {
     same = subst (IsPermutation (kept_kids kept.table [] turn.kids ++ []))
-        (append-nil (kept_kids kept.table [] turn.kids) ∙ sym (kids_stay kept.table [] [] turn.kids (λ kid runs. refl)) ∙ without_none (asked_kids kept.table turn.kids) ∙ sym are ∙ sym same)
+        (append-nil (kept_kids kept.table [] turn.kids) ∙ sym (kids_stay kept.table [] [] turn.kids (λ kid runs. refl)) ∙ without_none (asked_kids kept.table turn.kids) ∙ sym are)
         (IsPermutation-refl (kept_kids kept.table [] turn.kids ++ []));
-    ordered = subst AreByNumber (sym same) may.ordered;
+    ordered = may.ordered;
   };
-  children = subst (AreChildren session.children) (sym same) may.children;
+  children = may.children;
 }
 
 -- The steps were made, and the kids brought into order.

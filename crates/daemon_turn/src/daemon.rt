@@ -8,13 +8,13 @@ ghost use Rattle.daemon_turn.specs.Kids.{AreByNumber, AreChildren};
 ghost use Rattle.daemon_turn.specs.Leaving.{TurnsTo};
 ghost use Rattle.daemon_turn.specs.inside.Working.{end_after, end_of_session};
 
-use crate::work::work;
-use crate::{Kid, Mode, TurnEnd, TurnInput, TurnReport, TurnStep, TurnSteps};
+use crate::{Kid, Mode, TurnEnd, TurnInput, TurnReport, TurnStep, TurnSteps, Turning};
 use host_calls::{EnterFault, Host};
 use host_session::in_session;
 use spool_store::StoreFault;
 use std::alloc::Global;
 use std::marker::Model;
+use std::mem;
 
 /// A daemon: its kids, by number, the limit of the load in hundredths, and how many seconds lie between two starts in
 /// batch queues.
@@ -93,13 +93,17 @@ impl Daemon {
         let limit = self.limit;
         let interval = self.interval;
         let at = TurnInput { now, load, mode };
-        let kids = &mut self.kids;
-        let mut steps = Vec::new(alloc);
+        let mut turning = Turning {
+            kids: mem::replace(&mut self.kids, Vec::new(alloc)),
+            steps: Vec::new(alloc),
+        };
         let worked = in_session(
             alloc,
             host,
-            &mut |host| work(alloc, host, kids, limit, interval, at, &mut steps),
+            &mut |host| turning.work(alloc, host, limit, interval, at),
         );
+        let Turning { kids, steps } = turning;
+        self.kids = kids;
         report(end_of(worked), steps)
     }
 }

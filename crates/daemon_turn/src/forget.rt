@@ -5,27 +5,28 @@ ghost use Rattle.daemon_turn.specs.Starting.{forgets};
 ghost use Rattle.daemon_turn.specs.inside.Forgetting.{Forgets};
 ghost use Rattle.daemon_turn.specs.inside.Going.{MayGo};
 
-use crate::TurnStep;
-use crate::make_all::make_all;
+use crate::{TurnStep, Turning};
 use host_calls::Host;
 use spool_model::{Decided, MAX_DONE};
 use spool_store::{Store, StoreFault};
 use std::alloc::{AllocError, Global};
 
-// Forgets the lowest of the done jobs, as many as are too many, and writes each down.
-pub(crate) fn forget_all<H: Host>(
-    alloc: Global,
-    host: &mut H,
-    store: Store,
-    report: &mut Vec<TurnStep>,
-) -> Result<Store, StoreFault>
-    requires { MayGo H.tells (H.session host.old) (H.world host.old) store }
-    ensures { Forgets H.tells (H.session host.old) (H.session host.new) (H.world host.old) (H.world host.new)
-        store report.old.items report.new.items result }
-{
-    let steps = forgets(alloc, &store)?;
-    report.reserve(steps.len())?;
-    make_all(alloc, host, store, steps.as_slice(), report)
+impl Turning {
+    // Forgets the lowest of the done jobs, as many as are too many, and writes each down.
+    pub(crate) fn forget_all<H: Host>(
+        &mut self,
+        alloc: Global,
+        host: &mut H,
+        store: Store,
+    ) -> Result<Store, StoreFault>
+        requires { MayGo H.tells (H.session host.old) (H.world host.old) store }
+        ensures forgets { Forgets H.tells (H.session host.old) (H.session host.new)
+            (H.world host.old) (H.world host.new) store self.old.steps.items self.new.steps.items result }
+        ensures kids { self.new.kids ≡ self.old.kids }
+    {
+        let steps = forgets(alloc, &store)?;
+        self.make_all(alloc, host, store, steps.as_slice())
+    }
 }
 
 // The steps that forget the lowest of the done jobs, as many as are too many.

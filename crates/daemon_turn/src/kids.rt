@@ -1,5 +1,5 @@
 //! The kids of a daemon, in the order of their numbers.
-ghost use Rattle.std.specs.Prelude.{◌≡◌, ◌≤◌, IsPermutation, not, filter, map, vec_capacity, vec_len};
+ghost use Rattle.std.specs.Prelude.{◌≡◌, IsPermutation, map};
 ghost use Rattle.std.specs.List.{list_any};
 ghost use Rattle.queue_rules.specs.Order.{Differ};
 ghost use Rattle.daemon_turn.specs.Decisions.{has_kid};
@@ -19,9 +19,7 @@ pub(crate) fn has_kid(kids: &[Kid], number: u32) -> bool
 // Drops the kids of which the ends tell.
 pub(crate) fn drop_ended(kids: &mut Vec<Kid>, ended: &[TurnStep])
     requires { AreEndsByNumber ended.now }
-    ensures items { kids.new.items ≡ without_ended ended.now kids.old.items }
-    ensures len { vec_len kids.new ≤ vec_len kids.old }
-    ensures capacity { vec_capacity kids.new ≡ vec_capacity kids.old }
+    ensures { kids.new.items ≡ without_ended ended.now kids.old.items }
 {
     kids.retain(|kid| !has_ended(ended, kid.number));
 }

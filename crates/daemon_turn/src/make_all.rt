@@ -1,36 +1,37 @@
 //! Steps that hand nothing over.
-ghost use Rattle.std.specs.Prelude.{◌≡◌, ◌+◌, ◌≤◌, [], ◌∷◌, length, vec_capacity, vec_len};
+ghost use Rattle.std.specs.Prelude.{◌≡◌, [], ◌∷◌};
 ghost use Rattle.step_runs.specs.Hands.{StartNothing};
 ghost use Rattle.spool_store.specs.Stepping.{MakesStep, MayStep};
 ghost use Rattle.daemon_turn.specs.inside.Making.{MakesAll, MayMake};
 ghost use Rattle.daemon_turn.specs.StepsOf.{step_of};
 
-use crate::TurnStep;
+use crate::{TurnStep, Turning};
 use host_calls::Host;
 use spool_store::{Store, StoreFault};
 use std::alloc::Global;
 
-// Makes the steps, in order, and writes each down once it stands.
-pub(crate) fn make_all<H: Host>(
-    alloc: Global,
-    host: &mut H,
-    store: Store,
-    steps: &[TurnStep],
-    report: &mut Vec<TurnStep>,
-) -> Result<Store, StoreFault>
-    requires may { MayMake H.tells (H.session host.old) (H.world host.old) store steps.now }
-    requires room { vec_len report.old + length steps.now ≤ vec_capacity report.old }
-    ensures makes { MakesAll H.tells (H.session host.old) (H.session host.new)
-        (H.world host.old) (H.world host.new) store steps.now report.old.items report.new.items result }
-    ensures capacity { vec_capacity report.new ≡ vec_capacity report.old }
-    ensures len { vec_len report.new ≤ vec_len report.old + length steps.now }
-{
-    let mut store = store;
-    for step in steps {
-        store = make(alloc, host, store, *step)?;
-        report.push_reserved(*step);
+impl Turning {
+    // Makes the steps, in order, and writes each down once it stands.
+    pub(crate) fn make_all<H: Host>(
+        &mut self,
+        alloc: Global,
+        host: &mut H,
+        store: Store,
+        steps: &[TurnStep],
+    ) -> Result<Store, StoreFault>
+        requires { MayMake H.tells (H.session host.old) (H.world host.old) store steps.now }
+        ensures makes { MakesAll H.tells (H.session host.old) (H.session host.new)
+            (H.world host.old) (H.world host.new) store steps.now self.old.steps.items self.new.steps.items result }
+        ensures kids { self.new.kids ≡ self.old.kids }
+    {
+        let mut store = store;
+        for step in steps {
+            self.steps.reserve(1)?;
+            store = make(alloc, host, store, *step)?;
+            self.steps.push_reserved(*step);
+        }
+        Ok(store)
     }
-    Ok(store)
 }
 
 // Makes one step, which is not a start.

@@ -1,5 +1,6 @@
 -- Kids are asked whether they have ended (own).
-use Rattle.std.specs.Prelude.{◌≡◌, ◌≤◌, ◌++◌, [], Bool, true, List, Option, Result, IfOk, length}
+use Rattle.std.specs.Prelude.{◌≡◌, ◌≤◌, [], Bool, true, List, Option, Result, Vec, IfOk, length}
+use Rattle.std.specs.declared.alloc.Global.{Global}
 use Rattle.host_calls.specs.declared.child.Ending.{Ending}
 use Rattle.host_calls.specs.World.{World}
 use Rattle.spool_model.specs.JobTable.{JobTable}
@@ -9,13 +10,12 @@ use Rattle.daemon_turn.specs.declared.kid.Kid.{Kid}
 use Rattle.daemon_turn.specs.declared.step.TurnStep.{TurnStep}
 use Rattle.daemon_turn.specs.Decisions.{ends, questions}
 
--- The first of the kids have answered so, and all of them where the call succeeded: the ends that they told are written
--- down, and on a host that tells its files these questions were asked and no step was made.
-pub record AsksAll {E : Type 0} (tells : Bool) (kids : List Kid) (before after : List TurnStep) (old new : World)
-    (result : Result (Unit {0}) E) : Type 0 where
+-- The first of the kids have answered so, and all of them where the call succeeded, which gives the ends that they told. On
+-- a host that tells its files these questions were asked and no step was made.
+pub record AsksAll {E : Type 0} (tells : Bool) (kids : List Kid) (old new : World)
+    (result : Result (Vec TurnStep Global) E) : Type 0 where
   pub answers : List (Option Ending)
   pub few : length answers ≤ length kids
-  pub all : IfOk result (λ done. length answers ≡ length kids)
-  pub ended : after ≡ before ++ ends kids answers
+  pub all : IfOk result (λ known. (length answers ≡ length kids) × (known.items ≡ ends kids answers))
   pub asked : tells ≡ true → (kept : Kept) (table : JobTable) → IsCurrent kept old.now.folder table →
       AreMade table [] [] (questions kids answers) kept old new

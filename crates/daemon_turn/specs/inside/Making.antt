@@ -21,11 +21,11 @@ pub record MayMake (tells : Bool) (session : Session) (world : World) (kept : Ke
   pub quiet : StartNothing (steps_of steps)
   pub current : tells ≡ true → (table : JobTable) × IsCurrent kept world.now.folder table
 
--- what is left where so many of the steps were made: all of them, or the next one may stand too
-abbrev pub MakingEnds : JobTable → List TurnStep → ℕ → World → World → Result Kept StoreFault → Type 0
-MakingEnds table steps made old new (Ok kept) = AreMade table (steps_of steps) [] [] kept old new
-MakingEnds table steps made old new (Err fault) =
-    AreStopped table (steps_of (take made steps)) (steps_of (take 1 (drop made steps))) [] [] old new
+-- what is left where so many of the steps were made: all of them, or so many more of them may stand too
+abbrev pub MakingEnds : JobTable → List TurnStep → ℕ → ℕ → World → World → Result Kept StoreFault → Type 0
+MakingEnds table steps made begun old new (Ok kept) = AreMade table (steps_of steps) [] [] kept old new
+MakingEnds table steps made begun old new (Err fault) =
+    AreStopped table (steps_of (take made steps)) (steps_of (take begun (drop made steps))) [] [] old new
 
 -- The steps were made, or the first of them, and these were written down.
 pub record MakesAll (tells : Bool) (before after : Session) (old new : World) (kept : Kept) (steps was is : List TurnStep)
@@ -34,8 +34,9 @@ pub record MakesAll (tells : Bool) (before after : Session) (old new : World) (k
   pub faults : IfErr result IsOfStep
   pub table_is : IfOk result (λ store. store.table ≡ after_steps kept.table (steps_of steps))
   pub made : ℕ
+  pub begun : ℕ
   pub few : made ≤ length steps
   pub all : IfOk result (λ store. made ≡ length steps)
   pub written : is ≡ was ++ take made steps
   pub files : tells ≡ true → (table : JobTable) → IsCurrent kept old.now.folder table →
-      MakingEnds table steps made old new result
+      MakingEnds table steps made begun old new result
