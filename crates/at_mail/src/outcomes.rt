@@ -1,12 +1,11 @@
 //! The line of a session's end, and what the program comes to by it.
 ghost use Rattle.std.specs.Prelude.{◌≡◌, ◌≤◌, Some};
-ghost use Rattle.cause_output.specs.Ends.{cause_of_end};
 ghost use Rattle.command_rules.specs.Sinks.{sink_at};
 ghost use Rattle.at_mail.specs.Outcomes.{SaysEnd, outcome_by, outcome_cut, outcome_said, outcome_unsaid};
 ghost use Rattle.at_mail.specs.Program.{SaysOutcome};
 
 use crate::outcome::Outcome;
-use cause_output::say_cause;
+use cause_output::{cause_of_end, say_cause};
 use daemon_turn::TurnEnd;
 use host_calls::{Sink, SinkFault};
 use listing_text::{Cause, cause_line};
@@ -21,25 +20,12 @@ pub(crate) fn say_end<E: Sink>(alloc: Global, end: &TurnEnd, err: &mut E) -> Res
     ensures says { SaysEnd E.tells end.now
         (sink_at (E.content err.old) (E.outlet err.old)) (sink_at (E.content err.new) (E.outlet err.new)) result }
 {
-    let cause = cause_of(end);
+    let cause = cause_of_end(end);
     if cause.is_done() {
         return Ok(());
     }
     let line = cause_line(alloc, PROGRAM, &cause)?;
     err.put(alloc, line.as_slice())
-}
-
-// The end of a session, as the cause of a line.
-fn cause_of(end: &TurnEnd) -> Cause
-    ensures { result ≡ cause_of_end end.now }
-{
-    match end {
-        TurnEnd::Done => Cause::Done,
-        TurnEnd::Busy => Cause::Busy,
-        TurnEnd::FileFault => Cause::FileFault,
-        TurnEnd::Damaged(damage) => Cause::Damaged(*damage),
-        TurnEnd::Memory => Cause::Memory,
-    }
 }
 
 // What the program comes to by a session that ended so, and whose line answered this. None where a further one is made.

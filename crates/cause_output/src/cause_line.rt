@@ -38,7 +38,7 @@ pub fn say_end<E: Sink>(alloc: Global, tool: &str, end: &TurnEnd, err: &mut E) -
     ensures says { SaysEndOr tool.now E.tells end.now
         (sink_at (E.content err.old) (E.outlet err.old)) (sink_at (E.content err.new) (E.outlet err.new)) result }
 {
-    let said = say_cause(alloc, tool, cause_of(end), err);
+    let said = say_cause(alloc, tool, cause_of_end(end), err);
     finds_memory(end, &said)
 }
 
@@ -49,8 +49,8 @@ fn finds_memory(end: &TurnEnd, said: &Cause) -> bool
     matches!(end, TurnEnd::Memory) || !matches!(said, Cause::Memory)
 }
 
-// The end of a turn, as the cause of a line.
-fn cause_of(end: &TurnEnd) -> Cause
+/// The end of a session, as the cause of a line.
+pub fn cause_of_end(end: &TurnEnd) -> Cause
     ensures { result ≡ cause_of_end end.now }
 {
     match end {

@@ -6,5 +6,5 @@ mod cause_line;
 mod lines;
 mod steps;
 
-pub use cause_line::{say_cause, say_end};
+pub use cause_line::{cause_of_end, say_cause, say_end};
 pub use lines::{Line, put_lines};

@@ -32,7 +32,9 @@ use Rattle.daemon_turn.specs.Kids.{AreByNumber, AreChildren}
 use Rattle.daemon_turn.specs.Leaving.{Gave, IfUnread, IsIdle, IsNone, IsStopped, IsWhole, DaemonAt, TurnLeaves, TurnsTo}
 use Rattle.daemon_turn.specs.Starting.{Turn, turn_of}
 use Rattle.spool_store.specs.Faults.{IsOfReading}
-use Rattle.daemon_turn.specs.inside.Working.{Works, end_after, end_of_session}
+use Rattle.daemon_turn.specs.Ends.{end_after, end_of_session}
+use Rattle.daemon_turn.specs.inside.Working.{Works}
+use Rattle.daemon_turn.proofs.EndLemmas.{is_fault, not_busy}
 
 abbrev stand : Session → World → DaemonState → DaemonAt
 stand session world daemon = record { session = session; world = world; daemon = daemon }
@@ -141,22 +143,6 @@ module _ (turn : Turn) (before between worked after : Session) (entered : betwee
   leaves_at Memory steps (inr stopped) = inr (stopped_at steps stopped)
 
 -- by what came of the work
-
-not_busy : (result : Result (Unit {0}) StoreFault) → end_after result ≡ Busy → ⊥
-not_busy (Ok done) is = cc
-not_busy (Err fault.FileFault) is = cc
-not_busy (Err (fault.Damaged damage)) is = cc
-not_busy (Err fault.Memory) is = cc
-not_busy (Err fault.QueueFull) is = cc
-not_busy (Err fault.NumbersUsedUp) is = cc
-
-is_fault : (result : Result (Unit {0}) StoreFault) → end_after result ≡ FileFault → result ≡ Err fault.FileFault
-is_fault (Ok done) is = cc
-is_fault (Err fault.FileFault) is = refl
-is_fault (Err (fault.Damaged damage)) is = cc
-is_fault (Err fault.Memory) is = cc
-is_fault (Err fault.QueueFull) is = cc
-is_fault (Err fault.NumbersUsedUp) is = cc
 
 module _ (tells alone : Bool) (at : TurnInput) (before between worked after : Session) (old entered stood new : World) (daemon now : DaemonState) (limit : now.limit ≡ daemon.limit) (interval : now.interval ≡ daemon.interval)
     (steps : List TurnStep) (result : Result (Unit {0}) StoreFault) (enters : Enters {T = Unit {0}} {E = EnterFault} before between (Ok tt)) (same : tells ≡ true → alone ≡ true → entered ≡ old)

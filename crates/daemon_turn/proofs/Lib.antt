@@ -1,8 +1,8 @@
 pub mod AskLemmas
-pub mod WithoutScriptsTurns
 pub mod DaemonLemmas
 pub mod DecideLemmas
 pub mod DecisionLemmas
+pub mod EndLemmas
 pub mod Examples
 pub mod ForgetLemmas
 pub mod GoLemmas
@@ -15,4 +15,5 @@ pub mod MakeLemmas
 pub mod PlanLemmas
 pub mod TurnedLemmas
 pub mod WaitLemmas
+pub mod WithoutScriptsTurns
 pub mod WorkLemmas

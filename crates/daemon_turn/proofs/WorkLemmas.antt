@@ -39,7 +39,8 @@ use Rattle.daemon_turn.specs.inside.Deciding.{MayDecide}
 use Rattle.daemon_turn.specs.inside.Ended.{without_ended}
 use Rattle.daemon_turn.specs.inside.Going.{Gives, Goes, Part}
 use Rattle.daemon_turn.specs.inside.Turned.{MakesTurn}
-use Rattle.daemon_turn.specs.inside.Working.{TurnsOn, Works, end_after, unit_of}
+use Rattle.daemon_turn.specs.Ends.{end_after}
+use Rattle.daemon_turn.specs.inside.Working.{TurnsOn, Works, unit_of}
 use Rattle.step_runs.proofs.ApartLemmas.{all_each, each_all, rise_filter}
 use Rattle.daemon_turn.proofs.AskLemmas.{questions_of_none}
 use Rattle.daemon_turn.proofs.WithoutScriptsTurns.{asked_alike, first_alike, kids_after_alike, turn_alike}

@@ -1,5 +1,6 @@
 pub mod Daemons
 pub mod Decisions
+pub mod Ends
 pub mod Kids
 pub mod Laws
 pub mod Leaving

@@ -1,17 +1,16 @@
 //! The daemon: it keeps the children that it started, and makes turns.
 ghost use Rattle.clock_range.specs.ClockRange.{IsClockSecond};
-ghost use Rattle.std.specs.Prelude.{◌≡◌, IfErr, IfOk};
+ghost use Rattle.std.specs.Prelude.{◌≡◌};
 ghost use Rattle.host_calls.specs.Session.{IsOutside};
-ghost use Rattle.spool_store.specs.Faults.{IsOfReading};
 ghost use Rattle.daemon_turn.specs.Daemons.{new_daemon};
 ghost use Rattle.daemon_turn.specs.Kids.{AreByNumber, AreChildren};
 ghost use Rattle.daemon_turn.specs.Leaving.{TurnsTo};
-ghost use Rattle.daemon_turn.specs.inside.Working.{end_after, end_of_session};
 
-use crate::{Kid, Mode, TurnEnd, TurnInput, TurnReport, TurnStep, TurnSteps, Turning};
-use host_calls::{EnterFault, Host};
+use crate::{
+    Kid, Mode, TurnEnd, TurnInput, TurnReport, TurnStep, TurnSteps, Turning, end_of_session,
+};
+use host_calls::Host;
 use host_session::in_session;
-use spool_store::StoreFault;
 use std::alloc::Global;
 use std::marker::Model;
 use std::mem;
@@ -104,7 +103,7 @@ impl Daemon {
         );
         let Turning { kids, steps } = turning;
         self.kids = kids;
-        report(end_of(worked), steps)
+        report(end_of_session(worked), steps)
     }
 }
 
@@ -116,33 +115,5 @@ fn report(end: TurnEnd, steps: Vec<TurnStep>) -> TurnReport
     TurnReport {
         end,
         steps: TurnSteps::from(steps),
-    }
-}
-
-// The end of a turn, by what came of its session.
-fn end_of(worked: Result<Result<(), StoreFault>, EnterFault>) -> TurnEnd
-    requires { IfOk worked (λ done. IfErr done IsOfReading) }
-    ensures { result ≡ end_of_session worked }
-{
-    match worked {
-        Ok(done) => end_of_work(done),
-        Err(EnterFault::Taken) => TurnEnd::Busy,
-        Err(EnterFault::Failed) => TurnEnd::FileFault,
-        Err(EnterFault::Memory) => TurnEnd::Memory,
-    }
-}
-
-// The end of a turn, by what came of its work.
-fn end_of_work(worked: Result<(), StoreFault>) -> TurnEnd
-    requires { IfErr worked IsOfReading }
-    ensures { result ≡ end_after worked }
-{
-    match worked {
-        Ok(()) => TurnEnd::Done,
-        Err(StoreFault::FileFault) => TurnEnd::FileFault,
-        Err(StoreFault::Damaged(damage)) => TurnEnd::Damaged(damage),
-        Err(StoreFault::Memory) => TurnEnd::Memory,
-        Err(StoreFault::QueueFull) => unreachable!(),
-        Err(StoreFault::NumbersUsedUp) => unreachable!(),
     }
 }

@@ -5,6 +5,7 @@
 mod ask_all;
 mod daemon;
 mod decide;
+mod ends;
 mod forget;
 mod hand_over;
 mod kid;
@@ -21,6 +22,7 @@ mod turning;
 mod twice;
 
 pub use daemon::Daemon;
+pub use ends::end_of_session;
 pub use kid::Kid;
 pub use laws::turns_end_well;
 pub use mode::Mode;

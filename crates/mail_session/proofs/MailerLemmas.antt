@@ -23,7 +23,8 @@ use Rattle.daemon_turn.specs.declared.report.TurnEnd.{TurnEnd}
 use Rattle.daemon_turn.specs.declared.report.TurnEnd.TheVariants.{Busy, Damaged, Done, FileFault, Memory}
 use Rattle.daemon_turn.specs.Kids.{AreChildren}
 use Rattle.daemon_turn.specs.Leaving.{IfUnread}
-use Rattle.mail_session.specs.inside.Ending.{end_after, end_of_session}
+use Rattle.daemon_turn.specs.Ends.{end_after, end_of_session}
+use Rattle.daemon_turn.proofs.EndLemmas.{is_fault, not_busy}
 use Rattle.mail_notes.specs.declared.note.Note.{Note}
 use Rattle.mail_notes.specs.Hands.{Mailing}
 use Rattle.mail_session.specs.Leaving.{Gave, HasRead, IsIdle, IsNone, IsStopped, IsWhole, MailLeaves, PostAt, PostsTo}
@@ -135,23 +136,6 @@ module _ (before between worked after : Session) (entered : between.children ≡
   leaves_at Memory (inr stopped) = inr (stopped_at stopped)
 
 -- By what came of the work.
-
-not_busy : (result : Result (Unit {0}) StoreFault) → end_after result ≡ Busy → ⊥
-not_busy (Ok done) is = cc
-not_busy (Err fault.FileFault) is = cc
-not_busy (Err (fault.Damaged damage)) is = cc
-not_busy (Err fault.Memory) is = cc
-not_busy (Err fault.QueueFull) is = cc
-not_busy (Err fault.NumbersUsedUp) is = cc
-
-is_fault : (result : Result (Unit {0}) StoreFault) → end_after result ≡ FileFault → result ≡ Err fault.FileFault
-is_fault (Ok done) is = cc
-is_fault (Err fault.FileFault) is = refl
-is_fault (Err (fault.Damaged damage)) is = cc
-is_fault (Err fault.Memory) is = cc
-is_fault (Err fault.QueueFull) is = cc
-is_fault (Err fault.NumbersUsedUp) is = cc
-
 module _ (tells alone : Bool) (before between worked after : Session) (old entered stood new : World) (post now : PostState) (program : now.program ≡ post.program) (sent : List ℕ)
     (result : Result (Unit {0}) StoreFault) (enters : Enters {T = Unit {0}} {E = EnterFault} before between (Ok tt)) (same : tells ≡ true → alone ≡ true → entered ≡ old)
     (works : Works tells (at between entered post) (at worked stood now) sent result) (left : IsLeft worked after) (kept : tells ≡ true → alone ≡ true → new ≡ stood) where

@@ -27,7 +27,7 @@ use Rattle.whole_file.specs.Others.{ChangesFiles}
 use Rattle.daemon_turn.specs.declared.kid.Kid.{Kid}
 use Rattle.daemon_turn.specs.Decisions.{questions}
 use Rattle.daemon_turn.specs.Kids.{AreChildren}
-use Rattle.mail_session.specs.inside.Ending.{end_after}
+use Rattle.daemon_turn.specs.Ends.{end_after}
 use Rattle.mail_notes.specs.declared.note.Note.{Note}
 use Rattle.mail_notes.specs.declared.note.Note.TheVariants.{Noted}
 use Rattle.mail_notes.specs.Hands.{Mailing}

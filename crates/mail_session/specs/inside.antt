@@ -1,4 +1,3 @@
-pub mod Ending
 pub mod Planning
 pub mod Sending
 pub mod Staying

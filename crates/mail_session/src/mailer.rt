@@ -1,20 +1,17 @@
 //! A post: it keeps the children that came of its notices, and makes sessions of mail.
-ghost use Rattle.std.specs.Prelude.{◌≡◌, IfErr, IfOk, IsTrue};
+ghost use Rattle.std.specs.Prelude.{◌≡◌, IfOk, IsTrue};
 ghost use Rattle.at_words.specs.Numbers.{are_distinct};
 ghost use Rattle.daemon_turn.specs.Kids.{AreChildren};
-ghost use Rattle.mail_session.specs.inside.Ending.{end_after, end_of_session};
 ghost use Rattle.host_calls.specs.Session.{IsOutside};
 ghost use Rattle.mail_session.specs.Leaving.{PostsTo};
 ghost use Rattle.mail_session.specs.PostState.{may_be_program, new_post};
-ghost use Rattle.spool_store.specs.Faults.{IsOfReading};
 
 use crate::PostReport;
 use crate::work::work;
 use at_words::Numbers;
-use daemon_turn::{Kid, TurnEnd};
-use host_calls::{EnterFault, Host};
+use daemon_turn::{Kid, TurnEnd, end_of_session};
+use host_calls::Host;
 use host_session::in_session;
-use spool_store::StoreFault;
 use std::alloc::{AllocError, Global};
 use std::marker::Model;
 
@@ -74,7 +71,7 @@ impl Post {
             host,
             &mut |host| work(alloc, host, program, kids, &mut sent),
         );
-        report(end_of(worked), sent)
+        report(end_of_session(worked), sent)
     }
 }
 
@@ -87,33 +84,5 @@ fn report(end: TurnEnd, sent: Vec<u32>) -> PostReport
     PostReport {
         end,
         sent: Numbers::of_distinct(sent),
-    }
-}
-
-// The end of a session, by what came of it.
-fn end_of(worked: Result<Result<(), StoreFault>, EnterFault>) -> TurnEnd
-    requires { IfOk worked (λ done. IfErr done IsOfReading) }
-    ensures { result ≡ end_of_session worked }
-{
-    match worked {
-        Ok(done) => end_of_work(done),
-        Err(EnterFault::Taken) => TurnEnd::Busy,
-        Err(EnterFault::Failed) => TurnEnd::FileFault,
-        Err(EnterFault::Memory) => TurnEnd::Memory,
-    }
-}
-
-// The end of a session, by what came of its work.
-fn end_of_work(worked: Result<(), StoreFault>) -> TurnEnd
-    requires { IfErr worked IsOfReading }
-    ensures { result ≡ end_after worked }
-{
-    match worked {
-        Ok(()) => TurnEnd::Done,
-        Err(StoreFault::FileFault) => TurnEnd::FileFault,
-        Err(StoreFault::Damaged(damage)) => TurnEnd::Damaged(damage),
-        Err(StoreFault::Memory) => TurnEnd::Memory,
-        Err(StoreFault::QueueFull) => unreachable!(),
-        Err(StoreFault::NumbersUsedUp) => unreachable!(),
     }
 }

@@ -2,8 +2,6 @@
 use Rattle.std.specs.Prelude.{◌≡◌, Bool, true, List, Option, Result, Ok, Err, IfErr}
 use Rattle.host_calls.specs.declared.child.Ending.{Ending}
 use Rattle.host_calls.specs.Causes.{HasCause}
-use Rattle.host_calls.specs.declared.fault.EnterFault.{EnterFault}
-use Rattle.host_calls.specs.declared.fault.EnterFault.TheVariants as entry
 use Rattle.host_calls.specs.Damages.{IfDamaged}
 use Rattle.host_calls.specs.Session.{IsInside, KeepsCounts, Session}
 use Rattle.host_calls.specs.World.{World}
@@ -12,9 +10,8 @@ use Rattle.spool_store.specs.declared.fault.StoreFault.{StoreFault}
 use Rattle.spool_store.specs.declared.fault.StoreFault.TheVariants as fault
 use Rattle.spool_store.specs.Faults.{IsOfReading}
 use Rattle.daemon_turn.specs.declared.kid.Kid.{Kid}
-use Rattle.daemon_turn.specs.declared.report.TurnEnd.{TurnEnd}
-use Rattle.daemon_turn.specs.declared.report.TurnEnd.TheVariants.{Done, Busy, FileFault, Damaged, Memory}
 use Rattle.daemon_turn.specs.declared.step.TurnStep.{TurnStep}
+use Rattle.daemon_turn.specs.Ends.{end_after}
 use Rattle.daemon_turn.specs.Decisions.{asked_kids, questions}
 use Rattle.daemon_turn.specs.Kids.{AreByNumber, AreChildren, AreKidsAfter, KeepsChildren}
 use Rattle.daemon_turn.specs.Leaving.{IsNone, DaemonAt, TurnLeaves}
@@ -40,26 +37,6 @@ pub record TurnsOn (tells : Bool) (before after : Session) (old new : World) (ke
   pub written : report ≡ part.steps
   pub kids : AreKidsAfter kept.table part.steps turn.kids part.added left
   pub children : AreChildren after.children left
-
--- the end of a turn by a fault
-abbrev pub end_by : StoreFault → TurnEnd
-end_by fault.FileFault = FileFault
-end_by (fault.Damaged damage) = Damaged damage
-end_by fault.Memory = Memory
-end_by fault.QueueFull = Memory
-end_by fault.NumbersUsedUp = Memory
-
--- the end of a turn, by what came of its work
-abbrev pub end_after : Result (Unit {0}) StoreFault → TurnEnd
-end_after (Ok done) = Done
-end_after (Err fault) = end_by fault
-
--- the end of a turn, by what came of its session
-abbrev pub end_of_session : Result (Result (Unit {0}) StoreFault) EnterFault → TurnEnd
-end_of_session (Ok worked) = end_after worked
-end_of_session (Err entry.Taken) = Busy
-end_of_session (Err entry.Failed) = FileFault
-end_of_session (Err entry.Memory) = Memory
 
 -- The work of a turn: a recovery, and the steps.
 pub record Works (tells : Bool) (turn : Turn) (old new : DaemonAt) (steps : List TurnStep)

@@ -20,7 +20,7 @@ use Rattle.whole_file.specs.Others.{LeavesOthers}
 use Rattle.daemon_turn.specs.declared.kid.Kid.{Kid}
 use Rattle.daemon_turn.specs.Decisions.{has_kid, questions}
 use Rattle.daemon_turn.specs.Kids.{AreChildren, KeepsChildren, started_numbers}
-use Rattle.mail_session.specs.inside.Ending.{end_after}
+use Rattle.daemon_turn.specs.Ends.{end_after}
 use Rattle.mail_notes.specs.declared.note.Note.{Note}
 use Rattle.mail_notes.specs.Hands.{Hands, Mailing}
 use Rattle.mail_notes.specs.Lines.{Fits, notes_text}

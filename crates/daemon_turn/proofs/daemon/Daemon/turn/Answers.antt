@@ -4,7 +4,7 @@ use Rattle.daemon_turn.specs.Kids.{AreChildren}
 use Rattle.daemon_turn.specs.Leaving.{TurnsTo}
 use Rattle.daemon_turn.specs.declared.turn_input.TurnInput.{TurnInput}
 use Rattle.daemon_turn.specs.declared.report.TurnEnd.{TurnEnd}
-use Rattle.daemon_turn.specs.inside.Working.{end_of_session}
+use Rattle.daemon_turn.specs.Ends.{end_of_session}
 use Rattle.daemon_turn.proofs.DaemonLemmas.{turn_of_session}
 use Rattle.daemon_turn.proofs.daemon.Daemon.turn.Goals as goal
 
@@ -20,7 +20,7 @@ returns g c =
     (subst (λ (end : TurnEnd). TurnsTo g.H.Host.tells g.H.Host.alone at
     (record { session = g.H.Host.session c.args.host.now; world = g.H.Host.world c.args.host.now; daemon = daemon })
     (record { session = g.H.Host.session c.in_session-worked.new.host; world = g.H.Host.world c.in_session-worked.new.host; daemon = now })
-    end c.report.result.steps) (sym (c.report.ensures.end ∙ c.end_of.ensures))
+    end c.report.result.steps) (sym (c.report.ensures.end ∙ c.end_of_session.ensures))
     (subst (TurnsTo g.H.Host.tells g.H.Host.alone at
     (record { session = g.H.Host.session c.args.host.now; world = g.H.Host.world c.args.host.now; daemon = daemon })
     (record { session = g.H.Host.session c.in_session-worked.new.host; world = g.H.Host.world c.in_session-worked.new.host; daemon = now })

@@ -1,7 +1,7 @@
 use Rattle.std.proofs.Common.{◌∙◌, List, ℕ, refl, rules, subst, sym}
 use Rattle.daemon_turn.specs.Kids.{AreChildren}
 use Rattle.daemon_turn.specs.declared.report.TurnEnd.{TurnEnd}
-use Rattle.mail_session.specs.inside.Ending.{end_of_session}
+use Rattle.daemon_turn.specs.Ends.{end_of_session}
 use Rattle.mail_session.specs.Leaving.{PostsTo}
 use Rattle.mail_session.specs.PostState.{PostState}
 use Rattle.mail_session.proofs.MailerLemmas.{distinct_of_session, post_of_session, reads_of_session}
@@ -30,7 +30,7 @@ returns g c =
     subst (λ (end : TurnEnd). PostsTo g.H.Host.tells g.H.Host.alone
     (record { session = g.H.Host.session c.args.host.now; world = g.H.Host.world c.args.host.now; post = post })
     (record { session = g.H.Host.session c.in_session-worked.new.host; world = g.H.Host.world c.in_session-worked.new.host; post = now })
-    end c.report.result.sent) (sym (c.report.ensures.end ∙ c.end_of.ensures))
+    end c.report.result.sent) (sym (c.report.ensures.end ∙ c.end_of_session.ensures))
     (subst (PostsTo g.H.Host.tells g.H.Host.alone
     (record { session = g.H.Host.session c.args.host.now; world = g.H.Host.world c.args.host.now; post = post })
     (record { session = g.H.Host.session c.in_session-worked.new.host; world = g.H.Host.world c.in_session-worked.new.host; post = now })

@@ -1,13 +1,13 @@
--- The end of a session, by what came of it (own).
+-- The end of a session that recovers and works, by what came of it (own).
 use Rattle.std.specs.Prelude.{Result, Ok, Err}
-use Rattle.daemon_turn.specs.declared.report.TurnEnd.{TurnEnd}
-use Rattle.daemon_turn.specs.declared.report.TurnEnd.TheVariants.{Done, Busy, FileFault, Damaged, Memory}
 use Rattle.host_calls.specs.declared.fault.EnterFault.{EnterFault}
 use Rattle.host_calls.specs.declared.fault.EnterFault.TheVariants as entry
 use Rattle.spool_store.specs.declared.fault.StoreFault.{StoreFault}
 use Rattle.spool_store.specs.declared.fault.StoreFault.TheVariants as fault
+use Rattle.daemon_turn.specs.declared.report.TurnEnd.{TurnEnd}
+use Rattle.daemon_turn.specs.declared.report.TurnEnd.TheVariants.{Done, Busy, FileFault, Damaged, Memory}
 
--- by a fault; the last two are none of a session of mail
+-- by a fault; the last two come of no reading
 abbrev pub end_by : StoreFault → TurnEnd
 end_by fault.FileFault = FileFault
 end_by (fault.Damaged damage) = Damaged damage
