@@ -1,6 +1,6 @@
 mod EventLemmas
 pub mod MakingLemmas
-mod OnceLemmas
+pub mod OnceLemmas
 pub mod ProgramLemmas
 mod SentLemmas
 mod WordLemmas

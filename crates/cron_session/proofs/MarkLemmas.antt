@@ -50,6 +50,11 @@ unmarked minute start image is same = record {
 }
 
 module _ (minute : ℕ) (table : JobTable) (start : Folder) (shows : EachShows start table) where
+  -- the table is shown still
+  still_shows : (image : Files) → IsMarking minute start image → Shows image table
+  still_shows image is =
+      shows_the_same (IsEither mark_temp mark_file) both_beside start image is.alone ∙ shows is.alone.from is.alone.was
+
   -- one that has that of the minute shows the table
   come : (steps : List Step) (image : Files) → IsMarking minute start image → finite.get image mark_file ≡ Some (mark_text minute) → HasCome minute table [] steps image
   come steps image is put = record {
@@ -57,7 +62,7 @@ module _ (minute : ℕ) (table : JobTable) (start : Folder) (shows : EachShows s
     shows = record {
       prefix = [];
       is_prefix = (steps, refl);
-      shows = shows_the_same (IsEither mark_temp mark_file) both_beside start image is.alone ∙ shows is.alone.from is.alone.was;
+      shows = still_shows image is;
     };
   }
 
@@ -81,7 +86,7 @@ mark_failed minute table jobs old new fault shows marks = record {
       let at : IsMarking minute old.now.folder image =
       changes_end (IsMarking minute old.now.folder) old new marks (not_marked_yet minute old.now.folder) image is in
       elim at.placed [
-        | inl same ↦ inl (refl, unmarked minute old.now.folder image at same)
+        | inl same ↦ inl (refl, unmarked minute old.now.folder image at same, still_shows minute table old.now.folder shows image at)
         | inr put ↦ inr (come minute table old.now.folder shows [] image at put)
       ];
 }

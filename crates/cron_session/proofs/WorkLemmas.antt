@@ -308,7 +308,7 @@ module _ (cron : Cron) (old middle : World) (kept : Kept) (recovery : ChangesFil
         few = is.is_part.few;
         submits = subst (λ (jobs : List Job). Submits cron recovered.table jobs old new) is.is_part.are (submits_all (Err of) is);
         ends = λ image at. elim (is.leaves.ends image at) [
-          | inl unmarked ↦ inl (unmarked.0, unmarked_since image unmarked.1)
+          | inl unmarked ↦ inl (unmarked.0, unmarked_since image unmarked.1, unmarked.2)
           | inr come ↦ inr come
         ];
         numbers_are = is.written;

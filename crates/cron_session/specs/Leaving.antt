@@ -92,7 +92,7 @@ pub record IsWhole (cron : Cron) (numbers : List ℕ) (old new : World) : Type 0
 
 -- Some jobs were submitted, under the numbers after the last one, and it was stopped there or at the next job: each image
 -- has the mark, and shows the table after the steps of these jobs and a prefix of the next one's. Where it was stopped
--- before the first job, an image may be unmarked.
+-- before the first job, an image may be unmarked, and shows the table.
 pub record IsStopped (cron : Cron) (numbers : List ℕ) (old new : World) : Type 0 where
   pub table : JobTable
   pub made : List Job
@@ -101,7 +101,7 @@ pub record IsStopped (cron : Cron) (numbers : List ℕ) (old new : World) : Type
   pub few : length next ≤ 1
   pub submits : Submits cron table (made ++ (next ++ later)) old new
   pub ends : (image : Files) → IsImage new.now.folder image →
-      ((made ≡ []) × IsUnmarked old.now.folder image)
+      ((made ≡ []) × IsUnmarked old.now.folder image × Shows image table)
       ⊎ HasCome (minute_of cron) table (submissions table.last made) (submissions (table.last + length made) next) image
   pub numbers_are : numbers ≡ numbers_after table.last (length made)
 

@@ -5,6 +5,7 @@ use Rattle.host_calls.specs.Session.{CallsInside, Session}
 use Rattle.host_calls.specs.World.{World}
 use Rattle.spool_model.specs.declared.job.Job.{Job}
 use Rattle.spool_model.specs.JobTable.{JobTable}
+use Rattle.spool_shows.specs.Shown.{Shows}
 use Rattle.spool_store.specs.declared.fault.StoreFault.{StoreFault}
 use Rattle.spool_store.specs.declared.fault.StoreFault.TheVariants.{FileFault}
 use Rattle.spool_store.specs.Faults.{IsOfStep}
@@ -16,12 +17,12 @@ use Rattle.cron_session.specs.Steps.{numbers_after, submissions}
 use Rattle.cron_session.specs.inside.Placing.{IsCertainAt}
 use Rattle.cron_session.specs.inside.Submitting.{IsPartOf, Part}
 
--- where it was stopped, an image of the end is unmarked before the first job, or has the mark and shows the table after what
--- was made, and a prefix of the next submission
+-- where it was stopped, an image of the end is unmarked before the first job and shows the table, or has the mark and shows
+-- the table after what was made, and a prefix of the next submission
 abbrev pub EachHasCome : ℕ → JobTable → Part → World → World → Type 0
 EachHasCome minute table part old new =
     (image : Files) → IsImage new.now.folder image →
-    ((part.made ≡ []) × IsUnmarked old.now.folder image)
+    ((part.made ≡ []) × IsUnmarked old.now.folder image × Shows image table)
     ⊎ HasCome minute table (submissions table.last part.made) (submissions (table.last + length part.made) part.next) image
 
 -- what each image of the end is, by the answer

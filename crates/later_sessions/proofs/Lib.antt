@@ -1,0 +1,4 @@
+pub mod NamesApart
+pub mod RestLemmas
+pub mod MailLemmas
+pub mod CronLemmas

@@ -1,0 +1,2 @@
+pub mod SessionsPass
+pub mod Laws
