@@ -1,1 +1,5 @@
 pub mod OutcomeLemmas
+pub mod ReadyLemmas
+pub mod TakenLemmas
+pub mod PromiseLemmas
+pub mod LaterLoop

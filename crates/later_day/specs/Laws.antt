@@ -1,9 +1,13 @@
--- What the events of a day are among events where notices of mail are handed over too (own).
+-- What the events of a day are among events where notices of mail are handed over too, and what holds of all of these (own).
+use Rattle.std.specs.Prelude.{List}
 use Rattle.host_calls.specs.World.{World}
 use Rattle.headline.specs.Effects.{Effect}
 use Rattle.later_effects.specs.LaterEffects.{LeavesTheRest, OfTable, TakesLaterEffect}
 use Rattle.at_day.specs.EventOutcomes.{EventOutcome, IsDoneOn}
 use Rattle.at_day.specs.Machines.{Machine, spool_of}
+use Rattle.later_day.specs.LaterMachines.{LaterMachine}
+use Rattle.later_day.specs.LaterOutcomes.{AreLaterDoneOn, LaterOutcome}
+use Rattle.later_day.specs.LaterPromise.{KeepsLaterPromise}
 
 -- the effect leads from one world to another where notices are handed over too, and leaves alone what is beside the store
 pub record PassesLater (effect : Effect) (old new : World) : Type 0 where
@@ -14,3 +18,8 @@ pub record PassesLater (effect : Effect) (old new : World) : Type 0 where
 abbrev pub DayOutcomesPass : Type 0
 DayOutcomesPass = (old : Machine) (outcome : EventOutcome) → IsDoneOn old outcome →
     PassesLater outcome.effect (spool_of old) (spool_of outcome.left)
+
+-- outcomes one after another keep the promise, sessions of mail and of crontabs among them
+abbrev pub LaterOutcomesKeepTheirPromise : Type 0
+LaterOutcomesKeepTheirPromise = (first : LaterMachine) (outcomes : List LaterOutcome) → AreLaterDoneOn first outcomes →
+    KeepsLaterPromise first outcomes
