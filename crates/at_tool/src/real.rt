@@ -3,6 +3,7 @@ ghost use Rattle.std.specs.Prelude.{◌≡◌, [], IfOk};
 ghost use Rattle.host_calls.specs.Session.{IsOutside};
 
 use host_calls::Host;
+use job_script::MAX_HEADER;
 use noted_streams::{NotedReadings, NotedSink};
 use process_input::text_of;
 use std::alloc::AllocError;
@@ -36,7 +37,9 @@ pub fn real_folder<W: Witness + Drop>(
     ensures witness { IfOk result (λ folder. folder.witness ≡ witness) }
 {
     let spool = text_of(rt, "ATSPOOL", SPOOL)?;
-    let host = UnixHost::make(rt.clone()?, rt.alloc(), spool)?;
+    let host = UnixHost::make(rt.clone()?, rt.alloc(), spool)?
+        .keeping(MAX_HEADER)
+        .moving();
     Ok(Witnessed::new(host, witness))
 }
 

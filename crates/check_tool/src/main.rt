@@ -6,6 +6,7 @@
 ghost use Rattle.host_calls.specs.Session.{IsOutside};
 
 use host_calls::{Host, Text};
+use job_script::MAX_HEADER;
 use process_input::{
     StartupError, held_streams, no_spool, say_startup_error, take_folder, words_of,
 };
@@ -31,8 +32,8 @@ fn run(rt: &HostRuntime) -> Result<u8, StartupError> {
     let mut words = words_of(rt)?;
     match take_folder(&mut words) {
         Some(folder) => {
-            let mut from = UnixHost::existing(rt.clone()?, rt.alloc(), Text::from(folder))?;
-            Ok(with_new_folder(rt, &mut words, &mut from)?)
+            let from = UnixHost::existing(rt.clone()?, rt.alloc(), Text::from(folder))?;
+            Ok(with_new_folder(rt, &mut words, &mut from.keeping(MAX_HEADER))?)
         }
         None => {
             let mut from = no_spool(rt.alloc())?;

@@ -8,6 +8,7 @@ ghost use Rattle.host_calls.specs.Session.{IsOutside};
 use command_rules::Caller;
 use cron_turn::cron_program;
 use host_calls::{Host, Text};
+use job_script::MAX_HEADER;
 use process_input::{
     StartupError, caller_of, held_streams, no_spool, say_startup_error, take_folder, words_of,
 };
@@ -33,8 +34,8 @@ fn run(rt: &HostRuntime) -> Result<u8, StartupError> {
     let caller = caller_of(rt)?;
     match take_folder(&mut words) {
         Some(folder) => {
-            let mut host = UnixHost::existing(rt.clone()?, rt.alloc(), Text::from(folder))?;
-            Ok(over(rt, &words, &caller, &mut host)?)
+            let host = UnixHost::existing(rt.clone()?, rt.alloc(), Text::from(folder))?;
+            Ok(over(rt, &words, &caller, &mut host.keeping(MAX_HEADER))?)
         }
         None => {
             let mut host = no_spool(rt.alloc())?;

@@ -6,6 +6,7 @@ ghost use Rattle.host_calls.specs.Session.{IsOutside};
 
 use at_mail::post_program;
 use host_calls::{Host, Text};
+use job_script::MAX_HEADER;
 use process_input::{
     StartupError, held_streams, no_spool, say_startup_error, take_folder, words_of,
 };
@@ -30,8 +31,8 @@ fn run(rt: &HostRuntime) -> Result<u8, StartupError> {
     let mut words = words_of(rt)?;
     match take_folder(&mut words) {
         Some(folder) => {
-            let mut host = UnixHost::existing(rt.clone()?, rt.alloc(), Text::from(folder))?;
-            Ok(over(rt, &words, &mut host)?)
+            let host = UnixHost::existing(rt.clone()?, rt.alloc(), Text::from(folder))?;
+            Ok(over(rt, &words, &mut host.keeping(MAX_HEADER))?)
         }
         None => {
             let mut host = no_spool(rt.alloc())?;

@@ -1,4 +1,5 @@
 pub mod Changes
+pub mod Found
 pub mod JobCommand
 pub mod LockByte
 pub mod Paths

@@ -1,13 +1,17 @@
 //! What a folder holds. Only plain files are opened, so that a FIFO blocks nobody and a link leads nowhere.
-ghost use Rattle.std.specs.Prelude.{◌≡◌, ◌≢◌, ◌-◌, IfOk, min, vec_len};
+ghost use Rattle.std.specs.Prelude.{◌≡◌, ◌≢◌, ◌≤◌, IfOk, length, vec_len};
+ghost use Rattle.unix_host.specs.Listings.{count_from};
 ghost use Rattle.std.specs.IoError.{error_kind};
 
 use crate::absent::Absent;
-use crate::listing::{Listed, Listing};
+use crate::found::FoundFiles;
+use crate::listing::{Listing, count_after};
+use crate::naming::Naming;
 use crate::paths::Paths;
 use crate::synced::sync_path;
 use host_calls::{EnterFault, HostFault, Name};
-use std::alloc::{Alloc, AllocError, Global};
+use std::alloc::{Alloc, Global};
+use std::env::Env;
 use std::fs::{DirBuilder, File, Files, OpenOptions, Permissions};
 use std::io::{ErrorKind, Read};
 use std::os::unix::fs::{DirBuilderExt, FileExt, PermissionsExt};
@@ -18,31 +22,33 @@ const NAMES: usize = 4096;
 
 /// Where the spool folder lies, which is made where it is absent, unless that is to be a fault. What lies beside it is
 /// named by the folder's own path, that no link is in, so that one folder has one lock.
-pub fn enter_folder<R: Files<File = File>>(
+pub fn enter_folder<R: Files<File = File> + Env>(
     rt: &R,
     alloc: Global,
     spool: &str,
     absent: Absent,
+    naming: Naming,
 ) -> Result<Paths, EnterFault> {
     match absent {
-        Absent::Makes => make_folders(rt, alloc, spool, absent),
-        Absent::Fails => find_folder(rt, alloc, spool),
+        Absent::Makes => make_folders(rt, alloc, spool, absent, naming),
+        Absent::Fails => find_folder(rt, alloc, spool, naming),
     }
 }
 
 // The spool folder and the folder of outputs, which are made where they are absent.
-fn make_folders<R: Files<File = File>>(
+fn make_folders<R: Files<File = File> + Env>(
     rt: &R,
     alloc: Global,
     spool: &str,
     absent: Absent,
+    naming: Naming,
 ) -> Result<Paths, EnterFault>
     requires { absent ≡ Absent.Makes }
 {
     let Ok(is_new) = make_folder(rt, spool, absent) else {
         return Err(EnterFault::Failed);
     };
-    let paths = resolved(rt, alloc, spool)?;
+    let paths = resolved(rt, alloc, spool, naming)?;
     let Ok(has_new_outputs) = make_folder(rt, paths.outputs(), absent) else {
         return Err(EnterFault::Failed);
     };
@@ -54,11 +60,16 @@ fn make_folders<R: Files<File = File>>(
 }
 
 // The spool folder, if it is there.
-fn find_folder<R: Files>(rt: &R, alloc: Global, spool: &str) -> Result<Paths, EnterFault> {
+fn find_folder<R: Files + Env>(
+    rt: &R,
+    alloc: Global,
+    spool: &str,
+    naming: Naming,
+) -> Result<Paths, EnterFault> {
     if !is_folder(rt, spool) {
         return Err(EnterFault::Failed);
     }
-    resolved(rt, alloc, spool)
+    resolved(rt, alloc, spool, naming)
 }
 
 // Whether the folder is new. Only its owner may look into it. A host of a folder that is there can't call it.
@@ -89,7 +100,12 @@ fn is_folder<R: Files>(rt: &R, path: &str) -> bool {
 }
 
 // The root is no spool folder: nothing lies beside it.
-fn resolved<R: Files>(rt: &R, alloc: Global, spool: &str) -> Result<Paths, EnterFault> {
+fn resolved<R: Files + Env>(
+    rt: &R,
+    alloc: Global,
+    spool: &str,
+    naming: Naming,
+) -> Result<Paths, EnterFault> {
     let folder = match rt.canonicalize(alloc, spool) {
         Ok(folder) => folder,
         Err(error) if error.kind() == ErrorKind::OutOfMemory => return Err(EnterFault::Memory),
@@ -97,48 +113,91 @@ fn resolved<R: Files>(rt: &R, alloc: Global, spool: &str) -> Result<Paths, Enter
     };
     match folder.parent() {
         Some(parent) if folder.is_absolute() => {
-            Ok(Paths::of(alloc, folder.as_str(), parent.as_str())?)
+            let base = base_of(rt, folder.as_str(), spool, naming);
+            Ok(Paths::of(alloc, folder.as_str(), base, parent.as_str())?)
         }
         _ => Err(EnterFault::Failed),
     }
 }
 
-/// The plain files and their lengths. Whatever has no `Name` is left out.
-pub fn list<R: Files>(rt: &R, alloc: Global, paths: &Paths) -> Result<Listing, HostFault> {
+// By what the files of the folder are reached: by its own path, or as those of the current directory. A spool that is named by
+// a relative path would be another one at the next session.
+fn base_of<'a, R: Env>(rt: &R, folder: &'a str, spool: &str, naming: Naming) -> &'a str {
+    match naming {
+        Naming::Current if spool.starts_with('/') && rt.set_current_dir(folder).is_ok() => ".",
+        Naming::Current | Naming::Whole => folder,
+    }
+}
+
+/// The plain files, their lengths, and so many first bytes of each at most. Whatever has no `Name` is left out.
+pub fn list<R: Files<File = File>>(
+    rt: &R,
+    alloc: Global,
+    paths: &Paths,
+    most: usize,
+) -> Result<Listing, HostFault> {
     let mut folder = rt.open_dir(paths.folder()).map_err(fault_of)?;
-    let mut files = Vec::new(alloc);
+    let mut found = FoundFiles::none(alloc);
+    let mut head = vec![in alloc; 0; most]?;
     let mut names = [0; NAMES];
     for _ in 0..u64::MAX {
         let count = folder.read(&mut names).map_err(fault_of)?;
         if count == 0 {
-            return Ok(Listing::of(alloc, &files)?);
+            return Ok(Listing::of(alloc, found)?);
         }
-        add_plain_files(rt, alloc, paths, &names[..count], &mut files)?;
+        add_plain_files(rt, alloc, paths, &names[..count], &mut head, &mut found)?;
     }
     Err(HostFault::Failed)
 }
 
 // The plain ones of these names, each of which a NUL ends.
-fn add_plain_files<R: Files>(
+fn add_plain_files<R: Files<File = File>>(
     rt: &R,
     alloc: Global,
     paths: &Paths,
     names: &[u8],
-    files: &mut Vec<Listed>,
+    head: &mut [u8],
+    found: &mut FoundFiles,
 ) -> Result<(), HostFault> {
+    let mut path = String::new(alloc);
     for bytes in names.split(|byte| *byte == 0) {
         if let Some(name) = Name::of(bytes) {
-            let path = paths.file(alloc, &name)?;
-            let found = fs::symlink_metadata(rt, path.as_str()).map_err(fault_of)?;
-            if found.is_file() {
-                let length = found.len();
-                files
-                    .push(Listed { name, length })
-                    .map_err(AllocError::from)?;
-            }
+            paths.put_file(&mut path, &name)?;
+            add_plain_file(rt, path.as_str(), &name, head, found)?;
         }
     }
     Ok(())
+}
+
+// Looks at one file, and opens it at once if it is a plain one: what the system has just looked up it finds soonest.
+fn add_plain_file<R: Files<File = File>>(
+    rt: &R,
+    path: &str,
+    name: &Name,
+    head: &mut [u8],
+    found: &mut FoundFiles,
+) -> Result<(), HostFault> {
+    let looked = fs::symlink_metadata(rt, path).map_err(fault_of)?;
+    if looked.is_file() {
+        let length = looked.len();
+        let count = read_head(rt, path, length, head);
+        found.add(name, length, &head[..count])?;
+    }
+    Ok(())
+}
+
+// How many first bytes of a plain file stand in the buffer: as many as it has room for, or none where they can't be read.
+fn read_head<R: Files<File = File>>(rt: &R, path: &str, size: u64, head: &mut [u8]) -> usize
+    ensures { result ≤ length head.new }
+{
+    let count = count_after(size, 0, head.len());
+    if count == 0 {
+        return 0;
+    }
+    match File::open(rt, path) {
+        Ok(file) if file.read_exact_at(&mut head[..count], 0).is_ok() => count,
+        _ => 0,
+    }
 }
 
 // Nothing was done where a list could not be made for want of memory.
@@ -181,10 +240,9 @@ pub fn read<R: Files<File = File>>(
     offset: u64,
     most: usize,
 ) -> Result<Vec<u8>, HostFault>
-    ensures whole { IfOk result (λ bytes. vec_len bytes ≡ min most (length - offset)) }
+    ensures whole { IfOk result (λ bytes. vec_len bytes ≡ count_from length offset most) }
 {
-    let after = length.saturating_sub(offset);
-    let count = usize::try_from(after).unwrap_or(usize::MAX).min(most);
+    let count = count_after(length, offset, most);
     let mut bytes = vec![in alloc; 0; count]?;
     let Ok(file) = File::open(rt, path) else {
         return Err(HostFault::Failed);

@@ -13,6 +13,7 @@ use crate::counts::Counts;
 use crate::finish::finish;
 use crate::job::{ChildProcess, JobStart, ending_of};
 use crate::locked::LockedFolder;
+use crate::naming::Naming;
 use crate::{job, read_file};
 use host_calls::{Child, Ending, EnterFault, Host, HostFault, Name, StartFault, Text};
 use std::alloc::{AllocError, Global};
@@ -26,6 +27,8 @@ pub struct UnixHost<R: Runtime<File = File> + Processes> {
     pub(crate) rt: R,
     pub(crate) spool: Text,
     pub(crate) absent: Absent,
+    pub(crate) naming: Naming,
+    pub(crate) head: usize,
     pub(crate) folder: Option<LockedFolder>,
     pub(crate) kids: Vec<ChildProcess<R>>,
     pub(crate) counts: Counts,
@@ -51,7 +54,13 @@ impl<R: Runtime<File = File> + Processes> Host for UnixHost<R> {
         ensures known { OnOk result (unsynced_of self.new ≡ known_of self.new) }
         ensures unlisted { OnOk result (listed_names self.new ≡ None) }
     {
-        match LockedFolder::enter(&self.rt, alloc, self.spool.as_str(), self.absent) {
+        match LockedFolder::enter(
+            &self.rt,
+            alloc,
+            self.spool.as_str(),
+            self.absent,
+            self.naming,
+        ) {
             Ok(folder) => {
                 self.folder = Some(folder);
                 Ok(())
@@ -84,7 +93,7 @@ impl<R: Runtime<File = File> + Processes> Host for UnixHost<R> {
         let Some(folder) = &mut self.folder else {
             unreachable!()
         };
-        let answer = folder.names(&self.rt, alloc);
+        let answer = folder.names(&self.rt, alloc, self.head);
         finish(folder, &mut self.counts, answer)
     }
 

@@ -41,7 +41,7 @@ pub fn start<R: Processes>(
 ) -> Result<ChildProcess<R>, StartFault>
     ensures started_as { IfOk result (λ kid. kid.started_as ≡ start) }
 {
-    let script = paths.file(alloc, &start.name)?;
+    let script = paths.script(alloc, &start.name)?;
     let output = paths.output(alloc, &start.name)?;
     let command = command_of(alloc, start.nice, script.as_str(), output.as_str())?;
     spawned(rt, command, paths, start)
@@ -54,7 +54,7 @@ fn spawned<R: Processes>(
     paths: &Paths,
     start: JobStart,
 ) -> Result<ChildProcess<R>, StartFault>
-    requires { IsJobCommand start.nice (file_in (string_bytes paths.now.folder) start.name)
+    requires { IsJobCommand start.nice (file_in (string_bytes paths.now.whole) start.name)
         (file_in (string_bytes paths.now.outputs) start.name) command }
     ensures started_as { IfOk result (λ kid. kid.started_as ≡ start) }
 {

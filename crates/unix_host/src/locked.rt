@@ -2,9 +2,9 @@
 //!
 //! A change is made only once the byte of the lock says at least what may be unsynced after it, since its
 //! program may be killed at any moment. What may be unsynced is forgotten after the sync of it alone.
-ghost use Rattle.std.specs.Prelude.{◌≡◌, ◌≢◌, ◌≤◌, Contains, IsSorted, IsTrue, IfOk, IfSome, OnOk, OnErr, None, Some, true, false, option_map, string_bytes, vec_len};
+ghost use Rattle.std.specs.Prelude.{◌≡◌, ◌≢◌, ◌≤◌, Contains, IsSorted, IsTrue, IfOk, IfSome, OnOk, OnErr, None, Some, true, false, length, option_map, string_bytes, vec_len};
 ghost use Rattle.host_calls.specs.Folder.{name_cmp};
-ghost use Rattle.unix_host.specs.Listings.{names_in};
+ghost use Rattle.unix_host.specs.Listings.{count_from, kept_bytes, names_in};
 ghost use Rattle.unix_host.specs.Unsynced.{unsynced_by};
 ghost use Rattle.unix_host.specs.inside.Changes.{left_by, Remembers};
 ghost use Rattle.unix_host.specs.inside.LockByte.{amount_of};
@@ -13,8 +13,10 @@ ghost use Rattle.unix_host.specs.inside.Torn.{may_tear, HasTorn, HasWhole};
 
 use crate::absent::Absent;
 use crate::changes::Changes;
+use crate::listed_files::Listed;
 use crate::listing::Listing;
 use crate::lock::Lock;
+use crate::naming::Naming;
 use crate::paths::Paths;
 use crate::synced::sync_path;
 use crate::torn::Torn;
@@ -22,6 +24,7 @@ use crate::unsynced::Unsynced;
 use crate::{file_calls, file_syncs, files};
 use host_calls::{EnterFault, HostFault, Name};
 use std::alloc::Global;
+use std::env::Env;
 use std::fs::{File, Files};
 use std::rt::Runtime;
 use std::time::Clock;
@@ -38,17 +41,18 @@ pub struct LockedFolder {
 
 impl LockedFolder {
     /// Takes the lock of the folder, which is made where it is absent, unless that is to be a fault.
-    pub fn enter<R: Files<File = File> + Clock>(
+    pub fn enter<R: Files<File = File> + Env + Clock>(
         rt: &R,
         alloc: Global,
         spool: &str,
         absent: Absent,
+        naming: Naming,
     ) -> Result<LockedFolder, EnterFault>
         ensures known { IfOk result (λ folder. unsynced_by folder.changes ≡ folder.lock.known) }
         ensures left { IfOk result (λ folder. left_by folder.changes ≡ folder.lock.known) }
         ensures unlisted { IfOk result (λ folder. folder.listing ≡ None) }
     {
-        let paths = files::enter_folder(rt, alloc, spool, absent)?;
+        let paths = files::enter_folder(rt, alloc, spool, absent, naming)?;
         let lock = Lock::take(rt, paths.lock())?;
         let changes = Changes::after(&lock);
         Ok(LockedFolder {
@@ -86,28 +90,46 @@ impl LockedFolder {
     }
 
     /// The names of the plain files, in byte order: those of the kept listing, where there is one.
-    pub fn names<R: Runtime>(&mut self, rt: &R, alloc: Global) -> Result<Vec<Name>, HostFault>
+    pub fn names<R: Files<File = File>>(
+        &mut self,
+        rt: &R,
+        alloc: Global,
+        most: usize,
+    ) -> Result<Vec<Name>, HostFault>
         ensures order { IfOk result (λ names. IsSorted name_cmp names.items) }
-        ensures kept { IfOk result (λ names. IfSome self.old.listing (λ listing. names.items ≡ listing.names.items)) }
+        ensures kept { IfOk result (λ names. IfSome self.old.listing (λ listing. names.items ≡ names_in listing)) }
         ensures keeps { IfOk result (λ names. option_map names_in self.new.listing ≡ Some names.items) }
         ensures changes { self.new.changes ≡ self.old.changes }
     {
         let listing = match self.listing.take() {
             Some(listing) => listing,
-            None => files::list(rt, alloc, &self.paths)?,
+            None => files::list(rt, alloc, &self.paths, most)?,
         };
         let names = listing.names(alloc);
         self.listing = Some(listing);
         Ok(names?)
     }
 
-    /// The length of a file by the kept listing.
-    pub fn listed(&self, name: &Name) -> Option<u64>
-        ensures { IfSome result (λ length. IfSome self.now.listing (λ listing.
-            Contains listing.files.items (record { name = name.now; length = length }))) }
+    /// A file by the kept listing.
+    pub fn listed(&self, name: &Name) -> Option<&Listed>
+        ensures held { IfSome result (λ file. IfSome self.now.listing (λ listing.
+            Contains listing.listed.files.items file.now)) }
+        ensures named { IfSome result (λ file. file.now.name ≡ name.now) }
     {
         match &self.listing {
-            Some(listing) => listing.length_of(name),
+            Some(listing) => listing.find(name),
+            None => None,
+        }
+    }
+
+    /// What a listed file has from an offset on, or `most` bytes of it, if the kept listing tells.
+    pub fn first_bytes(&self, file: &Listed, offset: u64, most: usize) -> Option<&[u8]>
+        ensures whole { IfSome result (λ bytes. length bytes.now ≡ count_from file.now.length offset most) }
+        ensures kept { IfSome result (λ bytes. IfSome self.now.listing (λ listing.
+            bytes.now ≡ kept_bytes listing file.now offset most)) }
+    {
+        match &self.listing {
+            Some(listing) => listing.bytes_of(file, offset, most),
             None => None,
         }
     }
@@ -242,7 +264,7 @@ impl LockedFolder {
         ensures torn { OnOk result (self.new.changes.torn ≡ Torn.Nobody) }
         ensures failed { self.new.changes.has_failed ≡ self.old.changes.has_failed }
     {
-        let names = self.names(rt, alloc)?;
+        let names = self.names(rt, alloc, 0)?;
         let files = file_syncs::sync_each(rt, alloc, &self.paths, &names)?;
         // The folder may be as new as a lock file that says nothing.
         let parent = sync_path(rt, self.paths.parent())?;

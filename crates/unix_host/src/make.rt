@@ -6,6 +6,7 @@ ghost use Rattle.unix_host.specs.UnixHost.{session_of};
 use crate::absent::Absent;
 use crate::counts::Counts;
 use crate::host::UnixHost;
+use crate::naming::Naming;
 use host_calls::Text;
 use std::alloc::{AllocError, Global};
 use std::fs::File;
@@ -34,6 +35,24 @@ impl<R: Runtime<File = File> + Processes> UnixHost<R> {
     {
         Ok(host_of(rt, alloc, spool, Absent::Fails))
     }
+
+    /// The same host, whose listings keep so many first bytes of each file.
+    pub fn keeping(self, head: usize) -> UnixHost<R>
+        ensures { result ≡ record self { head = head } }
+    {
+        UnixHost { head, ..self }
+    }
+
+    /// The same host, whose first session makes the folder the current directory of the process.
+    pub fn moving(self) -> UnixHost<R>
+        ensures naming { result.naming ≡ Naming.Current }
+        ensures others { record result { naming = self.naming } ≡ self }
+    {
+        UnixHost {
+            naming: Naming::Current,
+            ..self
+        }
+    }
 }
 
 fn host_of<R: Runtime<File = File> + Processes>(
@@ -52,6 +71,8 @@ fn host_of<R: Runtime<File = File> + Processes>(
         rt,
         spool,
         absent,
+        naming: Naming::Whole,
+        head: 0,
         folder: None,
         kids: Vec::new(alloc),
         counts: Counts {

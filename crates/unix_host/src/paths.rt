@@ -1,5 +1,5 @@
 //! The paths of a spool folder and of what lies beside it.
-ghost use Rattle.std.specs.Prelude.{◌≡◌, ◌++◌, IfOk, string_bytes};
+ghost use Rattle.std.specs.Prelude.{◌≡◌, ◌++◌, IfOk, OnOk, string_bytes};
 ghost use Rattle.std.specs.Path.{IsAbsolute};
 ghost use Rattle.unix_host.specs.inside.Paths.{file_in, lock_of, outputs_of};
 
@@ -9,32 +9,36 @@ use std::alloc::{AllocError, Global};
 /// The folder `SPOOL`, the folder `SPOOL.out` of outputs, the file `SPOOL.lock`, and the folder that the three lie in.
 #[derive(Drop)]
 pub struct Paths {
+    whole: String,
+    // By what the files of the folder are reached.
     folder: String,
     outputs: String,
     lock: String,
     parent: String,
-    ghost folder_absolute: { IsAbsolute (string_bytes folder) },
+    ghost whole_absolute: { IsAbsolute (string_bytes whole) },
     ghost outputs_absolute: { IsAbsolute (string_bytes outputs) },
 }
 
 impl Paths {
     /// The paths of this folder, which lies in that one.
-    pub fn of(alloc: Global, folder: &str, parent: &str) -> Result<Paths, AllocError>
-        requires { IsAbsolute folder.now }
+    pub fn of(alloc: Global, whole: &str, folder: &str, parent: &str) -> Result<Paths, AllocError>
+        requires { IsAbsolute whole.now }
+        ensures whole { IfOk result (λ paths. string_bytes paths.whole ≡ whole.now) }
         ensures folder { IfOk result (λ paths. string_bytes paths.folder ≡ folder.now) }
-        ensures outputs { IfOk result (λ paths. string_bytes paths.outputs ≡ outputs_of folder.now) }
-        ensures lock { IfOk result (λ paths. string_bytes paths.lock ≡ lock_of folder.now) }
+        ensures outputs { IfOk result (λ paths. string_bytes paths.outputs ≡ outputs_of whole.now) }
+        ensures lock { IfOk result (λ paths. string_bytes paths.lock ≡ lock_of whole.now) }
         ensures parent { IfOk result (λ paths. string_bytes paths.parent ≡ parent.now) }
     {
         Ok(Paths {
+            whole: String::from_str(alloc, whole)?,
             folder: String::from_str(alloc, folder)?,
-            outputs: joined(alloc, folder, ".out")?,
-            lock: joined(alloc, folder, ".lock")?,
+            outputs: joined(alloc, whole, ".out")?,
+            lock: joined(alloc, whole, ".lock")?,
             parent: String::from_str(alloc, parent)?,
         })
     }
 
-    /// The folder itself, absolute.
+    /// The folder itself, as this process reaches it.
     pub fn folder(&self) -> &str
         ensures { result.now ≡ string_bytes self.now.folder }
     {
@@ -62,12 +66,26 @@ impl Paths {
         self.parent.as_str()
     }
 
-    /// The file of this name in the spool folder.
+    /// The file of this name in the spool folder, as this process reaches it.
     pub fn file(&self, alloc: Global, name: &Name) -> Result<String, AllocError>
-        ensures path { IfOk result (λ path. string_bytes path ≡ file_in (string_bytes self.now.folder) name.now) }
-        ensures absolute { IfOk result (λ path. IsAbsolute (string_bytes path)) }
+        ensures { IfOk result (λ path. string_bytes path ≡ file_in (string_bytes self.now.folder) name.now) }
     {
         within(alloc, self.folder.as_str(), name)
+    }
+
+    /// The same, in the place of another path.
+    pub fn put_file(&self, path: &mut String, name: &Name) -> Result<(), AllocError>
+        ensures { OnOk result (string_bytes path.new ≡ file_in (string_bytes self.now.folder) name.now) }
+    {
+        put_within(path, self.folder.as_str(), name)
+    }
+
+    /// The same file, as each process reaches it.
+    pub fn script(&self, alloc: Global, name: &Name) -> Result<String, AllocError>
+        ensures path { IfOk result (λ path. string_bytes path ≡ file_in (string_bytes self.now.whole) name.now) }
+        ensures absolute { IfOk result (λ path. IsAbsolute (string_bytes path)) }
+    {
+        within(alloc, self.whole.as_str(), name)
     }
 
     /// The file of this name in the folder of outputs.
@@ -90,17 +108,25 @@ fn joined(alloc: Global, folder: &str, after: &str) -> Result<String, AllocError
 }
 
 fn within(alloc: Global, folder: &str, name: &Name) -> Result<String, AllocError>
-    requires { IsAbsolute folder.now }
     ensures path { IfOk result (λ path. string_bytes path ≡ file_in folder.now name.now) }
-    ensures absolute { IfOk result (λ path. IsAbsolute (string_bytes path)) }
+    ensures absolute { IfOk result (λ path. IsAbsolute folder.now → IsAbsolute (string_bytes path)) }
+{
+    let length = folder.len().saturating_add(name.as_bytes().len());
+    let mut path = String::with_capacity(alloc, length.saturating_add(1))?;
+    put_within(&mut path, folder, name)?;
+    Ok(path)
+}
+
+// The same path, in the place of another.
+fn put_within(path: &mut String, folder: &str, name: &Name) -> Result<(), AllocError>
+    ensures { OnOk result (string_bytes path.new ≡ file_in folder.now name.now) }
 {
     let Ok(text) = std::str::from_utf8(name.as_bytes()) else {
         unreachable!()
     };
-    let length = folder.len().saturating_add(1).saturating_add(text.len());
-    let mut path = String::with_capacity(alloc, length)?;
+    path.clear();
     path.push_str(folder)?;
     path.push('/')?;
     path.push_str(text)?;
-    Ok(path)
+    Ok(())
 }

@@ -14,14 +14,14 @@ pub fn length<R: Files>(
     alloc: Global,
     name: &Name,
 ) -> Result<u64, HostFault> {
-    if let Some(length) = folder.listed(name) {
-        return Ok(length);
+    if let Some(file) = folder.listed(name) {
+        return Ok(file.length);
     }
     let path = folder.paths().file(alloc, name)?;
     files::length(rt, path.as_str())
 }
 
-/// At most `most` bytes of a file from an offset on, fewer only at its end.
+/// At most `most` bytes of a file from an offset on, fewer only at its end: those of the kept listing, where it has them.
 pub fn read<R: Files<File = File>>(
     folder: &LockedFolder,
     rt: &R,
@@ -32,7 +32,14 @@ pub fn read<R: Files<File = File>>(
 ) -> Result<Vec<u8>, HostFault>
     ensures few { IfOk result (λ bytes. vec_len bytes ≤ most) }
 {
-    let length = length(folder, rt, alloc, name)?;
+    let Some(file) = folder.listed(name) else {
+        let path = folder.paths().file(alloc, name)?;
+        let length = files::length(rt, path.as_str())?;
+        return files::read(rt, alloc, path.as_str(), length, offset, most);
+    };
+    if let Some(bytes) = folder.first_bytes(file, offset, most) {
+        return Ok(Vec::from_slice(alloc, bytes)?);
+    }
     let path = folder.paths().file(alloc, name)?;
-    files::read(rt, alloc, path.as_str(), length, offset, most)
+    files::read(rt, alloc, path.as_str(), file.length, offset, most)
 }

@@ -7,6 +7,8 @@ mod folders;
 #[cfg(test)]
 mod jobs;
 #[cfg(test)]
+mod kept;
+#[cfg(test)]
 mod locks;
 #[cfg(test)]
 mod outside;

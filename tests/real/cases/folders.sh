@@ -143,3 +143,32 @@ case_a_umask_that_takes_all_rights() {
   grep -qx 'umask 0777' out || fail 'the umask of the job is lost'
   (umask 0777; bare "${as[@]}" "$bin/atrm" 1 2) 2>err </dev/null || fail "the jobs stay: $(cat err)"
 }
+
+# A spool that is named by a relative path is the same one in each session, and a script and the folder of its job are the
+# caller's own.
+case_a_relative_spool() {
+  needs_atd
+  opened
+  mkdir folder; cd folder || exit 1
+  printf 'pwd\n' >script
+  spool=../spool call at -f script now; took 1
+  spool=../spool call atd -s </dev/null; ended 0 $'job 1 handed over\njob 1 exit 0\n' ''
+  call at -f script now; took 2
+  call atd -s </dev/null; ended 0 $'job 2 handed over\njob 2 exit 0\n' ''
+  for output in "$spool".out/*; do [ "$(cat "$output")" = "$PWD" ] || fail "a job ran in $(cat "$output")"; done
+  [ "$(ls .. | tr '\n' ' ')" = 'folder probe probe.lock probe.out spool spool.lock spool.out ' ] || fail "there is $(ls ..)"
+}
+
+# Each is opened at most once, and costs no more than that.
+case_many_foreign_files() {
+  opened
+  with 'true' at -t 203001010000; took 1
+  seq 100000 | (cd spool && split -a 6 -d -l 1 - foreign)
+  time_of() { ( TIMEFORMAT='%U %S'; time bare "$@" >out 2>err </dev/null ) 2>&1 | awk '{ printf "%d", ($1 + $2) * 1000 }'; }
+  least=999999
+  for _ in 1 2 3; do
+    took=$(time_of "$bin/atq"); [ "$took" -ge "$least" ] || least=$took
+    [ "$(cat out)" = $'1\tTue Jan  1 00:00:00 2030 a ann' ] || fail "it lists $(cat out)"
+  done
+  [ "$least" -lt 1500 ] || fail "a call over 100,000 foreign files takes $least ms of processor time"
+}

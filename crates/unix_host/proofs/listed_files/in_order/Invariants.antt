@@ -1,5 +1,5 @@
 use Rattle.std.proofs.Common.{◌≡◌, map, take}
-use Rattle.unix_host.proofs.listing.in_order.Given as goal
+use Rattle.unix_host.proofs.listed_files.in_order.Given as goal
 
 -- so many of the files stand in it
 abbrev pub invariant-loop-file : goal.invariant-loop-file

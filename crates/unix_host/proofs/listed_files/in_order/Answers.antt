@@ -1,8 +1,8 @@
 use Rattle.std.proofs.Common.{◌≡◌, ◌∙◌, ◌≤◌, IsPermutation, map, ℕ, length, arith, subst, Bor}
 use Rattle.std.proofs.lemmas.List.{take_all}
 use Rattle.std.proofs.lemmas.List.Sorted.{IsPermutation-map}
-use Rattle.unix_host.specs.declared.listing.Listed.{Listed}
-use Rattle.unix_host.proofs.listing.in_order.Goals as goal
+use Rattle.unix_host.specs.declared.listed_files.Listed.{Listed}
+use Rattle.unix_host.proofs.listed_files.in_order.Goals as goal
 
 pub returns : goal.returns
 returns c =
