@@ -1,0 +1,95 @@
+//! Days of commands, turns, reboots, mail and a crontab.
+ghost use Rattle.std.specs.Prelude.{IfOk};
+ghost use Rattle.host_calls.specs.Session.{IsOutside};
+ghost use Rattle.memory_host.specs.Host.{memory_session};
+
+use crate::events::{FIRST, at_now, cron, reboot, spool, turn};
+use crate::told::told;
+use later_day::Later;
+use memory_host::{MemoryHost, Plan};
+use std::alloc::{AllocError, Global};
+use std::process::Abort;
+use std::test::Fail;
+
+// A spool that everybody may use, and no other file.
+fn open_spool(rt: &impl Abort, alloc: Global) -> Result<MemoryHost, AllocError>
+    ensures { IfOk result (λ host. IsOutside (memory_session host)) }
+{
+    spool(rt, alloc, &[(b"at.deny", b"")], Plan::quiet(alloc))
+}
+
+// Two jobs are handed over, and the machine crashes before their ends are told. No call gets through from then on, until it
+// crashes once more.
+fn first_half(rt: &impl Abort, alloc: Global) -> Result<Vec<Later>, Fail> {
+    let mut events = Vec::new(alloc);
+    events.push(at_now(alloc, FIRST)?)?;
+    events.push(cron(rt, alloc, FIRST)?)?;
+    events.push(Later::Post)?;
+    events.push(turn(FIRST))?;
+    events.push(reboot(0, Some(0)))?;
+    events.push(turn(FIRST + 60))?;
+    events.push(Later::Post)?;
+    events.push(cron(rt, alloc, FIRST + 60)?)?;
+    events.push(reboot(0, None))?;
+    Ok(events)
+}
+
+// They are given up, and the end of each is told once; the crontab has each minute once.
+fn second_half(rt: &impl Abort, alloc: Global, events: &mut Vec<Later>) -> Result<(), Fail> {
+    events.push(turn(FIRST + 60))?;
+    events.push(Later::Post)?;
+    events.push(cron(rt, alloc, FIRST + 60)?)?;
+    events.push(cron(rt, alloc, FIRST + 119)?)?;
+    events.push(Later::Post)?;
+    events.push(reboot(1, None))?;
+    events.push(Later::Post)?;
+    events.push(turn(FIRST + 120))?;
+    events.push(turn(FIRST + 180))?;
+    events.push(Later::Post)?;
+    Ok(())
+}
+
+const DAY: &str =
+    "command 0\ncron done 2\npost done\nturn done 1 2\nrebooted\nturn fault\npost fault\ncron fault\nrebooted\nturn done given-up given-up\npost done 1 2\ncron done 3\ncron done\npost done\nrebooted\npost done\nturn done 3\nturn done ended\npost done 3\n";
+
+const NOTES: &[u8] =
+    b"N 00000001 a0000000101b968a0 0 ann\nN 00000002 a0000000201b968a0 0 ann\nS 00000001\nS 00000002\nN 00000003 a0000000301b968a1 0 ann\nS 00000003\n";
+
+// What the whole day tells.
+fn tell_all(rt: &impl Abort, alloc: Global, host: &mut MemoryHost) -> Result<String, Fail>
+    requires { IsOutside (memory_session host.old) }
+    ensures { IsOutside (memory_session host.new) }
+{
+    let mut events = first_half(rt, alloc)?;
+    second_half(rt, alloc, &mut events)?;
+    let lines = told(rt, alloc, events.as_slice(), host)?;
+    drop(events);
+    Ok(lines)
+}
+
+// The number of each script that was handed over, and how nice it was.
+fn handed_now(alloc: Global, host: &MemoryHost) -> Result<Vec<(u32, u8)>, AllocError> {
+    let mut all = Vec::new(alloc);
+    for handed in host.handed() {
+        all.push((handed.number, handed.nice))?;
+    }
+    Ok(all)
+}
+
+#[test]
+fn a_day_with_mail_and_a_crontab(rt: HostRuntime) -> Result<(), Fail> {
+    let alloc = rt.alloc();
+    let mut host = open_spool(&rt, alloc)?;
+    let lines = tell_all(&rt, alloc, &mut host);
+    let handed = handed_now(alloc, &host);
+    assert_eq!(rt; host.reading(&mail_notes::mail_name()), Some(NOTES));
+    assert_eq!(rt;
+        host.reading(&cron_mark::mark_name()),
+        Some(b"01b968a1\n".as_slice())
+    );
+    drop(host);
+    assert_eq!(rt; lines?.as_str(), DAY);
+    let expected = [(1, 0), (2, 0), (1, 19), (2, 19), (3, 0), (3, 19)];
+    assert_eq!(rt; handed?.as_slice(), expected.as_slice());
+    Ok(())
+}
