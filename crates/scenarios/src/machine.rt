@@ -10,9 +10,12 @@ use crate::settings::Settings;
 use crate::transcript::Transcript;
 use at_account::account_program;
 use at_day::{day, program};
+use at_mail::post_program;
 use clock_range::is_clock_second;
+use cron_turn::cron_program;
 use daemon_turn::{Daemon, Mode};
-use memory_host::MemoryHost;
+use memory_host::{Files, MemoryHost, Plan};
+use spool_check::check_program;
 use std::alloc::{AllocError, Global};
 
 /// A spool folder in memory, and a daemon whose kids are children of it.
@@ -46,6 +49,9 @@ impl Machine {
         match event {
             Event::Run(words) => Ok(self.run(alloc, &words, settings, transcript)?),
             Event::Account(words) => Ok(self.account(alloc, &words, settings, transcript)?),
+            Event::Post(words) => Ok(self.post(alloc, &words, settings, transcript)?),
+            Event::Cron(words) => Ok(self.cron(alloc, &words, settings, transcript)?),
+            Event::Check(words) => Ok(self.check(alloc, &words, settings, transcript)?),
             Event::Daemon(limit, interval) => {
                 self.daemon = Daemon::new(alloc, limit, interval);
                 Ok(())
@@ -121,6 +127,69 @@ impl Machine {
         let status = account_program(alloc, words, &mut self.host, &mut out, &mut err);
         let (out, err) = (out.content(), err.content());
         show_run(alloc, "account", status.code, out, err, 0, transcript)
+    }
+
+    // Makes sessions of mail, as the words ask for it.
+    fn post(
+        &mut self,
+        alloc: Global,
+        words: &[String],
+        settings: &Settings,
+        transcript: &mut Transcript,
+    ) -> Result<(), AllocError> {
+        let mut readings = settings.readings(alloc)?;
+        let mut err = settings.err(alloc);
+        let status = post_program(alloc, words, &mut self.host, &mut readings, &mut err);
+        let (err, rested) = (err.content(), readings.rested());
+        show_run(alloc, "post", status.code, &[], err, rested, transcript)
+    }
+
+    // Makes sessions of a crontab, as the words ask for it.
+    fn cron(
+        &mut self,
+        alloc: Global,
+        words: &[String],
+        settings: &Settings,
+        transcript: &mut Transcript,
+    ) -> Result<(), AllocError> {
+        let mut readings = settings.readings(alloc)?;
+        let mut inputs = settings.inputs(alloc)?;
+        let mut err = settings.err(alloc);
+        let status = cron_program(
+            alloc,
+            words,
+            &settings.caller,
+            &mut self.host,
+            &mut readings,
+            &mut inputs,
+            &mut err,
+        );
+        let (err, rested) = (err.content(), readings.rested());
+        show_run(alloc, "cron", status.code, &[], err, rested, transcript)
+    }
+
+    // Lists the faults of the folder, as the words ask for it. What is saved goes into a folder of its own.
+    fn check(
+        &mut self,
+        alloc: Global,
+        words: &[String],
+        settings: &Settings,
+        transcript: &mut Transcript,
+    ) -> Result<(), AllocError> {
+        let mut target = MemoryHost::make(alloc, Files::new(alloc), Plan::quiet(alloc))?;
+        let mut out = settings.out(alloc);
+        let mut err = settings.err(alloc);
+        let status = check_program(
+            alloc,
+            words,
+            &mut self.host,
+            &mut target,
+            &mut out,
+            &mut err,
+        );
+        drop(target);
+        let (out, err) = (out.content(), err.content());
+        show_run(alloc, "check", status.code, out, err, 0, transcript)
     }
 
     // Prints what a day without events counts.
