@@ -156,7 +156,7 @@ case_a_relative_spool() {
   call at -f script now; took 2
   call atd -s </dev/null; ended 0 $'job 2 handed over\njob 2 exit 0\n' ''
   for output in "$spool".out/*; do [ "$(cat "$output")" = "$PWD" ] || fail "a job ran in $(cat "$output")"; done
-  [ "$(ls .. | tr '\n' ' ')" = 'folder probe probe.lock probe.out spool spool.lock spool.out ' ] || fail "there is $(ls ..)"
+  [ "$(echo ../*spool* *spool*)" = '../spool ../spool.lock ../spool.out *spool*' ] || fail "there is $(ls .. .)"
 }
 
 # Each is opened at most once, and costs no more than that.
