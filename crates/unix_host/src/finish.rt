@@ -2,9 +2,9 @@
 ghost use Rattle.std.specs.Prelude.{◌≡◌, true, IsErrOf, OnErr, OnOk};
 ghost use Rattle.host_calls.specs.Causes.{HasCause};
 
-use crate::counts::Counts;
 use crate::locked::LockedFolder;
 use host_calls::HostFault;
+use witnessed_host::Counts;
 
 /// After a call on the files: where it failed, that is kept account of and counted.
 pub fn finish<T>(

@@ -9,7 +9,6 @@ ghost use Rattle.unix_host.specs.UnixHost.{ending_in, listed_names, starts_of, s
 ghost use Rattle.unix_host.specs.Unknown.{unknown_world};
 
 use crate::absent::Absent;
-use crate::counts::Counts;
 use crate::finish::finish;
 use crate::job::{ChildProcess, JobStart, ending_of};
 use crate::locked::LockedFolder;
@@ -20,6 +19,7 @@ use std::alloc::{AllocError, Global};
 use std::fs::File;
 use std::process::Processes;
 use std::rt::Runtime;
+use witnessed_host::Counts;
 
 /// A spool folder on a disk, its lock and the children that were started from it.
 #[derive(Drop)]
@@ -54,21 +54,19 @@ impl<R: Runtime<File = File> + Processes> Host for UnixHost<R> {
         ensures known { OnOk result (unsynced_of self.new ≡ known_of self.new) }
         ensures unlisted { OnOk result (listed_names self.new ≡ None) }
     {
-        match LockedFolder::enter(
+        let entered = LockedFolder::enter(
             &self.rt,
             alloc,
             self.spool.as_str(),
             self.absent,
             self.naming,
-        ) {
+        );
+        match entered {
             Ok(folder) => {
                 self.folder = Some(folder);
                 Ok(())
             }
-            Err(fault) => {
-                self.counts.refuse(fault);
-                Err(fault)
-            }
+            Err(fault) => self.counts.enter_call(Err(fault)),
         }
     }
 

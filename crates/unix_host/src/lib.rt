@@ -4,7 +4,6 @@
 
 mod absent;
 mod changes;
-mod counts;
 mod err;
 mod file_calls;
 mod file_syncs;

@@ -4,7 +4,6 @@ ghost use Rattle.host_calls.specs.Session.{IsOutside};
 ghost use Rattle.unix_host.specs.UnixHost.{session_of};
 
 use crate::absent::Absent;
-use crate::counts::Counts;
 use crate::host::UnixHost;
 use crate::naming::Naming;
 use host_calls::Text;
@@ -12,6 +11,7 @@ use std::alloc::{AllocError, Global};
 use std::fs::File;
 use std::process::Processes;
 use std::rt::Runtime;
+use witnessed_host::Counts;
 
 impl<R: Runtime<File = File> + Processes> UnixHost<R> {
     /// The host of this folder, which a session makes where it is absent. It touches no file.
