@@ -12,6 +12,9 @@ use Rattle.spool_store.specs.declared.fault.StoreFault.TheVariants.{FileFault, M
 use Rattle.spool_store.specs.Faults.{IsOfStep, fault_of}
 use Rattle.step_runs.specs.Current.{Kept}
 use Rattle.whole_file.specs.Others.{ChangesFiles}
+use Rattle.whole_file.specs.Placing.{IsPlaced}
+use Rattle.cron_mark.specs.Mark.{mark_text}
+use Rattle.cron_mark.specs.Names.{mark_file, mark_temp}
 use Rattle.cron_session.specs.inside.Marking.{MarksAndSubmits}
 use Rattle.cron_session.specs.inside.Submitting.{SubmitsAll}
 use Rattle.cron_session.proofs.CauseLemmas.{memory_is_none}

@@ -7,8 +7,8 @@ use Rattle.mail_session.specs.PostState.{PostState}
 use Rattle.mail_session.proofs.MailerLemmas.{distinct_of_session, post_of_session, reads_of_session}
 use Rattle.mail_session.proofs.mailer.Post.session.Goals as goal
 
-pub end_of-requires : goal.end_of-requires
-end_of-requires g c = reads_of_session g.H.Host _ _ _ _ _ c.in_session-worked.result c.in_session-worked.ensures.ends (λ first last done did. search (rules, did))
+pub end_of_session-requires : goal.end_of_session-requires
+end_of_session-requires g c = reads_of_session g.H.Host _ _ _ _ _ c.in_session-worked.result c.in_session-worked.ensures.ends (λ first last done did. search (rules, did))
 
 pub report-requires : goal.report-requires
 report-requires g c =
