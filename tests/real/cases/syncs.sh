@@ -1,7 +1,8 @@
 # What a call syncs before it answers, and in which order, as strace sees it. A power cut is not seen without it.
 
 # Calls a tool under strace, as `call` does. What it wrote into the spool, synced, moved, removed, started and said lies in
-# ./calls, a line each: `folder` is the spool, `parent` where it lies, JOB the file of a job.
+# ./calls, a line each: `folder` is the spool, `parent` where it lies, JOB the file of a job. (The spool is the current
+# directory of a call, so that ./NAME is a file of it.)
 traced() {
   status=0
   bare timeout -k 1 40 "$strace" -y -s 24 -o traced \
@@ -16,7 +17,7 @@ traced() {
     s/^unlink(at)?\((AT_FDCWD[^,]*, )?"([^"]*)".*\) += 0$/remove \3/p
     s/^(clone3?|fork|vfork)\(.*$/start/p
     s/^write\([12]<[^>]*>, "(job [0-9]+ [a-z]+).*$/says \1/p
-    ' traced | sed -E "s|$here_is/spool/||g; s| $here_is/spool\$| folder|; s| $here_is\$| parent|; s|\\<[a-zA-Z=][0-9a-f]{16}\\>|JOB|g" >calls
+    ' traced | sed -E "s|$here_is/spool/||g; s| \./| |g; s| $here_is/spool\$| folder|; s| $here_is\$| parent|; s|\\<[a-zA-Z=][0-9a-f]{16}\\>|JOB|g" >calls
 }
 
 # The last traced call was these, a line each.
