@@ -1,7 +1,6 @@
 -- Kids that are asked one after another.
-use Rattle.std.proofs.Common.{◌≡◌, ◌≤◌, ◌<◌, ◌+◌, ◌++◌, ◌∙◌, ℕ, zero, suc, Bool, true, List, [], ◌∷◌, append_assoc, append-nil, drop, get_or, length, length-append, take, refl, sym, ap, subst, inl, inr, arith}
+use Rattle.std.proofs.Common.{◌≡◌, ◌≤◌, ◌<◌, ◌+◌, ◌++◌, ◌∙◌, ℕ, suc, Bool, true, List, [], ◌∷◌, append_assoc, append-nil, get_or, length, length-append, refl, sym, ap, subst, inl, inr, arith}
 use Rattle.std.specs.Prelude.{Contains, IsErrAnd, Option, None, Some, Result, Ok, Err}
-use Rattle.std.specs.List.{remove}
 use Rattle.std.proofs.lemmas.List.Elements.{Contains-get_or}
 use Rattle.spool_shows.proofs.Membership.{Has, contained, has_contained}
 use Rattle.host_calls.specs.declared.child.Asked.{Asked}

@@ -1,6 +1,6 @@
 -- A session after its recovery: files that are left over are removed, and the steps are made.
-use Rattle.std.proofs.Common.{◌≡◌, ◌≢◌, ◌∙◌, ◌++◌, ℕ, Bool, true, false, List, [], ◌∷◌, append_assoc, append-nil, length, map, refl, sym, ap, subst, inl, inr, arith}
-use Rattle.std.specs.Prelude.{Contains, IfOk, IsErrAnd, IsSome, OnOk, Option, None, Some, Result, Ok, Err, not}
+use Rattle.std.proofs.Common.{◌≡◌, ◌≢◌, ◌∙◌, ◌++◌, ℕ, Bool, true, false, List, [], append_assoc, append-nil, map, refl, sym, ap, subst, inl, inr, arith}
+use Rattle.std.specs.Prelude.{Contains, IfOk, IsErrAnd, IsSome, Option, None, Some, Result, Ok, Err, not}
 use Rattle.std.specs.FinMap as finite
 use Rattle.host_calls.specs.declared.child.Asked.{Asked}
 use Rattle.host_calls.specs.declared.child.Child.{Child}
@@ -23,16 +23,14 @@ use Rattle.daemon_turn.specs.Decisions.{has_kid, questions}
 use Rattle.daemon_turn.proofs.AskLemmas.{questions_of_none}
 use Rattle.mail_notes.specs.declared.note.Note.{Note}
 use Rattle.mail_notes.specs.Hands.{Mailing}
-use Rattle.mail_notes.specs.Lines.{Fits, notes_text}
+use Rattle.mail_notes.specs.Lines.{Fits}
 use Rattle.mail_notes.specs.Names.{IsMailName, mail_file, mail_temp, notice_file}
 use Rattle.mail_notes.specs.Runs.{AreMade, AreStopped}
 use Rattle.mail_session.specs.declared.plan.MailPlan.{MailPlan}
-use Rattle.mail_session.specs.Dues.{AreDue, sent_numbers}
-use Rattle.mail_session.specs.News.{noting_of}
+use Rattle.mail_session.specs.Dues.{sent_numbers}
 use Rattle.mail_session.specs.NoticeFiles.{ReadsBeside}
 use Rattle.mail_session.specs.Posting.{Part}
-use Rattle.mail_session.specs.Sessions.{HasPosted, IsCleared, IsOpened}
-use Rattle.mail_session.specs.Stale.{stale_names}
+use Rattle.mail_session.specs.Sessions.{IsCleared, IsOpened}
 use Rattle.mail_session.specs.inside.Working.{CarriesOut, CarriesTo, GivesAsked, GoesFurther, Makes, MayCarryOut, ReadsNotices, steps_by}
 use Rattle.mail_session.proofs.AskingLemmas.{after_none}
 use Rattle.mail_session.proofs.NotingLemmas.{notice_apart}

@@ -27,7 +27,7 @@ use Rattle.daemon_turn.specs.Ends.{end_after, end_of_session}
 use Rattle.daemon_turn.proofs.EndLemmas.{is_fault, not_busy}
 use Rattle.mail_notes.specs.declared.note.Note.{Note}
 use Rattle.mail_notes.specs.Hands.{Mailing}
-use Rattle.mail_session.specs.Leaving.{Gave, HasRead, IsIdle, IsNone, IsStopped, IsWhole, MailLeaves, PostAt, PostsTo}
+use Rattle.mail_session.specs.Leaving.{Gave, IsIdle, IsNone, IsStopped, IsWhole, MailLeaves, PostAt, PostsTo}
 use Rattle.mail_session.specs.PostState.{PostState}
 use Rattle.mail_session.specs.inside.Working.{Works}
 use Rattle.mail_session.proofs.SessionLemmas.{recovery_leaves, recovery_now}

@@ -1,12 +1,11 @@
 -- The steps of a session: kids are asked, the new jobs noted, and what is due is made.
-use Rattle.std.proofs.Common.{◌≡◌, ◌∙◌, ◌++◌, ℕ, Bool, true, List, [], ◌∷◌, append_assoc, append-nil, length, map, refl, sym, ap, subst, inl, arith}
+use Rattle.std.proofs.Common.{◌≡◌, ◌∙◌, ◌++◌, ℕ, Bool, true, List, [], ◌∷◌, append_assoc, append-nil, length, map, refl, sym, ap, subst, arith}
 use Rattle.std.specs.Prelude.{IfOk, IsErrAnd, Option, Result, Ok, Err}
 use Rattle.host_calls.specs.declared.child.Asked.{Asked}
 use Rattle.host_calls.specs.declared.child.Child.{Child}
 use Rattle.host_calls.specs.declared.child.Ending.{Ending}
-use Rattle.host_calls.specs.declared.child.Handed.{Handed}
 use Rattle.host_calls.specs.declared.fault.HostFault.{HostFault}
-use Rattle.host_calls.specs.declared.fault.HostFault.TheVariants.{Failed, Memory}
+use Rattle.host_calls.specs.declared.fault.HostFault.TheVariants.{Memory}
 use Rattle.host_calls.specs.Session.{Session, StaysInside}
 use Rattle.host_calls.specs.World.{World}
 use Rattle.host_session.proofs.SessionLemmas.{counts_on}
@@ -15,24 +14,22 @@ use Rattle.daemon_turn.specs.Decisions.{questions}
 use Rattle.mail_notes.specs.declared.note.Note.{Note}
 use Rattle.mail_notes.specs.declared.note.NotedJob.{NotedJob}
 use Rattle.mail_notes.specs.Hands.{Mailing}
-use Rattle.mail_notes.specs.Lines.{HoldsNotes, notes_text}
-use Rattle.mail_notes.specs.Names.{mail_file}
+use Rattle.mail_notes.specs.Lines.{notes_text}
 use Rattle.mail_notes.specs.Runs.{AreMade, AreStopped, IsReady}
 use Rattle.mail_notes.proofs.RunLemmas.{no_notes_are_made, notes_are_made_after, notes_are_stopped_after}
-use Rattle.std.specs.FinMap as finite
 use Rattle.mail_session.specs.declared.due.Due.{Due}
 use Rattle.mail_session.specs.declared.plan.MailPlan.{MailPlan}
 use Rattle.mail_session.specs.Asking.{AsksKids, asked_besides, kids_after}
-use Rattle.mail_session.specs.Dues.{AreDue, notes_of, sent_numbers}
+use Rattle.mail_session.specs.Dues.{notes_of, sent_numbers}
 use Rattle.mail_session.specs.Laws.{QuestionsMakeNoNote}
 use Rattle.mail_session.specs.News.{noting_of}
 use Rattle.mail_session.specs.NoticeFiles.{ReadsBeside}
-use Rattle.mail_session.specs.Noting.{Notes, NotingEnds}
+use Rattle.mail_session.specs.Noting.{Notes}
 use Rattle.mail_session.proofs.ReadLemmas.{reads_both}
 use Rattle.mail_session.specs.Posting.{Gives, Part, Posts}
-use Rattle.mail_session.specs.inside.Working.{GivesAsked, Goes, Makes, MakingEnds, steps_by}
+use Rattle.mail_session.specs.inside.Working.{Makes, MakingEnds, steps_by}
 use Rattle.mail_session.proofs.NotingLemmas.{along_none}
-use Rattle.mail_session.proofs.SendLemmas.{no_fault, not_memory}
+use Rattle.mail_session.proofs.SendLemmas.{not_memory}
 
 -- Questions.
 

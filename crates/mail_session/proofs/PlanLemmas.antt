@@ -1,8 +1,8 @@
 -- What a session will do, by what it reads.
-use Rattle.std.proofs.Common.{◌≡◌, ◌∙◌, ◌++◌, ℕ, Bool, true, List, Option, Some, None, [], ◌∷◌, map, filter, refl, sym, ap, subst, inl, inr, arith}
+use Rattle.std.proofs.Common.{◌≡◌, ◌∙◌, ◌++◌, ℕ, Bool, true, List, Option, Some, None, [], ◌∷◌, map, filter, refl, sym, ap, subst, inl, inr}
 use Rattle.std.specs.Prelude.{IsErrAnd, Result, Ok, Err, option_map}
 use Rattle.std.specs.FinMap as finite
-use Rattle.std.specs.List.{All, filter_map, cons_option}
+use Rattle.std.specs.List.{filter_map, cons_option}
 use Rattle.host_calls.specs.declared.damage.Damage.{Damage}
 use Rattle.host_calls.specs.declared.fault.HostFault.{HostFault}
 use Rattle.host_calls.specs.declared.fault.HostFault.TheVariants as host
@@ -12,7 +12,7 @@ use Rattle.record_lines.specs.Lines.{AreLines, AreSpelled}
 use Rattle.spool_model.specs.declared.entry.Entry.TheVariants.{Done, Live}
 use Rattle.spool_model.specs.declared.row.Row.{Row}
 use Rattle.spool_model.specs.JobTable.{JobEntry, JobTable, entry_at}
-use Rattle.spool_shows.specs.Shown.{Shows, shown_by}
+use Rattle.spool_shows.specs.Shown.{shown_by}
 use Rattle.spool_store.specs.declared.fault.StoreFault.{StoreFault}
 use Rattle.spool_store.specs.declared.fault.StoreFault.TheVariants.{Damaged, FileFault, Memory, NumbersUsedUp, QueueFull}
 use Rattle.spool_store.specs.Faults.{IsOfReading, fault_of}
@@ -36,12 +36,11 @@ use Rattle.mail_notes.proofs.NameLemmas.{mail_is_none_of_the_stores}
 use Rattle.mail_notes.proofs.TextLemmas.{note_files_are_texts}
 use Rattle.mail_session.specs.declared.due.Due.{Due}
 use Rattle.mail_session.specs.declared.plan.MailPlan.{MailPlan}
-use Rattle.mail_session.specs.Leaving.{GivesNotes, IsDamage}
-use Rattle.mail_session.specs.News.{IsNotedFrom, is_new, new_numbers, noting_of}
+use Rattle.mail_session.specs.Leaving.{GivesNotes}
+use Rattle.mail_session.specs.News.{is_new, new_numbers, noting_of}
 use Rattle.mail_session.specs.Reading.{AreRead, IsDamageOf, IsTextOf}
-use Rattle.mail_session.specs.Stale.{stale_names}
 use Rattle.mail_session.specs.Steps.{AreDuesOf, due_of}
-use Rattle.mail_session.specs.inside.Planning.{IfDamageOf, IsPlanFor, IsPlanIn, IsPlanOn, IsPlanned, IsUnplanned, NotPlannedOn, Plans, PlansOn}
+use Rattle.mail_session.specs.inside.Planning.{IfDamageOf, IsPlanFor, IsPlanIn, IsUnplanned, NotPlannedOn, Plans, PlansOn}
 use Rattle.mail_session.proofs.PostLemmas.{lines_join}
 
 -- no bytes are the lines of no notes
@@ -178,30 +177,6 @@ pub new_on_the_table : (kept table : JobTable) (notes : List Note) → kept ≡ 
 new_on_the_table kept table notes is =
     ap (λ (t : JobTable). new_numbers t notes) is
     ∙ ap (λ (rows : List Row). filter (is_new notes) (map (λ (row : Row). row.number) rows)) (lists_as_on_the_table table).rows
-
--- the same plan, with room for more text
-pub planned_same : (tells : Bool) (old new : World) (kids : List Kid) (plan now : MailPlan) → now.news.items ≡ plan.news.items → now.dues.items ≡ plan.dues.items → now.text.items ≡ plan.text.items →
-    now.stale.items ≡ plan.stale.items → IsPlanned tells old new kids plan → IsPlanned tells old new kids now
-planned_same tells old new kids plan now news dues text stale is = record {
-  kept = is.kept;
-  plan_on = record {
-    notes = is.plan_on.notes;
-    plan_for = record {
-      numbers = ap (map (λ (job : NotedJob). job.number)) news ∙ is.plan_on.plan_for.numbers;
-      dues = subst (AreDuesOf is.kept.table is.plan_on.notes) (sym dues) is.plan_on.plan_for.dues;
-      text = text ∙ is.plan_on.plan_for.text ∙ ap (λ (l : List NotedJob). notes_text (is.plan_on.notes ++ noting_of l)) (sym news);
-    };
-    plan_in = λ known table current.
-        let within = is.plan_on.plan_in known table current in
-        record {
-          gives = within.gives;
-          noted = subst (All (IsNotedFrom (reading new) table)) (sym news) within.noted;
-          stale = stale ∙ within.stale;
-        };
-  };
-  changes = is.changes;
-  recovered = is.recovered;
-}
 
 -- Nothing was planned.
 

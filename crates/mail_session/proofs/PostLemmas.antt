@@ -57,6 +57,15 @@ posts_none program tells session world was kids sent inside no_temp = record {
   files = λ known of notes same ready text due. record { given = []; numbered = refl; ends = no_notes_are_made of notes world ready };
 }
 
+-- the same after room was had for a kid and a number
+pub posts_with_room : (program : List ℕ) (tells : Bool) (before after : Session) (old new : World) (dues : List Due) (was is : List ℕ)
+    (kids roomy more : List Kid) (sent wide gone : List ℕ) (result : Result (Unit {0}) HostFault) → roomy ≡ kids → wide ≡ sent →
+    Posts program tells before after old new dues was is roomy more wide gone result →
+    Posts program tells before after old new dues was is kids more sent gone result
+posts_with_room program tells before after old new dues was is kids roomy more sent wide gone result kids_is sent_is posts =
+    subst (λ (l : List Kid). Posts program tells before after old new dues was is l more sent gone result) kids_is
+    (subst (λ (l : List ℕ). Posts program tells before after old new dues was is roomy more l gone result) sent_is posts)
+
 -- Lists of two parts.
 
 pub lines_join : (first later : List Note) → notes_text (first ++ later) ≡ notes_text first ++ notes_text later

@@ -1,16 +1,15 @@
 -- What files of mail read as once notices were sent.
-use Rattle.std.proofs.Common.{◌≡◌, ◌≢◌, ◌∙◌, ◌++◌, ℕ, Bool, true, false, List, [], ◌∷◌, length, refl, sym, ap, subst, inl, inr, arith}
-use Rattle.std.specs.Prelude.{Contains, IfOk, IsSome, Option, Result, Ok, Err, nat_eq}
+use Rattle.std.proofs.Common.{◌≡◌, ◌∙◌, ◌++◌, ℕ, Bool, true, false, List, [], ◌∷◌, length, refl, sym, ap, subst, inl, inr, arith}
+use Rattle.std.specs.Prelude.{IfOk, IsSome, Option, Result, Ok, Err, nat_eq}
 use Rattle.std.specs.Cmp.Lexicographic.{bytes_decides, pointwise}
 use Rattle.std.specs.FinMap as finite
-use Rattle.std.specs.List.{list_any}
 use Rattle.std.proofs.lemmas.Bool.{or_parts}
 use Rattle.std.proofs.lemmas.List.Folds.{list_any-append}
 use Rattle.host_calls.specs.declared.child.Child.{Child}
 use Rattle.host_calls.specs.declared.fault.HostFault.{HostFault}
 use Rattle.host_calls.specs.Folder.{reading_of}
 use Rattle.host_calls.specs.World.{World, reading}
-use Rattle.spool_shows.proofs.Membership.{Has, contained, has_contained, has_either, one_passes}
+use Rattle.spool_shows.proofs.Membership.{contained, has_contained, has_either, one_passes}
 use Rattle.whole_file.specs.Placing.{IsPlaced}
 use Rattle.mail_notes.specs.Names.{mail_file, mail_temp, notice_file}
 use Rattle.mail_session.specs.NoticeFiles.{ReadsBeside, is_notice_of}

@@ -1,19 +1,16 @@
 -- The numbers of notices that are sent: each stands once, and fits eight digits.
 use Rattle.std.proofs.Common.{◌≡◌, ◌∙◌, ◌++◌, ◌<◌, ℕ, Bool, true, false, List, Option, Some, None, [], ◌∷◌, append_assoc, drop, map, refl, sym, ap, subst, inl, inr, arith}
 use Rattle.std.specs.Prelude.{◌==◌, AllPairs, Contains, nat_eq, not}
-use Rattle.std.specs.FinMap as finite
 use Rattle.std.specs.Cmp.Lexicographic.{bytes_decides, pointwise}
 use Rattle.std.specs.List.{cons_option, filter_map, list_any}
 use Rattle.std.proofs.lemmas.Bool.{and_parts, not-true, or_parts}
 use Rattle.std.proofs.lemmas.Bool.Decides.{nat_tests}
 use Rattle.at_words.specs.Numbers.{are_distinct}
 use Rattle.host_calls.specs.declared.child.Handed.{Handed}
-use Rattle.host_calls.specs.declared.fault.HostFault.TheVariants as host
 use Rattle.spool_model.specs.declared.entry.Entry.TheVariants.{Done, Live}
 use Rattle.spool_model.specs.declared.fate.Fate.TheVariants.{Finished, Interrupted, Removed}
 use Rattle.spool_model.specs.JobTable.{JobEntry, JobTable, entry_at}
 use Rattle.spool_shows.proofs.Membership.{Has, contained, given_has, has_contained, has_left, none_some, one_passes}
-use Rattle.spool_store.specs.declared.fault.StoreFault.TheVariants as fault
 use Rattle.step_runs.proofs.ApartLemmas.{pairs_cons, pairs_head, pairs_nil, pairs_tail}
 use Rattle.mail_notes.specs.declared.note.Note.{Note}
 use Rattle.mail_notes.specs.declared.note.Note.TheVariants.{Dropped, Noted, Sent}

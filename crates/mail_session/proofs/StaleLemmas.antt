@@ -1,6 +1,6 @@
 -- Files of mail that are left over.
-use Rattle.std.proofs.Common.{◌≡◌, ◌≢◌, ◌∙◌, ℕ, Bool, true, false, List, Option, Some, None, refl, sym, ap, inl, inr}
-use Rattle.std.specs.Prelude.{◌||◌, Contains, IsSome, nat_eq, not}
+use Rattle.std.proofs.Common.{◌≡◌, ◌≢◌, ◌∙◌, ℕ, true, false, List, Option, Some, None, refl, sym, ap, inl, inr}
+use Rattle.std.specs.Prelude.{Contains, IsSome, nat_eq, not}
 use Rattle.std.specs.Cmp.Lexicographic.{bytes_decides, pointwise}
 use Rattle.std.specs.FinMap as finite
 use Rattle.std.proofs.lemmas.Bool.{or_cases}
@@ -14,7 +14,6 @@ use Rattle.mail_notes.specs.Names.{IsMailName, mail_file, mail_temp, notice_file
 use Rattle.mail_notes.proofs.NameLemmas.{notice_numbers_are_read}
 use Rattle.mail_session.specs.Laws.{StaleFilesAreOfMail}
 use Rattle.mail_session.specs.Stale.{is_stale, is_without_kid, stale_names}
-use Rattle.mail_session.proofs.NotingLemmas.{notes_apart}
 
 -- the notes are not left over
 pub notes_stay : (kids : List Kid) → is_stale kids mail_file ≡ false

@@ -47,7 +47,7 @@ use Rattle.mail_session.specs.inside.Planning.{IsPlanned, IsPlanIn, IsUnplanned}
 use Rattle.mail_session.specs.inside.Working.{CarriesOut, CarriesTo, Goes, MayCarryOut, ReadsNotices, Works, steps_by}
 use Rattle.mail_session.proofs.AskingLemmas.{kids_among}
 use Rattle.mail_session.proofs.DueLemmas.{dues_are_due}
-use Rattle.mail_session.proofs.PlanLemmas.{dues_on_the_table, holds_notes, new_on_the_table, notes_as_before, planned_shown}
+use Rattle.mail_session.proofs.PlanLemmas.{dues_on_the_table, holds_notes, new_on_the_table, notes_as_before}
 use Rattle.mail_session.proofs.SessionLemmas.{recoveries_open, recovery_leaves, recovery_now}
 use Rattle.mail_session.proofs.SentNumberLemmas.{none_sent, sent_differ, sent_fit, sent_of_hands}
 
@@ -73,7 +73,7 @@ children_so was now kids left added answers are now_is left_is = record {
       ]));
 }
 
--- Nothing was planned, or room was wanting.
+-- Nothing was planned.
 
 module _ (tells : Bool) (before after : Session) (old new : World) (program : List ℕ) (kids : List Kid) (children : AreChildren before.children kids) (sent : List ℕ) (none : sent ≡ []) where
   idle : (of : StoreFault) → IsUnplanned old new of → IsIdle sent (stand before old program kids) (stand after new program kids)
@@ -109,14 +109,6 @@ module _ (tells : Bool) (before after : Session) (old new : World) (program : Li
       }) where
         same_fault : ◌≡◌ {A = Result (Unit {0}) StoreFault} (Err of) (Err fault.FileFault) → of ≡ fault.FileFault
         same_fault bad = cc
-
-  pub works_roomless : (plan : MailPlan) (result : Result (Unit {0}) StoreFault) → IsErrAnd result (λ other. other ≡ fault.Memory) → CallsInside {T = MailPlan} fault.FileFault before after (Ok plan) →
-      IsPlanned tells old new kids plan → Works tells (stand before old program kids) (stand after new program kids) sent result
-  works_roomless plan result err inside planned =
-      works_idle fault.Memory result err (record { stays = inside.stays; cause = record { later = inside.cause.later; rose = λ bad. absurd (not_memory bad) } }) tt
-      (λ known. record { changes = planned.changes known; shown = planned_shown planned.kept old new (planned.recovered known); damaged = tt }) where
-        not_memory : ◌≡◌ {A = Result MailPlan StoreFault} (Err fault.Memory) (Err fault.FileFault) → ⊥
-        not_memory bad = cc
 
 -- The steps after a recovery.
 
@@ -325,24 +317,8 @@ module _ (tells : Bool) (before between after : Session) (old opened new : World
           (carries.files known (mailing known) notes (table known) old refl (is_opened known) planned.plan_on.plan_for.text (are_due known)));
     })
 
--- The same plan, kids and numbers, with room.
-
-pub inside_same : (before after : Session) (one other : MailPlan) → CallsInside {T = MailPlan} fault.FileFault before after (Ok one) → CallsInside {T = MailPlan} fault.FileFault before after (Ok other)
-inside_same before after one other calls = record { stays = calls.stays; cause = record { later = calls.cause.later; rose = λ bad. absurd (never bad) } } where
-  never : ◌≡◌ {A = Result MailPlan StoreFault} (Ok other) (Err fault.FileFault) → ⊥
-  never bad = cc
-
-pub carries_same : (program : List ℕ) (tells : Bool) (before after : Session) (old new : World) (plan : MailPlan) (kids roomy left : List Kid) (sent gone : List ℕ) (result : Result (Unit {0}) HostFault) →
-    roomy ≡ kids → sent ≡ [] → CarriesOut program tells before after old new plan roomy left sent gone result → CarriesOut program tells before after old new plan kids left [] gone result
-carries_same program tells before after old new plan kids roomy left sent gone result kids_is none carries =
-    subst (λ (l : List Kid). CarriesOut program tells before after old new plan l left [] gone result) kids_is
-    (subst (λ (l : List ℕ). CarriesOut program tells before after old new plan roomy left l gone result) none carries)
-
-pub may_with_room : (tells : Bool) (before between : Session) (old opened : World) (program : List ℕ) (plan : MailPlan) (kids roomy : List Kid) → roomy ≡ kids → IsPlanned tells old opened kids plan →
-    CallsInside {T = MailPlan} fault.FileFault before between (Ok plan) → tells ≡ true → MayCarryOut opened roomy plan
-may_with_room tells before between old opened program plan kids roomy kids_is planned inside known =
-    subst (λ (l : List Kid). MayCarryOut opened l plan) (sym kids_is)
-    (may_carry_out tells before between between old opened opened program plan kids kids [] planned inside known)
-
-pub children_with_room : (was now : List Child) (kids roomy : List Kid) → roomy ≡ kids → now ≡ was → AreChildren was kids → AreChildren now roomy
-children_with_room was now kids roomy kids_is same are = subst (λ (l : List Kid). AreChildren now l) (sym kids_is) (subst (λ (l : List Child). AreChildren l kids) (sym same) are)
+-- the same where nothing was sent before
+pub carries_first : (program : List ℕ) (tells : Bool) (before after : Session) (old new : World) (plan : MailPlan) (kids left : List Kid) (sent gone : List ℕ) (result : Result (Unit {0}) HostFault) →
+    sent ≡ [] → CarriesOut program tells before after old new plan kids left sent gone result → CarriesOut program tells before after old new plan kids left [] gone result
+carries_first program tells before after old new plan kids left sent gone result none carries =
+    subst (λ (l : List ℕ). CarriesOut program tells before after old new plan kids left l gone result) none carries

@@ -24,7 +24,7 @@ use Rattle.mail_notes.specs.declared.note.Note.{Note}
 use Rattle.mail_notes.specs.declared.note.NotedJob.{NotedJob}
 use Rattle.mail_notes.specs.Hands.{Hands, Mailing}
 use Rattle.mail_notes.specs.Lines.{Fits, SpellsNote}
-use Rattle.mail_notes.specs.Names.{IsMailName, mail_file, mail_temp, notice_file}
+use Rattle.mail_notes.specs.Names.{IsMailName, mail_file, notice_file}
 use Rattle.mail_notes.specs.Notes.{AreFirst, MayCome}
 use Rattle.mail_notes.specs.Runs.{IsReady}
 use Rattle.mail_session.specs.declared.due.Due.{Due}

@@ -1,5 +1,5 @@
 -- The jobs that a session notes (own): the live ones that no note is of, by number.
-use Rattle.std.specs.Prelude.{◌≡◌, ℕ, Bool, List, Some, Contains, filter, map, not}
+use Rattle.std.specs.Prelude.{◌≡◌, ℕ, Bool, List, Some, filter, map, not}
 use Rattle.std.specs.FinMap as finite
 use Rattle.host_calls.specs.Folder.{Files}
 use Rattle.job_name.specs.JobName.{SpellsJobName}

@@ -1,5 +1,5 @@
 //! Kids are asked whether they have ended.
-ghost use Rattle.std.specs.Prelude.{◌≡◌, ◌≤◌, ◌<◌, length, vec_capacity, vec_len};
+ghost use Rattle.std.specs.Prelude.{◌≡◌, ◌<◌, length, vec_len};
 ghost use Rattle.daemon_turn.specs.Kids.{AreChildren};
 ghost use Rattle.host_calls.specs.Session.{IsInside, StaysInside};
 ghost use Rattle.mail_session.specs.Asking.{AsksKids};
@@ -16,8 +16,6 @@ pub fn ask_kids<H: Host>(alloc: Global, host: &mut H, kids: &mut Vec<Kid>) -> Re
     requires children { AreChildren (H.session host.old).children kids.old.items }
     ensures inside { StaysInside (H.session host.old) (H.session host.new) }
     ensures asks { AsksKids H.tells kids.old.items kids.new.items (H.world host.old) (H.world host.new) result }
-    ensures len { vec_len kids.new ≤ vec_len kids.old }
-    ensures capacity { vec_capacity kids.new ≡ vec_capacity kids.old }
 {
     let mut place = 0;
     for _count in 0..kids.as_slice().len() {
@@ -41,8 +39,6 @@ fn pass(kids: &mut Vec<Kid>, place: usize, answer: Option<Ending>) -> usize
     requires { place < vec_len kids.old }
     ensures place { result ≡ place_by place answer }
     ensures kids { kids.new.items ≡ left_by kids.old.items place answer }
-    ensures len { vec_len kids.new ≤ vec_len kids.old }
-    ensures capacity { vec_capacity kids.new ≡ vec_capacity kids.old }
 {
     match answer {
         Some(_) => {

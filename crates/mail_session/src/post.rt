@@ -1,5 +1,5 @@
 //! What is due is noted and handed over, one after another.
-ghost use Rattle.std.specs.Prelude.{◌≡◌, ◌+◌, ◌≤◌, ◌++◌, ◌∷◌, [], IsTrue, OnOk, length, vec_capacity, vec_len};
+ghost use Rattle.std.specs.Prelude.{◌≡◌, ◌+◌, ◌≤◌, ◌++◌, ◌∷◌, [], IsTrue, OnOk, vec_capacity, vec_len};
 ghost use Rattle.host_calls.specs.Folder.{IsInNoImage};
 ghost use Rattle.host_calls.specs.Session.{IsInside};
 ghost use Rattle.mail_notes.specs.Lines.{note_line};
@@ -19,7 +19,7 @@ use mail_notes::{NotedJob, notice_text};
 use std::alloc::{AllocError, Global};
 
 /// Notes what is due, in order, each after the notes of the text, and hands each notice over once its note stands. The
-/// child of a notice is a kid.
+/// child of a notice is a kid. Room for what is kept of a notice is had before it is sent.
 pub fn post_all<H: Host>(
     alloc: Global,
     host: &mut H,
@@ -31,8 +31,6 @@ pub fn post_all<H: Host>(
 ) -> Result<(), HostFault>
     requires inside { IsInside (H.session host.old) }
     requires no_temp { IsTrue H.tells → IsInNoImage (H.world host.old).now.folder mail_temp }
-    requires kids { vec_len kids.old + length dues.now ≤ vec_capacity kids.old }
-    requires sent { vec_len sent.old + length dues.now ≤ vec_capacity sent.old }
     ensures { Posts program.now H.tells (H.session host.old) (H.session host.new)
         (H.world host.old) (H.world host.new) dues.now text.old.items text.new.items
         kids.old.items kids.new.items sent.old.items sent.new.items result }
@@ -55,16 +53,12 @@ fn post<H: Host>(
 ) -> Result<(), HostFault>
     requires inside { IsInside (H.session host.old) }
     requires no_temp { IsTrue H.tells → IsInNoImage (H.world host.old).now.folder mail_temp }
-    requires kids { vec_len kids.old + 1 ≤ vec_capacity kids.old }
-    requires sent { vec_len sent.old + 1 ≤ vec_capacity sent.old }
-    ensures posts { Posts program.now H.tells (H.session host.old) (H.session host.new)
+    ensures { Posts program.now H.tells (H.session host.old) (H.session host.new)
         (H.world host.old) (H.world host.new) (due.now ∷ []) text.old.items text.new.items
         kids.old.items kids.new.items sent.old.items sent.new.items result }
-    ensures kids { vec_len kids.new ≤ vec_len kids.old + 1 }
-    ensures kids_room { vec_capacity kids.new ≡ vec_capacity kids.old }
-    ensures sent { vec_len sent.new ≤ vec_len sent.old + 1 }
-    ensures sent_room { vec_capacity sent.new ≡ vec_capacity sent.old }
 {
+    kids.reserve(1)?;
+    sent.reserve(1)?;
     add_note(text, due)?;
     match due {
         Due::Send(job, end) => {
@@ -89,9 +83,7 @@ fn add_note(text: &mut Vec<u8>, due: &Due) -> Result<(), AllocError>
 // Keeps the child that came of the number's notice, if one did.
 fn keep_kid(kids: &mut Vec<Kid>, number: u32, child: Option<Child>)
     requires { vec_len kids.old + 1 ≤ vec_capacity kids.old }
-    ensures items { kids.new.items ≡ kids.old.items ++ kids_of number child }
-    ensures len { vec_len kids.new ≤ vec_len kids.old + 1 }
-    ensures capacity { vec_capacity kids.new ≡ vec_capacity kids.old }
+    ensures { kids.new.items ≡ kids.old.items ++ kids_of number child }
 {
     if let Some(child) = child {
         kids.push_reserved(Kid { number, child });

@@ -1,5 +1,5 @@
 //! The work of a session of mail.
-ghost use Rattle.std.specs.Prelude.{◌≡◌, ◌+◌, ◌≤◌, [], IfOk, IsTrue, vec_capacity, vec_len};
+ghost use Rattle.std.specs.Prelude.{◌≡◌, [], IsTrue};
 ghost use Rattle.host_calls.specs.Folder.{IsInNoImage};
 ghost use Rattle.host_calls.specs.Session.{IsInside};
 ghost use Rattle.daemon_turn.specs.Kids.{AreChildren};
@@ -13,11 +13,8 @@ use crate::post::post_all;
 use daemon_turn::Kid;
 use host_calls::{Host, HostFault};
 use spool_store::StoreFault;
-use std::alloc::{AllocError, Global};
+use std::alloc::Global;
 use whole_file::clear;
-
-// The length of the line that a notice was sent, or that there is none.
-const LINE: usize = 11;
 
 // Makes the steps of a session, with the kids that there are, and keeps the numbers of the notices that were sent.
 pub(crate) fn work<H: Host>(
@@ -44,27 +41,7 @@ pub(crate) fn work<H: Host>(
         sent.new.items result }
 {
     let mut plan = make_plan(alloc, host, kids.as_slice())?;
-    make_room(plan.dues.as_slice().len(), &mut plan.text, kids, sent)?;
     carry_out(alloc, host, program, &mut plan, kids, sent)?;
-    Ok(())
-}
-
-// Room for the kids, the numbers and the lines of so many notices: none of it is wanting once the first file has changed.
-fn make_room(
-    count: usize,
-    text: &mut Vec<u8>,
-    kids: &mut Vec<Kid>,
-    sent: &mut Vec<u32>,
-) -> Result<(), AllocError>
-    ensures text_stays { text.new.items ≡ text.old.items }
-    ensures kids_stay { kids.new.items ≡ kids.old.items }
-    ensures sent_stays { sent.new.items ≡ sent.old.items }
-    ensures kids { IfOk result (λ done. vec_len kids.new + count ≤ vec_capacity kids.new) }
-    ensures sent { IfOk result (λ done. vec_len sent.new + count ≤ vec_capacity sent.new) }
-{
-    kids.reserve(count)?;
-    sent.reserve(count)?;
-    text.reserve(count.saturating_mul(LINE))?;
     Ok(())
 }
 
@@ -80,8 +57,6 @@ fn carry_out<H: Host>(
     requires inside { IsInside (H.session host.old) }
     requires may { IsTrue H.tells → MayCarryOut (H.world host.old) kids.old.items plan.old }
     requires children { AreChildren (H.session host.old).children kids.old.items }
-    requires kids { vec_len kids.old + vec_len plan.old.dues ≤ vec_capacity kids.old }
-    requires sent { vec_len sent.old + vec_len plan.old.dues ≤ vec_capacity sent.old }
     ensures { CarriesOut program.now H.tells (H.session host.old) (H.session host.new)
         (H.world host.old) (H.world host.new) plan.old kids.old.items kids.new.items
         sent.old.items sent.new.items result }
@@ -102,8 +77,6 @@ fn make_steps<H: Host>(
     requires inside { IsInside (H.session host.old) }
     requires no_temp { IsTrue H.tells → IsInNoImage (H.world host.old).now.folder mail_temp }
     requires children { AreChildren (H.session host.old).children kids.old.items }
-    requires kids { vec_len kids.old + vec_len plan.old.dues ≤ vec_capacity kids.old }
-    requires sent { vec_len sent.old + vec_len plan.old.dues ≤ vec_capacity sent.old }
     ensures { Makes program.now H.tells (H.session host.old) (H.session host.new)
         (H.world host.old) (H.world host.new) plan.old kids.old.items kids.new.items
         sent.old.items sent.new.items result }

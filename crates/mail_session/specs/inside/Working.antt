@@ -1,5 +1,5 @@
 -- The work of a session of mail (own).
-use Rattle.std.specs.Prelude.{◌≡◌, ◌≤◌, ◌++◌, [], ℕ, Bool, true, false, List, Option, None, Result, Ok, Err, Contains, IfErr, IfOk, IsSome, IsTrue, length, map}
+use Rattle.std.specs.Prelude.{◌≡◌, ◌≤◌, ◌++◌, ℕ, Bool, true, false, List, Option, None, Result, Ok, Err, Contains, IfErr, IfOk, IsSome, IsTrue, length, map}
 use Rattle.std.specs.FinMap as finite
 use Rattle.at_words.specs.Numbers.{are_distinct}
 use Rattle.host_calls.specs.declared.child.Asked.{Asked}
@@ -27,7 +27,6 @@ use Rattle.mail_notes.specs.Lines.{Fits, notes_text}
 use Rattle.mail_notes.specs.Names.{IsMailName, notice_file}
 use Rattle.mail_notes.specs.Notes.{AreFirst}
 use Rattle.mail_notes.specs.Runs.{AreMade, AreStopped, IsReady}
-use Rattle.mail_session.specs.declared.due.Due.{Due}
 use Rattle.mail_session.specs.declared.plan.MailPlan.{MailPlan}
 use Rattle.mail_session.specs.Asking.{kids_after}
 use Rattle.mail_session.specs.Dues.{AreDue, notes_of, sent_numbers}

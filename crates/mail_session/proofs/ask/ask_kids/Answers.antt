@@ -12,8 +12,6 @@ pub loop-count-init : goal.loop-count-init
 loop-count-init g c = record {
   inside = search rules;
   has = none_asked g.H.Host.tells c.args.kids.now.items (g.H.Host.world c.args.host.now);
-  len = omega arith;
-  capacity = search rules;
 }
 
 pub child_at-child-requires : goal.child_at-child-requires
@@ -56,8 +54,6 @@ loop-count-preserved g c =
           (g.H.Host.world c.args.host.now) (g.H.Host.world c.loop-count.host) (g.H.Host.world c.ended.new.self) child.kid c.in_ok-answer.answer below c.loop-count.invariant.has
           child.at c.pass-place.ensures.place c.pass-place.ensures.kids
           (λ known. subst (λ (of : Child). Asks of (g.H.Host.world c.loop-count.host) (g.H.Host.world c.ended.new.self) (Ok c.in_ok-answer.answer)) child.is (c.in_ok-answer.ensures.asked known));
-      len = omega (arith, c.loop-count.invariant.len, c.pass-place.ensures.len);
-      capacity = search rules;
     }
 
 pub returns-in_err-answer-clause-asks : goal.returns-in_err-answer-clause-asks

@@ -1,4 +1,3 @@
-use Rattle.std.proofs.Common.{◌≡◌, ◌+◌, ◌≤◌, length, vec_capacity, vec_len}
 use Rattle.host_calls.specs.Session.{StaysInside}
 use Rattle.mail_session.proofs.AskingLemmas.{HasAsked}
 use Rattle.mail_session.proofs.ask.ask_kids.Given as goal
@@ -7,6 +6,4 @@ abbrev pub invariant-loop-count : goal.invariant-loop-count
 invariant-loop-count g l = record {
   inside : StaysInside (g.H.Host.session l.fn.host) (g.H.Host.session l.host);
   has : HasAsked g.H.Host.tells l.fn.kids.items l._count l.place l.kids.items (g.H.Host.world l.fn.host) (g.H.Host.world l.host);
-  len : vec_len l.kids ≤ vec_len l.fn.kids;
-  capacity : vec_capacity l.kids ≡ vec_capacity l.fn.kids;
 }

@@ -1,4 +1,4 @@
-use Rattle.std.proofs.Common.{◌≡◌, ◌∙◌, arith, rules, subst, sym, take_all}
+use Rattle.std.proofs.Common.{◌∙◌, arith, rules, subst, sym, take_all}
 use Rattle.host_calls.specs.World.{World, reading}
 use Rattle.step_runs.specs.Current.{IsCurrent}
 use Rattle.spool_store.specs.Listed.{IsLive}

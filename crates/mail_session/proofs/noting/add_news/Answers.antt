@@ -1,4 +1,4 @@
-use Rattle.std.proofs.Common.{◌≡◌, ◌∙◌, ◌++◌, List, append-nil, ap, arith, length, sym, take, take_all}
+use Rattle.std.proofs.Common.{◌∙◌, ◌++◌, List, append-nil, ap, arith, sym, take_all}
 use Rattle.mail_notes.specs.Lines.{IsNotedJob, notes_text}
 use Rattle.mail_notes.specs.declared.note.NotedJob.{NotedJob}
 use Rattle.mail_session.specs.News.{noting_of}

@@ -1,4 +1,4 @@
-use Rattle.mail_session.proofs.PlanLemmas.{plans_by, unrecovered}
+use Rattle.mail_session.proofs.PlanLemmas.{plans_by}
 use Rattle.mail_session.proofs.plan.make_plan.Goals as goal
 
 pub plan_on-requires-clause-current : goal.plan_on-requires-clause-current

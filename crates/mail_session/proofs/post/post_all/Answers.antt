@@ -6,12 +6,9 @@ use Rattle.mail_session.proofs.PostLemmas.{all_of, posts_at, posts_longer, posts
 use Rattle.mail_session.proofs.post.post_all.Goals as goal
 
 pub loop-due-init : goal.loop-due-init
-loop-due-init g c = record {
-  posts = posts_none c.args.program.now g.H.Host.tells (g.H.Host.session c.args.host.now) (g.H.Host.world c.args.host.now)
-      c.args.text.now.items c.args.kids.now.items c.args.sent.now.items c.requires.inside c.requires.no_temp;
-  kids = omega (arith, c.requires.kids);
-  sent = omega (arith, c.requires.sent);
-}
+loop-due-init g c =
+    posts_none c.args.program.now g.H.Host.tells (g.H.Host.session c.args.host.now) (g.H.Host.world c.args.host.now)
+    c.args.text.now.items c.args.kids.now.items c.args.sent.now.items c.requires.inside c.requires.no_temp
 
 pub returns-in_err-post : goal.returns-in_err-post
 returns-in_err-post g c =
@@ -26,21 +23,18 @@ returns-in_err-post g c =
     (posts_then c.args.program.now g.H.Host.tells (g.H.Host.session c.args.host.now) (g.H.Host.session c.loop-due.host) (g.H.Host.session c.post.new.host)
     (g.H.Host.world c.args.host.now) (g.H.Host.world c.loop-due.host) (g.H.Host.world c.post.new.host) (take c.loop-due.due-index c.args.dues.now) (c.due-item.result ∷ [])
     c.args.text.now.items c.loop-due.text.items c.post.new.text.items c.args.kids.now.items c.loop-due.kids.items c.post.new.kids.items
-    c.args.sent.now.items c.loop-due.sent.items c.post.new.sent.items (Err c.in_err-post.field-0.0) c.loop-due.invariant.posts c.in_err-post.ensures.posts)))
+    c.args.sent.now.items c.loop-due.sent.items c.post.new.sent.items (Err c.in_err-post.field-0.0) c.loop-due.invariant c.in_err-post.ensures)))
 
 pub loop-due-preserved : goal.loop-due-preserved
-loop-due-preserved g c = record {
-  posts = subst (λ (dues : List Due). Posts c.args.program.now g.H.Host.tells (g.H.Host.session c.args.host.now) (g.H.Host.session c.post.new.host)
-      (g.H.Host.world c.args.host.now) (g.H.Host.world c.post.new.host) dues c.args.text.now.items c.post.new.text.items
-      c.args.kids.now.items c.post.new.kids.items c.args.sent.now.items c.post.new.sent.items (Ok tt))
-      (sym (take_one c.args.dues.now c.loop-due.due-index c.due-item.result c.loop-due-test.true c.due-item.is))
-      (posts_then c.args.program.now g.H.Host.tells (g.H.Host.session c.args.host.now) (g.H.Host.session c.loop-due.host) (g.H.Host.session c.post.new.host)
-      (g.H.Host.world c.args.host.now) (g.H.Host.world c.loop-due.host) (g.H.Host.world c.post.new.host) (take c.loop-due.due-index c.args.dues.now) (c.due-item.result ∷ [])
-      c.args.text.now.items c.loop-due.text.items c.post.new.text.items c.args.kids.now.items c.loop-due.kids.items c.post.new.kids.items
-      c.args.sent.now.items c.loop-due.sent.items c.post.new.sent.items (Ok tt) c.loop-due.invariant.posts c.in_ok-post.ensures.posts);
-  kids = omega (arith, c.loop-due.invariant.kids, c.in_ok-post.ensures.kids, c.in_ok-post.ensures.kids_room);
-  sent = omega (arith, c.loop-due.invariant.sent, c.in_ok-post.ensures.sent, c.in_ok-post.ensures.sent_room);
-}
+loop-due-preserved g c =
+    subst (λ (dues : List Due). Posts c.args.program.now g.H.Host.tells (g.H.Host.session c.args.host.now) (g.H.Host.session c.post.new.host)
+    (g.H.Host.world c.args.host.now) (g.H.Host.world c.post.new.host) dues c.args.text.now.items c.post.new.text.items
+    c.args.kids.now.items c.post.new.kids.items c.args.sent.now.items c.post.new.sent.items (Ok tt))
+    (sym (take_one c.args.dues.now c.loop-due.due-index c.due-item.result c.loop-due-test.true c.due-item.is))
+    (posts_then c.args.program.now g.H.Host.tells (g.H.Host.session c.args.host.now) (g.H.Host.session c.loop-due.host) (g.H.Host.session c.post.new.host)
+    (g.H.Host.world c.args.host.now) (g.H.Host.world c.loop-due.host) (g.H.Host.world c.post.new.host) (take c.loop-due.due-index c.args.dues.now) (c.due-item.result ∷ [])
+    c.args.text.now.items c.loop-due.text.items c.post.new.text.items c.args.kids.now.items c.loop-due.kids.items c.post.new.kids.items
+    c.args.sent.now.items c.loop-due.sent.items c.post.new.sent.items (Ok tt) c.loop-due.invariant c.in_ok-post.ensures)
 
 pub returns : goal.returns
 returns g c =
@@ -48,4 +42,4 @@ returns g c =
     subst (λ (dues : List Due). Posts c.args.program.now g.H.Host.tells (g.H.Host.session c.args.host.now) (g.H.Host.session c.loop-due.host)
     (g.H.Host.world c.args.host.now) (g.H.Host.world c.loop-due.host) dues c.args.text.now.items c.loop-due.text.items
     c.args.kids.now.items c.loop-due.kids.items c.args.sent.now.items c.loop-due.sent.items (Ok tt))
-    (take_all c.loop-due.due-index c.args.dues.now (omega arith)) c.loop-due.invariant.posts
+    (take_all c.loop-due.due-index c.args.dues.now (omega arith)) c.loop-due.invariant

@@ -1,12 +1,9 @@
-use Rattle.std.proofs.Common.{◌+◌, ◌≤◌, length, take, vec_capacity, vec_len}
+use Rattle.std.proofs.Common.{take}
 use Rattle.std.specs.Prelude.{Ok}
 use Rattle.mail_session.specs.Posting.{Posts}
 use Rattle.mail_session.proofs.post.post_all.Given as goal
 
 abbrev pub invariant-loop-due : goal.invariant-loop-due
-invariant-loop-due g l = record {
-  posts : Posts l.program g.H.Host.tells (g.H.Host.session l.fn.host) (g.H.Host.session l.host) (g.H.Host.world l.fn.host) (g.H.Host.world l.host)
-      (take l.due-index l.dues) l.fn.text.items l.text.items l.fn.kids.items l.kids.items l.fn.sent.items l.sent.items (Ok tt);
-  kids : vec_len l.kids + length l.dues ≤ vec_capacity l.kids + l.due-index;
-  sent : vec_len l.sent + length l.dues ≤ vec_capacity l.sent + l.due-index;
-}
+invariant-loop-due g l =
+    Posts l.program g.H.Host.tells (g.H.Host.session l.fn.host) (g.H.Host.session l.host) (g.H.Host.world l.fn.host) (g.H.Host.world l.host)
+    (take l.due-index l.dues) l.fn.text.items l.text.items l.fn.kids.items l.kids.items l.fn.sent.items l.sent.items (Ok tt)
