@@ -1,10 +1,10 @@
 -- The marks that are added to those that are taken are legal after them, and can be written.
 use Rattle.std.proofs.Common.{◌≡◌, ℕ, ℤ, Bool, true, false, List, [], ◌∷◌, ◌++◌, Option, Some, None, map, cond, sym, ap, subst, ◌∙◌, refl, inl, inr, append_assoc, eq-eqb, length, ◌+◌}
-use Rattle.std.specs.Prelude.{◌==◌, ◌&&◌, ◌||◌, not, nat_le, option_map, slice_index, slice_range, if◌then◌else◌}
+use Rattle.std.specs.Prelude.{◌==◌, ◌&&◌, not, nat_le, option_map, slice_index, slice_range, if◌then◌else◌}
 use Rattle.std.specs.List.{cons_option, filter, filter_map, list_all, list_any}
 use Rattle.std.specs.Char.{is_ascii_alphabetic}
 use Rattle.std.specs.Option.{option_or}
-use Rattle.std.proofs.lemmas.Bool.{and_from, and_parts}
+use Rattle.std.proofs.lemmas.Bool.{and_from, and_parts, or_from, or_parts}
 use Rattle.std.proofs.lemmas.List.{append-nil}
 use Rattle.std.proofs.lemmas.List.Folds.{list_any-append}
 use Rattle.clock_range.specs.ClockRange.{is_clock_second}
@@ -24,34 +24,12 @@ use Rattle.start_journal.specs.Journals.{are_sound, is_legal_after}
 use Rattle.start_journal.specs.Marks.{AreLegalAfter, IsLegalAfter, decides, ends, is_decided, is_ended, is_named, is_started, names, starts}
 use Rattle.start_journal.specs.SlotBytes.{can_write}
 use Rattle.start_journal.specs.Taken.{journal_faults, marks_taken}
+use Rattle.start_journal.proofs.LifeLemmas.{ends_decides, none_narrower}
 use Rattle.start_journal.proofs.MarkLemmas.{ends_names}
 use Rattle.start_journal.proofs.ReadLemmas.{IsSound, legal_list, sound_is, sound_more, sound_tested}
 use Rattle.spool_faults.specs.Faults.{files_taken, first_files, has_header}
 use Rattle.spool_faults.specs.Salvaged.{given_up, is_unnamed, marks_with, removal, saved_marks, taken_back}
 use Rattle.spool_faults.proofs.SavedMarks.{taken_sound}
-
--- neither of two tests passes
-neither : (one other : Bool) → (one || other) ≡ false → (one ≡ false) × (other ≡ false)
-neither true other is = let impossible : true ≡ false = is in cc
-neither false other is = (refl, is)
-
-both_fail : (one other : Bool) → one ≡ false → other ≡ false → (one || other) ≡ false
-both_fail one other is also = ap (λ b. b || other) is ∙ also
-
--- where the wider test passes nothing, the narrower passes nothing
-none_less : (less more : Mark → Bool) → ((mark : Mark) → less mark ≡ true → more mark ≡ true) → (marks : List Mark) → list_any more marks ≡ false → list_any less marks ≡ false
-none_less less more implies [] none = refl
-none_less less more implies (mark ∷ later) none =
-    let parts : (more mark ≡ false) × (list_any more later ≡ false) = neither _ _ none in
-    both_fail _ _ (by_test (less mark) refl parts.0) (none_less less more implies later parts.1) where
-      by_test : (b : Bool) → less mark ≡ b → more mark ≡ false → less mark ≡ false
-      by_test false is fails = is
-      by_test true is fails = let impossible : true ≡ false = sym (implies mark is) ∙ fails in cc
-
-ends_decides : (number : ℕ) (mark : Mark) → ends number mark ≡ true → decides number mark ≡ true
-ends_decides number (Ended other ending) is = is
-ends_decides number (Interrupted other) is = is
-ends_decides number _ is = cc
 
 -- each mark is legal after those before it
 legal_at : (start before later : List Mark) (mark : Mark) → AreLegalAfter start (before ++ mark ∷ later) → IsLegalAfter (start ++ before) mark
@@ -100,13 +78,13 @@ is_given_up all files (Started number queue second) other is = by_test (is_decid
 none_given_up : (all : List Mark) (files : List JobFile) (number : ℕ) (marks : List Mark) → is_named number marks ≡ false → is_named number (filter_map (given_up all files) marks) ≡ false
 none_given_up all files number [] none = refl
 none_given_up all files number (mark ∷ later) none =
-    let parts : (names number mark ≡ false) × (is_named number later ≡ false) = neither _ _ none in
+    let parts : (names number mark ≡ false) × (is_named number later ≡ false) = or_parts _ _ none in
     by_given (given_up all files mark) refl parts.0 (none_given_up all files number later parts.1) where
       by_given : (given : Option Mark) → given_up all files mark ≡ given → names number mark ≡ false → is_named number (filter_map (given_up all files) later) ≡ false → is_named number (cons_option given (filter_map (given_up all files) later)) ≡ false
       by_given None is unnamed rest = rest
       by_given (Some other) is unnamed rest =
           let from = is_given_up all files mark other is in
-          both_fail _ _ (ap (names number) from.gives ∙ sym (ap (names number) from.started) ∙ unnamed) rest
+          or_from _ _ (ap (names number) from.gives ∙ sym (ap (names number) from.started) ∙ unnamed) rest
 
 -- a start that is given up may be interrupted after those before it
 one_given_up : (all : List Mark) (files : List JobFile) (before later : List Mark) (mark : Mark) → before ++ mark ∷ later ≡ all → IsSound all
@@ -125,9 +103,9 @@ one_given_up all files before later mark is sound so_far =
           let new : is_named from.number before ≡ false = legal_at [] before later (Started from.number from.queue from.second) (subst (λ list. AreLegalAfter [] list) (sym same_all) (legal_list [] all sound.legal)) in
           let starts_it : starts from.number (Started from.number from.queue from.second) ≡ true = by_same from.number in
           let started : is_started from.number (all ++ filter_map (given_up all files) before) ≡ true = any_passes (starts from.number) (all ++ filter_map (given_up all files) before) (Started from.number from.queue from.second) (has_left all (filter_map (given_up all files) before) (Started from.number from.queue from.second) has) starts_it in
-          let not_ended_all : is_ended from.number all ≡ false = none_less (ends from.number) (decides from.number) (ends_decides from.number) all from.undecided in
-          let not_ended_earlier : is_ended from.number (filter_map (given_up all files) before) ≡ false = none_less (ends from.number) (names from.number) (ends_names from.number) (filter_map (given_up all files) before) (none_given_up all files from.number before new) in
-          let not_ended : is_ended from.number (all ++ filter_map (given_up all files) before) ≡ false = list_any-append (ends from.number) all (filter_map (given_up all files) before) ∙ both_fail (is_ended from.number all) (is_ended from.number (filter_map (given_up all files) before)) not_ended_all not_ended_earlier in
+          let not_ended_all : is_ended from.number all ≡ false = none_narrower (ends from.number) (decides from.number) all (ends_decides from.number) from.undecided in
+          let not_ended_earlier : is_ended from.number (filter_map (given_up all files) before) ≡ false = none_narrower (ends from.number) (names from.number) (filter_map (given_up all files) before) (ends_names from.number) (none_given_up all files from.number before new) in
+          let not_ended : is_ended from.number (all ++ filter_map (given_up all files) before) ≡ false = list_any-append (ends from.number) all (filter_map (given_up all files) before) ∙ or_from (is_ended from.number all) (is_ended from.number (filter_map (given_up all files) before)) not_ended_all not_ended_earlier in
           let legal : is_legal_after (all ++ filter_map (given_up all files) before) (Interrupted from.number) ≡ true = and_from (is_started from.number (all ++ filter_map (given_up all files) before)) (not (is_ended from.number (all ++ filter_map (given_up all files) before))) started (ap not not_ended) in
           let written : can_write (Started from.number from.queue from.second) ≡ true = passes_all can_write all (Started from.number from.queue from.second) sound.writable has in
           let writable : can_write (Interrupted from.number) ≡ true = (and_parts (nat_le 1 from.number) (is_ascii_alphabetic from.queue) (and_parts (nat_le 1 from.number && is_ascii_alphabetic from.queue) (is_clock_second from.second) written).0).0 in
@@ -161,12 +139,12 @@ removed_sound all before (file ∷ later) base sound only numbers =
     (removed_sound all (file.job.number ∷ before) later base sound wider later_numbers)
     (λ more. removed_sound all (file.job.number ∷ before) later (base ++ Removed file.job.number ∷ []) more with_one later_numbers) where
       wider : NamesOnly all (file.job.number ∷ before) base
-      wider number new unnamed = only number (neither (file.job.number == number) (list_any (λ one. one == number) before) new).1 unnamed
+      wider number new unnamed = only number (or_parts (file.job.number == number) (list_any (λ one. one == number) before) new).1 unnamed
 
       with_one : NamesOnly all (file.job.number ∷ before) (base ++ Removed file.job.number ∷ [])
       with_one number new unnamed =
-          let parts : ((file.job.number == number) ≡ false) × (list_any (λ one. one == number) before ≡ false) = neither (file.job.number == number) (list_any (λ one. one == number) before) new in
-          list_any-append (names number) base (Removed file.job.number ∷ []) ∙ both_fail (is_named number base) (is_named number (Removed file.job.number ∷ [])) (only number parts.1 unnamed) (both_fail (file.job.number == number) false parts.0 refl)
+          let parts : ((file.job.number == number) ≡ false) × (list_any (λ one. one == number) before ≡ false) = or_parts (file.job.number == number) (list_any (λ one. one == number) before) new in
+          list_any-append (names number) base (Removed file.job.number ∷ []) ∙ or_from (is_named number base) (is_named number (Removed file.job.number ∷ [])) (only number parts.1 unnamed) (or_from (file.job.number == number) false parts.0 refl)
 
       later_numbers : HaveNumbers later
       later_numbers other has = numbers other (inr has)
@@ -230,7 +208,7 @@ with_sound marks files faults sound = by_faults faults where
   only : NamesOnly marks [] (marks ++ filter_map (given_up marks (files_taken marks files)) marks)
   only number new unnamed =
       list_any-append (names number) marks (filter_map (given_up marks (files_taken marks files)) marks)
-      ∙ both_fail (is_named number marks) (is_named number (filter_map (given_up marks (files_taken marks files)) marks)) unnamed (none_given_up marks (files_taken marks files) number marks unnamed)
+      ∙ or_from (is_named number marks) (is_named number (filter_map (given_up marks (files_taken marks files)) marks)) unnamed (none_given_up marks (files_taken marks files) number marks unnamed)
 
   by_faults : (list : List Damage) → IsSound (marks ++ (filter_map (given_up marks (files_taken marks files)) marks ++ taken_back marks (files_taken marks files) list))
   by_faults [] = subst (λ list. IsSound (marks ++ list)) (sym (append-nil (filter_map (given_up marks (files_taken marks files)) marks))) interrupted

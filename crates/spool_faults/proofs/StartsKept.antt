@@ -1,6 +1,6 @@
 -- No number that a mark of the journal starts is pending in the table that is saved.
-use Rattle.std.proofs.Common.{◌≡◌, ◌⊎◌, ℕ, ℤ, Bool, true, false, List, [], ◌∷◌, Some, None, map, sym, ap, subst, ◌∙◌, refl, inl, inr}
-use Rattle.std.specs.Prelude.{if◌then◌else◌}
+use Rattle.std.proofs.Common.{◌≡◌, ◌⊎◌, ℕ, ℤ, Bool, true, false, List, Some, None, map, sym, ap, subst, ◌∙◌, refl, inl, inr}
+use Rattle.std.specs.Prelude.{if◌then◌else◌, is_some}
 use Rattle.std.specs.Cmp.{nat_cmp_total}
 use Rattle.std.specs.FinMap.{get-entries, get-from_entries}
 use Rattle.std.specs.List.{filter_map}
@@ -13,29 +13,26 @@ use Rattle.spool_model.specs.declared.job.Job.{Job}
 use Rattle.spool_model.specs.declared.state.State.TheVariants.{Pending}
 use Rattle.spool_model.specs.JobTable.{JobEntry, JobState}
 use Rattle.spool_shows.specs.JobFiles.{JobFile}
-use Rattle.spool_shows.specs.Shown.{done_as, done_entry, entries_shown, job_of, live_entry, start_second, started_at, state_since}
+use Rattle.spool_shows.specs.Shown.{done_as, done_entry, entries_shown, job_of, live_entry, state_since}
 use Rattle.spool_shows.proofs.EntryLists.{key_has}
-use Rattle.spool_shows.proofs.Membership.{Has, given_has, has_contained, has_either, has_left, made_has, none_some}
+use Rattle.spool_shows.proofs.Membership.{Has, any_passes, given_has, has_contained, has_either, has_left, made_has, none_some}
 use Rattle.spool_shows.proofs.ShownStates.{not_started}
-use Rattle.spool_shows.proofs.SoundLemmas.{neither_first}
 use Rattle.spool_shows.proofs.StartLemmas.{number_passes}
 use Rattle.start_journal.specs.declared.mark.Mark.{Mark}
 use Rattle.start_journal.specs.declared.mark.Mark.TheVariants.{Removed, Started, Ended, Interrupted, Forgotten, Batch}
 use Rattle.start_journal.specs.Journals.{journal_file}
-use Rattle.start_journal.specs.Marks.{is_forgotten}
+use Rattle.start_journal.specs.Marks.{is_forgotten, is_started, started_at, starts}
 use Rattle.start_journal.specs.Taken.{marks_taken}
+use Rattle.start_journal.proofs.LifecycleLemmas.{started_has_second}
 use Rattle.spool_faults.specs.Laws.{StartsAreNotPending}
 use Rattle.spool_faults.specs.Salvaged.{marks_of_salvage, salvaged}
 
 -- a number that a mark starts was started at some second
 started_some : (marks : List Mark) (number queue : ℕ) (second : ℤ) → Has marks (Started number queue second) → ¬ (started_at number marks ≡ None)
-started_some [] number queue second has none = has
-started_some (mark ∷ later) number queue second (inl same) none =
-    let here : start_second number mark ≡ None = (neither_first _ _ none).0 in
-    let there : start_second number (Started number queue second) ≡ Some second = ap (λ b. if b then Some second else None) (number_passes number number refl) in
-    none_some second (sym here ∙ ap (start_second number) same ∙ there)
-started_some (mark ∷ later) number queue second (inr has) none =
-    started_some later number queue second has (neither_first (start_second number mark) _ none).1
+started_some marks number queue second has none =
+    let started : is_started number marks ≡ true = any_passes (starts number) marks (Started number queue second) has (number_passes number number refl) in
+    let impossible : true ≡ false = sym started ∙ started_has_second number marks ∙ ap is_some none in
+    cc
 
 -- the entry of a number with this fate
 abbrev done_at : ℕ → Fate → ℕ × JobEntry

@@ -8,10 +8,9 @@ use Rattle.std.proofs.lemmas.List.Elements.{All-cons, All-contains, All-contains
 use Rattle.std.proofs.lemmas.Map.Views.{any-filter_same}
 use Rattle.start_journal.specs.declared.mark.Mark.{Mark}
 use Rattle.start_journal.specs.declared.mark.Mark.TheVariants.{Removed, Started, Ended, Interrupted, Forgotten, Batch}
-use Rattle.start_journal.specs.Marks.{AreLegal, batch_second, decides, first_of_two, forgets, is_decided, is_forgotten, last_batch, marks_of, names}
+use Rattle.start_journal.specs.Marks.{AreLegal, batch_second, decides, first_of_two, forgets, is_decided, is_forgotten, last_batch, marks_of, names, start_second, started_at}
 use Rattle.start_journal.proofs.LifeLemmas.{any_more}
 use Rattle.start_journal.proofs.MarkLemmas.{decides_names, forgets_names, forgotten_was_decided}
-use Rattle.spool_shows.specs.Shown.{start_second, started_at}
 
 -- none of the two holds
 pub neither : (one other : Bool) → (one || other) ≡ false → (one ≡ false) × (other ≡ false)
@@ -27,21 +26,7 @@ none_before test before mark none = by_test (list_any test before) refl where
   by_test true is = let impossible : true ≡ false = sym (any_more test before mark ∙ ap (λ b. b || test mark) is) ∙ none in cc
   by_test false is = is
 
-or_none : (one : Option ℤ) → option_or one None ≡ one
-or_none (Some second) = refl
-or_none None = refl
-
-or_assoc : (one other third : Option ℤ) → option_or one (option_or other third) ≡ option_or (option_or one other) third
-or_assoc (Some second) other third = refl
-or_assoc None other third = refl
-
--- the start of a number, and the last batch start, with one mark more
-pub started_more : (number : ℕ) (before : List Mark) (mark : Mark) → started_at number (before ++ mark ∷ []) ≡ option_or (started_at number before) (start_second number mark)
-started_more number [] mark = or_none (start_second number mark)
-started_more number (first ∷ before) mark =
-    ap (option_or (start_second number first)) (started_more number before mark)
-    ∙ or_assoc (start_second number first) (started_at number before) (start_second number mark)
-
+-- the last batch start with one mark more
 first_none : (one : Option ℤ) → first_of_two one None ≡ one
 first_none (Some second) = refl
 first_none None = refl

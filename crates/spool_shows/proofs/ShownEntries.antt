@@ -13,14 +13,14 @@ use Rattle.spool_model.specs.JobTable.{JobEntry}
 use Rattle.start_journal.specs.declared.mark.Mark.{Mark}
 use Rattle.start_journal.specs.declared.mark.Mark.TheVariants.{Removed, Started, Ended, Interrupted, Forgotten, Batch}
 use Rattle.start_journal.specs.Journals.{journal_file}
-use Rattle.start_journal.specs.Marks.{decides, is_decided, is_forgotten}
+use Rattle.start_journal.specs.Marks.{decides, is_decided, is_forgotten, started_at}
 use Rattle.start_journal.proofs.MarkLemmas.{decides_names}
 use Rattle.whole_file.specs.Others.{IsEither}
 use Rattle.spool_shows.specs.ByName.{IsJobFile, ShowsDone, ShowsEntry, ShowsLive}
 use Rattle.spool_shows.specs.JobFiles.{JobFile}
 use Rattle.job_name.specs.JobName.{NamedJob, job_named}
 use Rattle.spool_shows.specs.Laws.{AgreeElsewhere}
-use Rattle.spool_shows.specs.Shown.{done_as, done_entry, job_of, live_entry, started_at, state_since}
+use Rattle.spool_shows.specs.Shown.{done_as, done_entry, job_of, live_entry, state_since}
 use Rattle.spool_shows.proofs.MarkTests.{TellSame}
 
 -- what is the same under Some is the same

@@ -9,10 +9,10 @@ use Rattle.spool_model.specs.declared.state.State.TheVariants.{Pending, Running}
 use Rattle.spool_model.specs.JobTable.{JobEntry, JobState}
 use Rattle.start_journal.specs.declared.mark.Mark.{Mark}
 use Rattle.start_journal.specs.declared.mark.Mark.TheVariants.{Started}
-use Rattle.start_journal.specs.Marks.{is_decided, is_forgotten}
+use Rattle.start_journal.specs.Marks.{is_decided, is_forgotten, started_at}
 use Rattle.spool_shows.specs.ByName.{AreSound, HasFile, IsJobFile, ShowsDone, ShowsEntry, ShowsLive}
 use Rattle.spool_shows.specs.JobFiles.{JobFile}
-use Rattle.spool_shows.specs.Shown.{job_of, started_at, state_since}
+use Rattle.spool_shows.specs.Shown.{job_of, state_since}
 use Rattle.spool_shows.proofs.MarkTests.{TellSame}
 use Rattle.spool_shows.proofs.ShownEntries.{LeavesEntry, SameJobs, done_moves, entry_left, file_moves, live_moves, shows_done, shows_live}
 

@@ -18,13 +18,14 @@ use Rattle.spool_model.specs.Steps.{IsLegal, after_step, is_batch_entry, with_st
 use Rattle.spool_model.proofs.TableLemmas.{get-put_other, get-put_same, get-taken_other, get-taken_same}
 use Rattle.start_journal.specs.declared.mark.Mark.{Mark}
 use Rattle.start_journal.specs.declared.mark.Mark.TheVariants as mark
-use Rattle.start_journal.specs.Marks.{batch_second, decides, first_of_two, forgets, is_forgotten, names}
+use Rattle.start_journal.specs.Marks.{batch_second, decides, first_of_two, forgets, is_forgotten, names, start_second, started_at}
 use Rattle.spool_shows.specs.ByName.{HasFile, ShowsByName, ShowsEntry}
 use Rattle.spool_shows.specs.JobFiles.{JobFile}
 use Rattle.spool_shows.specs.Laws.{AddsMark, HasMarked}
-use Rattle.spool_shows.specs.Shown.{done_entry, job_of, live_entry, start_second, started_at, state_since}
-use Rattle.spool_shows.proofs.MarkTests.{not_forgotten, started_more}
+use Rattle.spool_shows.specs.Shown.{done_entry, job_of, live_entry, state_since}
+use Rattle.spool_shows.proofs.MarkTests.{not_forgotten}
 use Rattle.start_journal.proofs.LifeLemmas.{any_with, any_without}
+use Rattle.start_journal.proofs.LifecycleLemmas.{started_more}
 use Rattle.spool_shows.proofs.OneMark.{decided_shown, marks_legal, step_shown}
 use Rattle.spool_shows.proofs.ShownEntries.{fails_other, file_moves, leaves_as, passes_same, same_jobs, shows_done, shows_live}
 use Rattle.spool_shows.proofs.ShownStates.{IsDoneBy, IsLiveBy, done_known, live_known, not_started}

@@ -19,7 +19,7 @@ use Rattle.spool_model.specs.JobTable.{JobEntry, JobState, JobTable, table_of}
 use Rattle.start_journal.specs.declared.mark.Mark.{Mark}
 use Rattle.start_journal.specs.declared.mark.Mark.TheVariants.{Removed, Started, Ended, Interrupted, Forgotten, Batch}
 use Rattle.start_journal.specs.Journals.{JournalRead, gate_damage, journal_file, journal_in, queue_damage}
-use Rattle.start_journal.specs.Marks.{is_decided, is_forgotten, last_batch}
+use Rattle.start_journal.specs.Marks.{is_decided, is_forgotten, last_batch, started_at}
 use Rattle.spool_shows.specs.JobFiles.{JobFile, file_of, files_damage, job_files}
 use Rattle.sequence_file.specs.LastNumber.{last_in}
 
@@ -49,20 +49,6 @@ starts_damage marks files place (mark ∷ later) =
     option_or (mark_damage marks files place mark) (starts_damage marks files (place + 1) later)
 
 -- The table.
-
--- the second at which the mark starts the number
-abbrev pub start_second : ℕ → Mark → Option ℤ
-start_second number (Started other queue second) = if other == number then Some second else None
-start_second number (Removed other) = None
-start_second number (Ended other ending) = None
-start_second number (Interrupted other) = None
-start_second number (Forgotten other) = None
-start_second number (Batch second) = None
-
--- the second at which the number was started, if it was
-abbrev pub started_at : ℕ → List Mark → Option ℤ
-started_at number [] = None
-started_at number (mark ∷ later) = option_or (start_second number mark) (started_at number later)
 
 -- a job runs since its start, and is pending where there is none
 abbrev pub state_since : Option ℤ → JobState

@@ -1,19 +1,18 @@
 -- What a compaction keeps of what legal marks tell: which of them are drawn, and which may follow.
-use Rattle.std.proofs.Common.{◌≡◌, ℕ, ℤ, Bool, true, false, cond, List, [], ◌∷◌, ◌++◌, sym, ap, subst, ◌∙◌, refl}
-use Rattle.std.specs.Prelude.{◌||◌, Option, Some, None}
+use Rattle.std.proofs.Common.{◌≡◌, ℕ, ℤ, Bool, true, false, cond, List, [], ◌∷◌, sym, ap, subst, ◌∙◌, refl}
+use Rattle.std.specs.Prelude.{◌&&◌, Option, Some, None}
 use Rattle.std.specs.List.{filter, list_all, list_any}
 use Rattle.std.proofs.lemmas.List.Folds.{list_all-append}
 use Rattle.std.proofs.lemmas.Map.Views.{any-filter_same}
-use Rattle.std.proofs.lemmas.List.{append-nil, append_assoc}
 use Rattle.start_journal.specs.declared.mark.Mark.{Mark}
 use Rattle.start_journal.specs.declared.mark.Mark.TheVariants.{Removed, Started, Ended, Interrupted, Forgotten, Batch}
 use Rattle.start_journal.specs.Journals.{JournalRead, are_drawn, are_sound, is_drawn}
-use Rattle.start_journal.specs.Marks.{AreLegal, AreLegalAfter, IsLegalAfter, batch_mark, decides, ends, forgets, is_decided, is_ended, is_forgotten, is_kept, is_named, is_started, kept_marks, last_batch, marks_of, names, starts}
-use Rattle.std.proofs.lemmas.Bool.{and_from, and_parts, eqb-true}
-use Rattle.start_journal.proofs.LifeLemmas.{any_with, any_without}
+use Rattle.start_journal.specs.Marks.{AreLegal, IsLegalAfter, batch_mark, decides, ends, forgets, is_decided, is_ended, is_forgotten, is_kept, is_named, is_started, kept_marks, last_batch, marks_of, names, starts}
+use Rattle.std.proofs.lemmas.Bool.{and_from, and_parts}
+use Rattle.start_journal.proofs.LifeLemmas.{ended_by, unnamed_none}
 use Rattle.start_journal.proofs.MarkLemmas.{decides_names, ends_names, forgets_names, forgotten_was_decided, kept_marks_keep_what_counts, starts_names}
 use Rattle.start_journal.proofs.ReadLemmas.{sound_legal}
-use Rattle.spool_shows.proofs.MarkTests.{neither, not_forgotten}
+use Rattle.spool_shows.proofs.MarkTests.{not_forgotten}
 
 -- Numbers that were drawn.
 
@@ -52,30 +51,10 @@ pub test_kept : (marks : List Mark) (number : ℕ) (test : Mark → Bool) → Ar
 test_kept marks number test legal of_number remembered =
     same_test number test marks (kept_marks marks) of_number ((kept_marks_keep_what_counts marks legal).same_marks number remembered)
 
--- a mark that fails the wider test fails the other
-pub fails_narrower : (test wider : Mark → Bool) (mark : Mark) → IsNarrower test wider → wider mark ≡ false → test mark ≡ false
-fails_narrower test wider mark narrower fails = by_test (test mark) refl where
-  by_test : (passes : Bool) → test mark ≡ passes → test mark ≡ false
-  by_test true is = let impossible : false ≡ true = sym fails ∙ narrower mark is in cc
-  by_test false is = is
-
--- so do marks
-pub none_narrower : (test wider : Mark → Bool) (marks : List Mark) → IsNarrower test wider → list_any wider marks ≡ false → list_any test marks ≡ false
-none_narrower test wider [] narrower none = refl
-none_narrower test wider (mark ∷ later) narrower none =
-    let parts : (wider mark ≡ false) × (list_any wider later ≡ false) = neither _ _ none in
-    ap (λ b. b || list_any test later) (fails_narrower test wider mark narrower parts.0) ∙ none_narrower test wider later narrower parts.1
-
--- what ends a number decides it
-pub ends_decides : (number : ℕ) → IsNarrower (ends number) (decides number)
-ends_decides number (Ended other ending) is = is
-ends_decides number (Interrupted other) is = is
-ends_decides number _ is = cc
-
 -- a number that no mark names is not named among the kept ones
 pub unnamed_kept : (marks : List Mark) (number : ℕ) → AreLegal marks → is_named number marks ≡ false → is_named number (kept_marks marks) ≡ false
 unnamed_kept marks number legal unnamed =
-    test_kept marks number (names number) legal (λ mark named. named) (none_narrower (forgets number) (names number) marks (forgets_names number) unnamed) ∙ unnamed
+    test_kept marks number (names number) legal (λ mark named. named) (unnamed_none number marks unnamed).0 ∙ unnamed
 
 -- what is decided among the kept marks was decided
 pub kept_decided : (marks : List Mark) (number : ℕ) → AreLegal marks → is_decided number (kept_marks marks) ≡ true → is_decided number marks ≡ true
@@ -84,56 +63,9 @@ kept_decided marks number legal decided = by_test (is_forgotten number marks) re
   by_test true is = forgotten_was_decided number [] marks legal is
   by_test false is = sym (test_kept marks number (decides number) legal (decides_names number) is) ∙ decided
 
--- A number that is started and not ended is not decided.
-
-abbrev RunsUndecided : ℕ → List Mark → Type 0
-RunsUndecided number marks = is_started number marks ≡ true → is_ended number marks ≡ false → is_decided number marks ≡ false
-
--- a mark that neither starts, ends nor decides it changes nothing
-runs_silent : (number : ℕ) (before : List Mark) (mark : Mark) → starts number mark ≡ false → ends number mark ≡ false → decides number mark ≡ false → RunsUndecided number before → RunsUndecided number (before ++ mark ∷ [])
-runs_silent number before mark no_start no_end undecided old = λ started running.
-    any_without (decides number) before mark undecided
-    ∙ old (sym (any_without (starts number) before mark no_start) ∙ started) (sym (any_without (ends number) before mark no_end) ∙ running)
-
--- nor does a mark of the number that is legal
-runs_named : (number : ℕ) (before : List Mark) (mark : Mark) → names number mark ≡ true → IsLegalAfter before mark → RunsUndecided number before → RunsUndecided number (before ++ mark ∷ [])
-runs_named number before (Removed other) named legal old = λ started running.
-    let unnamed : is_named number before ≡ false = ap (λ n. is_named n before) (sym (eqb-true other number named)) ∙ legal in
-    let impossible : true ≡ false = sym started ∙ any_without (starts number) before (Removed other) refl ∙ none_narrower (starts number) (names number) before (starts_names number) unnamed in
-    cc
-runs_named number before (Started other queue second) named legal old = λ started running.
-    let unnamed : is_named number before ≡ false = ap (λ n. is_named n before) (sym (eqb-true other number named)) ∙ legal in
-    any_without (decides number) before (Started other queue second) refl ∙ none_narrower (decides number) (names number) before (decides_names number) unnamed
-runs_named number before (Ended other ending) named legal old = λ started running.
-    let impossible : true ≡ false = sym (any_with (ends number) before (Ended other ending) named) ∙ running in
-    cc
-runs_named number before (Interrupted other) named legal old = λ started running.
-    let impossible : true ≡ false = sym (any_with (ends number) before (Interrupted other) named) ∙ running in
-    cc
-runs_named number before (Forgotten other) named legal old = runs_silent number before (Forgotten other) refl refl refl old
-runs_named number before (Batch second) named legal old = runs_silent number before (Batch second) refl refl refl old
-
--- so it is with each legal mark more
-runs_more : (number : ℕ) (before : List Mark) (mark : Mark) → IsLegalAfter before mark → RunsUndecided number before → RunsUndecided number (before ++ mark ∷ [])
-runs_more number before mark legal old = by_name (names number mark) refl where
-  by_name : (named : Bool) → names number mark ≡ named → RunsUndecided number (before ++ mark ∷ [])
-  by_name true named = runs_named number before mark named legal old
-  by_name false other = runs_silent number before mark
-      (fails_narrower (starts number) (names number) mark (starts_names number) other)
-      (fails_narrower (ends number) (names number) mark (ends_names number) other)
-      (fails_narrower (decides number) (names number) mark (decides_names number) other)
-      old
-
--- and with all of them
-runs_on : (number : ℕ) (before later : List Mark) → AreLegalAfter before later → RunsUndecided number before → RunsUndecided number (before ++ later)
-runs_on number before [] legal old = subst (RunsUndecided number) (sym (append-nil before)) old
-runs_on number before (mark ∷ later) legal old =
-    subst (RunsUndecided number) (append_assoc before (mark ∷ []) later)
-    (runs_on number (before ++ mark ∷ []) later legal.1 (runs_more number before mark legal.0 old))
-
--- from the first on
-pub running_undecided : (number : ℕ) (marks : List Mark) → AreLegal marks → RunsUndecided number marks
-running_undecided number marks legal = runs_on number [] marks legal (λ started. cc)
+-- a number that is started and not ended is not decided
+running_undecided : (number : ℕ) (marks : List Mark) → AreLegal marks → is_started number marks ≡ true → is_ended number marks ≡ false → is_decided number marks ≡ false
+running_undecided number marks legal started running = ap (λ b. b && is_decided number marks) (sym started) ∙ sym (ended_by number marks legal) ∙ running
 
 -- The marks of every journal.
 

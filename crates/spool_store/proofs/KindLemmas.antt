@@ -5,24 +5,19 @@ use Rattle.std.specs.Cmp.Lexicographic.{pointwise, unequal}
 use Rattle.job_name.specs.declared.job.JobName.{JobName}
 use Rattle.job_name.specs.JobName.{SpellsJobName, NamedJob, job_named}
 use Rattle.whole_file.specs.Temporary.{temporary_file}
+use Rattle.start_journal.specs.declared.lifecycles.Lifecycle.{Lifecycle}
+use Rattle.start_journal.specs.declared.lifecycles.Lifecycles.{Lifecycles}
 use Rattle.start_journal.specs.declared.mark.Mark.{Mark}
+use Rattle.start_journal.specs.Lifecycles.{TellLifecycles, lifecycle_in}
 use Rattle.start_journal.specs.Marks.{is_decided}
 use Rattle.start_journal.proofs.MarkLemmas.{or_true}
 use Rattle.spool_shows.specs.JobFiles.{counts_as}
 use Rattle.job_name.proofs.JobNameLemmas.{few_digits}
 use Rattle.job_name.proofs.NamedJobs.{name_given, name_spelled}
 use Rattle.spool_store.specs.declared.surveyed_files.Kind.TheVariants.{Counts, LeftOver, Other}
-use Rattle.spool_store.specs.declared.lifecycles.Lifecycle.{Lifecycle}
-use Rattle.spool_store.specs.declared.lifecycles.Lifecycles.{Lifecycles}
-use Rattle.spool_store.specs.inside.Lifecycles.{TellLifecycles, lifecycle_in}
 use Rattle.spool_store.specs.inside.Survey.{IsKind, is_decided_job}
 use Rattle.spool_store.specs.inside.SurveyedJobs.{job_of_name}
-use Rattle.spool_store.proofs.StartLemmas.{decided_has_fate}
-
--- a number is decided where its life has a fate
-decided_as : (marks : List Mark) (lives : Lifecycles) (number : ℕ) (life : Lifecycle) (fated : Bool) → TellLifecycles marks lives → life ≡ lifecycle_in lives number → fated ≡ is_some life.fate → is_decided number marks ≡ fated
-decided_as marks lives number life fated tells is fate =
-    decided_has_fate number marks ∙ sym (ap (λ (l : Lifecycle). is_some l.fate) (is ∙ tells number)) ∙ sym fate
+use Rattle.spool_store.proofs.StartLemmas.{life_decides}
 
 -- the name of a job is not that of a file that is being made
 pub not_temporary : (name : List ℕ) (job : NamedJob) → job_named name ≡ Some job → pointwise nat_eq name temporary_file ≡ false
@@ -31,7 +26,7 @@ not_temporary name job is = unequal nat_eq name temporary_file (λ same. absurd 
 pub decided_kind : (marks : List Mark) (lives : Lifecycles) (name : List ℕ) (job : JobName) (life : Lifecycle) → TellLifecycles marks lives → SpellsJobName name job.queue job.number job.minute job.new_form → life ≡ lifecycle_in lives job.number → true ≡ is_some life.fate → IsKind marks name LeftOver
 decided_kind marks lives name job life tells spelled is fate =
     let named : job_named name ≡ Some (job_of_name job) = name_given name job.queue job.number job.minute job.new_form spelled in
-    let decided : is_decided job.number marks ≡ true = decided_as marks lives job.number life true tells is fate in (
+    let decided : is_decided job.number marks ≡ true = life_decides marks lives job.number life true tells is (sym fate) in (
       ap (counts_as marks) named ∙ ap not decided,
       ap (λ one. pointwise nat_eq name temporary_file || is_decided_job marks one) named ∙ ap (λ b. pointwise nat_eq name temporary_file || b) decided ∙ or_true (pointwise nat_eq name temporary_file),
     )
@@ -39,7 +34,7 @@ decided_kind marks lives name job life tells spelled is fate =
 pub counted_kind : (marks : List Mark) (lives : Lifecycles) (name : List ℕ) (job : JobName) (life : Lifecycle) → TellLifecycles marks lives → SpellsJobName name job.queue job.number job.minute job.new_form → life ≡ lifecycle_in lives job.number → false ≡ is_some life.fate → IsKind marks name (Counts job)
 counted_kind marks lives name job life tells spelled is fate =
     let named : job_named name ≡ Some (job_of_name job) = name_given name job.queue job.number job.minute job.new_form spelled in
-    let decided : is_decided job.number marks ≡ false = decided_as marks lives job.number life false tells is fate in (
+    let decided : is_decided job.number marks ≡ false = life_decides marks lives job.number life false tells is (sym fate) in (
       ap (counts_as marks) named ∙ ap not decided,
       ap (λ one. pointwise nat_eq name temporary_file || is_decided_job marks one) named ∙ ap (λ b. pointwise nat_eq name temporary_file || b) decided ∙ ap (λ b. b || false) (not_temporary name (job_of_name job) named),
       named,

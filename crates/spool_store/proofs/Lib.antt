@@ -10,7 +10,6 @@ pub mod PrefixLemmas
 pub mod HeaderLemmas
 pub mod KeptMarks
 pub mod KindLemmas
-pub mod LifecycleLemmas
 pub mod LinedLemmas
 pub mod ListLemmas
 pub mod ListedLemmas

@@ -20,15 +20,15 @@ use Rattle.spool_shows.proofs.Membership.{Has, contained, found_has, given_has, 
 use Rattle.spool_shows.proofs.ShownEntries.{some_same}
 use Rattle.spool_shows.proofs.SoundLemmas.{fine_is_whole, no_damage_is_fine}
 use Rattle.std.proofs.lemmas.Bool.{eqb-true}
-use Rattle.spool_store.specs.declared.lifecycles.Lifecycle.{Lifecycle}
-use Rattle.spool_store.specs.declared.lifecycles.Lifecycles.{Lifecycles}
+use Rattle.start_journal.specs.declared.lifecycles.Lifecycle.{Lifecycle}
+use Rattle.start_journal.specs.declared.lifecycles.Lifecycles.{Lifecycles}
 use Rattle.spool_store.specs.declared.surveyed_job.SurveyedJob.{SurveyedJob}
-use Rattle.spool_store.specs.inside.Lifecycles.{Rise, TellLifecycles, decided_of, remembered_fate, unknown}
+use Rattle.start_journal.specs.Lifecycles.{TellLifecycles, decided_of, remembered_fate, unknown}
 use Rattle.spool_store.specs.inside.JobRows.{AreRowsOf, RowMap, row_of}
 use Rattle.spool_store.specs.Rows.{listed_table}
 use Rattle.spool_store.specs.inside.SurveyedJobs.{file_surveyed, files_surveyed}
-use Rattle.spool_store.specs.inside.Tables.{AreUndecided, IsDrawn, ListsDrawn, ListsTable}
-use Rattle.spool_store.proofs.StartLemmas.{decided_has_fate}
+use Rattle.spool_store.specs.inside.Tables.{AreUndecided, IsDrawn, ListsDrawn, ListsTable, Rise}
+use Rattle.start_journal.proofs.LifecycleLemmas.{decided_has_fate}
 use Rattle.spool_store.proofs.TableLemmas.{decided_rise, entry_found, rows_rise, table_same}
 
 in_list : {X : Type 0} → (one other : List X) (x : X) → one ≡ other → Contains one x → Has other x
@@ -59,7 +59,7 @@ has_fate life f is = by_test life.forgotten is where
 
 remembered_decided : (marks : List Mark) (lives : Lifecycles) → TellLifecycles marks lives → (number : ℕ) (life : Lifecycle) (f : Fate) → get nat_cmp lives.by_number number ≡ Some life → remembered_fate life ≡ Some f → is_decided number marks ≡ true
 remembered_decided marks lives tells number life f kept fated =
-    decided_has_fate number marks ∙ ap (λ (l : Lifecycle). is_some l.fate) (sym (tells number) ∙ ap (λ o. unwrap_or o unknown) kept) ∙ has_fate life f fated
+    decided_has_fate number marks ∙ ap (λ (l : Lifecycle). is_some l.fate) (sym (tells.1 number) ∙ ap (λ o. unwrap_or o unknown) kept) ∙ has_fate life f fated
 
 made_decided : (entry : ℕ × Lifecycle) (one : Decided) (given : Option Fate) → remembered_fate entry.1 ≡ given → option_map (λ f. record { number = entry.0; fate = f }) given ≡ Some one → (f : Fate) × (remembered_fate entry.1 ≡ Some f) × (entry.0 ≡ one.number)
 made_decided entry one None is made = cc

@@ -9,9 +9,9 @@ use Rattle.std.specs.Ordering.{eq_by_cmp, nat_cmp}
 use Rattle.job_script.proofs.HeaderInLemmas.{header_in-take}
 use Rattle.start_journal.specs.declared.mark.Mark.{Mark}
 use Rattle.start_journal.specs.declared.mark.Mark.TheVariants.{Removed, Started, Ended, Interrupted, Forgotten, Batch}
-use Rattle.start_journal.specs.Marks.{is_decided, last_batch}
+use Rattle.start_journal.specs.Marks.{is_decided, last_batch, started_at}
 use Rattle.spool_shows.specs.JobFiles.{JobFile, file_of, files_damage}
-use Rattle.spool_shows.specs.Shown.{damage_of_jobs, done_entry, entries_shown, job_of, live_entry, mark_damage, start_damage, started_at, starts_damage, state_since, table_shown, user_of}
+use Rattle.spool_shows.specs.Shown.{damage_of_jobs, done_entry, entries_shown, job_of, live_entry, mark_damage, start_damage, starts_damage, state_since, table_shown, user_of}
 use Rattle.spool_shows.proofs.CutFiles.{cut, damage_same}
 use Rattle.step_runs.specs.WithoutScripts.{without_scripts, entry_without_script, job_without_script}
 use Rattle.step_runs.proofs.WithoutScriptsLemmas.{entries_are_without_scripts}

@@ -10,25 +10,25 @@ use Rattle.spool_model.specs.JobTable.{JobEntry, JobTable, entry_at, is_batch_qu
 use Rattle.start_journal.specs.declared.mark.Mark.{Mark}
 use Rattle.start_journal.specs.declared.mark.Mark.TheVariants.{Removed, Started, Ended, Interrupted, Forgotten, Batch}
 use Rattle.start_journal.specs.Journals.{AreWritable, are_drawn}
-use Rattle.start_journal.specs.Marks.{AreLegal, batch_second, first_of_two, is_decided, is_forgotten, last_batch}
+use Rattle.start_journal.specs.Marks.{AreLegal, batch_second, first_of_two, is_decided, is_forgotten, last_batch, start_second, started_at}
 use Rattle.start_journal.specs.Slots.{IsWritable}
 use Rattle.clock_range.specs.ClockRange.{IsClockSecond}
 use Rattle.std.proofs.lemmas.Bool.{and_from, eqb-true}
 use Rattle.spool_shows.specs.JobFiles.{JobFile, file_of}
-use Rattle.spool_shows.specs.Shown.{damage_of_jobs, job_of, live_entry, start_second, started_at, starts_damage, state_since, table_shown}
+use Rattle.spool_shows.specs.Shown.{damage_of_jobs, job_of, live_entry, starts_damage, state_since, table_shown}
 use Rattle.spool_shows.proofs.MarkTests.{not_forgotten}
 use Rattle.spool_shows.proofs.Membership.{Has, contained, found_has, made_has}
 use Rattle.spool_shows.proofs.SoundLemmas.{fine_is_whole, neither_first, no_damage_is_fine}
 use Rattle.spool_shows.proofs.StepLegal.{is_started_since, unnamed}
 use Rattle.step_runs.specs.WithoutScripts.{without_scripts, entry_without_script, job_without_script}
 use Rattle.spool_store.specs.declared.surveyed_job.SurveyedJob.{SurveyedJob}
-use Rattle.spool_store.specs.inside.Lifecycles.{fate_at, remembered_at}
+use Rattle.start_journal.specs.Lifecycles.{fate_at, remembered_at}
 use Rattle.spool_store.specs.inside.SurveyedJobs.{file_surveyed, files_surveyed}
 use Rattle.spool_store.specs.Stored.{AreInOldForm, IsEntryBy, IsLiveBy, IsStateBy, IsStored, RunsSince}
 use Rattle.spool_store.specs.inside.Tables.{AreUndecided, IsDrawn, IsTableShown}
 use Rattle.spool_store.proofs.PrefixLemmas.{at_shown}
 use Rattle.spool_store.proofs.ListLemmas.{number_drawn}
-use Rattle.spool_store.proofs.StartLemmas.{decided_has_fate}
+use Rattle.start_journal.proofs.LifecycleLemmas.{decided_has_fate}
 use Rattle.spool_store.proofs.TableLemmas.{found_shown}
 use Rattle.spool_model.specs.declared.number.TheConstants.{LAST_NUMBER}
 

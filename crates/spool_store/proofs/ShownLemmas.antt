@@ -47,9 +47,9 @@ sequence_damage P Q f result is of go = λ damage same. by_fault f of damage (of
   by_fault sequence.Failed of damage same = cc
   by_fault sequence.Memory of damage same = cc
 
-pub recalled_damage : {T : Type 0} → (P Q : Damage → Type 0) (f : JournalFault) (result : Result T StoreFault) → IsErrAnd result (λ fault. fault ≡ fault_of_journal f) → IfDamaged {T = JournalRead} journal.Damaged Q (Err f) → ((damage : Damage) → Q damage → P damage) → IfDamaged Damaged P result
-recalled_damage P Q f result is of go = λ damage same. by_fault f of damage (of_damage (fault_of_journal f) result damage is same) where
-  by_fault : (one : JournalFault) → IfDamaged {T = JournalRead} journal.Damaged Q (Err one) → (damage : Damage) → fault_of_journal one ≡ Damaged damage → P damage
+pub recalled_damage : {S T : Type 0} → (P Q : Damage → Type 0) (f : JournalFault) (result : Result T StoreFault) → IsErrAnd result (λ fault. fault ≡ fault_of_journal f) → IfDamaged {T = S} journal.Damaged Q (Err f) → ((damage : Damage) → Q damage → P damage) → IfDamaged Damaged P result
+recalled_damage {S = S} P Q f result is of go = λ damage same. by_fault f of damage (of_damage (fault_of_journal f) result damage is same) where
+  by_fault : (one : JournalFault) → IfDamaged {T = S} journal.Damaged Q (Err one) → (damage : Damage) → fault_of_journal one ≡ Damaged damage → P damage
   by_fault (journal.Damaged other) of damage same = let here : other ≡ damage = cc in subst P here (go other (of other refl))
   by_fault journal.Failed of damage same = cc
   by_fault journal.Memory of damage same = cc

@@ -1,50 +1,27 @@
 -- The check of starts, mark by mark.
-use Rattle.std.proofs.Common.{◌≡◌, ℕ, ℤ, ◌+◌, ◌*◌, ◌<◌, Bool, true, false, cond, List, Option, Some, None, [], ◌∷◌, length, get_or, drop, sym, ap, ◌∙◌, refl}
-use Rattle.std.specs.Prelude.{◌==◌, ◌||◌, is_some, option_map}
+use Rattle.std.proofs.Common.{◌≡◌, ℕ, ℤ, ◌+◌, ◌*◌, ◌<◌, Bool, true, false, cond, List, Option, Some, None, length, get_or, drop, sym, ap, ◌∙◌, refl}
+use Rattle.std.specs.Prelude.{◌==◌, is_some, option_map}
 use Rattle.std.specs.Option.{option_or}
 use Rattle.std.proofs.lemmas.List.{drop_more}
 use Rattle.host_calls.specs.declared.damage.Damage.{Damage}
-use Rattle.spool_model.specs.declared.fate.Fate.{Fate}
 use Rattle.spool_model.specs.declared.row.Row.{Row}
+use Rattle.start_journal.specs.declared.lifecycles.Lifecycle.{Lifecycle}
+use Rattle.start_journal.specs.declared.lifecycles.Lifecycles.{Lifecycles}
 use Rattle.start_journal.specs.declared.mark.Mark.{Mark}
-use Rattle.start_journal.specs.declared.mark.Mark.TheVariants.{Removed, Started, Ended, Interrupted, Forgotten, Batch}
+use Rattle.start_journal.specs.declared.mark.Mark.TheVariants.{Started}
 use Rattle.start_journal.specs.Journals.{journal_file}
-use Rattle.start_journal.specs.Marks.{decides, is_decided}
+use Rattle.start_journal.specs.Lifecycles.{TellLifecycles, lifecycle_in}
+use Rattle.start_journal.specs.Marks.{is_decided}
+use Rattle.start_journal.proofs.LifecycleLemmas.{decided_has_fate}
 use Rattle.spool_shows.specs.JobFiles.{JobFile, file_of}
 use Rattle.spool_shows.specs.Shown.{mark_damage, start_damage, starts_damage}
 use Rattle.spool_shows.proofs.ShownEntries.{fails_other, some_same}
-use Rattle.spool_store.specs.declared.lifecycles.Lifecycle.{Lifecycle}
-use Rattle.spool_store.specs.declared.lifecycles.Lifecycles.{Lifecycles}
-use Rattle.spool_store.specs.inside.Lifecycles.{TellLifecycles, fate_at, fate_given, lifecycle_in}
 use Rattle.spool_store.specs.inside.JobRows.{row_of}
-
-some_if : (same : Bool) (fate : Fate) → same ≡ is_some (cond same (Some fate) None)
-some_if true fate = refl
-some_if false fate = refl
-
-decides_given : (number : ℕ) (mark : Mark) → decides number mark ≡ is_some (fate_given number mark)
-decides_given number (Removed other) = some_if (other == number) _
-decides_given number (Ended other ending) = some_if (other == number) _
-decides_given number (Interrupted other) = some_if (other == number) _
-decides_given number (Started other queue second) = refl
-decides_given number (Forgotten other) = refl
-decides_given number (Batch second) = refl
-
-some_or : {X : Type 0} → (one other : Option X) → (is_some one || is_some other) ≡ is_some (option_or one other)
-some_or None other = refl
-some_or (Some x) other = refl
-
--- a number is decided where it has a fate
-pub decided_has_fate : (number : ℕ) (marks : List Mark) → is_decided number marks ≡ is_some (fate_at number marks)
-decided_has_fate number [] = refl
-decided_has_fate number (mark ∷ later) =
-    ap (λ b. b || is_decided number later) (decides_given number mark) ∙ ap (λ b. is_some (fate_given number mark) || b) (decided_has_fate number later)
-    ∙ some_or (fate_given number mark) (fate_at number later)
 
 -- what is kept of a number tells whether it is decided
 pub life_decides : (marks : List Mark) (lives : Lifecycles) (number : ℕ) (life : Lifecycle) (test : Bool) → TellLifecycles marks lives → life ≡ lifecycle_in lives number → is_some life.fate ≡ test → is_decided number marks ≡ test
 life_decides marks lives number life test tells is fated =
-    decided_has_fate number marks ∙ ap (λ (l : Lifecycle). is_some l.fate) (sym (is ∙ tells number)) ∙ fated
+    decided_has_fate number marks ∙ ap (λ (l : Lifecycle). is_some l.fate) (sym (is ∙ tells.1 number)) ∙ fated
 
 pub start_decided : (marks : List Mark) (files : List JobFile) (place number queue : ℕ) (second : ℤ) → is_decided number marks ≡ true → None ≡ mark_damage marks files place (Started number queue second)
 start_decided marks files place number queue second is = sym (ap (λ b. cond b None (start_damage place queue (file_of number files))) is)

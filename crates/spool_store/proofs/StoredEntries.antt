@@ -7,10 +7,10 @@ use Rattle.spool_model.specs.declared.state.State.TheVariants.{Pending, Running}
 use Rattle.spool_model.specs.JobTable.{JobEntry}
 use Rattle.start_journal.specs.declared.mark.Mark.{Mark}
 use Rattle.start_journal.specs.Marks.{AreLegal, decides, forgets, is_decided, is_forgotten, is_named, is_open, is_remembered, is_started, kept_marks, names, starts}
-use Rattle.start_journal.proofs.LifeLemmas.{any_without}
+use Rattle.start_journal.proofs.LifeLemmas.{any_other}
 use Rattle.start_journal.proofs.MarkLemmas.{decides_names, forgets_names, kept_marks_keep_what_counts, starts_names}
 use Rattle.spool_store.specs.Stored.{IsEntryBy}
-use Rattle.spool_store.proofs.KeptMarks.{IsNarrower, fails_narrower, unnamed_kept}
+use Rattle.spool_store.proofs.KeptMarks.{IsNarrower, unnamed_kept}
 
 -- the marks tell of the number's entry alike
 pub record TellAlike (number : ℕ) (one other : List Mark) : Type 0 where
@@ -43,4 +43,4 @@ other_alike marks mark number other = record {
       ∙ ap (λ b. is_decided number marks && not b) (same (forgets number) (forgets_names number));
 } where
   same : (test : Mark → Bool) → IsNarrower test (names number) → list_any test (marks ++ mark ∷ []) ≡ list_any test marks
-  same test narrower = any_without test marks mark (fails_narrower test (names number) mark narrower other)
+  same test narrower = any_other number test marks mark narrower other

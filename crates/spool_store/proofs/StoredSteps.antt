@@ -20,15 +20,15 @@ use Rattle.start_journal.specs.Journals.{are_drawn, is_drawn}
 use Rattle.start_journal.specs.Marks.{AreLegal, decides, ends, forgets, is_decided, is_ended, is_forgotten, is_started, kept_marks, names, starts}
 use Rattle.clock_range.specs.ClockRange.{IsClockSecond}
 use Rattle.std.proofs.lemmas.Bool.{and_from, and_parts, not-true}
-use Rattle.start_journal.proofs.LifeLemmas.{any_with, any_without}
-use Rattle.start_journal.proofs.MarkLemmas.{decides_names, forgets_names, kept_marks_are_legal}
+use Rattle.start_journal.proofs.LifeLemmas.{any_with, any_without, ends_decides, none_narrower, unnamed_none}
+use Rattle.start_journal.proofs.MarkLemmas.{kept_marks_are_legal}
 use Rattle.step_runs.specs.Current.{Kept}
 use Rattle.spool_shows.specs.Laws.{AddsMark}
 use Rattle.spool_shows.proofs.MarkTests.{not_forgotten}
 use Rattle.spool_shows.proofs.ShownEntries.{fails_other, passes_same}
 use Rattle.spool_store.specs.inside.Marking.{HaveOneMore}
 use Rattle.spool_store.specs.Stored.{AreInOldForm, IsEntryBy, IsLiveBy, IsStored}
-use Rattle.spool_store.proofs.KeptMarks.{ends_decides, kept_drawn, none_narrower}
+use Rattle.spool_store.proofs.KeptMarks.{kept_drawn}
 use Rattle.spool_store.proofs.MarkingLemmas.{drawn_is, more_drawn}
 use Rattle.spool_store.proofs.StoredEntries.{entry_alike, kept_alike, other_alike}
 
@@ -79,7 +79,7 @@ module _ (table : JobTable) (marks : List Mark) (is : IsStored (stored table mar
   pending_remembered : (number : ℕ) (job : Job) → entry_at table number ≡ Some (Live job Pending) → is_forgotten number marks ≡ false
   pending_remembered number job held =
       let entry : IsLiveBy marks number job Pending = entry_by number (Live job Pending) held in
-      none_narrower (forgets number) (names number) marks (forgets_names number) entry.state_by
+      (unnamed_none number marks entry.state_by).0
 
   -- a number that runs is started, and not decided
   running_open : (number : ℕ) (job : Job) (second : ℤ) → entry_at table number ≡ Some (Live job (Running second)) → (is_started number marks ≡ true) × (is_decided number marks ≡ false)
@@ -140,7 +140,7 @@ module _ (table : JobTable) (marks : List Mark) (is : IsStored (stored table mar
       let entries : (after_step table (Start number second)).entries ≡ map.insert table.entries number (Live job (Running second)) =
       ap (λ entry. with_state number (Running second) entry table.entries) held in
       let undecided : is_decided number (marks ++ added ∷ []) ≡ false =
-      any_without (decides number) marks added refl ∙ none_narrower (decides number) (names number) marks (decides_names number) old.state_by in
+      any_without (decides number) marks added refl ∙ (unnamed_none number marks old.state_by).1 in
       let new : IsLiveBy (marks ++ added ∷ []) number job (Running second) = record {
         named = old.named;
         since = range;

@@ -1,12 +1,15 @@
 -- The survey of one file more.
 use Rattle.std.proofs.Common.{◌≡◌, ℕ, ◌+◌, ◌<◌, ◌≤◌, Bool, true, false, cond, List, Option, Some, None, [], ◌∷◌, ◌++◌, length, get_or, take, drop, sym, ap, subst, ◌∙◌, refl, arith}
 use Rattle.std.specs.Prelude.{◌==◌, ◌||◌, MatchResult, Result, Ok, Err, IsErrAnd, is_some, nat_lt, option_map}
+use Rattle.std.specs.declared.cmp.Ordering.{Ordering}
+use Rattle.std.specs.declared.cmp.Ordering.TheVariants.{Less, Equal, Greater}
 use Rattle.std.specs.BTreeMap.{Updates, get, is_at}
 use Rattle.std.specs.Cmp.{nat_cmp_total, tied_itself}
 use Rattle.std.specs.List.{find, list_any}
 use Rattle.std.specs.Option.{option_or}
 use Rattle.std.specs.Ordering.{is_eq, nat_cmp}
 use Rattle.std.proofs.lemmas.List.{drop_all, drop_more, get_or-map, length-map, take_all, take_more}
+use Rattle.std.proofs.lemmas.Map.Lookups.{exact_unsigned}
 use Rattle.host_calls.specs.declared.damage.Damage.{Damage}
 use Rattle.spool_model.specs.declared.row.Row.{Row}
 use Rattle.start_journal.specs.declared.mark.Mark.{Mark}
@@ -22,12 +25,20 @@ use Rattle.spool_store.specs.declared.surveyed_job.SurveyedJob.{SurveyedJob}
 use Rattle.spool_store.specs.Faults.{IsFound}
 use Rattle.spool_store.specs.inside.SurveyedJobs.{file_surveyed, files_surveyed}
 use Rattle.spool_store.specs.inside.JobRows.{AreRowsOf, IsSurveyedSoFar, HaveNumbers, IsRowOrDamage, RowMap, numbers_after, row_of}
-use Rattle.spool_store.proofs.LifecycleLemmas.{key_is, or_nothing}
+use Rattle.start_journal.proofs.LifecycleLemmas.{or_nothing}
 
 -- Keys.
 
 pub equal_self : (n : ℕ) → is_at (nat_cmp n) n ≡ true
 equal_self n = ap is_eq (tied_itself nat_cmp_total n)
+
+is_equal : (order : Ordering) → is_eq order ≡ true → order ≡ Equal
+is_equal Less is = cc
+is_equal Equal is = refl
+is_equal Greater is = cc
+
+pub key_is : (one other : ℕ) → is_at (nat_cmp one) other ≡ true → one ≡ other
+key_is one other is = exact_unsigned one other (is_equal (nat_cmp one other) is)
 
 pub key_differs : (one other : ℕ) → is_at (nat_cmp one) other ≡ false → (one == other) ≡ false
 key_differs one other is = by_test (one == other) refl where

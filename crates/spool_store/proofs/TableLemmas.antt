@@ -27,13 +27,13 @@ use Rattle.spool_shows.proofs.ShownEntries.{fails_other, some_same}
 use Rattle.spool_shows.proofs.StartLemmas.{number_passes}
 use Rattle.std.proofs.lemmas.Bool.{eqb-true}
 use Rattle.step_runs.specs.WithoutScripts.{without_scripts, entries_without_scripts, entry_without_script}
-use Rattle.spool_store.specs.declared.lifecycles.Lifecycle.{Lifecycle}
-use Rattle.spool_store.specs.declared.lifecycles.Lifecycles.{Lifecycles}
-use Rattle.spool_store.specs.inside.Lifecycles.{Rise, TellLifecycles, decided_of, fate_at, remembered_at, remembered_fate, unknown}
+use Rattle.start_journal.specs.declared.lifecycles.Lifecycle.{Lifecycle}
+use Rattle.start_journal.specs.declared.lifecycles.Lifecycles.{Lifecycles}
+use Rattle.start_journal.specs.Lifecycles.{TellLifecycles, decided_of, fate_at, remembered_at, remembered_fate, unknown}
+use Rattle.spool_store.specs.inside.Tables.{Rise}
 use Rattle.spool_store.specs.inside.JobRows.{AreRowsOf, RowMap, row_of}
 use Rattle.spool_store.specs.Rows.{decided_entry, listed_entries, listed_table, row_entry}
-use Rattle.spool_store.proofs.LifecycleLemmas.{key_is}
-use Rattle.spool_store.proofs.SurveyLemmas.{equal_self}
+use Rattle.spool_store.proofs.SurveyLemmas.{equal_self, key_is}
 
 -- a number, as a key and as a test
 same_test : (one other : ℕ) → eq_by_cmp nat_cmp one other ≡ (other == one)
@@ -182,7 +182,7 @@ lives_decided : (marks : List Mark) (lives : Lifecycles) → TellLifecycles mark
     → find_entry nat_cmp number (map decided_entry (filter_map decided_of lives.by_number.entries)) ≡ option_map Done (remembered_at number marks)
 lives_decided marks lives tells ordered number =
     find_decided number lives.by_number.entries ordered
-    ∙ ap (option_map Done) (remembered (get nat_cmp lives.by_number number) ∙ ap remembered_fate (tells number))
+    ∙ ap (option_map Done) (remembered (get nat_cmp lives.by_number number) ∙ ap remembered_fate (tells.1 number))
 
 -- what the shown entries have under a number: the job of its file, or else its fate
 pub found_shown : (number : ℕ) (marks : List Mark) (files : List JobFile) → find_entry nat_cmp number (entries_shown marks files) ≡ option_or (option_map (λ file. (live_entry marks file).1) (file_of number files)) (option_map Done (remembered_at number marks))

@@ -1,6 +1,5 @@
 pub mod SurveyedJobs
 pub mod JobRows
-pub mod Lifecycles
 pub mod Lined
 pub mod Marking
 pub mod Survey

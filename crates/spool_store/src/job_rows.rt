@@ -7,15 +7,15 @@ ghost use Rattle.spool_shows.specs.JobFiles.{files_damage};
 ghost use Rattle.spool_shows.specs.Shown.{state_since};
 ghost use Rattle.start_journal.specs.declared.mark.Mark.{Mark};
 ghost use Rattle.spool_store.specs.Faults.{IsFound};
-ghost use Rattle.spool_store.specs.inside.Lifecycles.{TellLifecycles};
+ghost use Rattle.start_journal.specs.Lifecycles.{TellLifecycles};
 ghost use Rattle.spool_store.specs.inside.JobRows.{AreRowsOf, HaveNumbers, IsRowOrDamage};
 ghost use Rattle.spool_store.specs.inside.SurveyedJobs.{file_surveyed, files_surveyed};
 
 use crate::fault::StoreFault;
-use crate::lifecycles::Lifecycles;
 use crate::surveyed_job::SurveyedJob;
 use host_calls::Damage;
 use spool_model::{Row, State};
+use start_journal::Lifecycles;
 use std::alloc::{AllocError, Global};
 use std::collections::BTreeMap;
 

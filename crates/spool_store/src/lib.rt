@@ -5,7 +5,6 @@ mod fault;
 mod job_rows;
 mod jobs;
 mod laws;
-mod lifecycles;
 mod mark;
 mod recovery;
 mod scripts;

@@ -3,13 +3,12 @@ ghost use Rattle.std.specs.Prelude.{◌≡◌, ◌<◌, ◌+◌, ◌*◌, ◌^�
 ghost use Rattle.spool_shows.specs.JobFiles.{JobFile};
 ghost use Rattle.spool_shows.specs.Shown.{mark_damage, starts_damage};
 ghost use Rattle.start_journal.specs.declared.mark.Mark.{Mark};
-ghost use Rattle.spool_store.specs.inside.Lifecycles.{TellLifecycles};
+ghost use Rattle.start_journal.specs.Lifecycles.{TellLifecycles};
 ghost use Rattle.spool_store.specs.inside.JobRows.{AreRowsOf};
 
-use crate::lifecycles::Lifecycles;
 use host_calls::Damage;
 use spool_model::Row;
-use start_journal::{Mark, gate_damage, queue_damage};
+use start_journal::{Lifecycles, Mark, gate_damage, queue_damage};
 use std::collections::BTreeMap;
 
 // The damage of the first start whose number is not decided and has no row, or one of another queue.

@@ -10,7 +10,6 @@ ghost use Rattle.spool_store.specs.Stored.{IsStored};
 
 use crate::fault::StoreFault;
 use crate::jobs::Jobs;
-use crate::lifecycles::Lifecycles;
 use crate::surveyed_files::{SurveyedFiles, old_form_numbers, survey_files};
 use crate::tables::jobs_shown;
 use host_calls::{Host, Name};
@@ -42,8 +41,7 @@ pub(crate) fn take_survey<H: Host>(alloc: Global, host: &mut H) -> Result<Survey
         → IfDamaged StoreFault.Damaged (λ damage. shown_by (reading (H.world host.old)) ≡ Err damage) result }
 {
     let number = last(alloc, host)?;
-    let journal = Journal::recall(alloc, host, number)?;
-    let lives = Lifecycles::of(alloc, journal.marks())?;
+    let (journal, lives) = Journal::recall_with_lives(alloc, host, number)?;
     let SurveyedFiles { surveyed, leftover } = survey_files(alloc, host, &lives)?;
     let jobs = jobs_shown(alloc, number, journal.marks(), &lives, surveyed.as_slice())?;
     let old_form = old_form_numbers(alloc, surveyed.as_slice())?;

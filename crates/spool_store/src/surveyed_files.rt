@@ -8,16 +8,16 @@ ghost use Rattle.whole_file.specs.Temporary.{temporary_file};
 ghost use Rattle.std.specs.Cmp.Lexicographic.{pointwise};
 ghost use Rattle.start_journal.specs.declared.mark.Mark.{Mark};
 ghost use Rattle.job_script.specs.declared.headers.TheConstants.{MAX_HEADER};
-ghost use Rattle.spool_store.specs.inside.Lifecycles.{TellLifecycles};
+ghost use Rattle.start_journal.specs.Lifecycles.{TellLifecycles};
 ghost use Rattle.spool_store.specs.inside.Survey.{AreSurveyedFiles, IsKind, is_left_over};
 ghost use Rattle.spool_store.specs.inside.SurveyedJobs.{files_surveyed, old_form_numbers};
 ghost use Rattle.spool_store.specs.inside.Tables.{AreUndecided};
 
-use crate::lifecycles::Lifecycles;
 use crate::surveyed_job::SurveyedJob;
 use host_calls::{Bytes, Host, HostFault, Name};
 use job_name::JobName;
 use job_script::MAX_HEADER;
+use start_journal::Lifecycles;
 use std::alloc::{AllocError, Global};
 use whole_file::temporary_name;
 

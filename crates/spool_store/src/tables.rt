@@ -5,18 +5,17 @@ ghost use Rattle.std.specs.Ordering.{nat_cmp};
 ghost use Rattle.spool_shows.specs.Shown.{damage_of_jobs};
 ghost use Rattle.start_journal.specs.Journals.{AreWritable, are_drawn};
 ghost use Rattle.spool_store.specs.Faults.{IsFound};
-ghost use Rattle.spool_store.specs.inside.Lifecycles.{TellLifecycles};
+ghost use Rattle.start_journal.specs.Lifecycles.{TellLifecycles};
 ghost use Rattle.spool_store.specs.inside.SurveyedJobs.{files_surveyed};
 ghost use Rattle.spool_store.specs.inside.Tables.{AreUndecided, IsTableShown, ListsDrawn, ListsTable};
 
 use crate::fault::StoreFault;
 use crate::job_rows::rows_of_files;
 use crate::jobs::Jobs;
-use crate::lifecycles::Lifecycles;
 use crate::starts::starts_fault;
 use crate::surveyed_job::SurveyedJob;
 use spool_model::{Decided, Row};
-use start_journal::{Mark, last_batch};
+use start_journal::{Lifecycles, Mark, last_batch};
 use std::alloc::{AllocError, Global};
 use std::collections::BTreeMap;
 

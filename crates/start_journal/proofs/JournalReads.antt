@@ -4,6 +4,7 @@ use Rattle.std.specs.Prelude.{◌&&◌, Option, Some, None, Result, Ok, Err, IfO
 use Rattle.std.specs.Simd.{first_chunks}
 use Rattle.std.proofs.lemmas.Bool.Decides.{nat_tests}
 use Rattle.host_calls.specs.declared.damage.Damage.{Damage}
+use Rattle.start_journal.specs.declared.lifecycles.Lifecycles.{Lifecycles}
 use Rattle.start_journal.specs.declared.mark.Mark.{Mark}
 use Rattle.start_journal.specs.declared.mark.Mark.TheVariants.{Removed, Started, Ended, Interrupted, Forgotten, Batch}
 use Rattle.start_journal.specs.Journals.{journal_file, AreWritable, JournalRead, all_slots, are_drawn, go_on, is_drawn, is_legal_after, journal_in, nothing_read, one_slot, open_slot, whole_journal, with_free, with_mark}
@@ -112,6 +113,6 @@ journal_drawn last content read is = (read_in last content read is).drawn
 pub journal_writable : (last : ℕ) (content : Option (List ℕ)) (read : JournalRead) → journal_in last content ≡ Ok read → AreWritable read.marks
 journal_writable last content read is = all_writable read.marks (read_in last content read is).sound.writable
 
-pub answer_drawn : {F : Type 0} (last : ℕ) (content : Option (List ℕ)) (answer : Result JournalRead F) → IfOk answer (λ read. journal_in last content ≡ Ok read) → IfOk answer (λ read. IsTrue (are_drawn last read.marks))
-answer_drawn last content (Ok read) is = journal_drawn last content read is
+pub answer_drawn : {F : Type 0} (last : ℕ) (content : Option (List ℕ)) (answer : Result (JournalRead × Lifecycles) F) → IfOk answer (λ read. journal_in last content ≡ Ok read.0) → IfOk answer (λ read. IsTrue (are_drawn last read.0.marks))
+answer_drawn last content (Ok read) is = journal_drawn last content read.0 is
 answer_drawn last content (Err fault) is = tt

@@ -18,7 +18,7 @@ pub mod RightLemmas
 pub mod SlotLemmas
 pub mod SlotChanges
 pub mod SlotWrites
-pub mod StageLemmas
+pub mod LifecycleLemmas
 pub mod StandLemmas
 pub mod TakenLemmas
 pub mod TextLemmas

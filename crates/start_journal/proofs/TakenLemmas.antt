@@ -6,13 +6,13 @@ use Rattle.std.proofs.lemmas.List.{append-nil, at_drop_all}
 use Rattle.std.proofs.lemmas.List.Elements.{All-push}
 use Rattle.start_journal.specs.declared.mark.Mark.{Mark}
 use Rattle.start_journal.specs.declared.take_marks.TakenMark.{TakenMark}
-use Rattle.start_journal.specs.declared.stages.Stages.{Stages}
+use Rattle.start_journal.specs.declared.lifecycles.Lifecycles.{Lifecycles}
 use Rattle.start_journal.specs.Journals.{JournalRead, is_legal_after, nothing_read, one_slot, with_slot}
 use Rattle.start_journal.specs.Marks.{IsLegalAfter}
 use Rattle.start_journal.specs.SlotBytes.{mark_in}
 use Rattle.start_journal.specs.Slots.{SpellsMark}
-use Rattle.start_journal.specs.Stages.{TellStages}
-use Rattle.start_journal.specs.Taken.{IsNear, faults_in, free_after, legal_mark, marks_of, offset_of, place_of, read_past, rest_fault, slot_faults, slots_of, taken_at, taken_from, taken_of, with_taken}
+use Rattle.start_journal.specs.Lifecycles.{TellLifecycles}
+use Rattle.start_journal.specs.Taken.{IsNear, faults_in, free_after, legal_mark, marks_of, offset_of, place_of, read_past, slot_faults, slots_of, taken_at, taken_from, taken_of, with_taken}
 use Rattle.start_journal.proofs.ByteLemmas.{given}
 use Rattle.start_journal.proofs.JournalLemmas.{legal_is}
 use Rattle.start_journal.proofs.ReadLemmas.{none_given}
@@ -42,10 +42,10 @@ legal_taken before (Some mark) = by_test (is_legal_after before mark) refl where
   by_test true legal = legal_is before mark legal
   by_test false legal = tt
 
--- stages with a mark more
-pub kept_stages : (before : List Mark) (found : Option Mark) (mark : Mark) (new : Stages) → found ≡ Some mark → (IsLegalAfter before mark → TellStages (before ++ mark ∷ []) new) → IfSome found (IsLegalAfter before) → TellStages (with_taken before found) new
-kept_stages before found mark new is more legal =
-    subst (λ f. TellStages (with_taken before f) new) (sym is) (more (subst (λ f. IfSome f (IsLegalAfter before)) is legal))
+-- lives with a mark more
+pub kept_lives : (before : List Mark) (found : Option Mark) (mark : Mark) (new : Lifecycles) → found ≡ Some mark → (IsLegalAfter before mark → TellLifecycles (before ++ mark ∷ []) new) → IfSome found (IsLegalAfter before) → TellLifecycles (with_taken before found) new
+kept_lives before found mark new is more legal =
+    subst (λ f. TellLifecycles (with_taken before f) new) (sym is) (more (subst (λ f. IfSome f (IsLegalAfter before)) is legal))
 
 -- a mark more whose slot lies within a file
 pub near_more : (marks new : List TakenMark) (place : ℕ) (mark : Mark) → new ≡ marks ++ record { place = place; mark = mark } ∷ [] → 32 * place + 32 < 2 ^ 64 → All IsNear marks → All IsNear new
@@ -72,11 +72,11 @@ marks_step place slots so_far new all found other inside before more is =
     ∙ ap (λ list. so_far ++ taken_from place (marks_of so_far) list) (sym (drop-cons slots place other inside))
     ∙ before
 
--- the stages
-pub stages_step : (so_far new : List TakenMark) (place : ℕ) (slot : List ℕ) (found : Option Mark) (stages : Stages) → new ≡ so_far ++ taken_at place found → found ≡ legal_mark (marks_of so_far) (mark_in slot) → (IfSome found (IsLegalAfter (marks_of so_far)) → TellStages (with_taken (marks_of so_far) found) stages) → TellStages (marks_of new) stages
-stages_step so_far new place slot found stages more is tell =
+-- the lives
+pub lives_step : (so_far new : List TakenMark) (place : ℕ) (slot : List ℕ) (found : Option Mark) (lives : Lifecycles) → new ≡ so_far ++ taken_at place found → found ≡ legal_mark (marks_of so_far) (mark_in slot) → (IfSome found (IsLegalAfter (marks_of so_far)) → TellLifecycles (with_taken (marks_of so_far) found) lives) → TellLifecycles (marks_of new) lives
+lives_step so_far new place slot found lives more is tell =
     let legal : IfSome found (IsLegalAfter (marks_of so_far)) = subst (λ f. IfSome f (IsLegalAfter (marks_of so_far))) (sym is) (legal_taken (marks_of so_far) (mark_in slot)) in
-    subst (λ marks. TellStages marks stages) (sym (ap marks_of more ∙ marks_more so_far place found)) (tell legal)
+    subst (λ marks. TellLifecycles marks lives) (sym (ap marks_of more ∙ marks_more so_far place found)) (tell legal)
 
 -- the faults
 pub faults_step : (bound place free closed : ℕ) (slots : List (List ℕ)) (so_far new : List TakenMark) (old_faults new_faults all : List ℕ) (found : Option Mark) (fault : Option ℕ) (other : List ℕ) → place < length slots → old_faults ++ slot_faults bound (place * 32) (record { marks = marks_of so_far; free = free }) (drop place slots) ≡ all → new ≡ so_far ++ taken_at place found → found ≡ legal_mark (marks_of so_far) (mark_in (get_or slots place other)) → new_faults ≡ old_faults ++ offset_of (place * 32) fault → place_of (one_slot bound (record { marks = marks_of so_far; free = free }) (get_or slots place other)) ≡ fault → free + closed ≡ free_after free (get_or slots place other) → new_faults ++ slot_faults bound ((place + 1) * 32) (record { marks = marks_of new; free = free + closed }) (drop (place + 1) slots) ≡ all

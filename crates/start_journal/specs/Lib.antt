@@ -4,6 +4,7 @@ pub mod FirstFault
 pub mod JournalFaults
 pub mod JournalLaws
 pub mod Journals
+pub mod Lifecycles
 pub mod Laws
 pub mod Marks
 pub mod SlotBytes

@@ -2,6 +2,7 @@
 -- compaction keeps.
 use Rattle.std.specs.Prelude.{◌≡◌, ◌==◌, ◌&&◌, ◌++◌, [], ◌∷◌, ℕ, ℤ, Bool, true, false, not, List, Option, Some, None, if◌then◌else◌}
 use Rattle.std.specs.List.{filter, list_any}
+use Rattle.std.specs.Option.{option_or}
 use Rattle.spool_model.specs.JobTable.{is_batch_queue}
 use Rattle.start_journal.specs.declared.mark.Mark.{Mark}
 use Rattle.start_journal.specs.declared.mark.Mark.TheVariants.{Removed, Started, Ended, Interrupted, Forgotten, Batch}
@@ -92,6 +93,20 @@ is_open number marks = is_started number marks && not (is_decided number marks)
 -- the number is decided, and not forgotten
 abbrev pub is_remembered : ℕ → List Mark → Bool
 is_remembered number marks = is_decided number marks && not (is_forgotten number marks)
+
+-- the second at which the mark starts the number
+abbrev pub start_second : ℕ → Mark → Option ℤ
+start_second number (Started other queue second) = if other == number then Some second else None
+start_second number (Removed other) = None
+start_second number (Ended other ending) = None
+start_second number (Interrupted other) = None
+start_second number (Forgotten other) = None
+start_second number (Batch second) = None
+
+-- the second at which the number was started, if it was
+abbrev pub started_at : ℕ → List Mark → Option ℤ
+started_at number [] = None
+started_at number (mark ∷ later) = option_or (start_second number mark) (started_at number later)
 
 -- the second of a mark that starts a job of a batch queue
 abbrev pub batch_second : Mark → Option ℤ

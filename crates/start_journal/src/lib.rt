@@ -10,6 +10,7 @@ mod fields;
 mod journal;
 mod kept_marks;
 mod laws;
+mod lifecycles;
 mod mark;
 mod names;
 mod overwrite;
@@ -17,7 +18,6 @@ mod recall;
 mod right_prefix;
 mod slot;
 mod stage;
-mod stages;
 mod take_marks;
 mod text;
 
@@ -32,6 +32,7 @@ pub use laws::{
     kept_marks_keep_what_counts, marks_have_one_spelling, numbers_live_once,
     right_prefixes_are_longest, slots_give_their_marks,
 };
+pub use lifecycles::{Lifecycle, Lifecycles};
 pub use mark::Mark;
 pub use names::journal_name;
 pub use slot::{SLOT, mark_text, read_mark};

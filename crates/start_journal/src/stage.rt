@@ -1,6 +1,6 @@
 //! How far a number has come.
 ghost use Rattle.std.specs.Prelude.{◌≡◌};
-ghost use Rattle.start_journal.specs.Stages.{allows, stage_after};
+ghost use Rattle.start_journal.specs.Stages.{allows};
 
 use crate::Mark;
 
@@ -27,18 +27,6 @@ impl Stage {
             Mark::Ended { .. } | Mark::Interrupted(_) => self == Stage::Open,
             Mark::Forgotten(_) => self == Stage::Closed,
             Mark::Batch(_) => true,
-        }
-    }
-
-    // The stage to which the mark brings its number.
-    pub(crate) fn after(self, mark: Mark) -> Stage
-        ensures { result ≡ stage_after self mark }
-    {
-        match mark {
-            Mark::Started { .. } => Stage::Open,
-            Mark::Removed(_) | Mark::Ended { .. } | Mark::Interrupted(_) => Stage::Closed,
-            Mark::Forgotten(_) => Stage::Gone,
-            Mark::Batch(_) => self,
         }
     }
 }

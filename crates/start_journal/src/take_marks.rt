@@ -2,14 +2,14 @@
 ghost use Rattle.std.specs.Prelude.{◌≡◌, ◌≤◌, ◌<◌, ◌+◌, ◌*◌, ◌^◌, ◌++◌, ℕ, All, Some, IfOk, IfSome, List, OnOk};
 ghost use Rattle.start_journal.specs.declared.mark.Mark.{Mark};
 ghost use Rattle.start_journal.specs.Journals.{one_slot};
+ghost use Rattle.start_journal.specs.Lifecycles.{TellLifecycles};
 ghost use Rattle.start_journal.specs.SlotBytes.{mark_in};
 ghost use Rattle.start_journal.specs.Marks.{IsLegalAfter};
-ghost use Rattle.start_journal.specs.Stages.{TellStages};
 ghost use Rattle.start_journal.specs.Taken.{IsNear, faults_in, free_after, legal_mark, offset_of, place_of, taken_at, taken_of, with_taken};
 
+use crate::lifecycles::Lifecycles;
 use crate::recall::next;
 use crate::slot::SLOT;
-use crate::stages::Stages;
 use crate::{Mark, read_mark};
 use std::alloc::{AllocError, Global};
 
@@ -39,13 +39,13 @@ pub fn take(alloc: Global, bytes: &[u8], bound: u32) -> Result<Taken, AllocError
     let (slots, rest) = bytes.as_chunks::<SLOT>();
     let mut marks = Vec::new(alloc);
     let mut faults = Vec::new(alloc);
-    let mut stages = Stages::new(alloc);
+    let mut lives = Lifecycles::new(alloc);
     let mut free: u64 = 0;
     for (place, slot) in slots.iter().enumerate() {
-        let fault = fault_of(&stages, free, slot, bound);
+        let fault = fault_of(&lives, free, slot, bound);
         note(&mut faults, place * SLOT, fault)?;
-        let mark = legal_mark(&stages, slot);
-        keep(&mut marks, &mut stages, place, mark)?;
+        let mark = legal_mark(&lives, slot);
+        keep(&mut marks, &mut lives, place, mark)?;
         free += closed(slot);
     }
     if !rest.is_empty() {
@@ -54,21 +54,21 @@ pub fn take(alloc: Global, bytes: &[u8], bound: u32) -> Result<Taken, AllocError
     Ok(Taken { marks, faults })
 }
 
-// The place of the fault of a slot, after marks with these stages and after free slots, if it has one.
-fn fault_of(stages: &Stages, free: u64, slot: &[u8; SLOT], bound: u32) -> Option<usize>
+// The place of the fault of a slot, after marks that tell these lives and after free slots, if it has one.
+fn fault_of(lives: &Lifecycles, free: u64, slot: &[u8; SLOT], bound: u32) -> Option<usize>
     ensures few { IfSome result (λ place. place ≤ 32) }
-    ensures fault { (marks : List Mark) → TellStages marks stages.now
+    ensures fault { (marks : List Mark) → TellLifecycles marks lives.now
         → place_of (one_slot bound (record { marks = marks; free = free }) slot.now) ≡ result }
 {
-    next(stages, free, slot, bound).err()
+    next(lives, free, slot, bound).err()
 }
 
-// The mark of a slot, where it is legal after marks with these stages.
-fn legal_mark(stages: &Stages, slot: &[u8; SLOT]) -> Option<Mark>
-    ensures { (marks : List Mark) → TellStages marks stages.now → result ≡ legal_mark marks (mark_in slot.now) }
+// The mark of a slot, where it is legal after marks that tell these lives.
+fn legal_mark(lives: &Lifecycles, slot: &[u8; SLOT]) -> Option<Mark>
+    ensures { (marks : List Mark) → TellLifecycles marks lives.now → result ≡ legal_mark marks (mark_in slot.now) }
 {
     match read_mark(slot) {
-        Some(mark) if stages.allow(mark) => Some(mark),
+        Some(mark) if lives.allow(mark) => Some(mark),
         _ => None,
     }
 }
@@ -88,18 +88,18 @@ fn note(faults: &mut Vec<u64>, offset: usize, fault: Option<usize>) -> Result<()
 // Keeps the mark of the slot at this place, if there is one.
 fn keep(
     marks: &mut Vec<TakenMark>,
-    stages: &mut Stages,
+    lives: &mut Lifecycles,
     place: usize,
     mark: Option<Mark>,
 ) -> Result<(), AllocError>
     requires near { 32 * place + 32 < 2 ^ 64 }
     ensures marks { OnOk result (marks.new.items ≡ marks.old.items ++ taken_at place mark) }
     ensures near { OnOk result (All IsNear marks.old.items → All IsNear marks.new.items) }
-    ensures stages { OnOk result ((before : List Mark) → TellStages before stages.old
-        → IfSome mark (IsLegalAfter before) → TellStages (with_taken before mark) stages.new) }
+    ensures lives { OnOk result ((before : List Mark) → TellLifecycles before lives.old
+        → IfSome mark (IsLegalAfter before) → TellLifecycles (with_taken before mark) lives.new) }
 {
     if let Some(mark) = mark {
-        stages.add(mark)?;
+        lives.add(mark)?;
         marks.push(TakenMark {
             place: place as u64,
             mark,

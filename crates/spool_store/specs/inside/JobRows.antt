@@ -7,8 +7,9 @@ use Rattle.host_calls.specs.declared.damage.Damage.{Damage}
 use Rattle.job_script.specs.HeaderIn.{header_in}
 use Rattle.spool_model.specs.declared.row.Row.{Row}
 use Rattle.start_journal.specs.declared.mark.Mark.{Mark}
+use Rattle.start_journal.specs.Marks.{started_at}
 use Rattle.spool_shows.specs.JobFiles.{JobFile, damage_of, file_of, file_place, files_damage}
-use Rattle.spool_shows.specs.Shown.{started_at, state_since, user_of}
+use Rattle.spool_shows.specs.Shown.{state_since, user_of}
 
 -- the row of a file
 abbrev pub row_of : List Mark → JobFile → Row

@@ -1,5 +1,7 @@
 -- The rows and decided numbers of the table that marks and files show (own).
 use Rattle.std.specs.Prelude.{◌≡◌, ◌≤◌, ℕ, List, None, Contains, map, false}
+use Rattle.std.specs.List.Sorted.{IsStrictlySortedBy}
+use Rattle.std.specs.Ordering.{nat_cmp}
 use Rattle.spool_model.specs.declared.decided.Decided.{Decided}
 use Rattle.spool_model.specs.declared.row.Row.{Row}
 use Rattle.spool_model.specs.JobTable.{JobTable}
@@ -8,7 +10,6 @@ use Rattle.start_journal.specs.Marks.{is_decided, last_batch}
 use Rattle.spool_shows.specs.JobFiles.{JobFile}
 use Rattle.spool_shows.specs.Shown.{damage_of_jobs, table_shown}
 use Rattle.step_runs.specs.WithoutScripts.{without_scripts}
-use Rattle.spool_store.specs.inside.Lifecycles.{Rise}
 use Rattle.spool_store.specs.Rows.{listed_table}
 
 -- the number was drawn
@@ -18,6 +19,10 @@ IsDrawn last number = (1 ≤ number) × (number ≤ last)
 -- no file is that of a decided number
 abbrev pub AreUndecided : List Mark → List JobFile → Type 0
 AreUndecided marks files = (file : JobFile) → Contains files file → is_decided file.job.number marks ≡ false
+
+-- numbers that rise
+abbrev pub Rise : List ℕ → Type 0
+Rise numbers = IsStrictlySortedBy nat_cmp numbers
 
 -- There is no damage, and the rows and decided numbers, each in the order of their numbers, are the table
 -- that is shown, without scripts.

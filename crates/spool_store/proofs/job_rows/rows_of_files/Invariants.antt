@@ -1,6 +1,6 @@
 use Rattle.std.proofs.Common.{List}
 use Rattle.start_journal.specs.declared.mark.Mark.{Mark}
-use Rattle.spool_store.specs.inside.Lifecycles.{TellLifecycles}
+use Rattle.start_journal.specs.Lifecycles.{TellLifecycles}
 use Rattle.spool_store.specs.inside.JobRows.{IsSurveyedSoFar}
 use Rattle.spool_store.specs.inside.SurveyedJobs.{files_surveyed}
 use Rattle.spool_store.proofs.job_rows.rows_of_files.Given as goal

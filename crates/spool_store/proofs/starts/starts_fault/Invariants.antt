@@ -1,7 +1,7 @@
 use Rattle.std.proofs.Common.{◌≡◌, List, drop}
 use Rattle.spool_shows.specs.JobFiles.{JobFile}
 use Rattle.spool_shows.specs.Shown.{starts_damage}
-use Rattle.spool_store.specs.inside.Lifecycles.{TellLifecycles}
+use Rattle.start_journal.specs.Lifecycles.{TellLifecycles}
 use Rattle.spool_store.specs.inside.JobRows.{AreRowsOf}
 use Rattle.spool_store.proofs.starts.starts_fault.Given as goal
 

@@ -8,7 +8,6 @@ use Rattle.sequence_file.specs.Sequence.{sequence_file}
 use Rattle.start_journal.specs.Journals.{journal_file, journal_in}
 use Rattle.spool_shows.specs.Shown.{damage_of_jobs, shown_by}
 use Rattle.sequence_file.proofs.LastNumbers.{last_damage, last_given}
-use Rattle.spool_store.specs.inside.Lifecycles.{TellLifecycles}
 use Rattle.spool_store.specs.inside.Survey.{AreSurveyedFiles}
 use Rattle.spool_store.specs.inside.SurveyedJobs.{files_surveyed, old_form_numbers}
 use Rattle.spool_store.specs.inside.Tables.{AreUndecided, IsTableShown}
@@ -33,8 +32,8 @@ returns-in_err-journal-clause-damaged g c = λ tells.
 
 pub jobs_shown-requires-clause-undecided : goal.jobs_shown-requires-clause-undecided
 jobs_shown-requires-clause-undecided g c =
-    subst (λ marks. AreUndecided marks (files_surveyed c.as_slice.result.now)) (c.marks.ensures.marks ∙ sym c.marks-2.ensures.marks)
-    (subst (λ surveyed. AreUndecided c.marks.result.now (files_surveyed surveyed)) (sym c.as_slice.ensures.value) (c.in_ok-surveyed.ensures.undecided c.marks.result.now c.in_ok-lives.ensures))
+    subst (λ marks. AreUndecided marks (files_surveyed c.as_slice.result.now)) (sym c.marks.ensures.marks)
+    (subst (λ surveyed. AreUndecided c.in_ok-journal.journal.marks (files_surveyed surveyed)) (sym c.as_slice.ensures.value) (c.in_ok-surveyed.ensures.undecided c.in_ok-journal.journal.marks c.in_ok-journal.ensures.lives))
 
 pub returns-in_err-jobs-clause-damaged : goal.returns-in_err-jobs-clause-damaged
 returns-in_err-jobs-clause-damaged g c = λ tells.
@@ -44,9 +43,9 @@ returns-in_err-jobs-clause-damaged g c = λ tells.
     let read : journal_in last (finite.get files journal_file) ≡ Ok journal = ap (λ w. journal_in last (finite.get (reading w) journal_file)) (sym (c.in_ok-number.ensures.looks tells)) ∙ c.in_ok-journal.ensures.journal tells in
     let are : AreSurveyedFiles journal.marks (entries files) c.in_ok-surveyed.field-0 =
     subst (λ w. AreSurveyedFiles journal.marks (entries (reading w)) c.in_ok-surveyed.field-0) (c.in_ok-journal.ensures.looks tells ∙ c.in_ok-number.ensures.looks tells)
-    (c.in_ok-surveyed.ensures.surveyed_files tells journal.marks (subst (λ marks. TellLifecycles marks c.in_ok-lives.lives) c.marks.ensures.marks c.in_ok-lives.ensures)) in
-    found_damage (λ damage. shown_by files ≡ Err damage) (damage_of_jobs last c.marks-2.result.now (files_surveyed c.as_slice.result.now)) c.in_err-jobs.field-0.0 c.from_residual-in_err-jobs.result c.from_residual-in_err-jobs.ensures.1 c.in_err-jobs.ensures
-    (jobs_damage files last journal c.in_ok-surveyed.field-0 c.marks-2.result.now c.as_slice.result.now (last_given _ _ (c.in_ok-number.ensures.number tells)) read are c.marks-2.ensures.marks c.as_slice.ensures.value)
+    (c.in_ok-surveyed.ensures.surveyed_files tells journal.marks c.in_ok-journal.ensures.lives) in
+    found_damage (λ damage. shown_by files ≡ Err damage) (damage_of_jobs last c.marks.result.now (files_surveyed c.as_slice.result.now)) c.in_err-jobs.field-0.0 c.from_residual-in_err-jobs.result c.from_residual-in_err-jobs.ensures.1 c.in_err-jobs.ensures
+    (jobs_damage files last journal c.in_ok-surveyed.field-0 c.marks.result.now c.as_slice.result.now (last_given _ _ (c.in_ok-number.ensures.number tells)) read are c.marks.ensures.marks c.as_slice.ensures.value)
 
 pub returns-clause-shown : goal.returns-clause-shown
 returns-clause-shown g c = λ tells.
@@ -56,8 +55,8 @@ returns-clause-shown g c = λ tells.
     let read : journal_in last (finite.get files journal_file) ≡ Ok journal = ap (λ w. journal_in last (finite.get (reading w) journal_file)) (sym (c.in_ok-number.ensures.looks tells)) ∙ c.in_ok-journal.ensures.journal tells in
     let are : AreSurveyedFiles journal.marks (entries files) c.in_ok-surveyed.field-0 =
     subst (λ w. AreSurveyedFiles journal.marks (entries (reading w)) c.in_ok-surveyed.field-0) (c.in_ok-journal.ensures.looks tells ∙ c.in_ok-number.ensures.looks tells)
-    (c.in_ok-surveyed.ensures.surveyed_files tells journal.marks (subst (λ marks. TellLifecycles marks c.in_ok-lives.lives) c.marks.ensures.marks c.in_ok-lives.ensures)) in
-    is_survey files last journal c.in_ok-surveyed.field-0 c.marks-2.result.now c.as_slice.result.now (last_given _ _ (c.in_ok-number.ensures.number tells)) read are c.marks-2.ensures.marks c.as_slice.ensures.value _ refl
+    (c.in_ok-surveyed.ensures.surveyed_files tells journal.marks c.in_ok-journal.ensures.lives) in
+    is_survey files last journal c.in_ok-surveyed.field-0 c.marks.result.now c.as_slice.result.now (last_given _ _ (c.in_ok-number.ensures.number tells)) read are c.marks.ensures.marks c.as_slice.ensures.value _ refl
     (c.in_ok-old_form.ensures ∙ ap (λ surveyed. old_form_numbers (files_surveyed surveyed)) (c.as_slice-2.ensures.value ∙ sym c.as_slice.ensures.value))
     refl c.in_ok-jobs.ensures
 
@@ -66,14 +65,14 @@ returns-clause-stored g c =
     let last = c.in_ok-number.number in
     let journal = c.in_ok-journal.journal in
     let surveyed = c.as_slice.result.now in
-    let shown = subst (λ marks. IsTableShown last marks (files_surveyed surveyed) c.in_ok-jobs.jobs) c.marks-2.ensures.marks c.in_ok-jobs.ensures in
+    let shown = subst (λ marks. IsTableShown last marks (files_surveyed surveyed) c.in_ok-jobs.jobs) c.marks.ensures.marks c.in_ok-jobs.ensures in
     is_stored last journal.marks (files_surveyed surveyed) (record {
       few = c.in_ok-number.ensures.few;
-      legal = c.marks-2.ensures.legal;
-      writable = c.marks-2.ensures.writable;
+      legal = c.marks.ensures.legal;
+      writable = c.marks.ensures.writable;
       drawn = c.in_ok-journal.ensures.drawn;
       undecided = subst (λ list. AreUndecided journal.marks (files_surveyed list)) (sym c.as_slice.ensures.value)
-          (c.in_ok-surveyed.ensures.undecided journal.marks (subst (λ marks. TellLifecycles marks c.in_ok-lives.lives) c.marks.ensures.marks c.in_ok-lives.ensures));
+          (c.in_ok-surveyed.ensures.undecided journal.marks c.in_ok-journal.ensures.lives);
       named = surveyed_named surveyed;
       whole = shown.0;
     }) c.in_ok-jobs.jobs shown journal.free c.in_ok-old_form.old_form.items

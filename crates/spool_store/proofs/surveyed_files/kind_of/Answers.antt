@@ -2,7 +2,7 @@ use Rattle.std.proofs.Common.{◌≡◌, Some, ap, subst, sym, ◌∙◌}
 use Rattle.std.specs.Prelude.{ℕ, Bool, List}
 use Rattle.job_name.specs.declared.job.JobName.{JobName}
 use Rattle.spool_shows.proofs.ShownEntries.{some_same}
-use Rattle.spool_store.specs.inside.Lifecycles.{lifecycle_in}
+use Rattle.start_journal.specs.Lifecycles.{lifecycle_in}
 use Rattle.job_name.specs.JobName.{SpellsJobName}
 use Rattle.spool_store.proofs.KindLemmas.{counted_kind, decided_kind, other_kind}
 use Rattle.spool_store.proofs.surveyed_files.kind_of.Goals as goal

@@ -3,7 +3,7 @@ use Rattle.std.specs.FinMap.{entries}
 use Rattle.host_calls.specs.Session.{StaysInside}
 use Rattle.host_calls.specs.World.{reading}
 use Rattle.start_journal.specs.declared.mark.Mark.{Mark}
-use Rattle.spool_store.specs.inside.Lifecycles.{TellLifecycles}
+use Rattle.start_journal.specs.Lifecycles.{TellLifecycles}
 use Rattle.spool_store.specs.inside.Survey.{AreSurveyedFiles}
 use Rattle.spool_store.specs.inside.SurveyedJobs.{files_surveyed}
 use Rattle.spool_store.specs.inside.Tables.{AreUndecided}

@@ -1,7 +1,5 @@
-use Rattle.std.proofs.Common.{refl}
-use Rattle.start_journal.proofs.StageLemmas.{known_again}
+use Rattle.start_journal.proofs.LifecycleLemmas.{told_more}
 use Rattle.start_journal.proofs.recall.put.Goals as goal
 
-pub returns-clause-stages : goal.returns-clause-stages
-returns-clause-stages c = λ tell legal.
-    known_again _ c.push.new.self.items c.add.new.self c.add.new.self c.in_ok-push.ensures.items refl (c.in_ok-add.ensures c.args.marks.now.items tell legal)
+pub returns-clause-lives : goal.returns-clause-lives
+returns-clause-lives c = told_more c.args.marks.now.items c.push.new.self.items c.args.lives.now c.add.new.self c.args.mark c.in_ok-push.ensures.items c.in_ok-add.ensures

@@ -3,7 +3,7 @@ use Rattle.std.specs.Prelude.{Err, IfSome}
 use Rattle.host_calls.specs.declared.damage.Damage.{Damage}
 use Rattle.start_journal.specs.declared.mark.Mark.{Mark}
 use Rattle.start_journal.specs.Marks.{IsLegalAfter}
-use Rattle.start_journal.proofs.StageLemmas.{known_again}
+use Rattle.start_journal.proofs.LifecycleLemmas.{told_again}
 use Rattle.start_journal.specs.Journals.{JournalRead, journal_in}
 use Rattle.start_journal.proofs.ReadLemmas.{IsAfter, end_sound, marked, one_after, unmarked, read_whole, rest_damaged, slot_damaged}
 use Rattle.start_journal.proofs.recall.read.Goals as goal
@@ -47,15 +47,15 @@ loop-place-preserved c =
           let more : c.match-found.marks.items ≡ c.loop-place.marks.items ++ w.in-Some.mark ∷ [] = ap (λ v. v.items) w.marks-is ∙ w.in_ok-put-in-Some.ensures.marks in
           record {
             after = subst (IsAfter c.args.last c.as_chunks.result.0.now (c.loop-place.place + 1)) (marked read c.in-Ok.found w.in-Some.mark c.match-found.marks.items c.match-found.free some more w.free-is) after;
-            tell = known_again w.put.new.marks.items c.match-found.marks.items w.put.new.stages c.match-found.stages (ap (λ v. v.items) w.marks-is) w.stages-is
-                (w.in_ok-put-in-Some.ensures.stages c.loop-place.invariant.tell (subst (λ found. IfSome found (IsLegalAfter c.loop-place.marks.items)) some legal));
+            tell = told_again w.put.new.marks.items c.match-found.marks.items w.put.new.lives c.match-found.lives (ap (λ v. v.items) w.marks-is) w.lives-is
+                (w.in_ok-put-in-Some.ensures.lives c.loop-place.invariant.tell (subst (λ found. IfSome found (IsLegalAfter c.loop-place.marks.items)) some legal));
             few = omega (arith, w.free-is, c.loop-place.invariant.few);
           }
       | in-None w ↦
           let same : c.match-found.marks.items ≡ c.loop-place.marks.items = ap (λ v. v.items) w.marks-is in
           record {
             after = subst (IsAfter c.args.last c.as_chunks.result.0.now (c.loop-place.place + 1)) (unmarked read c.in-Ok.found c.match-found.marks.items c.match-found.free w.in-None.is same w.free-is) after;
-            tell = known_again c.loop-place.marks.items c.match-found.marks.items c.loop-place.stages c.match-found.stages same w.stages-is c.loop-place.invariant.tell;
+            tell = told_again c.loop-place.marks.items c.match-found.marks.items c.loop-place.lives c.match-found.lives same w.lives-is c.loop-place.invariant.tell;
             few = omega (arith, w.free-is, c.loop-place.invariant.few);
           }
     ]

@@ -1,7 +1,7 @@
 use Rattle.std.proofs.Common.{ap, arith, ◌∙◌}
 use Rattle.start_journal.specs.Journals.{JournalRead}
 use Rattle.start_journal.specs.Taken.{marks_of}
-use Rattle.start_journal.proofs.TakenLemmas.{faults_all, faults_and_rest, faults_step, marks_all, marks_step, stages_step}
+use Rattle.start_journal.proofs.TakenLemmas.{faults_all, faults_and_rest, faults_step, marks_all, marks_step, lives_step}
 use Rattle.start_journal.proofs.take_marks.take.Goals as goal
 use Rattle.start_journal.proofs.take_marks.take.Goals.{then-not-is_empty+in_ok-push, else-not-is_empty}
 
@@ -12,7 +12,7 @@ loop-place-preserved c =
     record {
       marks = marks_step c.loop-place.place c.as_chunks.result.0.now c.loop-place.marks.items c.keep.new.marks.items _ c.legal_mark-mark.result _ c.loop-place-test.true c.loop-place.invariant.marks c.in_ok-keep.ensures.marks found;
       faults = faults_step c.args.bound c.loop-place.place c.loop-place.free c.closed-free.result c.as_chunks.result.0.now c.loop-place.marks.items c.keep.new.marks.items c.loop-place.faults.items c.note.new.faults.items _ c.legal_mark-mark.result c.fault_of-fault.result _ c.loop-place-test.true c.loop-place.invariant.faults c.in_ok-keep.ensures.marks found c.in_ok-note.ensures (c.fault_of-fault.ensures.fault so_far c.loop-place.invariant.tell) (c.closed-free.ensures.closed c.loop-place.free);
-      tell = stages_step c.loop-place.marks.items c.keep.new.marks.items c.loop-place.place _ c.legal_mark-mark.result c.keep.new.stages c.in_ok-keep.ensures.marks found (c.in_ok-keep.ensures.stages so_far c.loop-place.invariant.tell);
+      tell = lives_step c.loop-place.marks.items c.keep.new.marks.items c.loop-place.place _ c.legal_mark-mark.result c.keep.new.lives c.in_ok-keep.ensures.marks found (c.in_ok-keep.ensures.lives so_far c.loop-place.invariant.tell);
       few = omega (arith, c.loop-place.invariant.few, c.closed-free.ensures.few);
       near = c.in_ok-keep.ensures.near c.loop-place.invariant.near;
     }

@@ -1,7 +1,6 @@
 -- What marks tell of each number (own): its start, its fate, and whether it was forgotten.
-use Rattle.std.specs.Prelude.{◌≡◌, ◌==◌, ◌||◌, [], ◌∷◌, ℕ, false, List, Option, Some, None, option_map, unwrap_or, if◌then◌else◌}
+use Rattle.std.specs.Prelude.{◌≡◌, ◌==◌, ◌||◌, [], ◌∷◌, ℕ, false, List, Option, Some, None, is_some, option_map, unwrap_or, if◌then◌else◌}
 use Rattle.std.specs.BTreeMap.{get}
-use Rattle.std.specs.List.Sorted.{IsStrictlySortedBy}
 use Rattle.std.specs.Option.{option_or}
 use Rattle.std.specs.Ordering.{nat_cmp}
 use Rattle.spool_model.specs.declared.decided.Decided.{Decided}
@@ -9,10 +8,11 @@ use Rattle.spool_model.specs.declared.fate.Fate.{Fate}
 use Rattle.spool_model.specs.declared.fate.Fate.TheVariants as fate
 use Rattle.start_journal.specs.declared.mark.Mark.{Mark}
 use Rattle.start_journal.specs.declared.mark.Mark.TheVariants.{Removed, Started, Ended, Interrupted, Forgotten, Batch}
-use Rattle.start_journal.specs.Marks.{forgets, is_forgotten}
-use Rattle.spool_shows.specs.Shown.{start_second, started_at}
-use Rattle.spool_store.specs.declared.lifecycles.Lifecycle.{Lifecycle}
-use Rattle.spool_store.specs.declared.lifecycles.Lifecycles.{Lifecycles}
+use Rattle.start_journal.specs.Marks.{AreLegal, forgets, is_forgotten, start_second, started_at}
+use Rattle.start_journal.specs.declared.stage.Stage.{Stage}
+use Rattle.start_journal.specs.Stages.{stage_by}
+use Rattle.start_journal.specs.declared.lifecycles.Lifecycle.{Lifecycle}
+use Rattle.start_journal.specs.declared.lifecycles.Lifecycles.{Lifecycles}
 
 -- the fate that a mark gives the number
 abbrev pub fate_given : ℕ → Mark → Option Fate
@@ -48,13 +48,17 @@ lifecycle_with number mark life = record {
 abbrev pub unknown : Lifecycle
 unknown = record { started = None; fate = None; forgotten = false }
 
+-- the stage of a life
+abbrev pub stage_of : Lifecycle → Stage
+stage_of life = stage_by life.forgotten (is_some life.fate) (is_some life.started)
+
 -- what is kept of the number
 abbrev pub lifecycle_in : Lifecycles → ℕ → Lifecycle
 lifecycle_in lives number = unwrap_or (get nat_cmp lives.by_number number) unknown
 
--- for each number, what is kept is what the marks tell
+-- the marks are legal, and for each number what is kept is what they tell
 abbrev pub TellLifecycles : List Mark → Lifecycles → Type 0
-TellLifecycles marks lives = (number : ℕ) → lifecycle_in lives number ≡ lifecycle_at number marks
+TellLifecycles marks lives = AreLegal marks × ((number : ℕ) → lifecycle_in lives number ≡ lifecycle_at number marks)
 
 -- the fate of a life that is not forgotten
 abbrev pub remembered_fate : Lifecycle → Option Fate
@@ -67,7 +71,3 @@ decided_of entry = option_map (λ fate. record { number = entry.0; fate = fate }
 -- the fate of the number, unless it was forgotten
 abbrev pub remembered_at : ℕ → List Mark → Option Fate
 remembered_at number marks = if is_forgotten number marks then None else fate_at number marks
-
--- numbers that rise
-abbrev pub Rise : List ℕ → Type 0
-Rise numbers = IsStrictlySortedBy nat_cmp numbers

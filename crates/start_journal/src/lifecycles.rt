@@ -1,23 +1,25 @@
-//! What the marks of a journal tell of each number.
-ghost use Rattle.std.specs.Prelude.{◌≡◌, ℕ, None, Some, IfOk, OnOk};
+//! What marks tell of each number.
+ghost use Rattle.std.specs.Prelude.{◌≡◌, [], ℕ, List, Some, IfOk, OnOk};
 ghost use Rattle.std.specs.BTreeMap.{IsOrdered};
 ghost use Rattle.std.specs.List.{filter_map};
 ghost use Rattle.std.specs.Ordering.{nat_cmp};
-ghost use Rattle.spool_store.specs.inside.Lifecycles.{TellLifecycles, lifecycle_in, lifecycle_with, decided_of, remembered_fate};
+ghost use Rattle.start_journal.specs.declared.mark.Mark.{Mark};
+ghost use Rattle.start_journal.specs.Journals.{is_legal_after};
+ghost use Rattle.start_journal.specs.Lifecycles.{TellLifecycles, decided_of, lifecycle_in, lifecycle_with, remembered_fate, stage_of};
 ghost use Rattle.start_journal.specs.Marks.{number_of};
 
+use crate::{Mark, Stage};
 use spool_model::{Decided, Fate};
-use start_journal::Mark;
 use std::alloc::{AllocError, Global};
 use std::collections::BTreeMap;
 
-// What marks tell of one number.
+/// What marks tell of one number.
 #[derive(Clone, Copy)]
-pub(crate) struct Lifecycle {
+pub struct Lifecycle {
     /// The second of its start.
-    pub(crate) started: Option<i64>,
-    pub(crate) fate: Option<Fate>,
-    pub(crate) forgotten: bool,
+    pub started: Option<i64>,
+    pub fate: Option<Fate>,
+    pub forgotten: bool,
 }
 
 const UNTOLD: Lifecycle = Lifecycle {
@@ -43,43 +45,51 @@ impl Lifecycle {
         life
     }
 
+    // How far it has come.
+    fn stage(self) -> Stage
+        ensures { result ≡ stage_of self }
+    {
+        match (self.forgotten, self.fate, self.started) {
+            (true, _, _) => Stage::Gone,
+            (false, Some(_), _) => Stage::Closed,
+            (false, None, Some(_)) => Stage::Open,
+            (false, None, None) => Stage::Fresh,
+        }
+    }
+
     // Its fate, unless it was forgotten.
-    pub(crate) fn remembered(self) -> Option<Fate>
+    fn remembered(self) -> Option<Fate>
         ensures { result ≡ remembered_fate self }
     {
         if self.forgotten { None } else { self.fate }
     }
 }
 
-// What marks tell, by the numbers that they name.
+/// What marks tell, by the numbers that they name.
 #[derive(Drop)]
-pub(crate) struct Lifecycles {
+pub struct Lifecycles {
     pub(crate) by_number: BTreeMap<u32, Lifecycle>,
 }
 
 impl Lifecycles {
-    // What these marks tell.
-    pub(crate) fn of(alloc: Global, marks: &[Mark]) -> Result<Lifecycles, AllocError>
-        ensures { IfOk result (λ lives. TellLifecycles marks.now lives) }
+    // What no mark tells.
+    pub(crate) fn new(alloc: Global) -> Lifecycles
+        ensures { TellLifecycles [] result }
     {
-        let mut lives = Lifecycles {
+        Lifecycles {
             by_number: BTreeMap::new(alloc),
-        };
-        for mark in marks {
-            lives.add(*mark)?;
         }
-        Ok(lives)
     }
 
-    // What is told of the number.
-    pub(crate) fn get(&self, number: u32) -> Lifecycle
+    /// What is told of the number.
+    pub fn get(&self, number: u32) -> Lifecycle
         ensures { result ≡ lifecycle_in self.now number }
     {
         self.by_number.get(&number).copied().unwrap_or(UNTOLD)
     }
 
-    // The numbers whose fate is remembered, in their order.
-    pub(crate) fn decided(&self, alloc: Global) -> Result<Vec<Decided>, AllocError>
+    /// The numbers whose fate is remembered, in their order.
+    pub fn decided(&self, alloc: Global) -> Result<Vec<Decided>, AllocError>
         ensures items { IfOk result (λ list. list.items ≡ filter_map decided_of self.now.by_number.entries) }
         ensures ordered { IsOrdered nat_cmp self.now.by_number }
     {
@@ -89,8 +99,18 @@ impl Lifecycles {
             .collect(alloc)
     }
 
+    // Whether the mark may stand after those that tell this.
+    pub(crate) fn allow(&self, mark: Mark) -> bool
+        ensures { (marks : List Mark) → TellLifecycles marks self.now → result ≡ is_legal_after marks mark }
+    {
+        match mark.number() {
+            Some(number) => self.get(number).stage().allows(mark),
+            None => true,
+        }
+    }
+
     // Puts what one mark more tells to what is told.
-    fn add(&mut self, mark: Mark) -> Result<(), AllocError>
+    pub(crate) fn add(&mut self, mark: Mark) -> Result<(), AllocError>
         ensures { OnOk result ((number : ℕ)
             → lifecycle_in self.new number ≡ lifecycle_with number mark (lifecycle_in self.old number)) }
     {

@@ -3,7 +3,7 @@ use Rattle.std.specs.FinMap as map
 use Rattle.host_calls.specs.World.{reading}
 use Rattle.start_journal.proofs.JournalReads.{answer_drawn}
 use Rattle.start_journal.proofs.ReadLemmas.{absent_read}
-use Rattle.start_journal.proofs.journal.Journal.recall.Goals as goal
+use Rattle.start_journal.proofs.journal.Journal.recall_with_lives.Goals as goal
 
 pub returns-in-None-clause-journal : goal.returns-in-None-clause-journal
 returns-in-None-clause-journal g c = λ tells.
