@@ -9,13 +9,13 @@ use Rattle.spool_model.specs.declared.job.Job.{Job}
 use Rattle.spool_model.specs.declared.state.State.TheVariants.{Pending}
 use Rattle.spool_model.specs.declared.step.Step.{Step}
 use Rattle.spool_model.specs.declared.step.Step.TheVariants.{Draw, Accept, Remove, Start, End, Interrupt, Forget}
-use Rattle.spool_model.specs.JobTable.{IsRunning, JobEntry, JobState, JobTable, entry_at}
+use Rattle.spool_model.specs.JobTable.{JobEntry, JobState, JobTable, entry_at}
 use Rattle.spool_model.specs.Steps.{IsLegal, after_step}
 use Rattle.start_journal.specs.declared.mark.Mark.{Mark}
 use Rattle.start_journal.specs.declared.mark.Mark.TheVariants.{Started}
 use Rattle.start_journal.specs.Changing.{added, compacted}
 use Rattle.start_journal.specs.Journals.{JournalRead}
-use Rattle.start_journal.specs.Marks.{AreLegal, decides, is_ended, is_started}
+use Rattle.start_journal.specs.Marks.{AreLegal, decides}
 use Rattle.whole_file.specs.Others.{ChangesFiles}
 use Rattle.step_runs.specs.WithoutScripts.{without_scripts, entry_without_script, job_without_script, step_without_script}
 use Rattle.step_runs.specs.Calls.{IsSteppingOn, KeepsOthers, StoreCall}
@@ -30,7 +30,7 @@ use Rattle.spool_store.specs.Stored.{IsStored}
 use Rattle.spool_store.proofs.DecideLemmas.{decided_before_or_by_it, still_drawn}
 use Rattle.spool_store.proofs.MarkingCalls.{journal_is_spool}
 use Rattle.spool_store.proofs.RoomLemmas.{forms_still}
-use Rattle.spool_store.proofs.StoredSteps.{IsStartInRange, none_old_form, running_unended, stored, stored_with}
+use Rattle.spool_store.proofs.StoredSteps.{IsStartInRange, stored_with}
 
 -- From the table without scripts to the table.
 
@@ -85,8 +85,8 @@ pub record IsStepOf (inside surveyed : Kept) (step : Step) (mark : Mark) : Type 
   pub without_scripts : step_without_script step ≡ step
 
 -- what is known of what is seen is known of what is kept
-legal_inside : (inside surveyed : Kept) (step : Step) (mark : Mark) → IsStepOf inside surveyed step mark → IsLegal inside.table step
-legal_inside inside surveyed step mark of = subst (λ (kept : Kept). IsLegal kept.table step) (sym of.view) of.legal
+pub legal_inside : (inside surveyed : Kept) (step : Step) → inside ≡ surveyed → IsLegal surveyed.table step → IsLegal inside.table step
+legal_inside inside surveyed step view legal = subst (λ (kept : Kept). IsLegal kept.table step) (sym view) legal
 
 -- and so it is current
 current_inside : (inside surveyed : Kept) (folder : Folder) (table : JobTable) → inside ≡ surveyed → IsCurrent surveyed folder table → IsCurrent inside folder table
@@ -99,7 +99,7 @@ mark_of_step inside surveyed folder table step mark of current =
     record {
       current = record { shows = now.shows; without_scripts_is = refl; journal = now.journal; sequence = now.sequence; decided = now.decided; forms = now.forms };
       legal = (legal_as_on_the_table table step).0
-          (subst (IsLegal (without_scripts table)) (sym of.without_scripts) (subst (λ t. IsLegal t step) now.without_scripts_is (legal_inside inside surveyed step mark of)));
+          (subst (IsLegal (without_scripts table)) (sym of.without_scripts) (subst (λ t. IsLegal t step) now.without_scripts_is (legal_inside inside surveyed step of.view of.legal)));
       adds = adds_on table step mark (subst (λ t. AddsMark t step mark) now.without_scripts_is of.adds);
     }
 
@@ -128,12 +128,8 @@ decision_of_step inside surveyed folder table step mark name of current = record
 -- what is kept then is as it should be
 pub stored_step : (inside surveyed : Kept) (jobs : JobTable) (new : JournalRead) (step : Step) (mark : Mark) → IsStepOf inside surveyed step mark → IsStored inside → AreLegal inside.journal.marks → IsStartInRange step → HaveOneMore inside.journal.marks mark new.marks → jobs ≡ after_step inside.table step → IsStored (record { table = jobs; journal = new; old_form = inside.old_form })
 stored_step inside surveyed jobs new step mark of is legal range more after =
-    let whole : IsStored (stored (after_step inside.table step) new.marks) =
-    stored_with inside.table inside.journal.marks new.marks step mark
-    (record { sound = is.sound; drawn = is.drawn; entries = is.entries; batch = is.batch; old_form = none_old_form })
-    legal (legal_inside inside surveyed step mark of) of.adds range more in
     subst (λ table. IsStored (record { table = table; journal = new; old_form = inside.old_form })) (sym after)
-    (record { sound = whole.sound; drawn = whole.drawn; entries = whole.entries; batch = whole.batch; old_form = is.old_form })
+    (stored_with inside new step mark is legal (legal_inside inside surveyed step of.view of.legal) of.adds range more)
 
 -- and the journal has the step's mark, compacted before where it needs room
 pub has_its_mark : (inside surveyed : Kept) (jobs : JobTable) (new : JournalRead) (step : Step) (mark : Mark) → IsStepOf inside surveyed step mark →
@@ -146,12 +142,6 @@ has_its_mark inside surveyed jobs new step mark of free full =
       by_room : (needs : Bool) → needs_room inside.journal ≡ needs → new ≡ added (if needs then compacted inside.journal else inside.journal) mark
       by_room true is = full is
       by_room false is = free is
-
--- a mark that ends a running job may follow
-pub running_legal : (inside surveyed : Kept) (number : ℕ) → inside ≡ surveyed → IsRunning surveyed.table number → IsStored inside → (is_started number inside.journal.marks ≡ true) × (is_ended number inside.journal.marks ≡ false)
-running_legal inside surveyed number view running is =
-    let here : IsRunning inside.table number = subst (λ (kept : Kept). IsRunning kept.table number) (sym view) running in
-    running_unended inside.table inside.journal.marks (record { sound = is.sound; drawn = is.drawn; entries = is.entries; batch = is.batch; old_form = none_old_form }) number here.0 here.1 here.2
 
 -- The call.
 
