@@ -55,14 +55,14 @@ returns-in_err-journal g c = record {
     files = λ tells table current.
         let of = decides_so _ _ c.args.number c.args.fate _ c.file.result _ c.self.view_is c.requires.may.legal c.decision_mark.ensures c.unwrap-file.ensures c.file.ensures.found in
         failed_call table _ _ _ c.from_residual-in_err-journal.result c.from_residual-in_err-journal.ensures.0
-        (c.decide-2.ensures.files tells _ table _ (decision_of_step _ _ _ table _ _ _ of current));
+        (c.decide-2.ensures.files tells _ table _ (decision_of_step _ _ _ table _ _ _ of current)).files;
   };
 }
 
 pub invariant_of-result : goal.invariant_of-result
 invariant_of-result g c =
     let of = decides_so _ _ c.args.number c.args.fate _ c.file.result _ c.self.view_is c.requires.may.legal c.decision_mark.ensures c.unwrap-file.ensures c.file.ensures.found in
-    stored_step _ _ _ _ _ _ of.step_of c.self.invariant c.decide-2.ensures.legal (decides_by c.args.self.table c.args.number c.args.fate).in_range c.in_ok-journal.ensures.marks c.in_ok-decide.ensures.decided
+    stored_step _ _ _ _ _ _ of.step_of c.self.invariant c.decide-2.ensures.legal (decides_by c.args.self.table c.args.number c.args.fate).in_range c.in_ok-journal.ensures.journal c.in_ok-decide.ensures.decided
 
 pub returns : goal.returns
 returns g c = record {
@@ -72,11 +72,11 @@ returns g c = record {
     table_is = search rules;
     marked =
         let of = decides_so _ _ c.args.number c.args.fate _ c.file.result _ c.self.view_is c.requires.may.legal c.decision_mark.ensures c.unwrap-file.ensures c.file.ensures.found in
-        has_its_mark _ _ _ _ _ _ of.step_of c.in_ok-journal.ensures.free c.in_ok-journal.ensures.compacted;
+        has_its_mark _ _ _ _ _ _ of.step_of c.in_ok-journal.ensures.journal;
     files = λ tells table current.
         let of = decides_so _ _ c.args.number c.args.fate _ c.file.result _ c.self.view_is c.requires.may.legal c.decision_mark.ensures c.unwrap-file.ensures c.file.ensures.found in
         let is = decision_of_step _ _ _ table _ _ _ of current in
-        current_call _ _ _ _ table _ _ _ _ (record { step_of = of.step_of; kept = c.in_ok-decide.ensures.decided; current = current; files = c.decide-2.ensures.files tells _ table _ is })
-        (c.in_ok-journal.ensures.current tells _ table _ is) (c.in_ok-journal.ensures.others tells _ table _ is);
+        current_call _ _ _ _ table _ _ _ _ (record { step_of = of.step_of; kept = c.in_ok-decide.ensures.decided; current = current })
+        (c.in_ok-journal.ensures.files tells _ table _ is);
   };
 }

@@ -31,7 +31,7 @@ returns-in_err-journal g c = record {
 
 pub invariant_of-result : goal.invariant_of-result
 invariant_of-result g c =
-    stored_step _ _ _ _ _ _ (forgets _ _ c.args.number c.self.view_is c.requires.may.legal) c.self.invariant c.add_mark.ensures.legal tt c.in_ok-journal.ensures.marks c.forget.ensures
+    stored_step _ _ _ _ _ _ (forgets _ _ c.args.number c.self.view_is c.requires.may.legal) c.self.invariant c.add_mark.ensures.legal tt c.in_ok-journal.ensures.journal c.forget.ensures
 
 pub returns : goal.returns
 returns g c = record {
@@ -41,11 +41,11 @@ returns g c = record {
     table_is = search rules;
     marked =
         let of = forgets _ _ c.args.number c.self.view_is c.requires.may.legal in
-        has_its_mark _ _ _ _ _ _ of c.in_ok-journal.ensures.free c.in_ok-journal.ensures.compacted;
+        has_its_mark _ _ _ _ _ _ of c.in_ok-journal.ensures.journal;
     files = λ tells table current.
         let of = forgets _ _ c.args.number c.self.view_is c.requires.may.legal in
         let is = mark_of_step _ _ _ table _ _ of current in
-        marked_call _ _ _ _ table _ _ _ _ (record { step_of = of; kept = c.forget.ensures; current = current; files = c.add_mark.ensures.files tells _ table _ is })
-        c.add_mark.ensures.legal c.in_ok-journal.ensures.marks (λ number. refl) (c.in_ok-journal.ensures.marked tells _ table _ is) (c.in_ok-journal.ensures.others tells);
+        marked_call _ _ _ _ table _ _ _ _ (record { step_of = of; kept = c.forget.ensures; current = current })
+        c.add_mark.ensures.legal c.in_ok-journal.ensures.journal (λ number. refl) (c.add_mark.ensures.files tells _ table _ is) (c.in_ok-journal.ensures.marked tells _ table _ is) (c.in_ok-journal.ensures.others tells);
   };
 }

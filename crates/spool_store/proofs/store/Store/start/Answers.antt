@@ -54,7 +54,7 @@ returns-in_err-journal g c = record {
 pub invariant_of-result : goal.invariant_of-result
 invariant_of-result g c =
     let of = starts _ _ c.args.number c.args.second _ c.unwrap.result.now c.self.view_is c.requires.may.legal (of_some _ c.row.result _ c.unwrap.ensures c.row.ensures.found) (to_z-of_z w64 c.args.second c.ranges.second) in
-    stored_step _ _ _ _ _ _ of c.self.invariant c.add_mark.ensures.legal c.requires.second c.in_ok-journal.ensures.marks
+    stored_step _ _ _ _ _ _ of c.self.invariant c.add_mark.ensures.legal c.requires.second c.in_ok-journal.ensures.journal
     (c.start.ensures ∙ ap (λ second. after_step c.self.inside.jobs (Start c.args.number second)) (to_z-of_z w64 c.args.second c.ranges.second))
 
 pub returns : goal.returns
@@ -65,12 +65,12 @@ returns g c = record {
     table_is = search rules;
     marked =
         let of = starts _ _ c.args.number c.args.second _ c.unwrap.result.now c.self.view_is c.requires.may.legal (of_some _ c.row.result _ c.unwrap.ensures c.row.ensures.found) (to_z-of_z w64 c.args.second c.ranges.second) in
-        has_its_mark _ _ _ _ _ _ of c.in_ok-journal.ensures.free c.in_ok-journal.ensures.compacted;
+        has_its_mark _ _ _ _ _ _ of c.in_ok-journal.ensures.journal;
     files = λ tells table current.
         let of = starts _ _ c.args.number c.args.second _ c.unwrap.result.now c.self.view_is c.requires.may.legal (of_some _ c.row.result _ c.unwrap.ensures c.row.ensures.found) (to_z-of_z w64 c.args.second c.ranges.second) in
         let is = mark_of_step _ _ _ table _ _ of current in
         let kept = c.start.ensures ∙ ap (λ second. after_step c.self.inside.jobs (Start c.args.number second)) (to_z-of_z w64 c.args.second c.ranges.second) in
-        marked_call _ _ _ _ table _ _ _ _ (record { step_of = of; kept = kept; current = current; files = c.add_mark.ensures.files tells _ table _ is })
-        c.add_mark.ensures.legal c.in_ok-journal.ensures.marks (λ number. refl) (c.in_ok-journal.ensures.marked tells _ table _ is) (c.in_ok-journal.ensures.others tells);
+        marked_call _ _ _ _ table _ _ _ _ (record { step_of = of; kept = kept; current = current })
+        c.add_mark.ensures.legal c.in_ok-journal.ensures.journal (λ number. refl) (c.add_mark.ensures.files tells _ table _ is) (c.in_ok-journal.ensures.marked tells _ table _ is) (c.in_ok-journal.ensures.others tells);
   };
 }
