@@ -1,15 +1,16 @@
 -- What a call of the store leaves that makes one step by its mark.
-use Rattle.std.proofs.Common.{◌≡◌, ℕ, true, false, List, [], ◌∷◌, sym, ap, subst, ◌∙◌, refl, inl, inr, Result, Ok, Err}
-use Rattle.std.specs.Prelude.{Option, Some, None, IfSome, IsErr, option_map}
+use Rattle.std.proofs.Common.{◌≡◌, ℕ, Bool, true, false, List, [], ◌∷◌, sym, ap, subst, ◌∙◌, refl, inl, inr, Result, Ok, Err}
+use Rattle.std.specs.Prelude.{Option, Some, None, IfErr, IfSome, IsErr, option_map}
 use Rattle.host_calls.specs.declared.fault.HostFault.{HostFault}
 use Rattle.host_calls.specs.Folder.{Folder, reading_of}
+use Rattle.host_calls.specs.Session.{CallsInside, Session}
 use Rattle.host_calls.specs.World.{World}
 use Rattle.job_name.specs.JobName.{SpellsJobName}
 use Rattle.spool_model.specs.declared.entry.Entry.TheVariants.{Live, Done}
 use Rattle.spool_model.specs.declared.job.Job.{Job}
 use Rattle.spool_model.specs.declared.state.State.TheVariants.{Pending}
 use Rattle.spool_model.specs.declared.step.Step.{Step}
-use Rattle.spool_model.specs.declared.step.Step.TheVariants.{Draw, Accept, Remove, Start, End, Interrupt, Forget}
+use Rattle.spool_model.specs.declared.step.Step.TheVariants.{Start}
 use Rattle.spool_model.specs.JobTable.{JobEntry, JobState, JobTable, entry_at}
 use Rattle.spool_model.specs.Steps.{IsLegal, after_step}
 use Rattle.start_journal.specs.declared.mark.Mark.{Mark}
@@ -24,9 +25,11 @@ use Rattle.step_runs.specs.Current.{HaveForms, IsCurrent, Kept, is_new_form}
 use Rattle.step_runs.proofs.WithoutScriptsLemmas.{entries_are_without_scripts, legal_as_on_the_table, steps_as_on_the_table}
 use Rattle.spool_shows.specs.Laws.{AddsMark}
 use Rattle.spool_store.specs.declared.fault.StoreFault.{StoreFault}
+use Rattle.spool_store.specs.declared.fault.StoreFault.TheVariants.{FileFault}
+use Rattle.spool_store.specs.Faults.{IsOfStep}
 use Rattle.spool_store.specs.inside.Marking.{HaveOneMore, IsDecisionOf, IsMarkOf, IsMarked, KeepsFiles, kept_with}
 use Rattle.spool_store.specs.Scripts.{IsFileOf}
-use Rattle.spool_store.specs.Stepping.{HasItsMark, with_room}
+use Rattle.spool_store.specs.Stepping.{HasItsMark, MakesStep, with_room}
 use Rattle.spool_store.specs.Stored.{IsStored}
 use Rattle.spool_store.proofs.DecideLemmas.{decided_before_or_by_it, one_more, still_drawn}
 use Rattle.spool_store.proofs.MarkingCalls.{journal_is_spool}
@@ -66,15 +69,10 @@ file_on table old_form number name of =
 
 -- the mark of a step there is its mark on the table
 adds_on : (table : JobTable) (step : Step) (mark : Mark) → AddsMark (without_scripts table) step mark → AddsMark table step mark
-adds_on table Draw mark adds = adds
-adds_on table (Accept number job) mark adds = adds
-adds_on table (Remove number) mark adds = adds
 adds_on table (Start number second) mark (job, held, adds) =
     let live : IsLiveOn table number job Pending = live_on table number job Pending held in
     (live.whole, live.held, adds ∙ ap (λ (of : Job). Started number of.queue second) (sym live.same))
-adds_on table (End number ending) mark adds = adds
-adds_on table (Interrupt number) mark adds = adds
-adds_on table (Forget number) mark adds = adds
+adds_on table _ mark adds = adds
 
 -- A step of a store.
 
@@ -141,9 +139,11 @@ has_its_mark inside surveyed jobs new step mark of made =
 -- The call.
 
 -- a call that failed
-pub failed_call : (table : JobTable) (steps : List Step) (old new : World) (result : Result Kept StoreFault) → IsErr result → ChangesFiles (IsSteppingOn table steps old.now.folder) old new → StoreCall table steps old new result
-failed_call table steps old new (Ok kept) failed files = cc
-failed_call table steps old new (Err fault) failed files = record { files = files; current = tt; others = tt }
+pub failed_step : (tells : Bool) (before after : Session) (old new : World) (kept : Kept) (step : Step) (result : Result Kept StoreFault) → IsErr result → CallsInside FileFault before after result → IfErr result IsOfStep →
+    (tells ≡ true → (table : JobTable) → IsCurrent kept old.now.folder table → ChangesFiles (IsSteppingOn table (step ∷ []) old.now.folder) old new) → MakesStep tells before after old new kept step result
+failed_step tells before after old new kept step (Ok stored) failed inside faults files = cc
+failed_step tells before after old new kept step (Err fault) failed inside faults files =
+    record { inside = inside; faults = faults; table_is = tt; marked = tt; files = λ is table current. record { files = files is table current; current = tt; others = tt } }
 
 -- The step was made, also of what is kept, which was current.
 pub record IsMade (inside surveyed : Kept) (jobs : JobTable) (table : JobTable) (step : Step) (mark : Mark) (before : World) : Type 0 where

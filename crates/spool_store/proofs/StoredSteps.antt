@@ -53,12 +53,7 @@ record IsStepAt (table : JobTable) (marks : List Mark) (step : Step) (mark : Mar
 -- a start has a second of the clock's range
 abbrev pub IsStartInRange : Step → Type 0
 IsStartInRange (Start number second) = IsClockSecond second
-IsStartInRange Draw = Unit {0}
-IsStartInRange (Accept number job) = Unit {0}
-IsStartInRange (Remove number) = Unit {0}
-IsStartInRange (End number ending) = Unit {0}
-IsStartInRange (Interrupt number) = Unit {0}
-IsStartInRange (Forget number) = Unit {0}
+IsStartInRange _ = Unit {0}
 
 -- Whatever its fate, a job lives that is decided, and the mark names and decides its number alone.
 pub record DecidesBy (table : JobTable) (number : ℕ) (fate : Fate) (step : Step) (mark : Mark) : Type 0 where

@@ -30,7 +30,7 @@ impl Store {
     /// Writes that the pending job of this number starts at this second. It hands nothing over: once this has
     /// answered Ok, the start survives every crash.
     pub fn start<H: Host>(
-        self,
+        mut self,
         alloc: Global,
         host: &mut H,
         number: u32,
@@ -42,23 +42,14 @@ impl Store {
             (H.world host.old) (H.world host.new) self (Start number second) result }
     {
         let queue = self.jobs.row(number).unwrap().queue;
-        let Store {
-            mut jobs,
-            journal,
-            old_form,
-        } = self;
         let mark = Mark::Started {
             number,
             queue,
             second,
         };
-        let journal = add_mark(alloc, host, journal, mark)?;
-        jobs.start(number, second);
-        Ok(Store {
-            jobs,
-            journal,
-            old_form,
-        })
+        self.journal = add_mark(alloc, host, self.journal, mark)?;
+        self.jobs.start(number, second);
+        Ok(self)
     }
 
     /// Writes how the running job of this number ended, and removes its file.
@@ -92,7 +83,7 @@ impl Store {
 
     /// Forgets what became of the job of this number, which is done.
     pub fn forget<H: Host>(
-        self,
+        mut self,
         alloc: Global,
         host: &mut H,
         number: u32,
@@ -101,22 +92,14 @@ impl Store {
         ensures makes { MakesStep H.tells (H.session host.old) (H.session host.new)
             (H.world host.old) (H.world host.new) self (Forget number) result }
     {
-        let Store {
-            mut jobs,
-            journal,
-            old_form,
-        } = self;
-        let journal = add_mark(alloc, host, journal, Mark::Forgotten(number))?;
-        jobs.forget(number);
-        Ok(Store {
-            jobs,
-            journal,
-            old_form,
-        })
+        self.journal = add_mark(alloc, host, self.journal, Mark::Forgotten(number))?;
+        self.jobs.forget(number);
+        Ok(self)
     }
+
     // Gives the live job of this number its fate, and removes its file.
     fn decide<H: Host>(
-        self,
+        mut self,
         alloc: Global,
         host: &mut H,
         number: u32,
@@ -127,18 +110,10 @@ impl Store {
             (H.world host.old) (H.world host.new) self (decision number fate) result }
     {
         let file = self.file(number).unwrap();
-        let Store {
-            mut jobs,
-            journal,
-            old_form,
-        } = self;
-        jobs.decide(number, fate)?;
-        let journal = decide(alloc, host, journal, decision_mark(number, fate), &file)?;
-        Ok(Store {
-            jobs,
-            journal,
-            old_form,
-        })
+        let mark = decision_mark(number, fate);
+        self.jobs.decide(number, fate)?;
+        self.journal = decide(alloc, host, self.journal, mark, &file)?;
+        Ok(self)
     }
 }
 

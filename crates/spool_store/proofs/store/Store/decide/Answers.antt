@@ -8,7 +8,7 @@ use Rattle.step_runs.specs.Current.{Kept}
 use Rattle.spool_store.specs.inside.Deciding.{decision, decision_mark}
 use Rattle.spool_store.specs.Listed.{IsLive}
 use Rattle.spool_store.specs.Scripts.{IsFileOf}
-use Rattle.spool_store.proofs.StepCalls.{IsDecidingStep, current_call, decision_of_step, failed_call, has_its_mark, legal_inside, of_some, stored_step}
+use Rattle.spool_store.proofs.StepCalls.{IsDecidingStep, current_call, decision_of_step, failed_step, has_its_mark, legal_inside, of_some, stored_step}
 use Rattle.spool_store.proofs.StoredSteps.{DecidesBy, decides_by, decision_legal}
 use Rattle.spool_store.proofs.store.Store.decide.Goals as goal
 
@@ -36,47 +36,37 @@ decide-requires g c = (decides_by _ c.args.number c.args.fate).lives (legal_insi
 
 pub decide-requires-2-clause-legal : goal.decide-requires-2-clause-legal
 decide-requires-2-clause-legal g c =
-    subst (IsLegalAfter c.self.inside.journal.marks) (sym c.decision_mark.ensures)
+    subst (IsLegalAfter c.self.inside.journal.marks) (sym c.decision_mark-mark.ensures)
     (decision_legal _ c.self.invariant c.args.number c.args.fate (legal_inside _ _ _ c.self.view_is c.requires.may.legal))
 
 pub decide-requires-2-clause-current : goal.decide-requires-2-clause-current
 decide-requires-2-clause-current g c = λ tells.
     let table : JobTable = (c.requires.may.current tells).0 in
-    let of = decides_so _ _ c.args.number c.args.fate _ c.file.result _ c.self.view_is c.requires.may.legal c.decision_mark.ensures c.unwrap-file.ensures c.file.ensures.found in
+    let of = decides_so _ _ c.args.number c.args.fate _ c.file.result _ c.self.view_is c.requires.may.legal c.decision_mark-mark.ensures c.unwrap-file.ensures c.file.ensures.found in
     (_, table, decision c.args.number c.args.fate, decision_of_step _ _ _ table _ _ _ of (c.requires.may.current tells).1)
 
-pub returns-in_err-journal : goal.returns-in_err-journal
-returns-in_err-journal g c = record {
-  makes = record {
-    inside = search rules;
-    faults = search rules;
-    table_is = search rules;
-    marked = search rules;
-    files = λ tells table current.
-        let of = decides_so _ _ c.args.number c.args.fate _ c.file.result _ c.self.view_is c.requires.may.legal c.decision_mark.ensures c.unwrap-file.ensures c.file.ensures.found in
-        failed_call table _ _ _ c.from_residual-in_err-journal.result c.from_residual-in_err-journal.ensures.0
-        (c.decide-2.ensures.files tells _ table _ (decision_of_step _ _ _ table _ _ _ of current)).files;
-  };
-}
+pub returns-in_err-self-inside : goal.returns-in_err-self-inside
+returns-in_err-self-inside g c =
+    let of = decides_so _ _ c.args.number c.args.fate _ c.file.result _ c.self.view_is c.requires.may.legal c.decision_mark-mark.ensures c.unwrap-file.ensures c.file.ensures.found in
+    record { makes = failed_step _ _ _ _ _ _ _ c.from_residual-in_err-self-inside.result c.from_residual-in_err-self-inside.ensures.0 (search rules) (search rules) (λ tells table current. (c.decide-2.ensures.files tells _ table _ (decision_of_step _ _ _ table _ _ _ of current)).files) }
 
-pub invariant_of-result : goal.invariant_of-result
-invariant_of-result g c =
-    let of = decides_so _ _ c.args.number c.args.fate _ c.file.result _ c.self.view_is c.requires.may.legal c.decision_mark.ensures c.unwrap-file.ensures c.file.ensures.found in
-    stored_step _ _ _ _ _ _ of.step_of c.self.invariant c.decide-2.ensures.legal (decides_by c.args.self.table c.args.number c.args.fate).in_range c.in_ok-journal.ensures.journal c.in_ok-decide.ensures.decided
+pub invariant_of-self : goal.invariant_of-self
+invariant_of-self g c =
+    let of = decides_so _ _ c.args.number c.args.fate _ c.file.result _ c.self.view_is c.requires.may.legal c.decision_mark-mark.ensures c.unwrap-file.ensures c.file.ensures.found in
+    stored_step _ _ _ _ _ _ of.step_of c.self.invariant c.decide-2.ensures.legal (decides_by c.args.self.table c.args.number c.args.fate).in_range c.in_ok-self-inside.ensures.journal c.in_ok-decide.ensures.decided
 
 pub returns : goal.returns
-returns g c = record {
-  makes = record {
-    inside = search rules;
-    faults = search rules;
-    table_is = search rules;
-    marked =
-        let of = decides_so _ _ c.args.number c.args.fate _ c.file.result _ c.self.view_is c.requires.may.legal c.decision_mark.ensures c.unwrap-file.ensures c.file.ensures.found in
-        has_its_mark _ _ _ _ _ _ of.step_of c.in_ok-journal.ensures.journal;
-    files = λ tells table current.
-        let of = decides_so _ _ c.args.number c.args.fate _ c.file.result _ c.self.view_is c.requires.may.legal c.decision_mark.ensures c.unwrap-file.ensures c.file.ensures.found in
-        let is = decision_of_step _ _ _ table _ _ _ of current in
-        current_call _ _ _ _ table _ _ _ _ (record { step_of = of.step_of; kept = c.in_ok-decide.ensures.decided; current = current })
-        (c.in_ok-journal.ensures.files tells _ table _ is);
-  };
-}
+returns g c =
+    let of = decides_so _ _ c.args.number c.args.fate _ c.file.result _ c.self.view_is c.requires.may.legal c.decision_mark-mark.ensures c.unwrap-file.ensures c.file.ensures.found in
+    record {
+      makes = record {
+        inside = search rules;
+        faults = search rules;
+        table_is = search rules;
+        marked = has_its_mark _ _ _ _ _ _ of.step_of c.in_ok-self-inside.ensures.journal;
+        files = λ tells table current.
+            let is = decision_of_step _ _ _ table _ _ _ of current in
+            current_call _ _ _ _ table _ _ _ _ (record { step_of = of.step_of; kept = c.in_ok-decide.ensures.decided; current = current })
+            (c.in_ok-self-inside.ensures.files tells _ table _ is);
+      };
+    }
