@@ -1,6 +1,6 @@
 -- One mark more in the journal: each image shows the table before the step of that mark or after it.
-use Rattle.std.proofs.Common.{◌≡◌, ℕ, List, [], ◌∷◌, sym, subst, ◌∙◌, inl, inr, Result, Ok, Err}
-use Rattle.std.specs.Prelude.{IfOk, OnOk}
+use Rattle.std.proofs.Common.{◌≡◌, ℕ, Bool, true, false, List, [], ◌∷◌, sym, subst, ◌∙◌, inl, inr, Result, Ok, Err}
+use Rattle.std.specs.Prelude.{IfOk, OnOk, if◌then◌else◌}
 use Rattle.std.specs.FinMap as finite
 use Rattle.host_calls.specs.declared.fault.HostFault.{HostFault}
 use Rattle.host_calls.specs.Folder.{Files, Folder, IsImage}
@@ -10,24 +10,27 @@ use Rattle.spool_model.specs.declared.step.Step.{Step}
 use Rattle.spool_model.specs.JobTable.{JobTable}
 use Rattle.spool_model.specs.Steps.{after_step}
 use Rattle.start_journal.specs.declared.mark.Mark.{Mark}
-use Rattle.start_journal.specs.Changing.{Gives, IsChanged, IsChanging, added}
+use Rattle.start_journal.specs.Changing.{Gives, IsChanged, IsChanging, added, compacted}
 use Rattle.start_journal.specs.Journals.{JournalRead, journal_file}
 use Rattle.start_journal.specs.Marks.{AreLegal, IsLegalAfter}
 use Rattle.whole_file.specs.Others.{ChangesFiles, IsEither, LeavesOthers}
 use Rattle.step_runs.specs.Calls.{IsSteppingOn}
 use Rattle.step_runs.specs.Current.{IsCurrent, IsSpoolName}
 use Rattle.spool_shows.specs.Shown.{Shows}
-use Rattle.spool_store.specs.inside.Marking.{AreSameOrKept, IsMarkOf, IsMarked, KeepsFiles, kept_with}
+use Rattle.spool_store.specs.inside.Marking.{IsMarkOf, IsMarked, KeepsFiles, kept_with}
+use Rattle.spool_store.specs.Stepping.{needs_room, with_room}
 use Rattle.spool_store.proofs.KeptMarks.{legal_when_kept}
 use Rattle.whole_file.proofs.ChangesJoined.{changes_end, changes_join, changes_weaker}
 use Rattle.spool_store.proofs.MarkingCalls.{journal_is_spool, leaves_through, stepping_more, stepping_none, stepping_one, stepping_start}
 use Rattle.spool_store.proofs.MarkingLemmas.{IsShownWith, added_shown, same_shown}
 use Rattle.spool_store.proofs.RoomLemmas.{changing_start, decided_still, sequence_still, shown_with}
 
--- a mark that is legal after marks is so after the same ones, and after what a compaction keeps of them
-pub legal_still : (before after : List Mark) (mark : Mark) → AreLegal before → IsLegalAfter before mark → AreSameOrKept before after → IsLegalAfter after mark
-legal_still before after mark legal is (inl same) = subst (λ marks. IsLegalAfter marks mark) (sym same) is
-legal_still before after mark legal is (inr kept) = subst (λ marks. IsLegalAfter marks mark) (sym kept) (legal_when_kept before mark legal is)
+-- a mark that is legal after marks is so with room made, where a compaction may have kept what counts of them
+pub legal_still : (journal room : JournalRead) (mark : Mark) → AreLegal journal.marks → IsLegalAfter journal.marks mark → room ≡ with_room journal → IsLegalAfter room.marks mark
+legal_still journal room mark legal is room_is = subst (λ (read : JournalRead). IsLegalAfter read.marks mark) (sym room_is) (by_room (needs_room journal)) where
+  by_room : (needs : Bool) → IsLegalAfter (if needs then compacted journal else journal).marks mark
+  by_room true = legal_when_kept journal.marks mark legal is
+  by_room false = is
 
 -- what both runs keep
 pub keeps_through : (start middle third : Folder) (after : JournalRead) (result : Result JournalRead HostFault) → KeepsFiles start middle → OnOk result (IsChanged after middle third) → OnOk result (KeepsFiles start third)

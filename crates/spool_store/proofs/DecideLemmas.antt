@@ -1,6 +1,6 @@
 -- A job is decided: its mark is added, and then its file is removed, which counts for nothing by then.
-use Rattle.std.proofs.Common.{◌≡◌, ◌≤◌, ◌⊎◌, ℕ, true, false, List, [], ◌∷◌, Contains, sym, ap, subst, ◌∙◌, refl, arith, inl, inr}
-use Rattle.std.specs.Prelude.{Some, IsSome}
+use Rattle.std.proofs.Common.{◌≡◌, ◌≤◌, ◌⊎◌, ℕ, Bool, true, false, List, [], ◌∷◌, Contains, sym, ap, subst, ◌∙◌, refl, arith, inl, inr}
+use Rattle.std.specs.Prelude.{Some, IsSome, if◌then◌else◌}
 use Rattle.std.specs.FinMap as map
 use Rattle.host_calls.specs.Folder.{Files, Folder, reading_of}
 use Rattle.host_calls.proofs.FolderLemmas.{reading_is_image}
@@ -12,6 +12,7 @@ use Rattle.spool_model.specs.Steps.{after_step}
 use Rattle.spool_model.proofs.StepLemmas.{last_rises}
 use Rattle.start_journal.specs.declared.mark.Mark.{Mark}
 use Rattle.start_journal.specs.declared.mark.Mark.TheVariants.{Removed, Ended, Interrupted}
+use Rattle.start_journal.specs.Changing.{added, compacted}
 use Rattle.start_journal.specs.Journals.{JournalRead, journal_file}
 use Rattle.start_journal.specs.Marks.{AreLegal, decides, is_decided, kept_marks}
 use Rattle.start_journal.proofs.LifeLemmas.{any_more, any_with}
@@ -29,6 +30,7 @@ use Rattle.spool_shows.proofs.StepMarks.{live_in}
 use Rattle.step_runs.specs.Current.{HaveForms, is_new_form}
 use Rattle.spool_store.specs.inside.Marking.{HaveOneMore, IsDecisionOf, KeepsFiles}
 use Rattle.spool_store.specs.Scripts.{IsFileOf}
+use Rattle.spool_store.specs.Stepping.{needs_room, with_room}
 use Rattle.spool_store.proofs.KeptMarks.{kept_decided}
 use Rattle.spool_store.proofs.MarkingLemmas.{IsShownWith, reads_as}
 use Rattle.spool_store.proofs.RoomLemmas.{shown_with}
@@ -115,6 +117,13 @@ decided_held old_form journal first second table step mark name decision keeps =
     }
 
 -- Marks with one more.
+
+-- a journal to which a mark was added, with room made, has one more
+pub one_more : (journal new : JournalRead) (mark : Mark) → new ≡ added (with_room journal) mark → HaveOneMore journal.marks mark new.marks
+one_more journal new mark is = by_room (needs_room journal) (ap (λ (read : JournalRead). read.marks) is) where
+  by_room : (needs : Bool) → new.marks ≡ (added (if needs then compacted journal else journal) mark).marks → HaveOneMore journal.marks mark new.marks
+  by_room true more = inr more
+  by_room false more = inl more
 
 -- what one more decides is decided
 pub decided_by_it : (before after : List Mark) (mark : Mark) (number : ℕ) → HaveOneMore before mark after → decides number mark ≡ true → is_decided number after ≡ true

@@ -1,7 +1,8 @@
 -- The file of a job that is decided: without it each image shows the same table, and then none of a decided number is left.
-use Rattle.std.proofs.Common.{◌≡◌, ℕ, true, false, not, List, [], ◌∷◌, Contains, sym, ap, subst, ◌∙◌, refl, inl, inr}
-use Rattle.std.specs.Prelude.{Option, Some, None, IsSome, is_some}
+use Rattle.std.proofs.Common.{◌≡◌, ℕ, true, false, not, List, [], ◌∷◌, Contains, sym, ap, subst, ◌∙◌, refl, inl, inr, Result, Ok, Err}
+use Rattle.std.specs.Prelude.{Option, Some, None, IsErr, IsSome, is_some}
 use Rattle.std.specs.FinMap as finite
+use Rattle.host_calls.specs.declared.fault.HostFault.{HostFault}
 use Rattle.host_calls.specs.Folder.{Files, Folder, IsImage, reading_of}
 use Rattle.host_calls.specs.World.{World}
 use Rattle.host_calls.proofs.FolderLemmas.{reading_is_image}
@@ -17,7 +18,7 @@ use Rattle.start_journal.specs.Marks.{AreLegal, is_decided}
 use Rattle.whole_file.specs.Clearing.{AreCleared}
 use Rattle.whole_file.specs.Others.{ChangesFiles, LeavesOthers}
 use Rattle.whole_file.proofs.OthersLemmas.{one_or_other}
-use Rattle.step_runs.specs.Calls.{IsSteppingOn, KeepsOthers}
+use Rattle.step_runs.specs.Calls.{IsSteppingOn, KeepsOthers, StoreCall}
 use Rattle.step_runs.specs.Current.{HasNoDecidedFile, HaveForms, IsCurrent, IsSpoolName}
 use Rattle.spool_shows.specs.JobFiles.{counts, counts_as}
 use Rattle.job_name.specs.JobName.{NamedJob, job_named}
@@ -27,7 +28,7 @@ use Rattle.spool_shows.proofs.NameLemmas.{job_name_apart, job_name_differs, jour
 use Rattle.spool_shows.proofs.OneMark.{had_same}
 use Rattle.spool_shows.proofs.OtherLemmas.{other_files_count_for_nothing}
 use Rattle.spool_shows.proofs.StepLaws.{by_name}
-use Rattle.spool_store.specs.inside.Marking.{HaveOneMore, IsDecisionOf, IsMarked, KeepsFiles, kept_with}
+use Rattle.spool_store.specs.inside.Marking.{HaveOneMore, IsDecisionOf, IsMarked, KeepsFiles, kept_by, kept_with}
 use Rattle.spool_store.proofs.DecideLemmas.{IsItsFile, apart_from, decided_before_or_by_it, decided_by_it, decided_file, is_the_one, one_decided, only_one, still_drawn}
 use Rattle.spool_store.proofs.MarkingLemmas.{IsShownWith, reads_as}
 use Rattle.whole_file.proofs.ChangesJoined.{changes_end, changes_join}
@@ -42,6 +43,11 @@ pub record IsDeciding (old_form : List ℕ) (journal new : JournalRead) (table :
   pub keeps : KeepsFiles first.now.folder second.now.folder
   pub adds : ChangesFiles (IsSteppingOn table (step ∷ []) first.now.folder) first second
   pub clears : ChangesFiles (LeavesOthers (Contains (name ∷ [])) second.now.folder) second third
+
+-- a call that failed
+pub unmarked_call : (old_form : List ℕ) (table : JobTable) (step : Step) (first third : World) → ChangesFiles (IsSteppingOn table (step ∷ []) first.now.folder) first third → (result : Result JournalRead HostFault) → IsErr result → StoreCall table (step ∷ []) first third (kept_by old_form (after_step table step) result)
+unmarked_call old_form table step first third files (Ok new) failed = cc
+unmarked_call old_form table step first third files (Err fault) failed = record { files = files; current = tt; others = tt }
 
 module _ (old_form : List ℕ) (journal new : JournalRead) (table : JobTable) (step : Step) (mark : Mark) (name : List ℕ) (first second third : World) (deciding : IsDeciding old_form journal new table step mark name first second third) where
   abbrev start : Folder
@@ -99,7 +105,7 @@ module _ (old_form : List ℕ) (journal new : JournalRead) (table : JobTable) (s
   through from is = (changes_end _ first second deciding.adds (stepping_start table (step ∷ []) start deciding.decision.is_mark.current.shows) from is).others
 
   -- through both runs, the one step is made at most
-  pub decide_stepping : ChangesFiles (IsSteppingOn table (step ∷ []) start) first third
+  decide_stepping : ChangesFiles (IsSteppingOn table (step ∷ []) start) first third
   decide_stepping =
       changes_join _ _ first second third deciding.adds deciding.clears
       (λ image alone. stepping_one table step start image (without_file image alone) (leaves_through (Contains (name ∷ [])) start middle image is_spool through alone))
@@ -146,7 +152,7 @@ module _ (old_form : List ℕ) (journal new : JournalRead) (table : JobTable) (s
   }
 
   -- and what is kept is current
-  pub decided_current : AreCleared (name ∷ []) middle third.now.folder → IsCurrent (kept_with old_form new (after_step table step)) third.now.folder (after_step table step)
+  decided_current : AreCleared (name ∷ []) middle third.now.folder → IsCurrent (kept_with old_form new (after_step table step)) third.now.folder (after_step table step)
   decided_current cleared =
       let each : (image : Files) → IsImage third.now.folder image → LeavesOthers (Contains (name ∷ [])) middle image =
       changes_end _ second third deciding.clears (λ image is. record { from = image; was = is; others = λ other apart. refl }) in
@@ -170,6 +176,13 @@ module _ (old_form : List ℕ) (journal new : JournalRead) (table : JobTable) (s
       }
 
   -- other files than those of the spool read as before
-  pub decide_others : AreCleared (name ∷ []) middle third.now.folder → KeepsOthers start third.now.folder
+  decide_others : AreCleared (name ∷ []) middle third.now.folder → KeepsOthers start third.now.folder
   decide_others cleared other apart =
       cleared.others other (λ is. apart (is_spool other is)) ∙ deciding.keeps other (λ either. apart (journal_is_spool other either))
+
+  -- whatever the removal answers
+  pub uncleared_call : (result : Result JournalRead HostFault) → IsErr result → StoreCall table (step ∷ []) first third (kept_by old_form (after_step table step) result)
+  uncleared_call = unmarked_call old_form table step first third decide_stepping
+
+  pub cleared_call : AreCleared (name ∷ []) middle third.now.folder → StoreCall {E = HostFault} table (step ∷ []) first third (Ok (kept_with old_form new (after_step table step)))
+  cleared_call cleared = record { files = decide_stepping; current = decided_current cleared; others = decide_others cleared }

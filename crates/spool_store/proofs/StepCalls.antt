@@ -1,36 +1,40 @@
 -- What a call of the store leaves that makes one step by its mark.
 use Rattle.std.proofs.Common.{◌≡◌, ℕ, Bool, true, false, List, [], ◌∷◌, sym, ap, subst, ◌∙◌, refl, inl, inr, Result, Ok, Err}
-use Rattle.std.specs.Prelude.{Option, Some, None, IfSome, IsErr, option_map, if◌then◌else◌}
+use Rattle.std.specs.Prelude.{Option, Some, None, IfErr, IfSome, IsErr, option_map}
+use Rattle.host_calls.specs.declared.fault.HostFault.{HostFault}
 use Rattle.host_calls.specs.Folder.{Folder, reading_of}
+use Rattle.host_calls.specs.Session.{CallsInside, Session}
 use Rattle.host_calls.specs.World.{World}
 use Rattle.job_name.specs.JobName.{SpellsJobName}
 use Rattle.spool_model.specs.declared.entry.Entry.TheVariants.{Live, Done}
 use Rattle.spool_model.specs.declared.job.Job.{Job}
 use Rattle.spool_model.specs.declared.state.State.TheVariants.{Pending}
 use Rattle.spool_model.specs.declared.step.Step.{Step}
-use Rattle.spool_model.specs.declared.step.Step.TheVariants.{Draw, Accept, Remove, Start, End, Interrupt, Forget}
-use Rattle.spool_model.specs.JobTable.{IsRunning, JobEntry, JobState, JobTable, entry_at}
+use Rattle.spool_model.specs.declared.step.Step.TheVariants.{Start}
+use Rattle.spool_model.specs.JobTable.{JobEntry, JobState, JobTable, entry_at}
 use Rattle.spool_model.specs.Steps.{IsLegal, after_step}
 use Rattle.start_journal.specs.declared.mark.Mark.{Mark}
 use Rattle.start_journal.specs.declared.mark.Mark.TheVariants.{Started}
-use Rattle.start_journal.specs.Changing.{added, compacted}
+use Rattle.start_journal.specs.Changing.{added}
 use Rattle.start_journal.specs.Journals.{JournalRead}
-use Rattle.start_journal.specs.Marks.{AreLegal, decides, is_ended, is_started}
+use Rattle.start_journal.specs.Marks.{AreLegal, decides}
 use Rattle.whole_file.specs.Others.{ChangesFiles}
 use Rattle.step_runs.specs.WithoutScripts.{without_scripts, entry_without_script, job_without_script, step_without_script}
-use Rattle.step_runs.specs.Calls.{IsSteppingOn, KeepsOthers, StoreCall}
+use Rattle.step_runs.specs.Calls.{IsSteppingOn, StoreCall}
 use Rattle.step_runs.specs.Current.{HaveForms, IsCurrent, Kept, is_new_form}
 use Rattle.step_runs.proofs.WithoutScriptsLemmas.{entries_are_without_scripts, legal_as_on_the_table, steps_as_on_the_table}
 use Rattle.spool_shows.specs.Laws.{AddsMark}
 use Rattle.spool_store.specs.declared.fault.StoreFault.{StoreFault}
+use Rattle.spool_store.specs.declared.fault.StoreFault.TheVariants.{FileFault}
+use Rattle.spool_store.specs.Faults.{IsOfStep}
 use Rattle.spool_store.specs.inside.Marking.{HaveOneMore, IsDecisionOf, IsMarkOf, IsMarked, KeepsFiles, kept_with}
 use Rattle.spool_store.specs.Scripts.{IsFileOf}
-use Rattle.spool_store.specs.Stepping.{HasItsMark, needs_room}
+use Rattle.spool_store.specs.Stepping.{HasItsMark, MakesStep, with_room}
 use Rattle.spool_store.specs.Stored.{IsStored}
-use Rattle.spool_store.proofs.DecideLemmas.{decided_before_or_by_it, still_drawn}
+use Rattle.spool_store.proofs.DecideLemmas.{decided_before_or_by_it, one_more, still_drawn}
 use Rattle.spool_store.proofs.MarkingCalls.{journal_is_spool}
 use Rattle.spool_store.proofs.RoomLemmas.{forms_still}
-use Rattle.spool_store.proofs.StoredSteps.{IsStartInRange, none_old_form, running_unended, stored, stored_with}
+use Rattle.spool_store.proofs.StoredSteps.{IsStartInRange, stored_with}
 
 -- From the table without scripts to the table.
 
@@ -65,15 +69,10 @@ file_on table old_form number name of =
 
 -- the mark of a step there is its mark on the table
 adds_on : (table : JobTable) (step : Step) (mark : Mark) → AddsMark (without_scripts table) step mark → AddsMark table step mark
-adds_on table Draw mark adds = adds
-adds_on table (Accept number job) mark adds = adds
-adds_on table (Remove number) mark adds = adds
 adds_on table (Start number second) mark (job, held, adds) =
     let live : IsLiveOn table number job Pending = live_on table number job Pending held in
     (live.whole, live.held, adds ∙ ap (λ (of : Job). Started number of.queue second) (sym live.same))
-adds_on table (End number ending) mark adds = adds
-adds_on table (Interrupt number) mark adds = adds
-adds_on table (Forget number) mark adds = adds
+adds_on table _ mark adds = adds
 
 -- A step of a store.
 
@@ -85,8 +84,8 @@ pub record IsStepOf (inside surveyed : Kept) (step : Step) (mark : Mark) : Type 
   pub without_scripts : step_without_script step ≡ step
 
 -- what is known of what is seen is known of what is kept
-legal_inside : (inside surveyed : Kept) (step : Step) (mark : Mark) → IsStepOf inside surveyed step mark → IsLegal inside.table step
-legal_inside inside surveyed step mark of = subst (λ (kept : Kept). IsLegal kept.table step) (sym of.view) of.legal
+pub legal_inside : (inside surveyed : Kept) (step : Step) → inside ≡ surveyed → IsLegal surveyed.table step → IsLegal inside.table step
+legal_inside inside surveyed step view legal = subst (λ (kept : Kept). IsLegal kept.table step) (sym view) legal
 
 -- and so it is current
 current_inside : (inside surveyed : Kept) (folder : Folder) (table : JobTable) → inside ≡ surveyed → IsCurrent surveyed folder table → IsCurrent inside folder table
@@ -99,7 +98,7 @@ mark_of_step inside surveyed folder table step mark of current =
     record {
       current = record { shows = now.shows; without_scripts_is = refl; journal = now.journal; sequence = now.sequence; decided = now.decided; forms = now.forms };
       legal = (legal_as_on_the_table table step).0
-          (subst (IsLegal (without_scripts table)) (sym of.without_scripts) (subst (λ t. IsLegal t step) now.without_scripts_is (legal_inside inside surveyed step mark of)));
+          (subst (IsLegal (without_scripts table)) (sym of.without_scripts) (subst (λ t. IsLegal t step) now.without_scripts_is (legal_inside inside surveyed step of.view of.legal)));
       adds = adds_on table step mark (subst (λ t. AddsMark t step mark) now.without_scripts_is of.adds);
     }
 
@@ -126,48 +125,33 @@ decision_of_step inside surveyed folder table step mark name of current = record
 }
 
 -- what is kept then is as it should be
-pub stored_step : (inside surveyed : Kept) (jobs : JobTable) (new : JournalRead) (step : Step) (mark : Mark) → IsStepOf inside surveyed step mark → IsStored inside → AreLegal inside.journal.marks → IsStartInRange step → HaveOneMore inside.journal.marks mark new.marks → jobs ≡ after_step inside.table step → IsStored (record { table = jobs; journal = new; old_form = inside.old_form })
-stored_step inside surveyed jobs new step mark of is legal range more after =
-    let whole : IsStored (stored (after_step inside.table step) new.marks) =
-    stored_with inside.table inside.journal.marks new.marks step mark
-    (record { sound = is.sound; drawn = is.drawn; entries = is.entries; batch = is.batch; old_form = none_old_form })
-    legal (legal_inside inside surveyed step mark of) of.adds range more in
+pub stored_step : (inside surveyed : Kept) (jobs : JobTable) (new : JournalRead) (step : Step) (mark : Mark) → IsStepOf inside surveyed step mark → IsStored inside → AreLegal inside.journal.marks → IsStartInRange step → new ≡ added (with_room inside.journal) mark → jobs ≡ after_step inside.table step → IsStored (record { table = jobs; journal = new; old_form = inside.old_form })
+stored_step inside surveyed jobs new step mark of is legal range made after =
     subst (λ table. IsStored (record { table = table; journal = new; old_form = inside.old_form })) (sym after)
-    (record { sound = whole.sound; drawn = whole.drawn; entries = whole.entries; batch = whole.batch; old_form = is.old_form })
+    (stored_with inside new step mark is legal (legal_inside inside surveyed step of.view of.legal) of.adds range (one_more inside.journal new mark made))
 
 -- and the journal has the step's mark, compacted before where it needs room
-pub has_its_mark : (inside surveyed : Kept) (jobs : JobTable) (new : JournalRead) (step : Step) (mark : Mark) → IsStepOf inside surveyed step mark →
-    (needs_room inside.journal ≡ false → new ≡ added inside.journal mark) →
-    (needs_room inside.journal ≡ true → new ≡ added (compacted inside.journal) mark) →
-    HasItsMark surveyed step (record { table = jobs; journal = new; old_form = inside.old_form })
-has_its_mark inside surveyed jobs new step mark of free full =
+pub has_its_mark : (inside surveyed : Kept) (jobs : JobTable) (new : JournalRead) (step : Step) (mark : Mark) → IsStepOf inside surveyed step mark → new ≡ added (with_room inside.journal) mark → HasItsMark surveyed step (record { table = jobs; journal = new; old_form = inside.old_form })
+has_its_mark inside surveyed jobs new step mark of made =
     subst (λ (kept : Kept). HasItsMark kept step (record { table = jobs; journal = new; old_form = inside.old_form })) of.view
-    (record { mark = mark; adds = of.adds; journal = by_room (needs_room inside.journal) refl }) where
-      by_room : (needs : Bool) → needs_room inside.journal ≡ needs → new ≡ added (if needs then compacted inside.journal else inside.journal) mark
-      by_room true is = full is
-      by_room false is = free is
-
--- a mark that ends a running job may follow
-pub running_legal : (inside surveyed : Kept) (number : ℕ) → inside ≡ surveyed → IsRunning surveyed.table number → IsStored inside → (is_started number inside.journal.marks ≡ true) × (is_ended number inside.journal.marks ≡ false)
-running_legal inside surveyed number view running is =
-    let here : IsRunning inside.table number = subst (λ (kept : Kept). IsRunning kept.table number) (sym view) running in
-    running_unended inside.table inside.journal.marks (record { sound = is.sound; drawn = is.drawn; entries = is.entries; batch = is.batch; old_form = none_old_form }) number here.0 here.1 here.2
+    (record { mark = mark; adds = of.adds; journal = made })
 
 -- The call.
 
 -- a call that failed
-pub failed_call : (table : JobTable) (steps : List Step) (old new : World) (result : Result Kept StoreFault) → IsErr result → ChangesFiles (IsSteppingOn table steps old.now.folder) old new → StoreCall table steps old new result
-failed_call table steps old new (Ok kept) failed files = cc
-failed_call table steps old new (Err fault) failed files = record { files = files; current = tt; others = tt }
+pub failed_step : (tells : Bool) (before after : Session) (old new : World) (kept : Kept) (step : Step) (result : Result Kept StoreFault) → IsErr result → CallsInside FileFault before after result → IfErr result IsOfStep →
+    (tells ≡ true → (table : JobTable) → IsCurrent kept old.now.folder table → ChangesFiles (IsSteppingOn table (step ∷ []) old.now.folder) old new) → MakesStep tells before after old new kept step result
+failed_step tells before after old new kept step (Ok stored) failed inside faults files = cc
+failed_step tells before after old new kept step (Err fault) failed inside faults files =
+    record { inside = inside; faults = faults; table_is = tt; marked = tt; files = λ is table current. record { files = files is table current; current = tt; others = tt } }
 
--- The step was made, also of what is kept, and the call changed files as it may.
-pub record IsMade (inside surveyed : Kept) (jobs : JobTable) (table : JobTable) (step : Step) (mark : Mark) (before after : World) : Type 0 where
+-- The step was made, also of what is kept, which was current.
+pub record IsMade (inside surveyed : Kept) (jobs : JobTable) (table : JobTable) (step : Step) (mark : Mark) (before : World) : Type 0 where
   pub step_of : IsStepOf inside surveyed step mark
   pub kept : jobs ≡ after_step inside.table step
   pub current : IsCurrent surveyed before.now.folder table
-  pub files : ChangesFiles (IsSteppingOn table (step ∷ []) before.now.folder) before after
 
-module _ (inside surveyed : Kept) (jobs : JobTable) (new : JournalRead) (table : JobTable) (step : Step) (mark : Mark) (before after : World) (made : IsMade inside surveyed jobs table step mark before after) where
+module _ (inside surveyed : Kept) (jobs : JobTable) (new : JournalRead) (table : JobTable) (step : Step) (mark : Mark) (before after : World) (made : IsMade inside surveyed jobs table step mark before) where
   -- the table that is kept is the one after the step, without scripts
   without_scripts_after : jobs ≡ without_scripts (after_step table step)
   without_scripts_after =
@@ -175,11 +159,11 @@ module _ (inside surveyed : Kept) (jobs : JobTable) (new : JournalRead) (table :
       ∙ ap (after_step (without_scripts table)) (sym made.step_of.without_scripts) ∙ sym (steps_as_on_the_table table step)
 
   -- a call whose journal is current after the step
-  pub current_call : IsCurrent (kept_with inside.old_form new (after_step table step)) after.now.folder (after_step table step) → KeepsOthers before.now.folder after.now.folder → StoreCall {E = StoreFault} table (step ∷ []) before after (Ok (record { table = jobs; journal = new; old_form = inside.old_form }))
-  current_call now others = record {
-    files = made.files;
-    current = record { shows = now.shows; without_scripts_is = without_scripts_after; journal = now.journal; sequence = now.sequence; decided = now.decided; forms = now.forms };
-    others = others;
+  pub current_call : StoreCall {E = HostFault} table (step ∷ []) before after (Ok (kept_with inside.old_form new (after_step table step))) → StoreCall {E = StoreFault} table (step ∷ []) before after (Ok (record { table = jobs; journal = new; old_form = inside.old_form }))
+  current_call call = record {
+    files = call.files;
+    current = record { shows = call.current.shows; without_scripts_is = without_scripts_after; journal = call.current.journal; sequence = call.current.sequence; decided = call.current.decided; forms = call.current.forms };
+    others = call.others;
   }
 
   -- names that have the forms that are kept have them after the step
@@ -202,6 +186,9 @@ module _ (inside surveyed : Kept) (jobs : JobTable) (new : JournalRead) (table :
   }
 
   -- so a call of such a mark is current after it too
-  pub marked_call : AreLegal inside.journal.marks → HaveOneMore inside.journal.marks mark new.marks → ((number : ℕ) → decides number mark ≡ false) → IsMarked inside.journal.marks new after.now.folder (after_step table step) → KeepsFiles before.now.folder after.now.folder → StoreCall {E = StoreFault} table (step ∷ []) before after (Ok (record { table = jobs; journal = new; old_form = inside.old_form }))
-  marked_call legal more silent marked keeps =
-      current_call (marked_current legal more silent marked keeps) (λ name other. keeps name (λ either. other (journal_is_spool name either)))
+  pub marked_call : AreLegal inside.journal.marks → new ≡ added (with_room inside.journal) mark → ((number : ℕ) → decides number mark ≡ false) → ChangesFiles (IsSteppingOn table (step ∷ []) before.now.folder) before after → IsMarked inside.journal.marks new after.now.folder (after_step table step) → KeepsFiles before.now.folder after.now.folder → StoreCall {E = StoreFault} table (step ∷ []) before after (Ok (record { table = jobs; journal = new; old_form = inside.old_form }))
+  marked_call legal made silent files marked keeps = current_call (record {
+    files = files;
+    current = marked_current legal (one_more inside.journal new mark made) silent marked keeps;
+    others = λ name other. keeps name (λ either. other (journal_is_spool name either));
+  })

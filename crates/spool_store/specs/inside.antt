@@ -1,3 +1,4 @@
+pub mod Deciding
 pub mod SurveyedJobs
 pub mod JobRows
 pub mod Lined

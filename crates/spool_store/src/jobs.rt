@@ -4,18 +4,17 @@ ghost use Rattle.due_lines.specs.Dues.{IsLineOf};
 ghost use Rattle.queue_rules.specs.Order.{is_ready_batch, is_ready_job};
 ghost use Rattle.spool_model.specs.Lists.{live_rows};
 ghost use Rattle.std.specs.Prelude.{◌≡◌, ◌↔◌, IfOk, OnOk, OnErr, IsTrue, IfSome, IfNone, Some, map, if◌then◌else◌};
-ghost use Rattle.std.specs.FinMap as finite;
-ghost use Rattle.spool_model.specs.declared.entry.Entry.TheVariants.{Live, Done};
+ghost use Rattle.spool_model.specs.declared.entry.Entry.TheVariants.{Live};
 ghost use Rattle.spool_model.specs.declared.state.State.TheVariants.{Pending};
-ghost use Rattle.spool_model.specs.declared.step.Step.TheVariants.{Draw, Accept, Remove, Start, End, Interrupt, Forget};
-ghost use Rattle.spool_model.specs.JobTable.{entry_at, is_batch_queue, table_of, IsDone};
+ghost use Rattle.spool_model.specs.declared.step.Step.TheVariants.{Draw, Accept, Start, Forget};
+ghost use Rattle.spool_model.specs.JobTable.{entry_at, is_batch_queue, IsDone};
 ghost use Rattle.spool_model.specs.Steps.{IsFree, IsLegal, after_step};
+ghost use Rattle.spool_store.specs.inside.Deciding.{decision};
 ghost use Rattle.spool_store.specs.Listed.{AreListed, IsLive, ListsDecided, ListsLive, row_job};
 ghost use Rattle.spool_store.specs.Rows.{decided_entry, listed_table, row_entry};
 
 use crate::sorted;
 use due_lines::{Due, Lines};
-use host_calls::Ending;
 use spool_model::{Decided, Fate, Row, is_batch};
 use std::alloc::{AllocError, Global};
 use std::marker::Model;
@@ -163,15 +162,6 @@ impl Jobs {
         Ok(())
     }
 
-    // Takes the pending job of this number back. Where memory is wanting nothing changes.
-    pub(crate) fn remove(&mut self, number: u32) -> Result<(), AllocError>
-        requires { IsLegal self.old (Remove number) }
-        ensures taken { OnOk result (self.new ≡ after_step self.old (Remove number)) }
-        ensures kept { OnErr result (self.new ≡ self.old) }
-    {
-        self.decide(number, Fate::Removed)
-    }
-
     // Starts the pending job of this number at this second.
     pub(crate) fn start(&mut self, number: u32, second: i64)
         requires { IsLegal self.old (Start number second) }
@@ -182,24 +172,6 @@ impl Jobs {
         self.last_batch = last_batch_after(self.last_batch, row.queue, second);
     }
 
-    // Ends the running job of this number. Where memory is wanting nothing changes.
-    pub(crate) fn end(&mut self, number: u32, ending: Ending) -> Result<(), AllocError>
-        requires { IsLegal self.old (End number ending) }
-        ensures taken { OnOk result (self.new ≡ after_step self.old (End number ending)) }
-        ensures kept { OnErr result (self.new ≡ self.old) }
-    {
-        self.decide(number, Fate::Finished(ending))
-    }
-
-    // Gives the running job of this number up. Where memory is wanting nothing changes.
-    pub(crate) fn interrupt(&mut self, number: u32) -> Result<(), AllocError>
-        requires { IsLegal self.old (Interrupt number) }
-        ensures taken { OnOk result (self.new ≡ after_step self.old (Interrupt number)) }
-        ensures kept { OnErr result (self.new ≡ self.old) }
-    {
-        self.decide(number, Fate::Interrupted)
-    }
-
     // Forgets the fate of the job of this number, which is done.
     pub(crate) fn forget(&mut self, number: u32)
         requires { IsLegal self.old (Forget number) }
@@ -208,11 +180,10 @@ impl Jobs {
         sorted::remove_decided(&mut self.decided, number);
     }
 
-    // Puts the fate of the live job of this number in the place of its row.
-    fn decide(&mut self, number: u32, fate: Fate) -> Result<(), AllocError>
+    // Puts the fate of the live job of this number in the place of its row. Where memory is wanting nothing changes.
+    pub(crate) fn decide(&mut self, number: u32, fate: Fate) -> Result<(), AllocError>
         requires { IsLive self.old number }
-        ensures decided { OnOk result (self.new
-            ≡ table_of self.old.last (finite.insert self.old.entries number (Done fate)) self.old.last_batch) }
+        ensures decided { OnOk result (self.new ≡ after_step self.old (decision number fate)) }
         ensures kept { OnErr result (self.new ≡ self.old) }
     {
         sorted::insert_decided(&mut self.decided, Decided { number, fate })?;

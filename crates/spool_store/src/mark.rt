@@ -1,17 +1,17 @@
 //! One mark more in the journal, and the file of a job that it decides.
-ghost use Rattle.std.specs.Prelude.{◌≡◌, ◌≤◌, [], ◌∷◌, ℕ, List, true, false, IfOk, IsTrue, OnOk};
+ghost use Rattle.std.specs.Prelude.{◌≡◌, ◌≤◌, [], ◌∷◌, ℕ, List, false, IfOk, IsTrue, OnOk};
 ghost use Rattle.host_calls.specs.Session.{CallsInside, IsInside};
 ghost use Rattle.spool_model.specs.declared.step.Step.{Step};
 ghost use Rattle.spool_model.specs.JobTable.{JobTable};
 ghost use Rattle.spool_model.specs.Steps.{after_step};
-ghost use Rattle.start_journal.specs.Changing.{added, compacted};
+ghost use Rattle.start_journal.specs.Changing.{added};
 ghost use Rattle.start_journal.specs.Marks.{AreLegal, IsLegalAfter};
 ghost use Rattle.start_journal.specs.Slots.{IsWritable};
 ghost use Rattle.whole_file.specs.Others.{ChangesFiles};
-ghost use Rattle.step_runs.specs.Calls.{IsSteppingOn, KeepsOthers};
+ghost use Rattle.step_runs.specs.Calls.{IsSteppingOn, StoreCall};
 ghost use Rattle.step_runs.specs.Current.{IsCurrent};
-ghost use Rattle.spool_store.specs.inside.Marking.{AreSameOrKept, HaveOneMore, IsDecisionOf, IsMarkOf, IsMarked, KeepsFiles, kept_with};
-ghost use Rattle.spool_store.specs.Stepping.{needs_room};
+ghost use Rattle.spool_store.specs.inside.Marking.{IsDecisionOf, IsMarkOf, IsMarked, KeepsFiles, kept_by, kept_with};
+ghost use Rattle.spool_store.specs.Stepping.{needs_room, with_room};
 
 use host_calls::{Host, HostFault, Name};
 use start_journal::{Journal, Mark};
@@ -32,9 +32,7 @@ pub(crate) fn add_mark<H: Host>(
         × (step : Step) × IsMarkOf old_form journal (H.world host.old).now.folder table step mark }
     ensures inside { CallsInside HostFault.Failed (H.session host.old) (H.session host.new) result }
     ensures legal { AreLegal journal.marks }
-    ensures marks { IfOk result (λ new. HaveOneMore journal.marks mark new.marks) }
-    ensures free { needs_room journal ≡ false → IfOk result (λ new. new ≡ added journal mark) }
-    ensures compacted { needs_room journal ≡ true → IfOk result (λ new. new ≡ added (compacted journal) mark) }
+    ensures journal { IfOk result (λ new. new ≡ added (with_room journal) mark) }
     ensures files { IsTrue H.tells → (old_form : List ℕ) (table : JobTable) (step : Step)
         → IsMarkOf old_form journal (H.world host.old).now.folder table step mark
         → ChangesFiles (IsSteppingOn table (step ∷ []) (H.world host.old).now.folder)
@@ -66,11 +64,9 @@ fn make_room<H: Host>(alloc: Global, host: &mut H, journal: Journal) -> Result<J
         × IsCurrent (kept_with old_form journal table) (H.world host.old).now.folder table }
     ensures inside { CallsInside HostFault.Failed (H.session host.old) (H.session host.new) result }
     ensures room { IfOk result (λ new. 1 ≤ new.free) }
-    ensures free { needs_room journal ≡ false → IfOk result (λ new. new ≡ journal) }
+    ensures journal { IfOk result (λ new. new ≡ with_room journal) }
     ensures untouched { needs_room journal ≡ false → host.new ≡ host.old }
-    ensures compacted { needs_room journal ≡ true → IfOk result (λ new. new ≡ compacted journal) }
     ensures legal { AreLegal journal.marks }
-    ensures marks { IfOk result (λ new. AreSameOrKept journal.marks new.marks) }
     ensures files { IsTrue H.tells → (old_form : List ℕ) (table : JobTable)
         → IsCurrent (kept_with old_form journal table) (H.world host.old).now.folder table
         → ChangesFiles (IsSteppingOn table [] (H.world host.old).now.folder) (H.world host.old) (H.world host.new) }
@@ -103,20 +99,11 @@ pub(crate) fn decide<H: Host>(
         × (step : Step) × IsDecisionOf old_form journal (H.world host.old).now.folder table step mark file.now }
     ensures inside { CallsInside HostFault.Failed (H.session host.old) (H.session host.new) result }
     ensures legal { AreLegal journal.marks }
-    ensures marks { IfOk result (λ new. HaveOneMore journal.marks mark new.marks) }
-    ensures free { needs_room journal ≡ false → IfOk result (λ new. new ≡ added journal mark) }
-    ensures compacted { needs_room journal ≡ true → IfOk result (λ new. new ≡ added (compacted journal) mark) }
+    ensures journal { IfOk result (λ new. new ≡ added (with_room journal) mark) }
     ensures files { IsTrue H.tells → (old_form : List ℕ) (table : JobTable) (step : Step)
         → IsDecisionOf old_form journal (H.world host.old).now.folder table step mark file.now
-        → ChangesFiles (IsSteppingOn table (step ∷ []) (H.world host.old).now.folder)
-        (H.world host.old) (H.world host.new) }
-    ensures current { IsTrue H.tells → (old_form : List ℕ) (table : JobTable) (step : Step)
-        → IsDecisionOf old_form journal (H.world host.old).now.folder table step mark file.now
-        → IfOk result (λ new. IsCurrent (kept_with old_form new (after_step table step))
-        (H.world host.new).now.folder (after_step table step)) }
-    ensures others { IsTrue H.tells → (old_form : List ℕ) (table : JobTable) (step : Step)
-        → IsDecisionOf old_form journal (H.world host.old).now.folder table step mark file.now
-        → OnOk result (KeepsOthers (H.world host.old).now.folder (H.world host.new).now.folder) }
+        → StoreCall table (step ∷ []) (H.world host.old) (H.world host.new)
+        (kept_by old_form (after_step table step) result) }
 {
     let journal = add_mark(alloc, host, journal, mark)?;
     clear(alloc, host, &[*file])?;

@@ -1,11 +1,14 @@
 //! The steps of a job that the store makes, each by one mark in the journal.
 ghost use Rattle.spool_model.specs.declared.step.Step.TheVariants.{Remove, Start, End, Interrupt, Forget};
+ghost use Rattle.std.specs.Prelude.{◌≡◌};
 ghost use Rattle.clock_range.specs.ClockRange.{IsClockSecond};
+ghost use Rattle.spool_store.specs.inside.Deciding.{decision, decision_mark};
 ghost use Rattle.spool_store.specs.Stepping.{MakesStep, MayStep};
 
 use crate::mark::{add_mark, decide};
 use crate::{Store, StoreFault};
 use host_calls::{Ending, Host};
+use spool_model::Fate;
 use start_journal::Mark;
 use std::alloc::Global;
 
@@ -21,25 +24,13 @@ impl Store {
         ensures makes { MakesStep H.tells (H.session host.old) (H.session host.new)
             (H.world host.old) (H.world host.new) self (Remove number) result }
     {
-        let file = self.file(number).unwrap();
-        let Store {
-            mut jobs,
-            journal,
-            old_form,
-        } = self;
-        jobs.remove(number)?;
-        let journal = decide(alloc, host, journal, Mark::Removed(number), &file)?;
-        Ok(Store {
-            jobs,
-            journal,
-            old_form,
-        })
+        self.decide(alloc, host, number, Fate::Removed)
     }
 
     /// Writes that the pending job of this number starts at this second. It hands nothing over: once this has
     /// answered Ok, the start survives every crash.
     pub fn start<H: Host>(
-        self,
+        mut self,
         alloc: Global,
         host: &mut H,
         number: u32,
@@ -51,23 +42,14 @@ impl Store {
             (H.world host.old) (H.world host.new) self (Start number second) result }
     {
         let queue = self.jobs.row(number).unwrap().queue;
-        let Store {
-            mut jobs,
-            journal,
-            old_form,
-        } = self;
         let mark = Mark::Started {
             number,
             queue,
             second,
         };
-        let journal = add_mark(alloc, host, journal, mark)?;
-        jobs.start(number, second);
-        Ok(Store {
-            jobs,
-            journal,
-            old_form,
-        })
+        self.journal = add_mark(alloc, host, self.journal, mark)?;
+        self.jobs.start(number, second);
+        Ok(self)
     }
 
     /// Writes how the running job of this number ended, and removes its file.
@@ -82,19 +64,7 @@ impl Store {
         ensures makes { MakesStep H.tells (H.session host.old) (H.session host.new)
             (H.world host.old) (H.world host.new) self (End number ending) result }
     {
-        let file = self.file(number).unwrap();
-        let Store {
-            mut jobs,
-            journal,
-            old_form,
-        } = self;
-        jobs.end(number, ending)?;
-        let journal = decide(alloc, host, journal, Mark::Ended { number, ending }, &file)?;
-        Ok(Store {
-            jobs,
-            journal,
-            old_form,
-        })
+        self.decide(alloc, host, number, Fate::Finished(ending))
     }
 
     /// Gives the running job of this number up, and removes its file.
@@ -108,24 +78,12 @@ impl Store {
         ensures makes { MakesStep H.tells (H.session host.old) (H.session host.new)
             (H.world host.old) (H.world host.new) self (Interrupt number) result }
     {
-        let file = self.file(number).unwrap();
-        let Store {
-            mut jobs,
-            journal,
-            old_form,
-        } = self;
-        jobs.interrupt(number)?;
-        let journal = decide(alloc, host, journal, Mark::Interrupted(number), &file)?;
-        Ok(Store {
-            jobs,
-            journal,
-            old_form,
-        })
+        self.decide(alloc, host, number, Fate::Interrupted)
     }
 
     /// Forgets what became of the job of this number, which is done.
     pub fn forget<H: Host>(
-        self,
+        mut self,
         alloc: Global,
         host: &mut H,
         number: u32,
@@ -134,17 +92,38 @@ impl Store {
         ensures makes { MakesStep H.tells (H.session host.old) (H.session host.new)
             (H.world host.old) (H.world host.new) self (Forget number) result }
     {
-        let Store {
-            mut jobs,
-            journal,
-            old_form,
-        } = self;
-        let journal = add_mark(alloc, host, journal, Mark::Forgotten(number))?;
-        jobs.forget(number);
-        Ok(Store {
-            jobs,
-            journal,
-            old_form,
-        })
+        self.journal = add_mark(alloc, host, self.journal, Mark::Forgotten(number))?;
+        self.jobs.forget(number);
+        Ok(self)
+    }
+
+    // Gives the live job of this number its fate, and removes its file.
+    fn decide<H: Host>(
+        mut self,
+        alloc: Global,
+        host: &mut H,
+        number: u32,
+        fate: Fate,
+    ) -> Result<Store, StoreFault>
+        requires may { MayStep H.tells (H.session host.old) (H.world host.old) self (decision number fate) }
+        ensures makes { MakesStep H.tells (H.session host.old) (H.session host.new)
+            (H.world host.old) (H.world host.new) self (decision number fate) result }
+    {
+        let file = self.file(number).unwrap();
+        let mark = decision_mark(number, fate);
+        self.jobs.decide(number, fate)?;
+        self.journal = decide(alloc, host, self.journal, mark, &file)?;
+        Ok(self)
+    }
+}
+
+// The mark that tells of this fate of the number.
+fn decision_mark(number: u32, fate: Fate) -> Mark
+    ensures { result ≡ decision_mark number fate }
+{
+    match fate {
+        Fate::Removed => Mark::Removed(number),
+        Fate::Finished(ending) => Mark::Ended { number, ending },
+        Fate::Interrupted => Mark::Interrupted(number),
     }
 }

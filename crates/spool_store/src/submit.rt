@@ -27,7 +27,7 @@ impl Store {
     /// Draws the next number, and accepts a pending job under it, whose script begins with the header of
     /// its user. A refusal changes nothing.
     pub fn submit<H: Host>(
-        self,
+        mut self,
         alloc: Global,
         host: &mut H,
         queue: u8,
@@ -54,14 +54,9 @@ impl Store {
     {
         let number = self.next_number()?;
         let user = header(script).unwrap().user;
-        let Store {
-            mut jobs,
-            journal,
-            old_form,
-        } = self;
         // Memory for the job is had first, so that want of it loses no number.
-        jobs.draw();
-        jobs.accept(Row {
+        self.jobs.draw();
+        self.jobs.accept(Row {
             number,
             queue,
             minute,
@@ -75,12 +70,7 @@ impl Store {
             new_form: true,
         };
         file_job(alloc, host, &job, script)?;
-        let store = Store {
-            jobs,
-            journal,
-            old_form,
-        };
-        Ok((store, number))
+        Ok((self, number))
     }
 
     // The number of the next job, where there is room for one.

@@ -1,5 +1,5 @@
 -- One mark more in the journal (own): when the store may add it, and what stands then.
-use Rattle.std.specs.Prelude.{◌≡◌, ◌⊎◌, ◌++◌, [], ◌∷◌, ℕ, List, true}
+use Rattle.std.specs.Prelude.{◌≡◌, ◌⊎◌, ◌++◌, [], ◌∷◌, ℕ, List, Result, Ok, Err, true}
 use Rattle.std.specs.FinMap as finite
 use Rattle.host_calls.specs.Folder.{Files, Folder, IsImage, reading_of}
 use Rattle.sequence_file.specs.Sequence.{sequence_file}
@@ -21,6 +21,11 @@ use Rattle.spool_store.specs.Scripts.{IsFileOf}
 abbrev pub kept_with : List ℕ → JournalRead → JobTable → Kept
 kept_with old_form journal table = record { table = without_scripts table; journal = journal; old_form = old_form }
 
+-- what is kept of the table by the answer of a call that hands its journal back
+abbrev pub kept_by : {E : Type 0} → List ℕ → JobTable → Result JournalRead E → Result Kept E
+kept_by old_form table (Ok journal) = Ok (kept_with old_form journal table)
+kept_by old_form table (Err fault) = Err fault
+
 -- the mark is that of a legal step on the table that the folder shows
 pub record IsMarkOf (old_form : List ℕ) (journal : JournalRead) (folder : Folder) (table : JobTable) (step : Step)
     (mark : Mark) : Type 0 where
@@ -35,10 +40,6 @@ pub record IsDecisionOf (old_form : List ℕ) (journal : JournalRead) (folder : 
   pub number : ℕ
   pub decided : decides number mark ≡ true
   pub file : IsFileOf table old_form number name
-
--- the same marks, or what a compaction keeps of them
-abbrev pub AreSameOrKept : List Mark → List Mark → Type 0
-AreSameOrKept before after = (after ≡ before) ⊎ (after ≡ kept_marks before)
 
 -- the marks with one more, or what a compaction keeps of them with one more
 abbrev pub HaveOneMore : List Mark → Mark → List Mark → Type 0

@@ -11,7 +11,7 @@ pub returns-in_err-journal-clause-files : goal.returns-in_err-journal-clause-fil
 returns-in_err-journal-clause-files g c = λ tells old_form table step is. changes_weaker _ _ _ _ (stepping_more table (step ∷ []) _) (c.make_room.ensures.files tells old_form table is.current)
 
 pub add-requires-clause-legal : goal.add-requires-clause-legal
-add-requires-clause-legal g c = legal_still c.args.journal.marks _ c.args.mark c.make_room.ensures.legal c.requires.legal c.in_ok-journal.ensures.marks
+add-requires-clause-legal g c = legal_still c.args.journal _ c.args.mark c.make_room.ensures.legal c.requires.legal c.in_ok-journal.ensures.journal
 
 pub returns-clause-files : goal.returns-clause-files
 returns-clause-files g c = λ tells old_form table step is. add_stepping old_form c.args.journal c.in_ok-journal.journal table step c.args.mark _ _ _ (record {

@@ -1,10 +1,11 @@
-use Rattle.std.proofs.Common.{map, refl, sym, ap, subst}
+use Rattle.std.proofs.Common.{map, refl, sym, ap, subst, ◌∙◌}
 use Rattle.std.specs.Prelude.{Some, None, IsSome}
 use Rattle.spool_model.specs.declared.entry.Entry.TheVariants.{Done}
 use Rattle.spool_model.specs.JobTable.{JobTable}
 use Rattle.spool_store.specs.Rows.{decided_entry, row_entry}
 use Rattle.spool_store.proofs.Listing.{is_drawn, live_has_row, live_is_undecided, no_entry, still_listed, table_put}
 use Rattle.spool_store.proofs.LinedLemmas.{lines_less, lines_with}
+use Rattle.spool_store.proofs.StoredSteps.{decides_by}
 use Rattle.spool_store.proofs.jobs.Jobs.decide.Goals as goal
 
 pub insert_decided-requires-clause-absent : goal.insert_decided-requires-clause-absent
@@ -28,3 +29,4 @@ pub returns-clause-decided : goal.returns-clause-decided
 returns-clause-decided c =
     table_put c.self.inside.last c.self.inside.rows.items c.self.inside.decided.items c.self.inside.last_batch c.args.self.now c.self.view_is _ _ c.args.number None (Some (Done c.args.fate)) (Done c.args.fate) c.remove_row-row.ensures.edited c.in_ok-insert_decided.ensures.ok refl
     _ _ (ap (λ (at : JobTable). at.last_batch) c.self.view_is)
+    ∙ sym (decides_by c.args.self.now c.args.number c.args.fate).after

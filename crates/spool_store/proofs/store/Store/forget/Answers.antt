@@ -4,7 +4,7 @@ use Rattle.spool_model.specs.JobTable.{JobTable}
 use Rattle.spool_model.specs.Steps.{IsLegal}
 use Rattle.start_journal.specs.declared.mark.Mark.TheVariants.{Forgotten}
 use Rattle.step_runs.specs.Current.{Kept}
-use Rattle.spool_store.proofs.StepCalls.{IsStepOf, failed_call, has_its_mark, mark_of_step, marked_call, stored_step}
+use Rattle.spool_store.proofs.StepCalls.{IsStepOf, failed_step, has_its_mark, mark_of_step, marked_call, stored_step}
 use Rattle.spool_store.proofs.store.Store.forget.Goals as goal
 
 -- the step that the store makes, and its mark
@@ -16,36 +16,27 @@ add_mark-requires-clause-current g c = λ tells.
     let table : JobTable = (c.requires.may.current tells).0 in
     (_, table, Forget c.args.number, mark_of_step _ _ _ table _ _ (forgets _ _ c.args.number c.self.view_is c.requires.may.legal) (c.requires.may.current tells).1)
 
-pub returns-in_err-journal : goal.returns-in_err-journal
-returns-in_err-journal g c = record {
-  makes = record {
-    inside = search rules;
-    faults = search rules;
-    table_is = search rules;
-    marked = search rules;
-    files = λ tells table current.
-        let is = mark_of_step _ _ _ table _ _ (forgets _ _ c.args.number c.self.view_is c.requires.may.legal) current in
-        failed_call table _ _ _ c.from_residual.result c.from_residual.ensures.0 (c.add_mark.ensures.files tells _ table _ is);
-  };
-}
+pub returns-in_err-self-inside : goal.returns-in_err-self-inside
+returns-in_err-self-inside g c =
+    let of = forgets _ _ c.args.number c.self.view_is c.requires.may.legal in
+    record { makes = failed_step _ _ _ _ _ _ _ c.from_residual.result c.from_residual.ensures.0 (search rules) (search rules) (λ tells table current. c.add_mark.ensures.files tells _ table _ (mark_of_step _ _ _ table _ _ of current)) }
 
-pub invariant_of-result : goal.invariant_of-result
-invariant_of-result g c =
-    stored_step _ _ _ _ _ _ (forgets _ _ c.args.number c.self.view_is c.requires.may.legal) c.self.invariant c.add_mark.ensures.legal tt c.in_ok-journal.ensures.marks c.forget.ensures
+pub invariant_of-self : goal.invariant_of-self
+invariant_of-self g c =
+    stored_step _ _ _ _ _ _ (forgets _ _ c.args.number c.self.view_is c.requires.may.legal) c.self.invariant c.add_mark.ensures.legal tt c.in_ok-self-inside.ensures.journal c.forget.ensures
 
 pub returns : goal.returns
-returns g c = record {
-  makes = record {
-    inside = search rules;
-    faults = search rules;
-    table_is = search rules;
-    marked =
-        let of = forgets _ _ c.args.number c.self.view_is c.requires.may.legal in
-        has_its_mark _ _ _ _ _ _ of c.in_ok-journal.ensures.free c.in_ok-journal.ensures.compacted;
-    files = λ tells table current.
-        let of = forgets _ _ c.args.number c.self.view_is c.requires.may.legal in
-        let is = mark_of_step _ _ _ table _ _ of current in
-        marked_call _ _ _ _ table _ _ _ _ (record { step_of = of; kept = c.forget.ensures; current = current; files = c.add_mark.ensures.files tells _ table _ is })
-        c.add_mark.ensures.legal c.in_ok-journal.ensures.marks (λ number. refl) (c.in_ok-journal.ensures.marked tells _ table _ is) (c.in_ok-journal.ensures.others tells);
-  };
-}
+returns g c =
+    let of = forgets _ _ c.args.number c.self.view_is c.requires.may.legal in
+    record {
+      makes = record {
+        inside = search rules;
+        faults = search rules;
+        table_is = search rules;
+        marked = has_its_mark _ _ _ _ _ _ of c.in_ok-self-inside.ensures.journal;
+        files = λ tells table current.
+            let is = mark_of_step _ _ _ table _ _ of current in
+            marked_call _ _ _ _ table _ _ _ _ (record { step_of = of; kept = c.forget.ensures; current = current })
+            c.add_mark.ensures.legal c.in_ok-self-inside.ensures.journal (λ number. refl) (c.add_mark.ensures.files tells _ table _ is) (c.in_ok-self-inside.ensures.marked tells _ table _ is) (c.in_ok-self-inside.ensures.others tells);
+      };
+    }

@@ -11,7 +11,7 @@ use Rattle.start_journal.specs.declared.mark.Mark.TheVariants.{Started}
 use Rattle.step_runs.specs.Current.{Kept}
 use Rattle.spool_store.specs.Listed.{row_job}
 use Rattle.spool_store.specs.Rows.{row_entry}
-use Rattle.spool_store.proofs.StepCalls.{IsStepOf, failed_call, has_its_mark, mark_of_step, marked_call, of_some, stored_step}
+use Rattle.spool_store.proofs.StepCalls.{IsStepOf, failed_step, has_its_mark, mark_of_step, marked_call, of_some, stored_step}
 use Rattle.spool_store.proofs.store.Store.start.Goals as goal
 
 -- the queue of a job is that of its row
@@ -38,39 +38,30 @@ add_mark-requires-clause-current g c = λ tells.
     let of = starts _ _ c.args.number c.args.second _ c.unwrap.result.now c.self.view_is c.requires.may.legal (of_some _ c.row.result _ c.unwrap.ensures c.row.ensures.found) (to_z-of_z w64 c.args.second c.ranges.second) in
     (_, table, Start c.args.number c.args.second, mark_of_step _ _ _ table _ _ of (c.requires.may.current tells).1)
 
-pub returns-in_err-journal : goal.returns-in_err-journal
-returns-in_err-journal g c = record {
-  makes = record {
-    inside = search rules;
-    faults = search rules;
-    table_is = search rules;
-    marked = search rules;
-    files = λ tells table current.
-        let of = starts _ _ c.args.number c.args.second _ c.unwrap.result.now c.self.view_is c.requires.may.legal (of_some _ c.row.result _ c.unwrap.ensures c.row.ensures.found) (to_z-of_z w64 c.args.second c.ranges.second) in
-        failed_call table _ _ _ c.from_residual.result c.from_residual.ensures.0 (c.add_mark.ensures.files tells _ table _ (mark_of_step _ _ _ table _ _ of current));
-  };
-}
-
-pub invariant_of-result : goal.invariant_of-result
-invariant_of-result g c =
+pub returns-in_err-self-inside : goal.returns-in_err-self-inside
+returns-in_err-self-inside g c =
     let of = starts _ _ c.args.number c.args.second _ c.unwrap.result.now c.self.view_is c.requires.may.legal (of_some _ c.row.result _ c.unwrap.ensures c.row.ensures.found) (to_z-of_z w64 c.args.second c.ranges.second) in
-    stored_step _ _ _ _ _ _ of c.self.invariant c.add_mark.ensures.legal c.requires.second c.in_ok-journal.ensures.marks
+    record { makes = failed_step _ _ _ _ _ _ _ c.from_residual.result c.from_residual.ensures.0 (search rules) (search rules) (λ tells table current. c.add_mark.ensures.files tells _ table _ (mark_of_step _ _ _ table _ _ of current)) }
+
+pub invariant_of-self : goal.invariant_of-self
+invariant_of-self g c =
+    let of = starts _ _ c.args.number c.args.second _ c.unwrap.result.now c.self.view_is c.requires.may.legal (of_some _ c.row.result _ c.unwrap.ensures c.row.ensures.found) (to_z-of_z w64 c.args.second c.ranges.second) in
+    stored_step _ _ _ _ _ _ of c.self.invariant c.add_mark.ensures.legal c.requires.second c.in_ok-self-inside.ensures.journal
     (c.start.ensures ∙ ap (λ second. after_step c.self.inside.jobs (Start c.args.number second)) (to_z-of_z w64 c.args.second c.ranges.second))
 
 pub returns : goal.returns
-returns g c = record {
-  makes = record {
-    inside = search rules;
-    faults = search rules;
-    table_is = search rules;
-    marked =
-        let of = starts _ _ c.args.number c.args.second _ c.unwrap.result.now c.self.view_is c.requires.may.legal (of_some _ c.row.result _ c.unwrap.ensures c.row.ensures.found) (to_z-of_z w64 c.args.second c.ranges.second) in
-        has_its_mark _ _ _ _ _ _ of c.in_ok-journal.ensures.free c.in_ok-journal.ensures.compacted;
-    files = λ tells table current.
-        let of = starts _ _ c.args.number c.args.second _ c.unwrap.result.now c.self.view_is c.requires.may.legal (of_some _ c.row.result _ c.unwrap.ensures c.row.ensures.found) (to_z-of_z w64 c.args.second c.ranges.second) in
-        let is = mark_of_step _ _ _ table _ _ of current in
-        let kept = c.start.ensures ∙ ap (λ second. after_step c.self.inside.jobs (Start c.args.number second)) (to_z-of_z w64 c.args.second c.ranges.second) in
-        marked_call _ _ _ _ table _ _ _ _ (record { step_of = of; kept = kept; current = current; files = c.add_mark.ensures.files tells _ table _ is })
-        c.add_mark.ensures.legal c.in_ok-journal.ensures.marks (λ number. refl) (c.in_ok-journal.ensures.marked tells _ table _ is) (c.in_ok-journal.ensures.others tells);
-  };
-}
+returns g c =
+    let of = starts _ _ c.args.number c.args.second _ c.unwrap.result.now c.self.view_is c.requires.may.legal (of_some _ c.row.result _ c.unwrap.ensures c.row.ensures.found) (to_z-of_z w64 c.args.second c.ranges.second) in
+    record {
+      makes = record {
+        inside = search rules;
+        faults = search rules;
+        table_is = search rules;
+        marked = has_its_mark _ _ _ _ _ _ of c.in_ok-self-inside.ensures.journal;
+        files = λ tells table current.
+            let is = mark_of_step _ _ _ table _ _ of current in
+            let kept = c.start.ensures ∙ ap (λ second. after_step c.self.inside.jobs (Start c.args.number second)) (to_z-of_z w64 c.args.second c.ranges.second) in
+            marked_call _ _ _ _ table _ _ _ _ (record { step_of = of; kept = kept; current = current })
+            c.add_mark.ensures.legal c.in_ok-self-inside.ensures.journal (λ number. refl) (c.add_mark.ensures.files tells _ table _ is) (c.in_ok-self-inside.ensures.marked tells _ table _ is) (c.in_ok-self-inside.ensures.others tells);
+      };
+    }

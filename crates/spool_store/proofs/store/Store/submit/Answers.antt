@@ -34,8 +34,8 @@ returns-clause-kept g c =
     c.args.queue c.args.minute c.in_ok-number.number c.args.script.now c.header.result c.unwrap-user.result
     c.draw.ensures c.in_ok-accept.ensures.taken c.in_ok-number.ensures.number c.header.ensures.read c.unwrap-user.ensures
 
-pub invariant_of-store : goal.invariant_of-store
-invariant_of-store g c =
+pub invariant_of-self : goal.invariant_of-self
+invariant_of-self g c =
     let job : Job = job_of_script c.args.queue c.args.minute c.args.script.now in
     subst IsStored (sym (submitted_kept c.args.self c.self.inside.jobs c.self.inside.journal c.self.inside.old_form.items c.self.view_is c.accept.new.self job (returns-clause-kept g c)))
     (submitted_stored c.args.self job (subst IsStored c.self.view_is c.self.invariant) c.in_ok-number.ensures.number.room.more (record { letter = c.requires.queue; in_calendar = c.requires.minute }))
