@@ -88,9 +88,7 @@ impl<R: Runtime<File = File> + Processes> Host for UnixHost<R> {
         ensures kept { IfOk result (λ names. IfSome (listed_names self.old) (λ kept. names.items ≡ kept)) }
         ensures keeps { IfOk result (λ names. listed_names self.new ≡ Some names.items) }
     {
-        let Some(folder) = &mut self.folder else {
-            unreachable!()
-        };
+        let folder = self.folder.as_mut().unwrap();
         let answer = folder.names(&self.rt, alloc, self.head);
         finish(folder, &mut self.counts, answer)
     }
@@ -100,9 +98,7 @@ impl<R: Runtime<File = File> + Processes> Host for UnixHost<R> {
         ensures inside { CallsInside HostFault.Failed (session_of self.old) (session_of self.new) result }
         ensures counts { CountsFiles (session_of self.old) (session_of self.new) result }
     {
-        let Some(folder) = &mut self.folder else {
-            unreachable!()
-        };
+        let folder = self.folder.as_mut().unwrap();
         let answer = read_file::length(folder, &self.rt, alloc, name);
         finish(folder, &mut self.counts, answer)
     }
@@ -119,9 +115,7 @@ impl<R: Runtime<File = File> + Processes> Host for UnixHost<R> {
         ensures counts { CountsFiles (session_of self.old) (session_of self.new) result }
         ensures few { IfOk result (λ bytes. vec_len bytes ≤ most) }
     {
-        let Some(folder) = &mut self.folder else {
-            unreachable!()
-        };
+        let folder = self.folder.as_mut().unwrap();
         let answer = read_file::read(folder, &self.rt, alloc, name, offset, most);
         finish(folder, &mut self.counts, answer)
     }
@@ -135,9 +129,7 @@ impl<R: Runtime<File = File> + Processes> Host for UnixHost<R> {
             → torn_file self.new ≡ Some name.now) }
         ensures unlisted { OnOk result (listed_names self.new ≡ None) }
     {
-        let Some(folder) = &mut self.folder else {
-            unreachable!()
-        };
+        let folder = self.folder.as_mut().unwrap();
         let answer = folder.create(&self.rt, alloc, name, bytes);
         finish(folder, &mut self.counts, answer)
     }
@@ -157,9 +149,7 @@ impl<R: Runtime<File = File> + Processes> Host for UnixHost<R> {
             → torn_file self.new ≡ Some name.now) }
         ensures unlisted { OnOk result (listed_names self.new ≡ None) }
     {
-        let Some(folder) = &mut self.folder else {
-            unreachable!()
-        };
+        let folder = self.folder.as_mut().unwrap();
         let answer = folder.write(&self.rt, alloc, name, offset, bytes);
         finish(folder, &mut self.counts, answer)
     }
@@ -171,9 +161,7 @@ impl<R: Runtime<File = File> + Processes> Host for UnixHost<R> {
         ensures synced { OnOk result (torn_file self.old ≡ Some name.now
             → unsynced_of self.new ≢ Some Unsynced.Anything) }
     {
-        let Some(folder) = &mut self.folder else {
-            unreachable!()
-        };
+        let folder = self.folder.as_mut().unwrap();
         let answer = folder.sync(&self.rt, alloc, name);
         finish(folder, &mut self.counts, answer)
     }
@@ -185,9 +173,7 @@ impl<R: Runtime<File = File> + Processes> Host for UnixHost<R> {
         ensures synced { OnOk result (unsynced_of self.new ≢ Some Unsynced.Names) }
     {
         let _ = alloc;
-        let Some(folder) = &mut self.folder else {
-            unreachable!()
-        };
+        let folder = self.folder.as_mut().unwrap();
         let answer = folder.sync_names(&self.rt);
         finish(folder, &mut self.counts, answer)
     }
@@ -198,9 +184,7 @@ impl<R: Runtime<File = File> + Processes> Host for UnixHost<R> {
         ensures counts { CountsFiles (session_of self.old) (session_of self.new) result }
         ensures settled { OnOk result (unsynced_of self.new ≡ Some Unsynced.Nothing) }
     {
-        let Some(folder) = &mut self.folder else {
-            unreachable!()
-        };
+        let folder = self.folder.as_mut().unwrap();
         let answer = folder.settle(&self.rt, alloc);
         finish(folder, &mut self.counts, answer)
     }
@@ -212,9 +196,7 @@ impl<R: Runtime<File = File> + Processes> Host for UnixHost<R> {
         ensures unsynced { OnOk result (unsynced_of self.new ≢ Some Unsynced.Nothing) }
         ensures unlisted { OnOk result (listed_names self.new ≡ None) }
     {
-        let Some(folder) = &mut self.folder else {
-            unreachable!()
-        };
+        let folder = self.folder.as_mut().unwrap();
         let answer = folder.rename(&self.rt, alloc, from, to);
         finish(folder, &mut self.counts, answer)
     }
@@ -226,9 +208,7 @@ impl<R: Runtime<File = File> + Processes> Host for UnixHost<R> {
         ensures unsynced { OnOk result (unsynced_of self.new ≢ Some Unsynced.Nothing) }
         ensures unlisted { OnOk result (listed_names self.new ≡ None) }
     {
-        let Some(folder) = &mut self.folder else {
-            unreachable!()
-        };
+        let folder = self.folder.as_mut().unwrap();
         let answer = folder.remove(&self.rt, alloc, name);
         finish(folder, &mut self.counts, answer)
     }
