@@ -6,7 +6,7 @@ ghost use Rattle.host_calls.specs.Session.{IsInside, IsLeft, IsOutside, CallsIns
 ghost use Rattle.unix_host.specs.Counted.{CountsEnters, CountsFiles, CountsNothing, CountsStarts};
 ghost use Rattle.unix_host.specs.declared.unsynced.Unsynced.{Unsynced};
 ghost use Rattle.unix_host.specs.UnixHost.{ending_in, listed_names, starts_of, session_of, known_of, torn_file, unsynced_of};
-ghost use Rattle.unix_host.specs.Unknown.{unknown_world};
+ghost use Rattle.witnessed_host.specs.Nothing.{empty_world};
 
 use crate::absent::Absent;
 use crate::finish::finish;
@@ -41,7 +41,8 @@ impl<R: Runtime<File = File> + Processes> Host for UnixHost<R> {
 
     ghost session = { session_of };
 
-    ghost world = { λ _. unknown_world };
+    // It tells nothing, and no clause says anything of this.
+    ghost world = { λ _. empty_world };
 
     fn enter(&mut self, alloc: Global) -> Result<(), EnterFault>
         requires { IsOutside (session_of self.old) }
@@ -230,9 +231,7 @@ impl<R: Runtime<File = File> + Processes> Host for UnixHost<R> {
     {
         // The name alone tells which job it is.
         let _ = number;
-        let Some(folder) = &self.folder else {
-            unreachable!()
-        };
+        let folder = self.folder.as_ref().unwrap();
         // Room first, so that no child is lost that was started.
         self.kids.reserve(1)?;
         let started = job::start(
