@@ -1,13 +1,13 @@
 -- What is new of a number, by how its job stands.
 use Rattle.std.proofs.Common.{◌≡◌, ◌∙◌, ℕ, List, ◌++◌, Option, Some, None, sym, ap, append_assoc}
+use Rattle.record_lines.proofs.SayingLemmas.{none_says}
 use Rattle.account_records.specs.declared.ledger.Standing.{Standing}
 use Rattle.account_records.specs.declared.news.KnownJob.{KnownJob}
 use Rattle.account_records.specs.declared.news.Said.{Said}
 use Rattle.account_records.specs.declared.record.AccountRecord.{AccountRecord}
 use Rattle.account_records.specs.News.{closing_event, events_by, news_of, records_of, said_by, seen_event, start_event}
-use Rattle.account_records.specs.Records.{is_closed, is_closing, is_seeing, is_seen, is_start, is_started}
+use Rattle.account_records.specs.Records.{is_closed, is_closing, is_seeing, is_seen, is_start, is_started, names}
 use Rattle.account_records.specs.Standings.{StandsAt}
-use Rattle.account_records.proofs.RecordLemmas.{none_says}
 
 -- the records say what the standing says
 record Tells (before : List AccountRecord) (number : ℕ) (said : Said) : Type 0 where
@@ -17,9 +17,9 @@ record Tells (before : List AccountRecord) (number : ℕ) (said : Said) : Type 0
 
 said_told : (before : List AccountRecord) (number : ℕ) (standing : Option Standing) → StandsAt before number standing → Tells before number (said_by standing)
 said_told before number None stands = record {
-  seen = none_says number (λ one. is_seeing one.event) before stands;
-  started = none_says number (λ one. is_start one.event) before stands;
-  closed = none_says number (λ one. is_closing one.event) before stands;
+  seen = none_says (names number) (λ one. is_seeing one.event) before stands;
+  started = none_says (names number) (λ one. is_start one.event) before stands;
+  closed = none_says (names number) (λ one. is_closing one.event) before stands;
 }
 said_told before number (Some standing) stands = record {
   seen = stands.seen;

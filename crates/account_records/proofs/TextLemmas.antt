@@ -1,7 +1,8 @@
 -- The text of a record.
-use Rattle.std.proofs.Common.{◌≡◌, ◌∙◌, ℕ, ◌-◌, List, [], ◌∷◌, ◌++◌, length, take, drop, get_or, sym, ap, append_assoc, arith, take_all}
+use Rattle.std.proofs.Common.{◌≡◌, ◌∙◌, ℕ, ◌-◌, List, [], ◌∷◌, ◌++◌, length, take, drop, get_or, sym, ap, append_assoc}
 use Rattle.hex_digits.specs.Digits.{SpellsNumber}
 use Rattle.hex_digits.proofs.DigitLemmas.{one_spelling}
+use Rattle.record_lines.proofs.LineLemmas.{after_space}
 use Rattle.account_records.specs.declared.record.AccountEvent.{AccountEvent}
 use Rattle.account_records.specs.declared.record.AccountEvent.TheVariants.{Closed, Seen, Started}
 use Rattle.account_records.specs.declared.record.AccountRecord.{AccountRecord}
@@ -31,17 +32,12 @@ text_added old with_letter with_space with_digits digits line one spelled first 
     ∙ append_assoc old (spelled.letter ∷ []) (32 ∷ (spelled.digits ++ spelled.rest))
     ∙ ap (λ l. old ++ l) (sym spelled.parted)
 
--- what stands after the letter and its space
-after_space : (line digits rest : List ℕ) (letter : ℕ) → line ≡ letter ∷ 32 ∷ (digits ++ rest) → take (length line - 2) (drop 2 line) ≡ digits ++ rest
-after_space line digits rest letter parted =
-    ap (λ text. take (length text - 2) (drop 2 text)) parted ∙ take_all (length (letter ∷ 32 ∷ (digits ++ rest)) - 2) (digits ++ rest) (omega arith)
-
 -- the digits of a line that spells a record, and what stands after them
 pub digits_part : (line : List ℕ) (one : AccountRecord) (spelled : SpellsRecord line one) → take 8 (take (length line - 2) (drop 2 line)) ≡ spelled.digits
-digits_part line one spelled = (eight spelled.digits spelled.rest _ (after_space line spelled.digits spelled.rest spelled.letter spelled.parted) spelled.counted).0
+digits_part line one spelled = (eight spelled.digits spelled.rest _ (after_space line (spelled.digits ++ spelled.rest) spelled.letter spelled.parted) spelled.counted).0
 
 pub rest_part : (line : List ℕ) (one : AccountRecord) (spelled : SpellsRecord line one) → drop 8 (take (length line - 2) (drop 2 line)) ≡ spelled.rest
-rest_part line one spelled = (eight spelled.digits spelled.rest _ (after_space line spelled.digits spelled.rest spelled.letter spelled.parted) spelled.counted).1
+rest_part line one spelled = (eight spelled.digits spelled.rest _ (after_space line (spelled.digits ++ spelled.rest) spelled.letter spelled.parted) spelled.counted).1
 
 -- the letter of a line that spells a record
 pub letter_part : (line : List ℕ) (one : AccountRecord) (spelled : SpellsRecord line one) → get_or line 0 0 ≡ spelled.letter

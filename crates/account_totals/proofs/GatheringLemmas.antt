@@ -15,6 +15,7 @@ use Rattle.std.proofs.lemmas.List.{take_more}
 use Rattle.std.proofs.lemmas.List.Elements.{filter-append}
 use Rattle.record_lines.specs.Lines.{AreLegalAfter}
 use Rattle.record_lines.proofs.FileLemmas.{legal_both}
+use Rattle.record_lines.proofs.SayingLemmas.{none_says}
 use Rattle.account_records.specs.declared.ledger.Standing.{Standing}
 use Rattle.account_records.specs.declared.news.KnownJob.{KnownJob}
 use Rattle.account_records.specs.declared.record.AccountEvent.{AccountEvent}
@@ -24,7 +25,6 @@ use Rattle.account_records.specs.Records.{MayCome, is_closed, is_named, is_seein
 use Rattle.account_records.specs.Standings.{StandsAt}
 use Rattle.account_records.proofs.LegalLemmas.{news_legal}
 use Rattle.account_records.proofs.NewsLemmas.{events_told}
-use Rattle.account_records.proofs.RecordLemmas.{none_says}
 use Rattle.account_records.proofs.StandingLemmas.{stands_else}
 use Rattle.account_totals.specs.Observing.{AreByNumber, AreNewsBy}
 use Rattle.account_totals.specs.inside.Gathering.{news_of_all}
@@ -155,7 +155,7 @@ filtered before (one ∷ later) number rise = by_test (one.0 == number) refl (fi
 -- nothing is new of a number that no record names and the table doesn't have
 pub nothing_new : (before : List AccountRecord) (number : ℕ) → is_named number before ≡ false → news_of before number None ≡ []
 nothing_new before number none =
-    ap (λ seen. events_by number seen (is_started number before) (is_closed number before) None) (none_says number (λ one. is_seeing one.event) before none)
+    ap (λ seen. events_by number seen (is_started number before) (is_closed number before) None) (none_says (names number) (λ one. is_seeing one.event) before none)
 
 pub are_news : (before : List AccountRecord) (known : ℕ → Option KnownJob) (jobs : Jobs) (news : List AccountRecord) → tree.IsOrdered nat_cmp jobs → Knows before known jobs
     → news ≡ news_of_all before jobs.entries → AreNewsBy before known news

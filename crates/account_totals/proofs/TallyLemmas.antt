@@ -19,12 +19,12 @@ use Rattle.std.proofs.lemmas.List.Folds.{list_any-append}
 use Rattle.std.proofs.lemmas.List.Sums.{count_by-le-length, sum_by-cons, sum_by_push}
 use Rattle.std.proofs.lemmas.Map.Text.{is_eq-slice_cmp}
 use Rattle.std.proofs.lemmas.Slice.Eq.{bytes_eq-Decides}
+use Rattle.record_lines.proofs.SayingLemmas.{none_says}
 use Rattle.account_records.specs.declared.ledger.Standing.{Standing}
 use Rattle.account_records.specs.declared.record.AccountRecord.{AccountRecord}
 use Rattle.account_records.specs.declared.record.Owner.{Owner}
-use Rattle.account_records.specs.Records.{is_named, is_owner, is_seeing_of, is_seen_with}
+use Rattle.account_records.specs.Records.{is_named, is_owner, is_seeing_of, is_seen_with, names}
 use Rattle.account_records.specs.Standings.{IsStanding}
-use Rattle.account_records.proofs.RecordLemmas.{none_says}
 use Rattle.account_totals.specs.Totals.{counts_for, kind_of}
 use Rattle.account_totals.specs.inside.Tallying.{AreRaised, IsTallied, IsTallyOf, Pair, counts_so_far, is_met, owner_pair, pair_cmp}
 
@@ -156,7 +156,7 @@ tally_more all counted one standing old new counts stands raised updates tally o
 pub tally_same : (all counted : List AccountRecord) (one : AccountRecord) (tally : BTreeMap Pair (List ℕ)) → is_named one.number all ≡ false
     → IsTallyOf all counted tally → IsTallyOf all (counted ++ one ∷ []) tally
 tally_same all counted one tally none tallied owner =
-    other_more all counted one owner (tree.get pair_cmp tally (owner_pair owner)) (none_says one.number (λ r. is_seeing_of owner r.event) all none) (tallied owner)
+    other_more all counted one owner (tree.get pair_cmp tally (owner_pair owner)) (none_says (names one.number) (λ r. is_seeing_of owner r.event) all none) (tallied owner)
 
 -- the counts with one of them raised
 pub raised_at : (old : Option (List ℕ)) (before : List ℕ) (kind value : ℕ) → kind < 7 → length before ≡ 7 → ((other : ℕ) → other < 7 → slice_index before other ≡ counts_so_far old other)

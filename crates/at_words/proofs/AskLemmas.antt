@@ -1,5 +1,5 @@
 -- What a tool's words ask for, by what the parse of them answers.
-use Rattle.std.proofs.Common.{◌≡◌, ◌∙◌, ◌==◌, [], ◌∷◌, true, List, Result, Ok, Err, IfOk, arith, length, map, sym, subst, refl}
+use Rattle.std.proofs.Common.{◌≡◌, ◌∙◌, ◌==◌, [], ◌∷◌, true, false, List, Result, Ok, Err, IfOk, IsErrAnd, arith, length, map, sym, subst, refl}
 use Rattle.std.proofs.lemmas.Bool.{eqb-true}
 use Rattle.std.specs.declared.alloc.AllocError.{AllocError}
 use Rattle.clap.specs.Faults.{fault_of}
@@ -9,7 +9,7 @@ use Rattle.clap.specs.Simple.{App, app_of, matches_of, with_rule}
 use Rattle.clap.specs.Walk.{Row, Rule, Text, rows_of}
 use Rattle.clap.specs.declared.builder.command.Command.{Command}
 use Rattle.clap.specs.declared.parser.matches.ArgMatches.{ArgMatches}
-use Rattle.at_words.specs.Answers.{Answers, asked_of, if_taken}
+use Rattle.at_words.specs.Answers.{Answers, asked_of, if_taken, named_asked}
 use Rattle.at_words.specs.Parsing.{Parses}
 use Rattle.at_words.specs.declared.fault.WordsFault.{WordsFault}
 use Rattle.at_words.specs.declared.fault.WordsFault.TheVariants.{Usage, BadQueue, Memory}
@@ -51,9 +51,20 @@ module _ {T : Type 0} where
         (subst (λ (rows : List Row). Answers (asked rows) result) parsed.1 answers)
 
     -- the words are not taken, or there is no memory
-    pub asks_refused : (fault : WordsFault) → Parses made words (Err fault) → Answers (asked_of app asked words) (Err fault)
+    asks_refused : (fault : WordsFault) → Parses made words (Err fault) → Answers (asked_of app asked words) (Err fault)
     asks_refused fault parses = by_fault fault (subst (λ (app : App). Parses app words (Err fault)) is parses) where
       by_fault : (fault : WordsFault) → Parses app words (Err fault) → Answers (asked_of app asked words) (Err fault)
       by_fault Usage parses = refused (fault_of app words) (asked (matches_of app words)) parses
       by_fault BadQueue parses = absurd parses
       by_fault Memory parses = tt
+
+    -- and the fault is handed on
+    pub asks_fails : (fault : WordsFault) (result : Result T WordsFault) → Parses made words (Err fault) → IsErrAnd result (λ other. other ≡ fault) → Answers (asked_of app asked words) result
+    asks_fails fault (Ok value) parses handed = absurd handed
+    asks_fails fault (Err other) parses handed = subst (λ (one : WordsFault). Answers (asked_of app asked words) (Err one)) (sym handed) (asks_refused fault parses)
+
+  -- what words with a first one ask for
+  pub with_name : {W : Type 0} (app : App) (asked : List Row → Result T WordsFault) (text_of : W → Text) (words : List W) (result : Result T WordsFault) → (length words == 0) ≡ false
+      → Answers (asked_of app asked (map text_of words)) result → Answers (named_asked app asked (map text_of words)) result
+  with_name app asked text_of [] result none answers = let impossible : true ≡ false = none in cc
+  with_name app asked text_of (word ∷ words) result none answers = answers

@@ -1,5 +1,4 @@
 pub mod AskLemmas
-mod CommandLemmas
 mod DigitLemmas
 mod LetterLemmas
 mod NumberLemmas

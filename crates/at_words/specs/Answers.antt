@@ -33,6 +33,11 @@ module _ {T : Type 0} where
   abbrev pub asked_of : App → (List Row → Result T WordsFault) → List Text → Result T WordsFault
   asked_of app asked words = if_taken (fault_of app words) (asked (matches_of app words))
 
+  -- the same, where the first word stands for the program's name; without it they ask for nothing
+  abbrev pub named_asked : App → (List Row → Result T WordsFault) → List Text → Result T WordsFault
+  named_asked app asked [] = Err Usage
+  named_asked app asked (name ∷ words) = asked_of app asked (name ∷ words)
+
 -- the answer with its value changed
 abbrev pub on_ok : {T U : Type 0} → (T → U) → Result T WordsFault → Result U WordsFault
 on_ok change (Ok value) = Ok (change value)

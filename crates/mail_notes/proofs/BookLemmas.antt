@@ -4,28 +4,29 @@ use Rattle.std.specs.Prelude.{◌==◌, not}
 use Rattle.std.specs.BTreeMap as tree
 use Rattle.std.specs.BTreeMap.{BTreeMap, is_at}
 use Rattle.std.specs.Ordering.{nat_cmp}
-use Rattle.std.proofs.lemmas.Bool.{and_parts, eqb-true}
+use Rattle.std.proofs.lemmas.Bool.{and_parts}
 use Rattle.std.proofs.lemmas.Bool.Decides.{nat_tests}
 use Rattle.std.proofs.lemmas.List.Elements.{Contains-append_left, Contains-push}
 use Rattle.std.proofs.Math.Bool.{or-false, or-true}
+use Rattle.record_lines.proofs.SayingLemmas as saying
+use Rattle.record_lines.proofs.SayingLemmas.{any_else, any_here, any_more, none_says, saying_names}
 use Rattle.mail_notes.specs.Book.{Stand, StandsAt, may_follow, standing_after}
 use Rattle.mail_notes.specs.declared.book.MailStanding.{MailStanding}
 use Rattle.mail_notes.specs.declared.book.MailStanding.TheVariants.{Closed, Waits}
 use Rattle.mail_notes.specs.declared.note.Note.{Note}
 use Rattle.mail_notes.specs.declared.note.Note.TheVariants.{Dropped, Noted, Sent}
 use Rattle.mail_notes.specs.Notes.{is_closed, is_closing, is_named, is_noted, is_noting, may_come, names, number_of}
-use Rattle.mail_notes.proofs.NoteLemmas.{any_else, any_here, any_more, none_says, saying_names}
 
 -- the standing tells what may come
 pub told_by : (notes : List Note) (standing : Option MailStanding) (note : Note) → StandsAt notes (number_of note) standing
     → may_come notes note ≡ may_follow standing note
 told_by notes None (Noted job) stands = ap not stands
-told_by notes None (Sent number) stands = rw (none_says number is_noting notes stands) refl
-told_by notes None (Dropped number) stands = rw (none_says number is_noting notes stands) refl
-told_by notes (Some (Waits waiting)) (Noted job) stands = ap not (saying_names job.number is_noting notes stands.is_noted)
+told_by notes None (Sent number) stands = rw (none_says (names number) is_noting notes stands) refl
+told_by notes None (Dropped number) stands = rw (none_says (names number) is_noting notes stands) refl
+told_by notes (Some (Waits waiting)) (Noted job) stands = ap not (saying_names (names job.number) is_noting notes stands.is_noted)
 told_by notes (Some (Waits waiting)) (Sent number) stands = rw (stands.is_noted, stands.open_yet) refl
 told_by notes (Some (Waits waiting)) (Dropped number) stands = rw (stands.is_noted, stands.open_yet) refl
-told_by notes (Some Closed) (Noted job) stands = ap not (saying_names job.number is_noting notes stands.is_noted)
+told_by notes (Some Closed) (Noted job) stands = ap not (saying_names (names job.number) is_noting notes stands.is_noted)
 told_by notes (Some Closed) (Sent number) stands = rw (stands.is_noted, stands.closed) refl
 told_by notes (Some Closed) (Dropped number) stands = rw (stands.is_noted, stands.closed) refl
 
@@ -36,12 +37,12 @@ stands_else notes number None next apart stands = any_more (names number) notes 
 stands_else notes number (Some (Waits job)) next apart stands = record {
   number_is = stands.number_is;
   noted = Contains-append_left notes (next ∷ []) (Noted job) stands.noted;
-  is_noted = any_else number is_noting notes next apart ∙ stands.is_noted;
-  open_yet = any_else number is_closing notes next apart ∙ stands.open_yet;
+  is_noted = any_else (names number) is_noting notes next apart ∙ stands.is_noted;
+  open_yet = any_else (names number) is_closing notes next apart ∙ stands.open_yet;
 }
 stands_else notes number (Some Closed) next apart stands = record {
-  is_noted = any_else number is_noting notes next apart ∙ stands.is_noted;
-  closed = any_else number is_closing notes next apart ∙ stands.closed;
+  is_noted = any_else (names number) is_noting notes next apart ∙ stands.is_noted;
+  closed = any_else (names number) is_closing notes next apart ∙ stands.closed;
 }
 
 same_number : (number : ℕ) → (number == number) ≡ true
@@ -55,8 +56,8 @@ not_true false is = refl
 closed_here : (notes : List Note) (number : ℕ) (next : Note) → names number next ≡ true → is_closing next ≡ true → is_noted number notes ≡ true
     → StandsAt (notes ++ next ∷ []) number (Some Closed)
 closed_here notes number next here closing noted = record {
-  is_noted = any_here number is_noting notes next here ∙ rw noted refl;
-  closed = any_here number is_closing notes next here ∙ rw closing (or-true _);
+  is_noted = any_here (names number) is_noting notes next here ∙ rw noted refl;
+  closed = any_here (names number) is_closing notes next here ∙ rw closing (or-true _);
 }
 
 -- a note that may come says how its job stands
@@ -66,36 +67,24 @@ stands_here notes (Noted job) may =
     record {
       number_is = refl;
       noted = Contains-push notes (Noted job);
-      is_noted = any_here job.number is_noting notes (Noted job) (same_number job.number) ∙ or-true _;
-      open_yet = any_here job.number is_closing notes (Noted job) (same_number job.number) ∙ or-false _ ∙ none_says job.number is_closing notes none;
+      is_noted = any_here (names job.number) is_noting notes (Noted job) (same_number job.number) ∙ or-true _;
+      open_yet = any_here (names job.number) is_closing notes (Noted job) (same_number job.number) ∙ or-false _ ∙ none_says (names job.number) is_closing notes none;
     }
 stands_here notes (Sent number) may =
     closed_here notes number (Sent number) (same_number number) refl (and_parts (is_noted number notes) (not (is_closed number notes)) may).0
 stands_here notes (Dropped number) may =
     closed_here notes number (Dropped number) (same_number number) refl (and_parts (is_noted number notes) (not (is_closed number notes)) may).0
 
-pub at_number : (number other : ℕ) → is_at (nat_cmp number) other ≡ (number == other)
-at_number number other = grind (arith, nat_tests)
-
 -- one note more, which may come, in a map that has its standing after it
 pub stand_more : (notes : List Note) (next : Note) (old new : BTreeMap ℕ MailStanding) (number : ℕ) (standing : MailStanding)
     → number ≡ number_of next → standing ≡ standing_after next → Stand notes old → may_come notes next ≡ true
     → ((other : ℕ) → tree.get nat_cmp new other ≡ cond (is_at (nat_cmp number) other) (Some standing) (tree.get nat_cmp old other))
     → Stand (notes ++ next ∷ []) new
-stand_more notes next old new at standing at_is after stand may updates number = by_test (at == number) refl where
-  by_test : (test : Bool) → (at == number) ≡ test → StandsAt (notes ++ next ∷ []) number (tree.get nat_cmp new number)
-  by_test true is =
-      let numbers : number_of next ≡ number = sym at_is ∙ eqb-true at number is in
-      let new_is : tree.get nat_cmp new number ≡ Some (standing_after next) =
-      updates number ∙ ap (λ b. cond b (Some standing) (tree.get nat_cmp old number)) (at_number at number ∙ is) ∙ ap Some after in
-      subst (λ held. StandsAt (notes ++ next ∷ []) number held) (sym new_is)
-      (subst (λ n. StandsAt (notes ++ next ∷ []) n (Some (standing_after next))) numbers (stands_here notes next may))
-  by_test false is =
-      let new_is : tree.get nat_cmp new number ≡ tree.get nat_cmp old number =
-      updates number ∙ ap (λ b. cond b (Some standing) (tree.get nat_cmp old number)) (at_number at number ∙ is) in
-      let apart : names number next ≡ false = ap (λ n. n == number) (sym at_is) ∙ is in
-      subst (λ held. StandsAt (notes ++ next ∷ []) number held) (sym new_is)
-      (stands_else notes number (tree.get nat_cmp old number) next apart (stand number))
+stand_more notes next old new at standing at_is after stand may updates =
+    saying.stand_more (StandsAt (notes ++ next ∷ [])) old new at standing updates
+    (subst (λ n. StandsAt (notes ++ next ∷ []) n (Some standing)) (sym at_is)
+    (subst (λ held. StandsAt (notes ++ next ∷ []) (number_of next) (Some held)) (sym after) (stands_here notes next may)))
+    (λ other apart. stands_else notes other (tree.get nat_cmp old other) next (ap (λ n. n == other) (sym at_is) ∙ apart) (stand other))
 
 -- the standing of the number decides whether a note may come
 pub may_decided : (notes : List Note) (next : Note) (old : BTreeMap ℕ MailStanding) (number : ℕ) (answer : Bool) → number ≡ number_of next → Stand notes old

@@ -1,7 +1,6 @@
 pub mod BookLemmas
 pub mod LineLemmas
 pub mod NameLemmas
-pub mod NoteLemmas
 pub mod OneText
 pub mod RunLemmas
 pub mod TextLemmas

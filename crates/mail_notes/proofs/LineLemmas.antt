@@ -1,16 +1,17 @@
 -- The parts of a line.
-use Rattle.std.proofs.Common.{◌≡◌, ◌∙◌, ℕ, zero, suc, ◌-◌, ◌<◌, ◌^◌, Bool, true, false, cond, List, [], ◌∷◌, ◌++◌, Option, Some, None, length, take, drop, get_or, refl, sym, ap, subst, arith, IfNone, take_all, length-append}
+use Rattle.std.proofs.Common.{◌≡◌, ◌∙◌, ℕ, ◌-◌, ◌<◌, ◌^◌, Bool, true, cond, List, [], ◌∷◌, ◌++◌, Option, Some, None, length, take, drop, get_or, refl, sym, ap, subst, arith, IfNone, length-append}
 use Rattle.std.specs.Prelude.{◌==◌, nat_lt}
 use Rattle.std.specs.List.{list_any, position, position_or_len}
 use Rattle.std.proofs.Math.Seq.{drop-append_seam}
 use Rattle.std.proofs.lemmas.Bool.{or_parts}
 use Rattle.std.proofs.lemmas.Bool.Decides.{nat_tests}
 use Rattle.std.proofs.lemmas.List.{take-append-drop}
-use Rattle.std.proofs.lemmas.List.Quantifiers.{position-Some}
 use Rattle.hex_digits.specs.Digits.{digits_of}
+use Rattle.record_lines.specs.Lines.{HasNone}
+use Rattle.record_lines.proofs.LineLemmas.{after_space, none_before, one_split}
 use Rattle.mail_notes.specs.declared.note.Note.{Note}
 use Rattle.mail_notes.specs.declared.note.NotedJob.{NotedJob}
-use Rattle.mail_notes.specs.inside.Spelling.{AreParts, HasNone, no_space, one_of_eight, one_split}
+use Rattle.mail_notes.specs.inside.Spelling.{AreParts, no_space, one_of_eight}
 use Rattle.mail_notes.specs.Lines.{IsJobText, IsNoteText, SpellsNote, flag_byte, letter_of, rest_text}
 use Rattle.mail_notes.specs.Notes.{number_of}
 use Rattle.mail_notes.proofs.WritingLemmas.{fits_of}
@@ -34,28 +35,12 @@ space_of_parts file rest none =
     rw place (let longer : length file < length (file ++ 32 ∷ rest) = simp length-append (omega arith) in grind (arith, nat_tests)) in
     ap (λ test. cond test (Some (position_or_len is_space (file ++ 32 ∷ rest))) None) inside ∙ ap Some place
 
--- before the first space there is none
-none_before : (bytes : List ℕ) (end : ℕ) → ((place : ℕ) → place < end → is_space (get_or bytes place 0) ≡ false) → HasNone 32 (take end bytes)
-none_before [] zero none = refl
-none_before [] (suc end) none = refl
-none_before (byte ∷ bytes) zero none = refl
-none_before (byte ∷ bytes) (suc end) none =
-    rw (none 0 (omega arith)) (none_before bytes end (λ place below. none (suc place) (omega arith)))
-
-pub no_space_before : (bytes : List ℕ) (end : ℕ) → position is_space bytes ≡ Some end → HasNone 32 (take end bytes)
-no_space_before bytes end found = none_before bytes end (position-Some is_space bytes end 0 found).2
-
 -- the parts of a text
 pub parts_alike : (rest file other_file : List ℕ) (flag other_flag : ℕ) (user other_user : List ℕ) → AreParts rest file flag user → AreParts rest other_file other_flag other_user
     → (file ≡ other_file) × (flag ≡ other_flag) × (user ≡ other_user)
 parts_alike rest file other_file flag other_flag user other_user one two =
     let split = one_split 32 file other_file _ _ one.no_space two.no_space (ap (drop 1) (sym one.is ∙ two.is)) in
     (split.0, ap (λ (text : List ℕ). get_or text 0 0) split.1, ap (drop 2) split.1)
-
--- what stands after the letter and its space
-after_space : (line rest : List ℕ) (letter : ℕ) → line ≡ letter ∷ 32 ∷ rest → take (length line - 2) (drop 2 line) ≡ rest
-after_space line rest letter parted =
-    ap (λ text. take (length text - 2) (drop 2 text)) parted ∙ take_all (length (letter ∷ 32 ∷ rest) - 2) rest (omega arith)
 
 -- the letter, the digits and the rest of a line that spells a note
 pub letter_part : (line : List ℕ) (note : Note) → SpellsNote line note → get_or line 0 0 ≡ letter_of note
@@ -104,7 +89,7 @@ pub parts_found : (rest after file tail : List ℕ) (end flag : ℕ) (user : Lis
     → tail ≡ 32 ∷ flag ∷ 32 ∷ user → AreParts rest file flag user
 parts_found rest after file tail end flag user parted found begins back is = record {
   is = parted ∙ ap (λ text. 32 ∷ text) (sym (take-append-drop end after) ∙ ap (λ t. t ++ drop end after) (sym begins) ∙ ap (λ t. file ++ t) (sym back ∙ is));
-  no_space = subst (HasNone 32) (sym begins) (no_space_before after end (sym found));
+  no_space = subst (HasNone 32) (sym begins) (none_before 32 after end (sym found));
 }
 
 -- the parts of a job's text

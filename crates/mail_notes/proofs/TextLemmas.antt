@@ -4,15 +4,6 @@ use Rattle.mail_notes.specs.declared.note.Note.{Note}
 use Rattle.mail_notes.specs.Laws.{NoteFilesAreTexts}
 use Rattle.mail_notes.specs.Lines.{note_line, note_text, notes_text}
 
--- a line that is added part by part
-pub line_added : (old one two three four digits rest : List ℕ) (letter : ℕ) → one ≡ old ++ letter ∷ [] → two ≡ one ++ 32 ∷ [] → three ≡ two ++ digits
-    → four ≡ three ++ rest → four ≡ old ++ (letter ∷ 32 ∷ (digits ++ rest))
-line_added old one two three four digits rest letter first second third fourth =
-    fourth ∙ ap (λ t. t ++ rest) (third ∙ ap (λ t. t ++ digits) (second ∙ ap (λ t. t ++ 32 ∷ []) first))
-    ∙ append_assoc ((old ++ letter ∷ []) ++ 32 ∷ []) digits rest
-    ∙ append_assoc (old ++ letter ∷ []) (32 ∷ []) (digits ++ rest)
-    ∙ append_assoc old (letter ∷ []) (32 ∷ (digits ++ rest))
-
 -- four parts
 pub four_parts : (old one two three four a b c d : List ℕ) → one ≡ old ++ a → two ≡ one ++ b → three ≡ two ++ c → four ≡ three ++ d
     → four ≡ old ++ (a ++ (b ++ (c ++ d)))

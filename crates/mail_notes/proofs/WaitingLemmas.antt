@@ -1,29 +1,27 @@
 -- The jobs that wait for their notices, by number.
-use Rattle.std.proofs.Common.{◌≡◌, ◌∙◌, ℕ, zero, suc, ◌+◌, ◌<◌, true, false, List, [], ◌∷◌, ◌++◌, Option, Some, None, append-nil, get_or, length, map, take, refl, sym, ap, subst, arith}
+use Rattle.std.proofs.Common.{◌≡◌, ◌∙◌, ℕ, zero, suc, ◌<◌, true, false, List, [], ◌∷◌, Option, Some, None, map, refl, sym, ap, subst, arith}
 use Rattle.std.specs.Prelude.{Contains, not}
 use Rattle.std.specs.BTreeMap as tree
 use Rattle.std.specs.BTreeMap.{BTreeMap, is_at}
 use Rattle.std.specs.Cmp.{nat_cmp_total}
 use Rattle.std.specs.declared.cmp.Ordering.TheVariants.{Less}
-use Rattle.std.specs.List.{All, AllByRecursion, AllPairs, cons_option, filter_map, slice_get}
+use Rattle.std.specs.List.{All, AllByRecursion, AllPairs, filter_map, slice_get}
 use Rattle.std.specs.List.Sorted.{IsStrictlySortedBy}
 use Rattle.std.specs.Map.{keys_of, values_of}
 use Rattle.std.specs.Ordering.{nat_cmp}
 use Rattle.std.proofs.lemmas.Bool.{and_parts, eqb-true}
 use Rattle.std.proofs.lemmas.Bool.Decides.{nat_tests}
-use Rattle.std.proofs.lemmas.List.{take_more}
-use Rattle.std.proofs.lemmas.List.Elements.{All-cons, All-contains, All-nil, Contains-append_left, Contains-append_right, filter_map-append}
+use Rattle.std.proofs.lemmas.List.Elements.{All-cons, All-contains, All-nil, Contains-append_left, Contains-append_right}
 use Rattle.std.proofs.lemmas.List.Kept.{AllPairs-cons}
 use Rattle.std.proofs.lemmas.Map.Entries.{btree_map_get_place, place_from_lookup}
 use Rattle.std.proofs.lemmas.Map.Keys.{sorted_head, sorted_tail}
+use Rattle.record_lines.proofs.SayingLemmas.{at_number, none_says}
 use Rattle.mail_notes.specs.Book.{AreWaiting, IsWaiting, Stand, StandsAt, waiting_job}
 use Rattle.mail_notes.specs.declared.book.MailStanding.{MailStanding}
 use Rattle.mail_notes.specs.declared.book.MailStanding.TheVariants.{Closed, Waits}
 use Rattle.mail_notes.specs.declared.note.Note.{Note}
 use Rattle.mail_notes.specs.declared.note.NotedJob.{NotedJob}
-use Rattle.mail_notes.specs.Notes.{is_closed, is_noted, is_noting, waits}
-use Rattle.mail_notes.proofs.BookLemmas.{at_number}
-use Rattle.mail_notes.proofs.NoteLemmas.{none_says}
+use Rattle.mail_notes.specs.Notes.{is_closed, is_noted, is_noting, names, waits}
 
 -- the jobs of entries that wait
 abbrev jobs_of : List (ℕ × MailStanding) → List NotedJob
@@ -88,25 +86,6 @@ rise notes ((key, Waits job) ∷ later) stand sorted =
     (rise notes later stand.1 (sorted_tail nat_cmp key (keys_of later) sorted))
 rise notes ((key, Closed) ∷ later) stand sorted = rise notes later stand.1 (sorted_tail nat_cmp key (keys_of later) sorted)
 
--- one element more of a list that is chosen from
-pub one_more : {X Y : Type 0} (chosen : X → Option Y) (list : List X) (place : ℕ) (one : X) (so_far : List Y) → place < length list → one ≡ get_or list place one
-    → so_far ≡ filter_map chosen (take place list) → so_far ++ cons_option (chosen one) [] ≡ filter_map chosen (take (place + 1) list)
-one_more {X} {Y} chosen list place one so_far inside is before =
-    ap (λ (l : List Y). l ++ cons_option (chosen one) []) before
-    ∙ sym (filter_map-append chosen (take place list) (one ∷ []))
-    ∙ ap (filter_map chosen) (ap (λ (x : X). take place list ++ x ∷ []) is ∙ sym (take_more list place one inside))
-
--- where it is chosen, and where it isn't
-pub chosen_more : {X Y : Type 0} (chosen : X → Option Y) (list : List X) (place : ℕ) (one : X) (so_far now : List Y) (value : Y) → place < length list → one ≡ get_or list place one
-    → so_far ≡ filter_map chosen (take place list) → Some value ≡ chosen one → now ≡ so_far ++ value ∷ [] → now ≡ filter_map chosen (take (place + 1) list)
-chosen_more {X} {Y} chosen list place one so_far now value inside is before found added =
-    added ∙ ap (λ (o : Option Y). so_far ++ cons_option o []) found ∙ one_more chosen list place one so_far inside is before
-
-pub not_chosen_more : {X Y : Type 0} (chosen : X → Option Y) (list : List X) (place : ℕ) (one : X) (so_far : List Y) → place < length list → one ≡ get_or list place one
-    → so_far ≡ filter_map chosen (take place list) → None ≡ chosen one → so_far ≡ filter_map chosen (take (place + 1) list)
-not_chosen_more {X} {Y} chosen list place one so_far inside is before none =
-    sym (append-nil so_far) ∙ ap (λ (o : Option Y). so_far ++ cons_option o []) none ∙ one_more chosen list place one so_far inside is before
-
 -- The jobs that wait.
 module _ (notes : List Note) (standings : BTreeMap ℕ MailStanding) (ordered : tree.IsOrdered nat_cmp standings) (stand : Stand notes standings) where
   stand_all : StandAll notes standings.entries
@@ -117,7 +96,7 @@ module _ (notes : List Note) (standings : BTreeMap ℕ MailStanding) (ordered : 
       → Contains (map (λ one. one.number) (jobs_of standings.entries)) number
   all_there number waiting None is = absurd (
       let named = subst (StandsAt notes number) is (stand number) in
-      let none = none_says number is_noting notes named in
+      let none = none_says (names number) is_noting notes named in
       let noted = (and_parts (is_noted number notes) (not (is_closed number notes)) waiting).0 in cc)
   all_there number waiting (Some Closed) is = absurd (
       let says = (subst (StandsAt notes number) is (stand number)).closed in

@@ -1,8 +1,7 @@
 -- Each note that can stand in a line has one.
-use Rattle.std.proofs.Common.{◌≡◌, ◌∙◌, ℕ, ◌<◌, ◌^◌, Bool, true, false, List, ◌∷◌, ◌++◌, refl}
+use Rattle.std.proofs.Common.{◌≡◌, ℕ, ◌<◌, ◌^◌, Bool, true, false, List, ◌∷◌, ◌++◌, refl}
 use Rattle.std.specs.Prelude.{◌==◌}
 use Rattle.std.specs.Char.{is_ascii_alphanumeric}
-use Rattle.std.proofs.lemmas.List.Folds.{list_any-append}
 use Rattle.hex_digits.specs.Digits.{digits_of}
 use Rattle.hex_digits.proofs.DigitLemmas.{are_alphanumeric}
 use Rattle.hex_digits.proofs.EightDigits.{digits_spelled}
@@ -10,16 +9,13 @@ use Rattle.host_calls.specs.Names.{is_name_byte}
 use Rattle.job_name.proofs.JobNameLemmas.{job_is_name}
 use Rattle.spool_model.specs.Users.{is_user_byte}
 use Rattle.record_lines.specs.Lines.{HasNoNewline}
+use Rattle.record_lines.proofs.LineLemmas.{both_none, none_of}
 use Rattle.mail_notes.specs.declared.note.Note.{Note}
 use Rattle.mail_notes.specs.declared.note.Note.TheVariants.{Dropped, Noted, Sent}
 use Rattle.mail_notes.specs.declared.note.NotedJob.{NotedJob}
-use Rattle.mail_notes.specs.inside.Spelling.{none_of}
 use Rattle.mail_notes.specs.Laws.{NotesCanBeWritten}
 use Rattle.mail_notes.specs.Lines.{IsFileOf, IsNote, IsNotedJob, flag_byte, job_text, note_text, rest_text}
 use Rattle.mail_notes.specs.Notes.{number_of}
-
-both_none : (first second : List ℕ) → HasNoNewline first → HasNoNewline second → HasNoNewline (first ++ second)
-both_none first second one two = list_any-append (λ byte. byte == 10) first second ∙ rw (one, two) refl
 
 digits_none : (number : ℕ) → number < 16 ^ 8 → HasNoNewline (digits_of number)
 digits_none number fits = none_of is_ascii_alphanumeric 10 (digits_of number) refl (are_alphanumeric (digits_of number) number (digits_spelled number fits))

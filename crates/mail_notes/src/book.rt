@@ -72,14 +72,10 @@ fn standings_in(
 fn waiting_in(alloc: Global, standings: &[MailStanding]) -> Result<Vec<NotedJob>, AllocError>
     ensures { IfOk result (λ jobs. jobs.items ≡ filter_map waiting_job standings.now) }
 {
-    let mut jobs = Vec::new(alloc);
-    for standing in standings {
-        let found = waiting_job(standing);
-        if let Some(job) = found {
-            jobs.push(job)?;
-        }
-    }
-    Ok(jobs)
+    standings
+        .iter()
+        .filter_map(|standing| waiting_job(standing))
+        .collect(alloc)
 }
 
 // The job, where it waits.

@@ -5,7 +5,7 @@ use Rattle.std.proofs.Math.Seq.{take-add}
 use Rattle.std.specs.List.{All}
 use Rattle.std.proofs.lemmas.List.Elements.{All-nil, All-cons}
 use Rattle.record_lines.specs.Lines.{AreLegalAfter, AreLines, AreSpelled, BeginsWith, CanBeSpelled, HasNoNewline, IsBadLine, IsFirstBadLine, IsGoodLine, no_newline, no_record}
-use Rattle.record_lines.proofs.LineLemmas.{newline_stands, one_end}
+use Rattle.record_lines.proofs.LineLemmas.{newline_stands, one_split}
 
 -- a line spells one record at most
 abbrev pub SpellsOne : {R : Type 0} → (List ℕ → R → Type 0) → Type 0
@@ -102,7 +102,7 @@ spelled_rest spells unique first second (one ∷ later) [] (rest, (begins, of_fi
     absurd (let all : length ((begins.line ++ 10 ∷ rest) ++ second) ≡ (length begins.line + (1 + length rest)) + length second = simp length-append (omega arith) in omega arith)
 spelled_rest spells unique first second (one ∷ later) (other ∷ records) (rest, (begins, of_first)) (left, (starts, of_all)) =
     let same : begins.line ++ 10 ∷ (rest ++ second) ≡ starts.line ++ 10 ∷ left = sym (append_assoc begins.line (10 ∷ rest) second) ∙ ap (λ text. text ++ second) (sym begins.parted) ∙ starts.parted in
-    let both = one_end begins.line starts.line (rest ++ second) left begins.whole starts.whole same in
+    let both = one_split 10 begins.line starts.line (rest ++ second) left begins.whole starts.whole same in
     let equal : one ≡ other = unique starts.line one other (subst (λ line. spells line one) both.0 begins.spelled) starts.spelled in
     let deeper = spelled_rest spells unique rest second later records of_first (subst (λ text. AreSpelled spells text records) (sym both.1) of_all) in
     record {
@@ -134,7 +134,7 @@ not_bad spells legal early (one ∷ later) bytes more some (rest, (begins, spell
   by_case : IsBadLine spells legal early (bytes ++ more) → ⊥
   by_case (no_newline none) = newline_stands begins.line (rest ++ more) (subst HasNoNewline begin none)
   by_case (no_record line left whole parted none) =
-      let both = one_end line begins.line left (rest ++ more) whole begins.whole (sym parted ∙ begin) in
+      let both = one_split 10 line begins.line left (rest ++ more) whole begins.whole (sym parted ∙ begin) in
       none one (subst (λ text. spells text one) (sym both.0) begins.spelled) may
 
 pub none_bad : {R : Type 0} (spells : List ℕ → R → Type 0) (legal : List R → R → Type 0) → SpellsOne spells → (bytes : List ℕ) (records : List R) (offset : ℕ)

@@ -3,9 +3,13 @@
 use Rattle.std.specs.Prelude.{◌≡◌, ◌<◌, ◌+◌, ◌==◌, ℕ, false, List, [], ◌∷◌, ◌++◌, length, take, drop}
 use Rattle.std.specs.List.{list_any}
 
+-- the byte is nowhere among these
+abbrev pub HasNone : ℕ → List ℕ → Type 0
+HasNone byte bytes = list_any (λ other. other == byte) bytes ≡ false
+
 -- the bytes have no newline
 abbrev pub HasNoNewline : List ℕ → Type 0
-HasNoNewline bytes = list_any (λ byte. byte == 10) bytes ≡ false
+HasNoNewline bytes = HasNone 10 bytes
 
 -- the bytes begin with a line that spells the record, and the rest comes after its newline
 pub record BeginsWith {R : Type 0} (spells : List ℕ → R → Type 0) (bytes : List ℕ) (one : R) (rest : List ℕ) : Type 0 where

@@ -5,4 +5,3 @@ pub mod Endings
 pub mod Listings
 pub mod UnixHost
 pub mod Unsynced
-pub mod Unknown

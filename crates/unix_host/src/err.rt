@@ -1,7 +1,6 @@
 //! Standard error.
 ghost use Rattle.std.specs.Prelude.{◌≡◌, [], false, IsErrOf};
 ghost use Rattle.host_calls.specs.Causes.{HasCause};
-ghost use Rattle.unix_host.specs.Unknown.{unknown_content};
 
 use host_calls::{Sink, SinkFault};
 use std::alloc::Global;
@@ -26,7 +25,7 @@ impl<R: Eprint + Drop> UnixErr<R> {
 impl<R: Eprint + Drop> Sink for UnixErr<R> {
     ghost tells = { false };
 
-    ghost content = { λ _. unknown_content };
+    ghost content = { λ _. [] };
 
     ghost outlet = { λ own. record { made_as = []; sink_faults = own.sink_faults } };
 

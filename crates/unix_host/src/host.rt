@@ -6,7 +6,7 @@ ghost use Rattle.host_calls.specs.Session.{IsInside, IsLeft, IsOutside, CallsIns
 ghost use Rattle.unix_host.specs.Counted.{CountsEnters, CountsFiles, CountsNothing, CountsStarts};
 ghost use Rattle.unix_host.specs.declared.unsynced.Unsynced.{Unsynced};
 ghost use Rattle.unix_host.specs.UnixHost.{ending_in, listed_names, starts_of, session_of, known_of, torn_file, unsynced_of};
-ghost use Rattle.unix_host.specs.Unknown.{unknown_world};
+ghost use Rattle.witnessed_host.specs.Nothing.{empty_world};
 
 use crate::absent::Absent;
 use crate::finish::finish;
@@ -41,7 +41,8 @@ impl<R: Runtime<File = File> + Processes> Host for UnixHost<R> {
 
     ghost session = { session_of };
 
-    ghost world = { λ _. unknown_world };
+    // It tells nothing, and no clause says anything of this.
+    ghost world = { λ _. empty_world };
 
     fn enter(&mut self, alloc: Global) -> Result<(), EnterFault>
         requires { IsOutside (session_of self.old) }
@@ -88,9 +89,7 @@ impl<R: Runtime<File = File> + Processes> Host for UnixHost<R> {
         ensures kept { IfOk result (λ names. IfSome (listed_names self.old) (λ kept. names.items ≡ kept)) }
         ensures keeps { IfOk result (λ names. listed_names self.new ≡ Some names.items) }
     {
-        let Some(folder) = &mut self.folder else {
-            unreachable!()
-        };
+        let folder = self.folder.as_mut().unwrap();
         let answer = folder.names(&self.rt, alloc, self.head);
         finish(folder, &mut self.counts, answer)
     }
@@ -100,9 +99,7 @@ impl<R: Runtime<File = File> + Processes> Host for UnixHost<R> {
         ensures inside { CallsInside HostFault.Failed (session_of self.old) (session_of self.new) result }
         ensures counts { CountsFiles (session_of self.old) (session_of self.new) result }
     {
-        let Some(folder) = &mut self.folder else {
-            unreachable!()
-        };
+        let folder = self.folder.as_mut().unwrap();
         let answer = read_file::length(folder, &self.rt, alloc, name);
         finish(folder, &mut self.counts, answer)
     }
@@ -119,9 +116,7 @@ impl<R: Runtime<File = File> + Processes> Host for UnixHost<R> {
         ensures counts { CountsFiles (session_of self.old) (session_of self.new) result }
         ensures few { IfOk result (λ bytes. vec_len bytes ≤ most) }
     {
-        let Some(folder) = &mut self.folder else {
-            unreachable!()
-        };
+        let folder = self.folder.as_mut().unwrap();
         let answer = read_file::read(folder, &self.rt, alloc, name, offset, most);
         finish(folder, &mut self.counts, answer)
     }
@@ -135,9 +130,7 @@ impl<R: Runtime<File = File> + Processes> Host for UnixHost<R> {
             → torn_file self.new ≡ Some name.now) }
         ensures unlisted { OnOk result (listed_names self.new ≡ None) }
     {
-        let Some(folder) = &mut self.folder else {
-            unreachable!()
-        };
+        let folder = self.folder.as_mut().unwrap();
         let answer = folder.create(&self.rt, alloc, name, bytes);
         finish(folder, &mut self.counts, answer)
     }
@@ -157,9 +150,7 @@ impl<R: Runtime<File = File> + Processes> Host for UnixHost<R> {
             → torn_file self.new ≡ Some name.now) }
         ensures unlisted { OnOk result (listed_names self.new ≡ None) }
     {
-        let Some(folder) = &mut self.folder else {
-            unreachable!()
-        };
+        let folder = self.folder.as_mut().unwrap();
         let answer = folder.write(&self.rt, alloc, name, offset, bytes);
         finish(folder, &mut self.counts, answer)
     }
@@ -171,9 +162,7 @@ impl<R: Runtime<File = File> + Processes> Host for UnixHost<R> {
         ensures synced { OnOk result (torn_file self.old ≡ Some name.now
             → unsynced_of self.new ≢ Some Unsynced.Anything) }
     {
-        let Some(folder) = &mut self.folder else {
-            unreachable!()
-        };
+        let folder = self.folder.as_mut().unwrap();
         let answer = folder.sync(&self.rt, alloc, name);
         finish(folder, &mut self.counts, answer)
     }
@@ -185,9 +174,7 @@ impl<R: Runtime<File = File> + Processes> Host for UnixHost<R> {
         ensures synced { OnOk result (unsynced_of self.new ≢ Some Unsynced.Names) }
     {
         let _ = alloc;
-        let Some(folder) = &mut self.folder else {
-            unreachable!()
-        };
+        let folder = self.folder.as_mut().unwrap();
         let answer = folder.sync_names(&self.rt);
         finish(folder, &mut self.counts, answer)
     }
@@ -198,9 +185,7 @@ impl<R: Runtime<File = File> + Processes> Host for UnixHost<R> {
         ensures counts { CountsFiles (session_of self.old) (session_of self.new) result }
         ensures settled { OnOk result (unsynced_of self.new ≡ Some Unsynced.Nothing) }
     {
-        let Some(folder) = &mut self.folder else {
-            unreachable!()
-        };
+        let folder = self.folder.as_mut().unwrap();
         let answer = folder.settle(&self.rt, alloc);
         finish(folder, &mut self.counts, answer)
     }
@@ -212,9 +197,7 @@ impl<R: Runtime<File = File> + Processes> Host for UnixHost<R> {
         ensures unsynced { OnOk result (unsynced_of self.new ≢ Some Unsynced.Nothing) }
         ensures unlisted { OnOk result (listed_names self.new ≡ None) }
     {
-        let Some(folder) = &mut self.folder else {
-            unreachable!()
-        };
+        let folder = self.folder.as_mut().unwrap();
         let answer = folder.rename(&self.rt, alloc, from, to);
         finish(folder, &mut self.counts, answer)
     }
@@ -226,9 +209,7 @@ impl<R: Runtime<File = File> + Processes> Host for UnixHost<R> {
         ensures unsynced { OnOk result (unsynced_of self.new ≢ Some Unsynced.Nothing) }
         ensures unlisted { OnOk result (listed_names self.new ≡ None) }
     {
-        let Some(folder) = &mut self.folder else {
-            unreachable!()
-        };
+        let folder = self.folder.as_mut().unwrap();
         let answer = folder.remove(&self.rt, alloc, name);
         finish(folder, &mut self.counts, answer)
     }
@@ -250,9 +231,7 @@ impl<R: Runtime<File = File> + Processes> Host for UnixHost<R> {
     {
         // The name alone tells which job it is.
         let _ = number;
-        let Some(folder) = &self.folder else {
-            unreachable!()
-        };
+        let folder = self.folder.as_ref().unwrap();
         // Room first, so that no child is lost that was started.
         self.kids.reserve(1)?;
         let started = job::start(

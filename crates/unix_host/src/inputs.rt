@@ -2,7 +2,7 @@
 ghost use Rattle.std.specs.Prelude.{◌≡◌, ◌≤◌, [], false, IfOk, IsErrOf, length};
 ghost use Rattle.host_calls.specs.Causes.{HasCause};
 ghost use Rattle.host_calls.specs.Inputs.{after_read};
-ghost use Rattle.unix_host.specs.Unknown.{unknown_contents};
+ghost use Rattle.witnessed_host.specs.Nothing.{no_contents};
 
 use crate::prefix::prefix;
 use host_calls::{Bytes, InputFault, Inputs};
@@ -34,7 +34,7 @@ impl<R: Files<File = File> + Input + Drop> UnixInputs<R> {
 impl<R: Files<File = File> + Input + Drop> Inputs for UnixInputs<R> {
     ghost tells = { false };
 
-    ghost contents = { λ _. unknown_contents };
+    ghost contents = { λ _. no_contents };
 
     ghost sources = { λ own. record { made_as = []; reads = own.reads; input_faults = own.input_faults } };
 

@@ -1,7 +1,6 @@
 //! Standard output.
 ghost use Rattle.std.specs.Prelude.{◌≡◌, [], false, IsErrOf};
 ghost use Rattle.host_calls.specs.Causes.{HasCause};
-ghost use Rattle.unix_host.specs.Unknown.{unknown_content};
 
 use host_calls::{Sink, SinkFault};
 use std::alloc::Global;
@@ -25,7 +24,7 @@ impl<R: Print + Drop> UnixOut<R> {
 impl<R: Print + Drop> Sink for UnixOut<R> {
     ghost tells = { false };
 
-    ghost content = { λ _. unknown_content };
+    ghost content = { λ _. [] };
 
     ghost outlet = { λ own. record { made_as = []; sink_faults = own.sink_faults } };
 

@@ -3,7 +3,6 @@ ghost use Rattle.std.specs.Prelude.{◌≡◌, ◌≤◌, [], false, IsSome, Non
 ghost use Rattle.std.specs.Result.{result_ok};
 ghost use Rattle.host_calls.specs.Causes.{Rose};
 ghost use Rattle.unix_host.specs.inside.Seconds.{second_in};
-ghost use Rattle.unix_host.specs.Unknown.{unknown_answers};
 
 use crate::prefix::fill;
 use host_calls::Readings;
@@ -31,7 +30,7 @@ impl<R: Files<File = File> + Clock + Drop> UnixReadings<R> {
 impl<R: Files<File = File> + Clock + Drop> Readings for UnixReadings<R> {
     ghost tells = { false };
 
-    ghost answers = { λ _. unknown_answers };
+    ghost answers = { λ _. record { nows = []; loads = []; rested = 0 } };
 
     ghost readers = { λ own. record { made_as = []; load_faults = own.load_faults } };
 

@@ -1,61 +1,25 @@
 -- A line spells one note at most.
 use Rattle.std.proofs.Common.{◌≡◌, ◌∙◌, ℕ, ◌<◌, ◌^◌, Bool, true, false, List, [], ◌∷◌, ◌++◌, ap, arith, drop, get_or, refl, subst, sym, take}
-use Rattle.std.specs.Prelude.{◌==◌}
-use Rattle.std.specs.List.{list_all, list_any}
-use Rattle.std.proofs.lemmas.Bool.{and_parts, or_parts}
-use Rattle.std.proofs.lemmas.Bool.Decides.{nat_tests}
 use Rattle.hex_digits.specs.Digits.{SpellsNumber, digits_of}
 use Rattle.hex_digits.proofs.DigitLemmas.{one_number}
 use Rattle.hex_digits.proofs.EightDigits.{digits_spelled}
 use Rattle.host_calls.specs.Names.{is_name_byte}
 use Rattle.job_name.proofs.JobNameLemmas.{job_is_name}
+use Rattle.record_lines.specs.Lines.{HasNone}
+use Rattle.record_lines.proofs.LineLemmas.{none_of, one_split}
 use Rattle.mail_notes.specs.declared.note.Note.{Note}
 use Rattle.mail_notes.specs.declared.note.Note.TheVariants.{Dropped, Noted, Sent}
 use Rattle.mail_notes.specs.declared.note.NotedJob.{NotedJob}
 use Rattle.mail_notes.specs.Lines.{IsFileOf, SpellsNote, flag_byte, job_text, note_text}
-
--- the byte is nowhere among these
-abbrev pub HasNone : ℕ → List ℕ → Type 0
-HasNone byte bytes = list_any (λ other. other == byte) bytes ≡ false
 
 -- the text after the number of a job that was seen has these parts, each after a space
 pub record AreParts (rest file : List ℕ) (flag : ℕ) (user : List ℕ) : Type 0 where
   pub is : rest ≡ 32 ∷ (file ++ (32 ∷ flag ∷ 32 ∷ user))
   pub no_space : HasNone 32 file
 
--- what passes a test has no byte that doesn't
-pub none_of : (test : ℕ → Bool) (byte : ℕ) (bytes : List ℕ) → test byte ≡ false → list_all test bytes ≡ true → HasNone byte bytes
-none_of test byte [] fails all = refl
-none_of test byte (first ∷ later) fails all =
-    let parts = and_parts (test first) (list_all test later) all in
-    by_test (first == byte) refl parts.0 (none_of test byte later fails parts.1)
-  where
-    by_test : (same : Bool) → (first == byte) ≡ same → test first ≡ true → HasNone byte later → HasNone byte (first ∷ later)
-    by_test true is passes none = absurd (let first_is : first ≡ byte = grind (arith, nat_tests) in let says : test first
-        ≡ false = ap test first_is ∙ fails in cc)
-    by_test false is passes none = rw is none
-
 -- the name of a job's file has no space
 pub no_space : (number : ℕ) (file : List ℕ) → IsFileOf number file → HasNone 32 file
 no_space number file of = none_of is_name_byte 32 file refl (job_is_name file of.queue number of.minute of.new_form of.spelled).each
-
-other_byte : (first byte : ℕ) → (first == byte) ≡ false → first ≡ byte → ⊥
-other_byte first byte apart same = let test : (first == byte) ≡ true = grind (arith, nat_tests) in cc
-
--- what has no such byte ends at the first one
-pub one_split : (byte : ℕ) (first second one two : List ℕ) → HasNone byte first → HasNone byte second → first ++ byte ∷ one
-    ≡ second ++ byte ∷ two
-    → (first ≡ second) × (one ≡ two)
-one_split byte [] [] one two of_first of_second same = (refl, cc)
-one_split byte [] (other ∷ second) one two of_first of_second same =
-    absurd (let begin : other ≡ byte = cc in other_byte other byte (or_parts _ _ of_second).0 begin)
-one_split byte (other ∷ first) [] one two of_first of_second same =
-    absurd (let begin : other ≡ byte = cc in other_byte other byte (or_parts _ _ of_first).0 begin)
-one_split byte (here ∷ first) (there ∷ second) one two of_first of_second same =
-    let begin : here ≡ there = cc in
-    let left : first ++ byte ∷ one ≡ second ++ byte ∷ two = cc in
-    let later = one_split byte first second one two (or_parts _ _ of_first).1 (or_parts _ _ of_second).1 left in
-    (ap (λ b. b ∷ first) begin ∙ ap (λ line. there ∷ line) later.0, later.1)
 
 -- numbers with the same eight digits are the same
 pub one_of_eight : (first second : ℕ) → first < 16 ^ 8 → second < 16 ^ 8 → digits_of first ≡ digits_of second → first ≡ second

@@ -1,7 +1,7 @@
 use Rattle.std.proofs.Common.{codes, ap, ◌∙◌}
 use Rattle.clap.specs.Simple.{app_of}
 use Rattle.at_words.specs.Commands.{at_app, flag_rule, operands_rule, value_rule}
-use Rattle.at_words.proofs.CommandLemmas.{made_with, with}
+use Rattle.at_words.proofs.AskLemmas.{made_with, with}
 use Rattle.at_words.proofs.at.command.Goals as goal
 
 pub returns : goal.returns

@@ -1,7 +1,7 @@
 use Rattle.std.proofs.Common.{codes, ap, ◌∙◌}
 use Rattle.clap.specs.Simple.{app_of}
 use Rattle.at_words.specs.Commands.{atd_app, flag_rule, long_rule, value_rule}
-use Rattle.at_words.proofs.CommandLemmas.{made_with, with}
+use Rattle.at_words.proofs.AskLemmas.{made_with, with}
 use Rattle.at_words.proofs.atd.command.Goals as goal
 
 pub returns : goal.returns

@@ -1,7 +1,7 @@
 use Rattle.std.proofs.Common.{codes, ap}
 use Rattle.clap.specs.Simple.{app_of}
 use Rattle.at_words.specs.Commands.{atday_app, long_rule}
-use Rattle.at_words.proofs.CommandLemmas.{made_with, with}
+use Rattle.at_words.proofs.AskLemmas.{made_with, with}
 use Rattle.at_words.proofs.atday.command.Goals as goal
 
 pub returns : goal.returns

@@ -1,7 +1,7 @@
 use Rattle.std.proofs.Common.{ap}
 use Rattle.clap.specs.Simple.{app_of}
 use Rattle.at_words.specs.Commands.{atrm_app, operands_rule}
-use Rattle.at_words.proofs.CommandLemmas.{made_with, with}
+use Rattle.at_words.proofs.AskLemmas.{made_with, with}
 use Rattle.at_words.proofs.atrm.command.Goals as goal
 
 pub returns : goal.returns
