@@ -5,7 +5,6 @@ use Rattle.std.specs.Prelude.{◌==◌, if◌then◌else◌}
 use Rattle.std.specs.FinMap as map
 use Rattle.std.specs.Option.{option_or}
 use Rattle.host_calls.specs.Folder.{Files}
-use Rattle.host_calls.specs.declared.child.Ending.{Ending}
 use Rattle.spool_model.specs.declared.entry.Entry.TheVariants.{Live, Done}
 use Rattle.spool_model.specs.declared.fate.Fate.{Fate}
 use Rattle.spool_model.specs.declared.fate.Fate.TheVariants as fate
@@ -13,13 +12,14 @@ use Rattle.spool_model.specs.declared.job.Job.{Job}
 use Rattle.spool_model.specs.declared.state.State.TheVariants.{Pending, Running}
 use Rattle.spool_model.specs.declared.step.Step.{Step}
 use Rattle.spool_model.specs.declared.step.Step.TheVariants.{Draw, Accept, Remove, Start, End, Interrupt, Forget}
-use Rattle.spool_model.specs.JobTable.{IsDone, IsPending, IsRunning, JobEntries, JobState, JobTable, entry_at, is_batch_queue, table_of}
+use Rattle.spool_model.specs.JobTable.{IsDone, JobEntries, JobState, JobTable, entry_at, is_batch_queue, table_of}
 use Rattle.spool_model.specs.Steps.{IsLegal, after_step, is_batch_entry, with_state}
 use Rattle.spool_model.proofs.TableLemmas.{get-put_other, get-put_same, get-taken_other, get-taken_same}
 use Rattle.start_journal.specs.declared.mark.Mark.{Mark}
 use Rattle.start_journal.specs.declared.mark.Mark.TheVariants as mark
 use Rattle.start_journal.specs.Marks.{batch_second, decides, first_of_two, forgets, is_forgotten, names, start_second, started_at}
 use Rattle.spool_shows.specs.ByName.{HasFile, ShowsByName, ShowsEntry}
+use Rattle.spool_shows.specs.Deciding.{decision_mark}
 use Rattle.spool_shows.specs.JobFiles.{JobFile}
 use Rattle.spool_shows.specs.Laws.{AddsMark, HasMarked}
 use Rattle.spool_shows.specs.Shown.{done_entry, job_of, live_entry, state_since}
@@ -68,38 +68,11 @@ decided_step before after table number fate added job state shows is decides_by 
       starts = λ other queue second same. absurd (decides_by.no_start other queue second same);
     })
 
-remove_shown : (before after : Files) (table : JobTable) (number : ℕ) → ShowsByName before table → IsPending table number → HasMarked table (mark.Removed number) before after → ShowsByName after (after_step table (Remove number))
-remove_shown before after table number shows (job, is) marked =
-    decided_step before after table number fate.Removed (mark.Removed number) job Pending shows is (record {
-      batch = refl;
-      silent = silent_other number;
-      decides_it = passes_same number number refl;
-      forgets_not = refl;
-      leaves = λ list remembered. leaves_as list number number fate.Removed refl remembered;
-      no_start = λ other queue second same. cc;
-    }) marked
-
-end_shown : (before after : Files) (table : JobTable) (number : ℕ) (ending : Ending) → ShowsByName before table → IsRunning table number → HasMarked table (mark.Ended number ending) before after → ShowsByName after (after_step table (End number ending))
-end_shown before after table number ending shows (job, second, is) marked =
-    decided_step before after table number (fate.Finished ending) (mark.Ended number ending) job (Running second) shows is (record {
-      batch = refl;
-      silent = silent_other number;
-      decides_it = passes_same number number refl;
-      forgets_not = refl;
-      leaves = λ list remembered. leaves_as list number number (fate.Finished ending) refl remembered;
-      no_start = λ other queue second same. cc;
-    }) marked
-
-interrupt_shown : (before after : Files) (table : JobTable) (number : ℕ) → ShowsByName before table → IsRunning table number → HasMarked table (mark.Interrupted number) before after → ShowsByName after (after_step table (Interrupt number))
-interrupt_shown before after table number shows (job, second, is) marked =
-    decided_step before after table number fate.Interrupted (mark.Interrupted number) job (Running second) shows is (record {
-      batch = refl;
-      silent = silent_other number;
-      decides_it = passes_same number number refl;
-      forgets_not = refl;
-      leaves = λ list remembered. leaves_as list number number fate.Interrupted refl remembered;
-      no_start = λ other queue second same. cc;
-    }) marked
+-- the mark of each decision does
+decides_by : (number : ℕ) (fate : Fate) → DecidesBy number fate (decision_mark number fate)
+decides_by number fate.Removed = record { batch = refl; silent = silent_other number; decides_it = passes_same number number refl; forgets_not = refl; leaves = λ list remembered. leaves_as list number number fate.Removed refl remembered; no_start = λ other queue second same. cc }
+decides_by number (fate.Finished ending) = record { batch = refl; silent = silent_other number; decides_it = passes_same number number refl; forgets_not = refl; leaves = λ list remembered. leaves_as list number number (fate.Finished ending) refl remembered; no_start = λ other queue second same. cc }
+decides_by number fate.Interrupted = record { batch = refl; silent = silent_other number; decides_it = passes_same number number refl; forgets_not = refl; leaves = λ list remembered. leaves_as list number number fate.Interrupted refl remembered; no_start = λ other queue second same. cc }
 
 -- The step that forgets a number.
 
@@ -176,13 +149,13 @@ start_shown before after table number second job shows is marked =
 pub marked_by_name : (before after : Files) (table : JobTable) (step : Step) (added : Mark) → ShowsByName before table → IsLegal table step → AddsMark table step added → HasMarked table added before after → ShowsByName after (after_step table step)
 marked_by_name before after table Draw added shows legal adds marked = absurd adds
 marked_by_name before after table (Accept number job) added shows legal adds marked = absurd adds
-marked_by_name before after table (Remove number) added shows legal adds marked =
-    remove_shown before after table number shows legal (subst (λ one. HasMarked table one before after) adds marked)
+marked_by_name before after table (Remove number) added shows (job, is) adds marked =
+    decided_step before after table number fate.Removed (mark.Removed number) job Pending shows is (decides_by number fate.Removed) (subst (λ one. HasMarked table one before after) adds marked)
 marked_by_name before after table (Start number second) added shows legal (job, is, adds) marked =
     start_shown before after table number second job shows is (subst (λ one. HasMarked table one before after) adds marked)
-marked_by_name before after table (End number ending) added shows legal adds marked =
-    end_shown before after table number ending shows legal (subst (λ one. HasMarked table one before after) adds marked)
-marked_by_name before after table (Interrupt number) added shows legal adds marked =
-    interrupt_shown before after table number shows legal (subst (λ one. HasMarked table one before after) adds marked)
+marked_by_name before after table (End number ending) added shows (job, second, is) adds marked =
+    decided_step before after table number (fate.Finished ending) (mark.Ended number ending) job (Running second) shows is (decides_by number (fate.Finished ending)) (subst (λ one. HasMarked table one before after) adds marked)
+marked_by_name before after table (Interrupt number) added shows (job, second, is) adds marked =
+    decided_step before after table number fate.Interrupted (mark.Interrupted number) job (Running second) shows is (decides_by number fate.Interrupted) (subst (λ one. HasMarked table one before after) adds marked)
 marked_by_name before after table (Forget number) added shows legal adds marked =
     forget_shown before after table number shows legal (subst (λ one. HasMarked table one before after) adds marked)

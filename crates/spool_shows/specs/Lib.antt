@@ -1,5 +1,6 @@
 pub mod ByName
 pub mod DamageLaws
+pub mod Deciding
 pub mod Examples
 pub mod FirstDamage
 pub mod JobFiles

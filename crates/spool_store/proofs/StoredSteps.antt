@@ -28,7 +28,7 @@ use Rattle.step_runs.specs.Current.{Kept}
 use Rattle.spool_shows.specs.Laws.{AddsMark}
 use Rattle.spool_shows.proofs.MarkTests.{not_forgotten}
 use Rattle.spool_shows.proofs.ShownEntries.{fails_other, passes_same}
-use Rattle.spool_store.specs.inside.Deciding.{decision, decision_mark}
+use Rattle.spool_shows.specs.Deciding.{decision, decision_mark}
 use Rattle.spool_store.specs.inside.Marking.{HaveOneMore}
 use Rattle.spool_store.specs.Listed.{IsLive}
 use Rattle.spool_store.specs.Stored.{IsEntryBy, IsLiveBy, IsStateBy, IsStored}

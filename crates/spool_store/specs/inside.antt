@@ -1,4 +1,3 @@
-pub mod Deciding
 pub mod SurveyedJobs
 pub mod JobRows
 pub mod Lined

@@ -9,7 +9,7 @@ ghost use Rattle.spool_model.specs.declared.state.State.TheVariants.{Pending};
 ghost use Rattle.spool_model.specs.declared.step.Step.TheVariants.{Draw, Accept, Start, Forget};
 ghost use Rattle.spool_model.specs.JobTable.{entry_at, is_batch_queue, IsDone};
 ghost use Rattle.spool_model.specs.Steps.{IsFree, IsLegal, after_step};
-ghost use Rattle.spool_store.specs.inside.Deciding.{decision};
+ghost use Rattle.spool_shows.specs.Deciding.{decision};
 ghost use Rattle.spool_store.specs.Listed.{AreListed, IsLive, ListsDecided, ListsLive, row_job};
 ghost use Rattle.spool_store.specs.Rows.{decided_entry, listed_table, row_entry};
 

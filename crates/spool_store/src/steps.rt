@@ -2,7 +2,7 @@
 ghost use Rattle.spool_model.specs.declared.step.Step.TheVariants.{Remove, Start, End, Interrupt, Forget};
 ghost use Rattle.std.specs.Prelude.{◌≡◌};
 ghost use Rattle.clock_range.specs.ClockRange.{IsClockSecond};
-ghost use Rattle.spool_store.specs.inside.Deciding.{decision, decision_mark};
+ghost use Rattle.spool_shows.specs.Deciding.{decision, decision_mark};
 ghost use Rattle.spool_store.specs.Stepping.{MakesStep, MayStep};
 
 use crate::mark::{add_mark, decide};

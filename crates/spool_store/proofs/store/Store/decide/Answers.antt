@@ -5,7 +5,7 @@ use Rattle.spool_model.specs.Steps.{IsLegal}
 use Rattle.start_journal.specs.declared.mark.Mark.{Mark}
 use Rattle.start_journal.specs.Marks.{IsLegalAfter}
 use Rattle.step_runs.specs.Current.{Kept}
-use Rattle.spool_store.specs.inside.Deciding.{decision, decision_mark}
+use Rattle.spool_shows.specs.Deciding.{decision, decision_mark}
 use Rattle.spool_store.specs.Listed.{IsLive}
 use Rattle.spool_store.specs.Scripts.{IsFileOf}
 use Rattle.spool_store.proofs.StepCalls.{IsDecidingStep, current_call, decision_of_step, failed_step, has_its_mark, legal_inside, of_some, stored_step}
