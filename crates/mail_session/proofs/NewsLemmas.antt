@@ -1,32 +1,28 @@
 -- The live jobs that no note is of.
-use Rattle.std.proofs.Common.{◌≡◌, ◌∙◌, ◌+◌, ◌<◌, ◌++◌, ℕ, Bool, true, false, List, Option, Some, None, [], ◌∷◌, filter, get_or, length, map, take, refl, sym, ap, subst, inl, inr, arith}
-use Rattle.std.specs.Prelude.{Contains, is_some, not, option_map}
-use Rattle.std.specs.FinMap as finite
+use Rattle.std.proofs.Common.{◌≡◌, ◌∙◌, ◌+◌, ◌<◌, ◌++◌, ℕ, Bool, true, false, List, Option, Some, None, [], ◌∷◌, get_or, length, map, take, refl, sym, ap, subst}
+use Rattle.std.specs.Prelude.{is_some, not, option_map}
 use Rattle.std.specs.Borrow.{Bor}
 use Rattle.std.specs.Option.{option_copied}
 use Rattle.std.specs.List.{All, items_where_true}
 use Rattle.std.proofs.lemmas.List.{map-append, take_more}
 use Rattle.std.proofs.lemmas.List.Elements.{All-cons, All-head, All-nil, All-push, All-tail}
-use Rattle.host_calls.specs.Folder.{Files, Folder, reading_of}
+use Rattle.host_calls.specs.Folder.{Folder, reading_of}
 use Rattle.job_name.specs.JobName.{SpellsJobName}
-use Rattle.job_script.specs.declared.headers.JobHeader.{JobHeader}
-use Rattle.spool_model.specs.declared.entry.Entry.TheVariants.{Done, Live}
+use Rattle.spool_model.specs.declared.entry.Entry.TheVariants.{Live}
 use Rattle.spool_model.specs.declared.job.Job.{Job}
 use Rattle.spool_model.specs.declared.row.Row.{Row}
 use Rattle.spool_model.specs.JobTable.{JobEntry, JobState, JobTable, entry_at}
-use Rattle.spool_model.specs.Users.{IsUserName}
 use Rattle.step_runs.specs.Current.{IsCurrent, Kept}
-use Rattle.step_runs.specs.WithoutScripts.{entry_without_script, job_without_script, without_scripts}
+use Rattle.step_runs.specs.WithoutScripts.{entry_without_script, job_without_script}
 use Rattle.step_runs.proofs.WithoutScriptsLemmas.{entries_are_without_scripts}
 use Rattle.spool_store.specs.Scripts.{HoldsScript, IsFileOf, IsHeaderOn}
+use Rattle.record_lines.proofs.SayingLemmas.{saying_names}
 use Rattle.mail_notes.specs.declared.note.NotedJob.{NotedJob}
-use Rattle.mail_notes.specs.Lines.{IsNotedJob}
 use Rattle.mail_notes.specs.Book.{StandsAt}
-use Rattle.mail_notes.specs.Notes.{is_named, is_noting}
+use Rattle.mail_notes.specs.Notes.{is_named, is_noting, names}
 use Rattle.mail_notes.specs.declared.book.MailStanding.{MailStanding}
 use Rattle.mail_notes.specs.declared.book.MailStanding.TheVariants.{Closed, Waits}
 use Rattle.mail_notes.specs.declared.note.Note.{Note}
-use Rattle.mail_notes.proofs.NoteLemmas.{saying_names}
 use Rattle.spool_shows.proofs.Membership.{contained, made_has}
 use Rattle.spool_store.specs.Listed.{IsLive, ListsLive}
 use Rattle.spool_store.specs.Rows.{row_entry}
@@ -68,8 +64,8 @@ noted_from kept folder table number file user always current of holds header =
 -- by how a number stands, some note is of it or none
 pub named_by : (notes : List Note) (number : ℕ) (held : Option MailStanding) → StandsAt notes number held → is_some held ≡ is_named number notes
 named_by notes number None none = sym none
-named_by notes number (Some (Waits job)) waiting = sym (saying_names number is_noting notes waiting.is_noted)
-named_by notes number (Some Closed) closed = sym (saying_names number is_noting notes closed.is_noted)
+named_by notes number (Some (Waits job)) waiting = sym (saying_names (names number) is_noting notes waiting.is_noted)
+named_by notes number (Some Closed) closed = sym (saying_names (names number) is_noting notes closed.is_noted)
 
 pub flipped : (test some named : Bool) → not test ≡ some → some ≡ named → test ≡ not named
 flipped true some named is same = ap not (is ∙ same)
