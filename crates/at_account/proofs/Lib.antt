@@ -4,4 +4,3 @@ pub mod NameLemmas
 pub mod ProgramLemmas
 pub mod SessionLemmas
 pub mod ShowLemmas
-pub mod WordLemmas

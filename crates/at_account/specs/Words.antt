@@ -1,12 +1,11 @@
 -- The words of the program: none, or `--show`.
-use Rattle.std.specs.Prelude.{[], ◌∷◌, Bool, List, Result, Ok, Err, codes}
+use Rattle.std.specs.Prelude.{[], ◌∷◌, Bool, List, Result, Ok, codes}
 use Rattle.clap.specs.Simple.{App}
 use Rattle.clap.specs.Walk.{Row, Text}
-use Rattle.at_words.specs.Answers.{asked_of}
+use Rattle.at_words.specs.Answers.{named_asked}
 use Rattle.at_words.specs.Commands.{app_with, long_flag_rule}
 use Rattle.at_words.specs.Rows.{is_set}
 use Rattle.at_words.specs.declared.fault.WordsFault.{WordsFault}
-use Rattle.at_words.specs.declared.fault.WordsFault.TheVariants.{Usage}
 
 -- `ataccount`: the flag --show
 unfoldable pub account_app : App
@@ -18,5 +17,4 @@ show_asked rows = Ok (is_set (codes "show") rows)
 
 -- what the words ask for, the first of which stands for the program's name; without it they ask for nothing
 abbrev pub account_asked : List Text → Result Bool WordsFault
-account_asked [] = Err Usage
-account_asked (name ∷ words) = asked_of account_app show_asked (name ∷ words)
+account_asked words = named_asked account_app show_asked words

@@ -3,4 +3,3 @@ pub mod MakingLemmas
 pub mod OnceLemmas
 pub mod ProgramLemmas
 mod SentLemmas
-mod WordLemmas

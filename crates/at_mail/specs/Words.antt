@@ -2,7 +2,7 @@
 use Rattle.std.specs.Prelude.{[], ◌∷◌, ℕ, List, Option, Some, Result, Ok, Err, codes, if◌then◌else◌}
 use Rattle.clap.specs.Simple.{App}
 use Rattle.clap.specs.Walk.{Row, Text, first_of}
-use Rattle.at_words.specs.Answers.{asked_of}
+use Rattle.at_words.specs.Answers.{named_asked}
 use Rattle.at_words.specs.Commands.{app_with, long_rule}
 use Rattle.at_words.specs.Daemons.{turns_asked}
 use Rattle.at_words.specs.declared.fault.WordsFault.{WordsFault}
@@ -26,5 +26,4 @@ matches_asked rows = sessions_asked (first_of (codes "send") rows) (turns_asked 
 
 -- what the words ask for, the first of which stands for the program's name; without it they ask for nothing
 abbrev pub post_asked : List Text → Result PostRequest WordsFault
-post_asked [] = Err Usage
-post_asked (name ∷ words) = asked_of post_app matches_asked (name ∷ words)
+post_asked words = named_asked post_app matches_asked words

@@ -51,7 +51,7 @@ module _ {T : Type 0} where
         (subst (λ (rows : List Row). Answers (asked rows) result) parsed.1 answers)
 
     -- the words are not taken, or there is no memory
-    asks_refused : (fault : WordsFault) → Parses made words (Err fault) → Answers (asked_of app asked words) (Err fault)
+    pub asks_refused : (fault : WordsFault) → Parses made words (Err fault) → Answers (asked_of app asked words) (Err fault)
     asks_refused fault parses = by_fault fault (subst (λ (app : App). Parses app words (Err fault)) is parses) where
       by_fault : (fault : WordsFault) → Parses app words (Err fault) → Answers (asked_of app asked words) (Err fault)
       by_fault Usage parses = refused (fault_of app words) (asked (matches_of app words)) parses

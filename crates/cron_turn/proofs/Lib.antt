@@ -1,4 +1,3 @@
 pub mod ProgramLemmas
 pub mod ReadLemmas
 pub mod RunLemmas
-pub mod WordLemmas

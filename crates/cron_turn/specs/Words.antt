@@ -2,7 +2,7 @@
 use Rattle.std.specs.Prelude.{[], ◌∷◌, ℕ, List, Option, Some, None, Result, Ok, Err, codes}
 use Rattle.clap.specs.Simple.{App}
 use Rattle.clap.specs.Walk.{Row, Text, first_of}
-use Rattle.at_words.specs.Answers.{asked_of}
+use Rattle.at_words.specs.Answers.{named_asked}
 use Rattle.at_words.specs.Commands.{app_with, long_rule, value_rule}
 use Rattle.at_words.specs.Daemons.{turns_asked}
 use Rattle.at_words.specs.declared.fault.WordsFault.{WordsFault}
@@ -25,5 +25,4 @@ crontab_asked rows = request_of (first_of (codes "file") rows) (turns_asked (fir
 
 -- what the words ask for, the first of which stands for the program's name; without it they ask for nothing
 abbrev pub cron_asked : List Text → Result CronRequest WordsFault
-cron_asked [] = Err Usage
-cron_asked (name ∷ words) = asked_of cron_app crontab_asked (name ∷ words)
+cron_asked words = named_asked cron_app crontab_asked words

@@ -3,7 +3,7 @@ ghost use Rattle.std.specs.Prelude.{◌≡◌, IfOk, map, string_bytes};
 ghost use Rattle.clap.specs.Matches.{found_of};
 ghost use Rattle.clap.specs.Simple.{app_of};
 ghost use Rattle.clap.specs.Walk.{rows_of};
-ghost use Rattle.at_words.specs.Answers.{Answers, asked_of};
+ghost use Rattle.at_words.specs.Answers.{Answers};
 ghost use Rattle.cron_turn.specs.Words.{cron_app, cron_asked, crontab_asked};
 
 use at_words::{WordsFault, bare_command, parsed, turns_of, value, with_long, with_value};
@@ -25,12 +25,6 @@ pub(crate) fn request(alloc: Global, words: &[String]) -> Result<CronRequest, Wo
     if words.is_empty() {
         return Err(WordsFault::Usage);
     }
-    read(alloc, words)
-}
-
-fn read(alloc: Global, words: &[String]) -> Result<CronRequest, WordsFault>
-    ensures { Answers (asked_of cron_app crontab_asked (map string_bytes words.now)) result }
-{
     let command = command(alloc)?;
     let matches = parsed(command, words)?;
     asked(alloc, &matches)

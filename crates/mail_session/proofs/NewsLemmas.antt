@@ -16,13 +16,13 @@ use Rattle.step_runs.specs.Current.{IsCurrent, Kept}
 use Rattle.step_runs.specs.WithoutScripts.{entry_without_script, job_without_script}
 use Rattle.step_runs.proofs.WithoutScriptsLemmas.{entries_are_without_scripts}
 use Rattle.spool_store.specs.Scripts.{HoldsScript, IsFileOf, IsHeaderOn}
+use Rattle.record_lines.proofs.SayingLemmas.{saying_names}
 use Rattle.mail_notes.specs.declared.note.NotedJob.{NotedJob}
 use Rattle.mail_notes.specs.Book.{StandsAt}
-use Rattle.mail_notes.specs.Notes.{is_named, is_noting}
+use Rattle.mail_notes.specs.Notes.{is_named, is_noting, names}
 use Rattle.mail_notes.specs.declared.book.MailStanding.{MailStanding}
 use Rattle.mail_notes.specs.declared.book.MailStanding.TheVariants.{Closed, Waits}
 use Rattle.mail_notes.specs.declared.note.Note.{Note}
-use Rattle.mail_notes.proofs.NoteLemmas.{saying_names}
 use Rattle.spool_shows.proofs.Membership.{contained, made_has}
 use Rattle.spool_store.specs.Listed.{IsLive, ListsLive}
 use Rattle.spool_store.specs.Rows.{row_entry}
@@ -64,8 +64,8 @@ noted_from kept folder table number file user always current of holds header =
 -- by how a number stands, some note is of it or none
 pub named_by : (notes : List Note) (number : ℕ) (held : Option MailStanding) → StandsAt notes number held → is_some held ≡ is_named number notes
 named_by notes number None none = sym none
-named_by notes number (Some (Waits job)) waiting = sym (saying_names number is_noting notes waiting.is_noted)
-named_by notes number (Some Closed) closed = sym (saying_names number is_noting notes closed.is_noted)
+named_by notes number (Some (Waits job)) waiting = sym (saying_names (names number) is_noting notes waiting.is_noted)
+named_by notes number (Some Closed) closed = sym (saying_names (names number) is_noting notes closed.is_noted)
 
 pub flipped : (test some named : Bool) → not test ≡ some → some ≡ named → test ≡ not named
 flipped true some named is same = ap not (is ∙ same)

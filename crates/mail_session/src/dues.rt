@@ -18,14 +18,9 @@ pub fn dues_of(alloc: Global, store: &Store, jobs: &[NotedJob]) -> Result<Vec<Du
     ensures { IfOk result (λ dues. dues.items
         ≡ filter_map (λ job. due_of job (entry_at store.now.table job.number)) jobs.now) }
 {
-    let mut dues = Vec::new(alloc);
-    for job in jobs {
-        let found = due_of(store, job);
-        if let Some(due) = found {
-            dues.push(due)?;
-        }
-    }
-    Ok(dues)
+    jobs.iter()
+        .filter_map(|job| due_of(store, job))
+        .collect(alloc)
 }
 
 // What is due of a job; nothing where it is live.

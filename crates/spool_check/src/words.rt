@@ -2,7 +2,7 @@
 ghost use Rattle.std.specs.Prelude.{◌≡◌, IfOk, map, string_bytes};
 ghost use Rattle.at_words.specs.Answers.{Answers};
 ghost use Rattle.clap.specs.Simple.{app_of};
-ghost use Rattle.spool_check.specs.Words.{check_app, check_asked, flags_asked};
+ghost use Rattle.spool_check.specs.Words.{check_app, check_asked};
 
 use at_words::{WordsFault, bare_command, has_flag, parsed, with_long_flag};
 use clap::Command;
@@ -15,12 +15,6 @@ pub(crate) fn asks_to_salvage(alloc: Global, words: &[String]) -> Result<bool, W
     if words.is_empty() {
         return Err(WordsFault::Usage);
     }
-    read(alloc, words)
-}
-
-fn read(alloc: Global, words: &[String]) -> Result<bool, WordsFault>
-    ensures { Answers (flags_asked (map string_bytes words.now)) result }
-{
     let command = command(alloc)?;
     let matches = parsed(command, words)?;
     Ok(has_flag(&matches, "salvage"))

@@ -3,12 +3,10 @@ use Rattle.std.proofs.Common.{◌≡◌, ℕ, ℤ, suc, ◌+◌, ◌<◌, ◌≤
 use Rattle.std.specs.Prelude.{◌||◌, ◌==◌, Result, is_some, option_to_list}
 use Rattle.std.specs.BTreeMap.{BTreeMap, Updates, get, is_at}
 use Rattle.std.specs.BTreeSet.{BTreeSet, contains}
-use Rattle.std.specs.declared.cmp.Ordering.TheVariants.{Less, Equal, Greater}
 use Rattle.std.specs.FinMap as finite
 use Rattle.std.specs.FinMap.{entries, find, get-entries}
-use Rattle.std.specs.List.{cons_option, filter, filter_map, list_any}
-use Rattle.std.specs.Ordering.{is_eq, nat_cmp}
-use Rattle.std.specs.Prelude.{nat_lt}
+use Rattle.std.specs.List.{cons_option, filter, list_any}
+use Rattle.std.specs.Ordering.{nat_cmp}
 use Rattle.std.proofs.lemmas.Bool.{eqb-true}
 use Rattle.std.proofs.lemmas.Bool.Decides.{nat_tests}
 use Rattle.std.proofs.lemmas.List.{append-nil, at_drop_all, map-append, take_all, take_more}
@@ -89,12 +87,7 @@ files_end bound place files faults all numbers past so =
 -- Queues.
 
 key_tested : (one other : ℕ) → is_at (nat_cmp one) other ≡ (one == other)
-key_tested one other = by_tests (nat_lt one other) (one == other) refl refl where
-  by_tests : (less equal : Bool) → nat_lt one other ≡ less → (one == other) ≡ equal → is_eq (cond less Less (cond equal Equal Greater)) ≡ equal
-  by_tests true true less equal = let impossible : true ≡ false = grind (arith, nat_tests) in cc
-  by_tests true false less equal = refl
-  by_tests false true less equal = refl
-  by_tests false false less equal = refl
+key_tested one other = grind (arith, nat_tests)
 
 -- the first file of a number, with one more at the end
 of_more : (number : ℕ) (files : List JobFile) (one : JobFile) → queue_in (file_of number (files ++ one ∷ [])) ≡ Rattle.std.specs.Option.option_or (queue_in (file_of number files)) (cond (one.job.number == number) (Some one.job.queue) None)

@@ -1,19 +1,17 @@
 -- Where a folder has no fault, no number in it is above the last one.
-use Rattle.std.proofs.Common.{◌≡◌, ◌≤◌, ◌<◌, ◌^◌, ℕ, Bool, true, false, List, [], ◌∷◌, Option, Some, None, length, take, sym, ap, subst, ◌∙◌, refl, arith}
-use Rattle.std.specs.Prelude.{◌==◌, ◌||◌, Result, Ok, nat_le, nat_lt, not, if◌then◌else◌}
-use Rattle.std.specs.List.{cons_option, filter, filter_map, list_all, list_any}
+use Rattle.std.proofs.Common.{◌≡◌, ◌≤◌, ℕ, Bool, true, false, List, [], ◌∷◌, Option, Some, None, sym, ap, ◌∙◌, refl, arith}
+use Rattle.std.specs.Prelude.{◌==◌, ◌||◌, Ok, nat_le, nat_lt, not, if◌then◌else◌}
+use Rattle.std.specs.List.{cons_option, filter, filter_map}
 use Rattle.std.proofs.lemmas.Bool.{and_parts}
 use Rattle.std.proofs.lemmas.Bool.Decides.{nat_tests}
-use Rattle.std.proofs.lemmas.List.{length-take-le}
 use Rattle.host_calls.specs.declared.damage.Damage.{Damage}
 use Rattle.job_name.specs.JobName.{NamedJob, job_named}
 use Rattle.sequence_file.proofs.LastNumbers.{last_numbers_are_given}
 use Rattle.sequence_file.specs.LastNumber.{last_in}
-use Rattle.sequence_file.specs.Sequence.{Gives, SpellsIn}
 use Rattle.spool_model.specs.declared.number.TheConstants.{LAST_NUMBER}
-use Rattle.spool_model.specs.Numbers.{number_digits}
 use Rattle.spool_shows.specs.JobFiles.{JobFile, counts, damage_of, file_place, job_file, job_files}
 use Rattle.spool_shows.proofs.SoundLemmas.{no_fault}
+use Rattle.spool_shows.proofs.SoundTables.{few_of}
 use Rattle.start_journal.specs.declared.mark.Mark.{Mark}
 use Rattle.start_journal.specs.declared.mark.Mark.TheVariants.{Removed, Started, Ended, Interrupted, Forgotten, Batch}
 use Rattle.start_journal.specs.Journals.{are_drawn, is_drawn}
@@ -21,23 +19,9 @@ use Rattle.start_journal.specs.Marks.{decides, is_decided, number_of}
 use Rattle.spool_faults.specs.Faults.{files_faults}
 use Rattle.spool_faults.specs.Salvaged.{greatest, name_numbers}
 
--- the digits of either form spell a number of a job
-few_digits : (new_form : Bool) (number : ℕ) → number < 16 ^ number_digits new_form → number ≤ LAST_NUMBER
-few_digits true number fits = omega arith
-few_digits false number fits = omega arith
-
-few_in : (new_form : Bool) (bytes : List ℕ) (number : ℕ) → SpellsIn new_form bytes number → number ≤ LAST_NUMBER
-few_in new_form bytes number spelled =
-    let counted : length (take (number_digits new_form) bytes) ≡ number_digits new_form = length-take-le (number_digits new_form) bytes (omega (arith, spelled.counted)) in
-    few_digits new_form number (subst (λ count. number < 16 ^ count) counted spelled.digits.fits)
-
-few_given : (content : Option (List ℕ)) (number : ℕ) → Gives content number → number ≤ LAST_NUMBER
-few_given None number is = omega (arith, is)
-few_given (Some bytes) number spelled = few_in spelled.0 bytes number spelled.1
-
 -- a last number is one of a job
 pub few_last : (content : Option (List ℕ)) (last : ℕ) → last_in content ≡ Ok last → last ≤ LAST_NUMBER
-few_last content last is = few_given content last ((last_numbers_are_given content last).0 is)
+few_last content last is = few_of content last ((last_numbers_are_given content last).0 is)
 
 -- a number that is not above the greatest one leaves it
 pub greatest_same : (least number : ℕ) (later : List ℕ) → nat_lt least number ≡ false → greatest least (number ∷ later) ≡ greatest least later

@@ -36,7 +36,8 @@ few_in new_form bytes number spelled =
     let counted : length (take (number_digits new_form) bytes) ≡ number_digits new_form = length-take-le (number_digits new_form) bytes (omega (arith, spelled.counted)) in
     few_digits new_form number (subst (λ count. number < 16 ^ count) counted spelled.digits.fits)
 
-few_of : (content : Option (List ℕ)) (number : ℕ) → Gives content number → number ≤ LAST_NUMBER
+-- and so is the number that a content gives
+pub few_of : (content : Option (List ℕ)) (number : ℕ) → Gives content number → number ≤ LAST_NUMBER
 few_of None number is = omega (arith, is)
 few_of (Some bytes) number spelled = few_in spelled.0 bytes number spelled.1
 

@@ -1,12 +1,25 @@
-use Rattle.std.proofs.Common.{sym, ap, subst, ◌∙◌, string_bytes}
-use Rattle.at_words.specs.Answers.{Answers}
-use Rattle.at_words.proofs.AskLemmas.{no_words}
-use Rattle.spool_check.specs.Words.{check_asked}
-use Rattle.spool_check.proofs.WordLemmas.{asked_with_name}
+use Rattle.std.proofs.Common.{ap, sym, ◌∙◌, Ok, map, string_bytes}
+use Rattle.clap.specs.Faults.{is_simple_and_free}
+use Rattle.clap.proofs.OnLiterals.{clap_on_literals}
+use Rattle.at_words.specs.Commands.{bare_app}
+use Rattle.at_words.proofs.AskLemmas.{answers_same, asks_fails, asks_taken, no_words, with_name}
+use Rattle.spool_check.specs.Words.{check_app, check_asked, salvage_asked}
 use Rattle.spool_check.proofs.words.asks_to_salvage.Goals as goal
+
+pub parsed-requires : goal.parsed-requires
+unfolding clap_on_literals bare_app check_app
+parsed-requires c = ap is_simple_and_free c.in_ok-command.ensures
 
 pub returns-then-is_empty : goal.returns-then-is_empty
 returns-then-is_empty c = sym (ap check_asked (no_words string_bytes c.args.words.now (sym c.is_empty.ensures ∙ c.if-is_empty.true)))
 
+pub returns-in_err-matches : goal.returns-in_err-matches
+returns-in_err-matches c =
+    with_name check_app salvage_asked string_bytes c.args.words.now _ (sym c.is_empty.ensures ∙ c.if-is_empty.false)
+    (asks_fails check_app salvage_asked (map string_bytes c.args.words.now) _ c.in_ok-command.ensures _ c.from_residual-in_err-matches.result c.in_err-matches.ensures c.from_residual-in_err-matches.ensures.1)
+
 pub returns : goal.returns
-returns c = subst (λ asked. Answers asked c.read.result) (sym (asked_with_name string_bytes c.args.words.now (sym c.is_empty.ensures ∙ c.if-is_empty.false))) c.read.ensures
+returns c =
+    with_name check_app salvage_asked string_bytes c.args.words.now (Ok c.has_flag.result) (sym c.is_empty.ensures ∙ c.if-is_empty.false)
+    (asks_taken check_app salvage_asked (map string_bytes c.args.words.now) _ c.in_ok-command.ensures c.in_ok-matches.matches (Ok c.has_flag.result) c.in_ok-matches.ensures
+    (answers_same _ (Ok c.has_flag.result) (ap Ok c.has_flag.ensures)))
