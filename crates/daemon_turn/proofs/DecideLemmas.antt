@@ -1,11 +1,10 @@
 -- What is decided of running jobs, part by part.
-use Rattle.std.proofs.Common.{◌≡◌, ◌≤◌, ◌<◌, ◌-◌, ◌++◌, ◌||◌, ℕ, zero, suc, Bool, true, false, not, List, [], ◌∷◌, append_assoc, append-nil, drop, filter, length, length-drop, map, min, take, sym, ap, subst, ◌∙◌, refl, arith, inl, inr}
+use Rattle.std.proofs.Common.{◌≡◌, ◌≤◌, ◌<◌, ◌-◌, ◌++◌, ◌||◌, ℕ, zero, suc, Bool, true, false, not, List, [], ◌∷◌, append_assoc, append-nil, drop, filter, length, map, min, take, sym, ap, subst, ◌∙◌, refl, arith, inl, inr}
 use Rattle.std.specs.Prelude.{AllPairs, IfOk, IsErrAnd, Option, Some, None, Result, Ok, Err, Vec}
 use Rattle.std.specs.declared.alloc.Global.{Global}
 use Rattle.std.specs.List.{list_any}
-use Rattle.std.proofs.Math.Seq.{take-length}
 use Rattle.std.proofs.lemmas.Bool.{cases_lt}
-use Rattle.std.proofs.lemmas.List.{take-append-drop}
+use Rattle.std.proofs.lemmas.List.{take-append-drop, take_rest}
 use Rattle.std.proofs.lemmas.List.Folds.{list_any-append, list_any_none}
 use Rattle.host_calls.specs.declared.child.Ending.{Ending}
 use Rattle.host_calls.specs.Session.{IsInside, Session, StaysInside}
@@ -17,7 +16,7 @@ use Rattle.spool_model.specs.Steps.{AreLegal, after_steps}
 use Rattle.spool_model.specs.Laws.{PrefixAndRest}
 use Rattle.spool_model.proofs.StepLemmas.{prefixes_are_legal}
 use Rattle.step_runs.specs.Current.{IsCurrent, Kept}
-use Rattle.step_runs.specs.Hands.{StartNothing}
+use Rattle.spool_store.specs.Making.{AreChanges, MayMakeSteps}
 use Rattle.spool_store.specs.declared.fault.StoreFault.{StoreFault}
 use Rattle.spool_store.specs.declared.fault.StoreFault.TheVariants.{Memory}
 use Rattle.spool_shows.proofs.Membership.{Has, has_left, made_has}
@@ -30,28 +29,28 @@ use Rattle.daemon_turn.specs.StepsOf.{number_of, steps_of}
 use Rattle.daemon_turn.specs.inside.Asking.{AsksAll}
 use Rattle.daemon_turn.specs.inside.Deciding.{AreDecided, MakesDecisions, MayDecide}
 use Rattle.daemon_turn.specs.inside.Ended.{AreEndsByNumber, is_end, without_ended}
-use Rattle.daemon_turn.specs.inside.Going.{Goes, Part, joined}
-use Rattle.daemon_turn.specs.inside.Making.{MakesAll, MayMake}
+use Rattle.daemon_turn.specs.inside.Going.{Part, joined, quiet_part}
+use Rattle.daemon_turn.specs.inside.Making.{MakesAll}
 use Rattle.step_runs.proofs.ApartLemmas.{Apart, all_each, each_all, filter_alike, pairs_cons, pairs_head, pairs_nil, pairs_tail, rise_apart}
 use Rattle.daemon_turn.proofs.AskLemmas.{ends_of_none, questions_of_none}
 use Rattle.daemon_turn.proofs.DecisionLemmas.{EachRuns, decisions_legal, end_of_kid}
-use Rattle.daemon_turn.proofs.GoLemmas.{asked_part, asks_go, goes_then, made_part, makes_go, memory_goes, steps_join}
+use Rattle.daemon_turn.proofs.GoLemmas.{asked_part, asks_go, goes_then, memory_goes, steps_join}
 
 -- Whether the steps may be made.
 
 abbrev kid_number : Kid → ℕ
 kid_number kid = kid.number
 
--- steps that give up or end start nothing
-quiet_interrupts : (rows : List Row) → StartNothing (steps_of (map (λ (row : Row). Interrupted row.number) rows))
+-- steps that give up or end hand nothing over
+quiet_interrupts : (rows : List Row) → AreChanges (steps_of (map (λ (row : Row). Interrupted row.number) rows))
 quiet_interrupts [] = tt
-quiet_interrupts (row ∷ rows) = quiet_interrupts rows
+quiet_interrupts (row ∷ rows) = (tt, quiet_interrupts rows)
 
-quiet_ends : (kids : List Kid) (answers : List (Option Ending)) → StartNothing (steps_of (ends kids answers))
+quiet_ends : (kids : List Kid) (answers : List (Option Ending)) → AreChanges (steps_of (ends kids answers))
 quiet_ends [] answers = tt
 quiet_ends (kid ∷ kids) [] = tt
 quiet_ends (kid ∷ kids) (None ∷ answers) = quiet_ends kids answers
-quiet_ends (kid ∷ kids) (Some ending ∷ answers) = quiet_ends kids answers
+quiet_ends (kid ∷ kids) (Some ending ∷ answers) = (tt, quiet_ends kids answers)
 
 module _ (tells : Bool) (session : Session) (world : World) (kept : Kept) (kids : List Kid) (may : MayDecide tells session world kept kids) where
   pub each_runs : EachRuns kept.table kids
@@ -65,79 +64,64 @@ module _ (tells : Bool) (session : Session) (world : World) (kept : Kept) (kids 
       prefixes_are_legal kept.table (steps_of (interrupts kept.table kids)) (steps_of (ends kids answers))
       (subst (AreLegal kept.table) (steps_join (interrupts kept.table kids) (ends kids answers)) (decisions_legal kept.table kids kids_apart each_runs answers))
 
-  pub may_give_up : (interrupted : List TurnStep) → interrupted ≡ interrupts kept.table kids → MayMake tells session world kept interrupted
+  pub may_give_up : (interrupted : List TurnStep) → interrupted ≡ interrupts kept.table kids → MayMakeSteps tells session world kept (steps_of interrupted)
   may_give_up interrupted is = record {
     inside = may.go.inside;
     legal = subst (λ (steps : List TurnStep). AreLegal kept.table (steps_of steps)) (sym is) (legal_parts []).prefix_legal;
-    quiet = subst (λ (steps : List TurnStep). StartNothing (steps_of steps)) (sym is) (quiet_interrupts (filter (is_without_kid kids) (live_rows kept.table)));
+    changes = subst (λ (steps : List TurnStep). AreChanges (steps_of steps)) (sym is) (quiet_interrupts (filter (is_without_kid kids) (live_rows kept.table)));
     current = may.go.current;
   }
 
   pub may_end_all : (now : Kept) (between : Session) (middle : World) (known : List TurnStep) (answers : List (Option Ending)) → IsInside between →
       now.table ≡ after_steps kept.table (steps_of (interrupts kept.table kids)) → known ≡ ends kids answers →
-      (tells ≡ true → (table : JobTable) × IsCurrent now middle.now.folder table) → MayMake tells between middle now known
+      (tells ≡ true → (table : JobTable) × IsCurrent now middle.now.folder table) → MayMakeSteps tells between middle now (steps_of known)
   may_end_all now between middle known answers inside table_is is current = record {
     inside = inside;
     legal = subst (λ (steps : List TurnStep). AreLegal now.table (steps_of steps)) (sym is)
         (subst (λ (table : JobTable). AreLegal table (steps_of (ends kids answers))) (sym table_is) (legal_parts answers).rest_legal);
-    quiet = subst (λ (steps : List TurnStep). StartNothing (steps_of steps)) (sym is) (quiet_ends kids answers);
+    changes = subst (λ (steps : List TurnStep). AreChanges (steps_of steps)) (sym is) (quiet_ends kids answers);
     current = current;
   }
 
 -- a host whose children stay still has those of the kids
-pub children_stay : (before after : Session) (kids : List Kid) → StaysInside before after → AreChildren before.children kids → AreChildren after.children kids
-children_stay before after kids stays are = subst (λ l. AreChildren l kids) (sym stays.children) are
+pub children_stay : (before after : Session) (kids : List Kid) → after.children ≡ before.children ++ [] → AreChildren before.children kids → AreChildren after.children kids
+children_stay before after kids same are = subst (λ l. AreChildren l kids) (sym (same ∙ append-nil before.children)) are
 
 -- The steps that were made.
-
--- steps that were made, and the next one, are a prefix of all
-pub made_prefix : (steps : List TurnStep) (made begun : ℕ) → (beyond : List TurnStep) × (steps ≡ (take made steps ++ take begun (drop made steps)) ++ beyond)
-made_prefix steps made begun = (
-  drop begun (drop made steps),
-  sym (take-append-drop made steps)
-      ∙ ap (λ (l : List TurnStep). take made steps ++ l) (sym (take-append-drop begun (drop made steps)))
-      ∙ sym (append_assoc (take made steps) (take begun (drop made steps)) (drop begun (drop made steps))),
-)
 
 module _ (tells : Bool) (before : Session) (old : World) (kept : Kept) (kids : List Kid) (interrupted : List TurnStep) (was : List TurnStep) (lost_is : interrupted ≡ interrupts kept.table kids) where
   -- stopped at a job that is given up
   pub stopped_giving_up : (after : Session) (new : World) (is : List TurnStep) (fault : StoreFault) (result : Result Kept StoreFault) → IsErrAnd result (λ other. other ≡ fault) →
       MakesAll tells before after old new kept interrupted was is (Err fault) → MakesDecisions tells before after old new kept kids was is result
   stopped_giving_up after new is fault (Ok store) err makes = absurd err
-  stopped_giving_up after new is fault (Err other) err makes = subst (λ (of : StoreFault). MakesDecisions tells before after old new kept kids was is (Err of)) (sym err) (
-      let prefix = made_prefix interrupted makes.made makes.begun in
-      record {
-        part = made_part interrupted makes.made makes.begun (Err fault);
-        goes = makes_go tells before after old new kept interrupted was is (Err fault) makes;
-        decided = record {
-          answers = [];
-          few = omega arith;
-          prefix = (
-            prefix.0 ++ [],
-            ap (λ (l : List TurnStep). l ++ ends kids []) (sym lost_is) ∙ ap (λ (l : List TurnStep). interrupted ++ l) (ends_of_none kids) ∙ append-nil interrupted ∙ prefix.1
-                ∙ ap (λ (l : List TurnStep). (take makes.made interrupted ++ take makes.begun (drop makes.made interrupted)) ++ l) (sym (append-nil prefix.0)),
-          );
-          all = tt;
-          asked = sym (questions_of_none kids);
-          flags = refl;
-          added = refl;
-        };
-        written = makes.written;
-      })
+  stopped_giving_up after new is fault (Err other) err makes = subst (λ (of : StoreFault). MakesDecisions tells before after old new kept kids was is (Err of)) (sym err) (record {
+    part = quiet_part makes.made makes.next;
+    goes = makes.goes;
+    decided = record {
+      answers = [];
+      few = omega arith;
+      prefix = (
+        makes.prefix.0,
+        ap (λ (l : List TurnStep). l ++ ends kids []) (sym lost_is) ∙ ap (λ (l : List TurnStep). interrupted ++ l) (ends_of_none kids) ∙ append-nil interrupted ∙ makes.prefix.1,
+      );
+      all = tt;
+      asked = sym (questions_of_none kids);
+      flags = refl;
+      added = refl;
+    };
+    written = makes.written;
+  })
 
   -- after all of them
   module _ (first : Session) (given_up : World) (now : Kept) (between : List TurnStep) (makes : MakesAll tells before first old given_up kept interrupted was between (Ok now)) where
     abbrev giving : Part
-    giving = made_part interrupted makes.made makes.begun (Ok now)
+    giving = quiet_part makes.made makes.next
 
-    given_all : take makes.made interrupted ≡ interrupted
-    given_all = ap (λ (n : ℕ). take n interrupted) makes.all ∙ take-length interrupted
-
-    giving_goes : Goes tells before first old given_up kept giving (Ok now)
-    giving_goes = makes_go tells before first old given_up kept interrupted was between (Ok now) makes
+    given_are : makes.made ≡ interrupts kept.table kids
+    given_are = makes.all ∙ lost_is
 
     pub given_up_table : now.table ≡ after_steps kept.table (steps_of (interrupts kept.table kids))
-    given_up_table = makes.table_is ∙ ap (λ (steps : List TurnStep). after_steps kept.table (steps_of steps)) lost_is
+    given_up_table = makes.goes.table_is ∙ ap (λ (steps : List TurnStep). after_steps kept.table (steps_of steps)) given_are
 
     -- stopped at a question
     pub stopped_asking : {E : Type 0} (after : Session) (new : World) (asked : Result (Vec TurnStep Global) E) (result : Result Kept StoreFault) → IsErrAnd result (λ other. other ≡ Memory) →
@@ -145,22 +129,21 @@ module _ (tells : Bool) (before : Session) (old : World) (kept : Kept) (kids : L
     stopped_asking after new asked (Ok store) err stays asks = absurd err
     stopped_asking after new asked (Err other) err stays asks = subst (λ (of : StoreFault). MakesDecisions tells before after old new kept kids was between (Err of)) (sym err) (record {
       part = joined giving (asked_part (questions kids asks.answers));
-      goes = goes_then tells before first after old given_up new kept now giving (asked_part (questions kids asks.answers)) (Err Memory) giving_goes
+      goes = goes_then tells before first after old given_up new kept now giving (asked_part (questions kids asks.answers)) (Err Memory) makes.goes
           (memory_goes tells first after given_up new now (questions kids asks.answers) stays asks.asked);
       decided = record {
         answers = asks.answers;
         few = asks.few;
         prefix = (
           ends kids asks.answers,
-          ap (λ (l : List TurnStep). l ++ ends kids asks.answers) (sym lost_is ∙ sym given_all
-              ∙ sym (append-nil (take makes.made interrupted ++ []) ∙ append-nil (take makes.made interrupted))),
+          ap (λ (l : List TurnStep). l ++ ends kids asks.answers) (sym (append-nil (makes.made ++ []) ∙ append-nil makes.made ∙ given_are)),
         );
         all = tt;
         asked = refl;
         flags = refl;
         added = refl;
       };
-      written = makes.written ∙ ap (λ (l : List TurnStep). was ++ l) (sym (append-nil (take makes.made interrupted)));
+      written = makes.written ∙ ap (λ (l : List TurnStep). was ++ l) (sym (append-nil makes.made));
     })
 
     -- all were asked, and their ends made, or the first of them
@@ -170,23 +153,28 @@ module _ (tells : Bool) (before : Session) (old : World) (kept : Kept) (kids : L
     ended_all asked_at after middle new told known is result stays asks same ended = record {
       part = whole;
       goes = goes_then tells before asked_at after old middle new kept now (joined giving (asked_part (questions kids asks.answers))) ending result
-          (goes_then tells before first asked_at old given_up middle kept now giving (asked_part (questions kids asks.answers)) (Ok now) giving_goes
+          (goes_then tells before first asked_at old given_up middle kept now giving (asked_part (questions kids asks.answers)) (Ok now) makes.goes
           (asks_go tells first asked_at given_up middle now (questions kids asks.answers) stays asks.asked))
-          (makes_go tells asked_at after middle new now known between is result ended);
+          ended.goes;
       decided = record {
         answers = asks.answers;
         few = asks.few;
-        prefix = prefix_of result ended;
+        prefix = (
+          ended.prefix.0,
+          ap (λ (l : List TurnStep). l ++ ends kids asks.answers) (sym first_part)
+              ∙ ap (λ (l : List TurnStep). (makes.made ++ []) ++ l) (sym known_is ∙ ended.prefix.1)
+              ∙ regroup (makes.made ++ []) ended.made ended.next ended.prefix.0,
+        );
         all = all_of result ended;
         asked = append-nil (questions kids asks.answers);
         flags = refl;
         added = refl;
       };
-      written = ended.written ∙ ap (λ (l : List TurnStep). l ++ take ended.made known) makes.written ∙ append_assoc was (take makes.made interrupted) (take ended.made known)
-          ∙ ap (λ (l : List TurnStep). was ++ (l ++ take ended.made known)) (sym (append-nil (take makes.made interrupted)));
+      written = ended.written ∙ ap (λ (l : List TurnStep). l ++ ended.made) makes.written ∙ append_assoc was makes.made (ended.made)
+          ∙ ap (λ (l : List TurnStep). was ++ (l ++ ended.made)) (sym (append-nil makes.made));
     } where
       ending : Part
-      ending = made_part known ended.made ended.begun result
+      ending = quiet_part ended.made ended.next
 
       whole : Part
       whole = joined (joined giving (asked_part (questions kids asks.answers))) ending
@@ -194,33 +182,18 @@ module _ (tells : Bool) (before : Session) (old : World) (kept : Kept) (kids : L
       known_is : known ≡ ends kids asks.answers
       known_is = same ∙ asks.all.1
 
-      first_part : take makes.made interrupted ++ [] ≡ interrupts kept.table kids
-      first_part = append-nil (take makes.made interrupted) ∙ given_all ∙ lost_is
+      first_part : makes.made ++ [] ≡ interrupts kept.table kids
+      first_part = append-nil makes.made ∙ given_are
 
-      prefix_of : (of : Result Kept StoreFault) (makes_ends : MakesAll tells asked_at after middle new now known between is of) →
-          (beyond : List TurnStep) × (interrupts kept.table kids ++ ends kids asks.answers ≡ (((take makes.made interrupted ++ []) ++ take makes_ends.made known) ++ (made_part known makes_ends.made makes_ends.begun of).next) ++ beyond)
-      prefix_of (Ok store) makes_ends = (
-        [],
-        ap (λ (l : List TurnStep). l ++ ends kids asks.answers) (sym first_part)
-            ∙ ap (λ (l : List TurnStep). (take makes.made interrupted ++ []) ++ l) (sym known_is ∙ sym (ap (λ (n : ℕ). take n known) makes_ends.all ∙ take-length known))
-            ∙ sym (append-nil ((take makes.made interrupted ++ []) ++ take makes_ends.made known))
-            ∙ sym (append-nil (((take makes.made interrupted ++ []) ++ take makes_ends.made known) ++ [])),
-      )
-      prefix_of (Err fault) makes_ends = (
-        (made_prefix known makes_ends.made makes_ends.begun).0,
-        ap (λ (l : List TurnStep). l ++ ends kids asks.answers) (sym first_part)
-            ∙ ap (λ (l : List TurnStep). (take makes.made interrupted ++ []) ++ l) (sym known_is ∙ (made_prefix known makes_ends.made makes_ends.begun).1)
-            ∙ regroup (take makes.made interrupted ++ []) (take makes_ends.made known) (take makes_ends.begun (drop makes_ends.made known)) (made_prefix known makes_ends.made makes_ends.begun).0,
-      ) where
-        regroup : (a b c d : List TurnStep) → a ++ ((b ++ c) ++ d) ≡ ((a ++ b) ++ c) ++ d
-        regroup a b c d = simp append_assoc
+      regroup : (a b c d : List TurnStep) → a ++ ((b ++ c) ++ d) ≡ ((a ++ b) ++ c) ++ d
+      regroup a b c d = simp append_assoc
 
       all_of : (of : Result Kept StoreFault) (makes_ends : MakesAll tells asked_at after middle new now known between is of) →
-          IfOk of (λ store. (length asks.answers ≡ length kids) × ((take makes.made interrupted ++ []) ++ take makes_ends.made known ≡ interrupts kept.table kids ++ ends kids asks.answers))
+          IfOk of (λ store. (length asks.answers ≡ length kids) × ((makes.made ++ []) ++ makes_ends.made ≡ interrupts kept.table kids ++ ends kids asks.answers))
       all_of (Ok store) makes_ends = (
         asks.all.0,
-        ap (λ (l : List TurnStep). l ++ take makes_ends.made known) first_part
-            ∙ ap (λ (l : List TurnStep). interrupts kept.table kids ++ l) (ap (λ (n : ℕ). take n known) makes_ends.all ∙ take-length known ∙ known_is),
+        ap (λ (l : List TurnStep). l ++ makes_ends.made) first_part
+            ∙ ap (λ (l : List TurnStep). interrupts kept.table kids ++ l) (makes_ends.all ∙ known_is),
       )
       all_of (Err fault) makes_ends = tt
 
@@ -313,13 +286,10 @@ drop_least count steps = elim (cases_lt count (length steps)) [
   | inr past ↦ ap (λ (n : ℕ). drop n steps) (let is : min count (length steps) ≡ length steps = omega arith in is) ∙ drop_past (length steps) steps (omega arith) ∙ sym (drop_past count steps past)
 ]
 
-rest_taken : (count : ℕ) (steps : List TurnStep) → take (length steps - count) (drop count steps) ≡ drop count steps
-rest_taken count steps = ap (λ (n : ℕ). take n (drop count steps)) (let is : length steps - count ≡ length (drop count steps) = omega (arith, length-drop count steps) in is) ∙ take-length (drop count steps)
-
 pub reported_slice : (interrupted all steps reported : List TurnStep) (first counted : ℕ) → interrupted ≡ all → reported ≡ steps → first ≡ min (length interrupted) counted → counted ≡ length reported →
     take (length reported - first) (drop first reported) ≡ drop (length all) steps
 reported_slice interrupted all steps reported first counted lost_is same is count =
-    rest_taken first reported
+    take_rest reported first
     ∙ ap (λ (n : ℕ). drop n reported) (is ∙ ap (min (length interrupted)) count)
     ∙ drop_least (length interrupted) reported
     ∙ ap (λ (l : List TurnStep). drop (length l) reported) lost_is
@@ -331,7 +301,6 @@ reported_slice interrupted all steps reported first counted lost_is same is coun
 pub now_current : {E : Type 0} (tells : Bool) (before first : Session) (old given_up middle : World) (kept now : Kept) (interrupted : List TurnStep) (kids : List Kid) (was between : List TurnStep) (told : Vec TurnStep Global) →
     (tells ≡ true → (table : JobTable) × IsCurrent kept old.now.folder table) → MakesAll tells before first old given_up kept interrupted was between (Ok now) →
     AsksAll {E = E} tells kids given_up middle (Ok told) → tells ≡ true → (table : JobTable) × IsCurrent now middle.now.folder table
-now_current tells before first old given_up middle kept now interrupted kids was between told current makes asks is =
+now_current tells before first old given_up middle kept now _ kids was between told current makes asks is =
     let table : JobTable = (current is).0 in
-    let made = makes.files is table (current is).1 in
-    (after_steps table (steps_of interrupted), (asks.asked is now (after_steps table (steps_of interrupted)) made.current).current)
+    (_, (asks.asked is now _ (makes.goes.files is table (current is).1).ends.current).current)

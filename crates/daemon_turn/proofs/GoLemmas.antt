@@ -1,9 +1,8 @@
 -- Parts of a turn, one after another.
-use Rattle.std.proofs.Common.{◌≡◌, ◌++◌, ℕ, ℤ, Bool, true, false, List, [], ◌∷◌, append_assoc, append-nil, drop, filter, length, map, take, sym, ap, subst, ◌∙◌, refl, arith}
+use Rattle.std.proofs.Common.{◌≡◌, ◌++◌, ℕ, ℤ, Bool, true, false, List, [], ◌∷◌, append_assoc, append-nil, filter, map, sym, ap, subst, ◌∙◌, refl, arith}
 use Rattle.std.specs.Prelude.{IfOk, Option, Some, None, Result, Ok, Err, is_some, option_to_list}
 use Rattle.std.proofs.lemmas.List.{map-append}
 use Rattle.std.proofs.lemmas.List.Elements.{filter-append}
-use Rattle.std.proofs.Math.Seq.{take-length}
 use Rattle.host_calls.specs.declared.child.Asked.{Asked}
 use Rattle.host_calls.specs.declared.child.Child.{Child}
 use Rattle.host_calls.specs.declared.child.Handed.{Handed}
@@ -25,9 +24,8 @@ use Rattle.daemon_turn.specs.Kids.{started_numbers}
 use Rattle.daemon_turn.specs.StepsOf.{step_of, steps_of}
 use Rattle.daemon_turn.specs.inside.Going.{Gives, Goes, Part, PartEnds, joined}
 use Rattle.daemon_turn.specs.inside.Handing.{HandsJobOver}
-use Rattle.daemon_turn.specs.inside.Making.{MakesAll}
 use Rattle.host_session.proofs.SessionLemmas.{counts_on, no_counts}
-use Rattle.daemon_turn.proofs.MakeLemmas.{no_fault, not_memory}
+use Rattle.daemon_turn.proofs.HandLemmas.{no_fault, not_memory}
 
 -- no part
 abbrev pub no_part : Part
@@ -101,46 +99,6 @@ goes_then tells before between after start middle end kept now first later resul
             ∙ sym (map-append (λ (kid : Kid). kid.number) first.added later.added);
         ends = ends_then table first later was.given is.given now start middle end result was.ends is.ends;
       };
-}
-
--- Steps that hand nothing over.
-
--- the next one, where there is a fault
-abbrev pub next_of : Result Kept StoreFault → List TurnStep → List TurnStep
-next_of (Ok kept) next = []
-next_of (Err fault) next = next
-
-abbrev pub made_part : List TurnStep → ℕ → ℕ → Result Kept StoreFault → Part
-made_part steps made begun result = record { steps = take made steps; next = next_of result (take begun (drop made steps)); questions = []; flags = []; added = [] }
-
-pub makes_go : (tells : Bool) (before after : Session) (old new : World) (kept : Kept) (steps was is : List TurnStep) (result : Result Kept StoreFault) →
-    (makes : MakesAll tells before after old new kept steps was is result) → Goes tells before after old new kept (made_part steps makes.made makes.begun result) result
-makes_go tells before after old new kept steps was is (Ok store) makes =
-    let all : take makes.made steps ≡ steps = ap (λ (n : ℕ). take n steps) makes.all ∙ take-length steps in
-    record {
-      inside = makes.inside.stays.inside;
-      counts = makes.inside.stays.counts;
-      cause = makes.inside.cause;
-      faults = tt;
-      children = makes.inside.stays.children ∙ sym (append-nil before.children);
-      table_is = makes.table_is ∙ ap (λ (l : List TurnStep). after_steps kept.table (steps_of l)) (sym all);
-      whole = refl;
-      files = λ known table current. record {
-        given = [];
-        flagged = refl;
-        numbered = refl;
-        ends = subst (λ (l : List TurnStep). AreMade table (steps_of l) [] [] store old new) (sym all) (makes.files known table current);
-      };
-    }
-makes_go tells before after old new kept steps was is (Err fault) makes = record {
-  inside = makes.inside.stays.inside;
-  counts = makes.inside.stays.counts;
-  cause = makes.inside.cause;
-  faults = makes.faults;
-  children = makes.inside.stays.children ∙ sym (append-nil before.children);
-  table_is = tt;
-  whole = tt;
-  files = λ known table current. record { given = []; flagged = refl; numbered = refl; ends = makes.files known table current };
 }
 
 -- Questions.

@@ -125,10 +125,10 @@ script_held table files number name nice file = subst IsSome (sym file.held) ref
 same_fault : {T : Type 0} (one other : StoreFault) → ◌≡◌ {A = Result T StoreFault} (Err one) (Err other) → one ≡ other
 same_fault one other is = cc
 
-no_fault : {T : Type 0} (value : T) (fault : StoreFault) → ◌≡◌ {A = Result T StoreFault} (Ok value) (Err fault) → ⊥
+pub no_fault : {T : Type 0} (value : T) (fault : StoreFault) → ◌≡◌ {A = Result T StoreFault} (Ok value) (Err fault) → ⊥
 no_fault value fault is = cc
 
-not_memory : {T : Type 0} → ◌≡◌ {A = Result T StoreFault} (Err Memory) (Err FileFault) → ⊥
+pub not_memory : {T : Type 0} → ◌≡◌ {A = Result T StoreFault} (Err Memory) (Err FileFault) → ⊥
 not_memory is = cc
 
 -- the store could not start the job

@@ -1,6 +1,6 @@
 -- Jobs that are started one after another.
 use Rattle.std.proofs.Common.{◌≡◌, ◌≤◌, ◌<◌, ◌+◌, ◌++◌, ℕ, ℤ, Bool, true, false, List, [], ◌∷◌, append_assoc, append-nil, add-one, drop, get_or, length, length-append, map, take, sym, ap, subst, ◌∙◌, refl, arith, inl, inr}
-use Rattle.std.specs.Prelude.{IsErrAnd, Some, None, Result, Ok, Err}
+use Rattle.std.specs.Prelude.{IfOk, IsErrAnd, Some, None, Result, Ok, Err}
 use Rattle.std.proofs.Math.Seq.{take-length, take-suc}
 use Rattle.std.proofs.lemmas.List.{drop_more, map-append, take-append-drop}
 use Rattle.host_calls.specs.declared.child.Child.{Child}
@@ -13,6 +13,7 @@ use Rattle.spool_model.specs.Steps.{IsLegal, after_step, after_steps}
 use Rattle.step_runs.specs.Current.{IsCurrent, Kept}
 use Rattle.spool_store.specs.declared.fault.StoreFault.{StoreFault}
 use Rattle.spool_store.specs.declared.fault.StoreFault.TheVariants.{Memory}
+use Rattle.spool_store.specs.Making.{MayMakeSteps}
 use Rattle.spool_store.specs.Stepping.{MayStep}
 use Rattle.spool_shows.proofs.Membership.{Has}
 use Rattle.daemon_turn.specs.declared.kid.Kid.{Kid}
@@ -20,16 +21,15 @@ use Rattle.daemon_turn.specs.declared.step.TurnStep.{TurnStep}
 use Rattle.daemon_turn.specs.declared.step.TurnStep.TheVariants.{HandedOver, Ended}
 use Rattle.daemon_turn.specs.Starting.{start_steps, starts}
 use Rattle.daemon_turn.specs.StepsOf.{number_of, steps_of}
-use Rattle.daemon_turn.specs.inside.Going.{Gives, Goes, Part, joined}
+use Rattle.daemon_turn.specs.inside.Going.{Gives, Goes, Part, joined, quiet_part}
 use Rattle.daemon_turn.specs.inside.Handing.{HandsJobOver}
-use Rattle.daemon_turn.specs.inside.Launching.{AreStarted, Launches}
-use Rattle.daemon_turn.specs.inside.Making.{MakesAll, MayMake}
+use Rattle.daemon_turn.specs.inside.Launching.{Launches}
+use Rattle.daemon_turn.specs.inside.Making.{MakesAll}
 use Rattle.daemon_turn.specs.inside.Waiting.{AreWaiting, started_of}
 use Rattle.step_runs.proofs.ApartLemmas.{Apart, all_each, apart_differ, differ_apart, each_all}
 use Rattle.host_session.proofs.SessionLemmas.{stays_inside}
 use Rattle.step_runs.proofs.MadeLemmas.{no_steps_are_made}
-use Rattle.daemon_turn.proofs.DecideLemmas.{made_prefix}
-use Rattle.daemon_turn.proofs.GoLemmas.{asked_part, goes_none, goes_then, handed_part, hands_go, made_part, makes_go, memory_goes, no_part}
+use Rattle.daemon_turn.proofs.GoLemmas.{asked_part, goes_none, goes_then, handed_part, hands_go, memory_goes, no_part}
 use Rattle.daemon_turn.proofs.HandLemmas.{started_entry}
 use Rattle.daemon_turn.proofs.WaitLemmas.{waiting_after}
 
@@ -42,11 +42,11 @@ started_runs table after number second legal is =
 
 pub may_end : (tells : Bool) (before between : Session) (old middle : World) (kept store : Kept) (number : ℕ) (second : ℤ) → IsLegal kept.table (Start number second) →
     (tells ≡ true → (table : JobTable) × IsCurrent kept old.now.folder table) → HandsJobOver tells before between old middle kept number second (Ok (store, None)) →
-    MayMake tells between middle store (Ended number NotStarted ∷ [])
+    MayMakeSteps tells between middle store (steps_of (Ended number NotStarted ∷ []))
 may_end tells before between old middle kept store number second legal current hands = record {
   inside = hands.inside;
   legal = (started_runs kept.table store.table number second legal hands.table_is, tt);
-  quiet = tt;
+  changes = (tt, tt);
   current = λ known. (let first : (table : JobTable) × IsCurrent kept old.now.folder table = current known in
       (after_step first.0 (Start number second), (hands.files known first.0 first.1).made.current));
 }
@@ -82,23 +82,24 @@ module _ (tells : Bool) (before between after : Session) (old middle new : World
       more ≡ kids → written ≡ was ++ HandedOver number second ∷ [] → MakesAll tells between after middle new store (Ended number NotStarted ∷ []) written is result →
       Launches tells before after old new kept (number ∷ []) second kids more was is result
   launched_none store more written is result hands same first makes = record {
-    part = joined (handed_part number second (Ok (store, None))) (made_part ended makes.made makes.begun result);
-    goes = goes_then tells before between after old middle new kept store (handed_part number second (Ok (store, None))) (made_part ended makes.made makes.begun result) result
+    part = joined (handed_part number second (Ok (store, None))) (quiet_part makes.made makes.next);
+    goes = goes_then tells before between after old middle new kept store (handed_part number second (Ok (store, None))) (quiet_part makes.made makes.next) result
         (hands_go tells before between old middle kept number second (Ok (store, None)) hands)
-        (makes_go tells between after middle new store ended written is result makes);
-    started = started result makes;
-    written = makes.written ∙ ap (λ (l : List TurnStep). l ++ take makes.made ended) first ∙ append_assoc was (HandedOver number second ∷ []) (take makes.made ended);
+        makes.goes;
+    started = record {
+      few = omega arith;
+      prefix = (makes.prefix.0, ap (λ (l : List TurnStep). HandedOver number second ∷ l) makes.prefix.1);
+      all = all result makes.all;
+      numbered = refl;
+      asked = refl;
+    };
+    written = makes.written ∙ ap (λ (l : List TurnStep). l ++ makes.made) first ∙ append_assoc was (HandedOver number second ∷ []) makes.made;
     kids_are = same ∙ sym (append-nil kids);
   } where
-    started : (of : Result Kept StoreFault) (made : MakesAll tells between after middle new store ended written is of) →
-        AreStarted (number ∷ []) second (joined (handed_part number second (Ok (store, None))) (made_part ended made.made made.begun of)) of
-    started (Ok last) made =
-        let all : take made.made ended ≡ ended = ap (λ (n : ℕ). take n ended) made.all in
-        let steps : HandedOver number second ∷ take made.made ended ≡ HandedOver number second ∷ ended = ap (λ (l : List TurnStep). HandedOver number second ∷ l) all in
-        record { few = omega arith; prefix = ([], sym (append-nil ((HandedOver number second ∷ take made.made ended) ++ []) ∙ append-nil (HandedOver number second ∷ take made.made ended) ∙ steps)); all = (refl, steps); numbered = refl; asked = refl }
-    started (Err fault) made =
-        let prefix = made_prefix ended made.made made.begun in
-        record { few = omega arith; prefix = (prefix.0, ap (λ (l : List TurnStep). HandedOver number second ∷ l) prefix.1); all = tt; numbered = refl; asked = refl }
+    all : (of : Result Kept StoreFault) → IfOk of (λ last. makes.made ≡ ended) →
+        IfOk of (λ last. (length (false ∷ []) ≡ length (number ∷ [])) × (HandedOver number second ∷ makes.made ≡ starts (number ∷ []) second (false ∷ [])))
+    all (Ok last) same = (refl, ap (λ (l : List TurnStep). HandedOver number second ∷ l) same)
+    all (Err fault) same = tt
 
 -- there was no memory to write the start down
 pub launched_nothing : (tells : Bool) (session : Session) (world : World) (kept : Kept) (numbers : List ℕ) (second : ℤ) (kids more : List Kid) (was is : List TurnStep) (result : Result Kept StoreFault) →

@@ -4,7 +4,6 @@ pub mod DecideLemmas
 pub mod DecisionLemmas
 pub mod EndLemmas
 pub mod Examples
-pub mod ForgetLemmas
 pub mod GoLemmas
 pub mod HandLemmas
 pub mod KidLemmas

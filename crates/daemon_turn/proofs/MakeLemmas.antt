@@ -1,185 +1,98 @@
--- Steps that are made one after another.
-use Rattle.std.proofs.Common.{◌≡◌, ◌<◌, ◌+◌, ◌++◌, ℕ, Bool, true, List, [], ◌∷◌, length, add-one, append_assoc, get_or, take, drop, sym, ap, subst, ◌∙◌, refl, arith}
-use Rattle.std.proofs.Math.Seq.{take-length, take-suc}
-use Rattle.std.proofs.lemmas.List.{drop_more, map-append}
+-- Steps that are made one after another, and written down.
+use Rattle.std.proofs.Common.{◌≡◌, ◌+◌, ◌++◌, ℕ, zero, suc, Bool, List, [], ◌∷◌, append-nil, drop, length, take, sym, ap, subst, ◌∙◌, refl, arith}
+use Rattle.std.proofs.Math.Seq.{take-length}
+use Rattle.std.proofs.lemmas.List.{drop-map, length-map, take-map}
+use Rattle.std.proofs.lemmas.Result.{err_from_is_err_and}
+use Rattle.std.proofs.lemmas.Simd.{map-map}
 use Rattle.std.specs.Prelude.{IsErrAnd, Result, Ok, Err}
-use Rattle.host_calls.specs.Folder.{Folder}
-use Rattle.host_calls.specs.Session.{CallsInside, Session, StaysInside}
+use Rattle.host_calls.specs.Session.{IsInside, Session}
 use Rattle.host_calls.specs.World.{World}
 use Rattle.spool_model.specs.declared.step.Step.{Step}
-use Rattle.spool_model.specs.declared.step.Step.TheVariants.{Draw, Accept, Remove, Start, End, Interrupt, Forget}
-use Rattle.spool_model.specs.JobTable.{JobTable}
-use Rattle.spool_model.specs.Steps.{AreLegal, IsLegal, after_step, after_steps}
-use Rattle.step_runs.specs.WithoutScripts.{step_without_script}
-use Rattle.step_runs.specs.Calls.{StoreCall}
-use Rattle.step_runs.specs.Current.{IsCurrent, Kept}
-use Rattle.step_runs.specs.Hands.{StartNothing}
-use Rattle.step_runs.specs.Made.{AreMade, AreStopped}
-use Rattle.step_runs.proofs.HandsLemmas.{steps_then}
-use Rattle.step_runs.proofs.MadeLemmas.{made_steps_are_stopped, no_steps_are_made}
-use Rattle.step_runs.proofs.TurnLemmas.{fault_after, legal_when_kept, step_after}
+use Rattle.spool_model.specs.Lists.{surplus}
+use Rattle.step_runs.specs.Current.{Kept}
+use Rattle.step_runs.specs.Made.{AreStopped}
+use Rattle.step_runs.proofs.MadeLemmas.{no_steps_are_made}
 use Rattle.spool_store.specs.declared.fault.StoreFault.{StoreFault}
-use Rattle.spool_store.specs.declared.fault.StoreFault.TheVariants.{FileFault, Memory}
-use Rattle.spool_store.specs.Faults.{IsOfStep}
+use Rattle.spool_store.specs.declared.fault.StoreFault.TheVariants.{Memory}
+use Rattle.spool_store.specs.Making.{MakesSteps, MayMakeSteps}
+use Rattle.spool_store.proofs.MakeLemmas.{made_prefix}
+use Rattle.spool_store.proofs.SurplusLemmas.{may_forget}
+use Rattle.host_session.proofs.SessionLemmas.{stays_inside}
 use Rattle.daemon_turn.specs.declared.step.TurnStep.{TurnStep}
-use Rattle.daemon_turn.specs.declared.step.TurnStep.TheVariants.{HandedOver, Ended, Interrupted, Forgotten}
-use Rattle.daemon_turn.specs.inside.Making.{MakesAll, MakingEnds, MayMake}
+use Rattle.daemon_turn.specs.declared.step.TurnStep.TheVariants.{Forgotten}
+use Rattle.daemon_turn.specs.Starting.{forgets}
 use Rattle.daemon_turn.specs.StepsOf.{step_of, steps_of}
+use Rattle.daemon_turn.specs.inside.Going.{MayGo}
+use Rattle.daemon_turn.specs.inside.Making.{MakesAll}
+use Rattle.daemon_turn.proofs.GoLemmas.{memory_goes}
 
--- so many of the steps were made
-pub record HasMade (tells : Bool) (was now : Kept) (steps : List TurnStep) (count : ℕ) (old new : World) : Type 0 where
-  pub table_is : now.table ≡ after_steps was.table (steps_of (take count steps))
-  pub legal : AreLegal now.table (steps_of (drop count steps))
-  pub quiet : StartNothing (steps_of (drop count steps))
-  pub made : tells ≡ true → (table : JobTable) → IsCurrent was old.now.folder table →
-      AreMade table (steps_of (take count steps)) [] [] now old new
+-- there was no memory for the steps
+pub nothing_made : {tells : Bool} {session : Session} {world : World} {kept : Kept} (steps was is : List TurnStep) (result : Result Kept StoreFault) →
+    IsErrAnd result (λ other. other ≡ Memory) → IsInside session → is ≡ was → MakesAll tells session session world world kept steps was is result
+nothing_made {tells} {session} {world} {kept} steps was is result err inside same =
+    let fault = err_from_is_err_and result err in
+    subst (MakesAll tells session session world world kept steps was is) (sym (fault.1 ∙ ap (λ (of : StoreFault). Err of) fault.2)) (record {
+      made = [];
+      next = [];
+      goes = memory_goes tells session session world world kept [] (stays_inside session inside) (λ known now table current. no_steps_are_made table now world current);
+      prefix = (steps, refl);
+      all = tt;
+      written = same ∙ sym (append-nil was);
+    })
 
--- no step of a turn has a script
-pub without_scripts_is : (step : TurnStep) → step_without_script (step_of step) ≡ step_of step
-without_scripts_is (HandedOver number second) = refl
-without_scripts_is (Ended number ending) = refl
-without_scripts_is (Interrupted number) = refl
-without_scripts_is (Forgotten number) = refl
-
-pub none_made : (tells : Bool) (session : Session) (world : World) (kept : Kept) (steps : List TurnStep) →
-    MayMake tells session world kept steps → HasMade tells kept kept steps 0 world world
-none_made tells session world kept steps may = record {
-  table_is = refl;
-  legal = may.legal;
-  quiet = may.quiet;
-  made = λ is table current. no_steps_are_made table kept world current;
+-- they were made, or the first of them
+pub made_all : {tells : Bool} {before after : Session} {old new : World} {kept : Kept} (steps was is : List TurnStep) {made : ℕ} (result : Result Kept StoreFault) →
+    MakesSteps tells before after old new kept (steps_of steps) made result → is ≡ was ++ take made steps → MakesAll tells before after old new kept steps was is result
+made_all {tells} {before} {after} {old} {new} {kept} steps was is {made} (Ok store) makes written = record {
+  made = steps;
+  next = [];
+  goes = record {
+    inside = makes.inside.stays.inside;
+    counts = makes.inside.stays.counts;
+    cause = makes.inside.cause;
+    faults = tt;
+    children = makes.inside.stays.children ∙ sym (append-nil before.children);
+    table_is = makes.table_is;
+    whole = refl;
+    files = λ known table current. record { given = []; flagged = refl; numbered = refl; ends = makes.files known table current };
+  };
+  prefix = ([], sym (append-nil (steps ++ []) ∙ append-nil steps));
+  all = refl;
+  written = written ∙ ap (λ (l : List TurnStep). was ++ l) (ap (λ (n : ℕ). take n steps) (makes.all ∙ length-map steps step_of) ∙ take-length steps);
 }
-
--- a list of steps that starts nothing has a prefix and a rest that start nothing
-quiet_prefix : (step : Step) (later : List Step) → StartNothing (step ∷ later) → StartNothing (step ∷ [])
-quiet_prefix Draw later quiet = tt
-quiet_prefix (Accept number job) later quiet = tt
-quiet_prefix (Remove number) later quiet = tt
-quiet_prefix (Start number second) later quiet = quiet
-quiet_prefix (End number ending) later quiet = tt
-quiet_prefix (Interrupt number) later quiet = tt
-quiet_prefix (Forget number) later quiet = tt
-
-quiet_after : (step : Step) (later : List Step) → StartNothing (step ∷ later) → StartNothing later
-quiet_after Draw later quiet = quiet
-quiet_after (Accept number job) later quiet = quiet
-quiet_after (Remove number) later quiet = quiet
-quiet_after (Start number second) later quiet = absurd quiet
-quiet_after (End number ending) later quiet = quiet
-quiet_after (Interrupt number) later quiet = quiet
-quiet_after (Forget number) later quiet = quiet
-
--- the next of the steps
-module _ (tells : Bool) (was now : Kept) (steps : List TurnStep) (count : ℕ) (default : TurnStep) (old middle : World) (below : count < length steps) (has : HasMade tells was now steps count old middle) where
-  abbrev step : TurnStep
-  step = get_or steps count default
-
-  dropped : drop count steps ≡ step ∷ drop (count + 1) steps
-  dropped = drop_more steps count default below
-
-  pub taken : take (count + 1) steps ≡ take count steps ++ step ∷ []
-  taken = ap (λ (n : ℕ). take n steps) (add-one count) ∙ take-suc steps count default below
-
-  next_is : take 1 (drop count steps) ≡ step ∷ []
-  next_is = ap (λ (l : List TurnStep). take 1 l) dropped
-
-  legal_now : IsLegal now.table (step_of step) × AreLegal (after_step now.table (step_of step)) (steps_of (drop (count + 1) steps))
-  legal_now = subst (λ (l : List TurnStep). AreLegal now.table (steps_of l)) dropped has.legal
-
-  steps_taken : steps_of (take (count + 1) steps) ≡ steps_of (take count steps) ++ step_of step ∷ []
-  steps_taken = ap steps_of taken ∙ map-append step_of (take count steps) (step ∷ [])
-
-  pub legal_one : IsLegal now.table (step_of step)
-  legal_one = legal_now.0
-
-  pub quiet_one : StartNothing (step_of step ∷ [])
-  quiet_one = quiet_prefix (step_of step) (steps_of (drop (count + 1) steps)) (subst (λ (l : List TurnStep). StartNothing (steps_of l)) dropped has.quiet)
-
-  legal_on : (table : JobTable) (folder : Folder) → IsCurrent now folder table → IsLegal table (step_of step)
-  legal_on table folder current = legal_when_kept now folder table (step_of step) current (subst (IsLegal now.table) (sym (without_scripts_is step)) legal_one)
-
-  pub one_made : (last : Kept) (new : World) → last.table ≡ after_step now.table (step_of step) →
-      (tells ≡ true → (table : JobTable) → IsCurrent now middle.now.folder table → StoreCall {E = StoreFault} table (step_of step ∷ []) middle new (Ok last)) →
-      HasMade tells was last steps (count + 1) old new
-  one_made last new table_is call = record {
-    table_is = table_is ∙ ap (λ (t : JobTable). after_step t (step_of step)) has.table_is
-        ∙ sym (ap (after_steps was.table) steps_taken ∙ steps_then was.table (steps_of (take count steps)) (step_of step ∷ []));
-    legal = subst (λ (t : JobTable). AreLegal t (steps_of (drop (count + 1) steps))) (sym table_is) legal_now.1;
-    quiet = quiet_after (step_of step) (steps_of (drop (count + 1) steps)) (subst (λ (l : List TurnStep). StartNothing (steps_of l)) dropped has.quiet);
-    made = λ is table current.
-        let made : AreMade table (steps_of (take count steps)) [] [] now old middle = has.made is table current in
-        subst (λ (l : List Step). AreMade table l [] [] last old new) (sym steps_taken)
-        (step_after table (steps_of (take count steps)) [] [] now old middle new made (step_of step) last
-        (legal_on (after_steps table (steps_of (take count steps))) middle.now.folder made.current) quiet_one
-        (call is (after_steps table (steps_of (take count steps))) made.current));
-  }
-
-  pub one_stopped : (fault : StoreFault) (new : World) →
-      (tells ≡ true → (table : JobTable) → IsCurrent now middle.now.folder table → StoreCall {E = StoreFault} table (step_of step ∷ []) middle new (Err fault)) →
-      tells ≡ true → (table : JobTable) → IsCurrent was old.now.folder table → MakingEnds table steps count 1 old new (Err fault)
-  one_stopped fault new call is table current =
-      let made : AreMade table (steps_of (take count steps)) [] [] now old middle = has.made is table current in
-      subst (λ (l : List TurnStep). AreStopped table (steps_of (take count steps)) (steps_of l) [] [] old new) (sym next_is)
-      (fault_after table (steps_of (take count steps)) [] [] now old middle new made (step_of step) fault
-      (legal_on (after_steps table (steps_of (take count steps))) middle.now.folder made.current)
-      (call is (after_steps table (steps_of (take count steps))) made.current))
-
--- an answer that is no fault, and want of memory is none of a file
-pub no_fault : {T E : Type 0} (value : T) (fault : E) → ◌≡◌ {A = Result T E} (Ok value) (Err fault) → ⊥
-no_fault value fault is = cc
-
-pub not_memory : {T : Type 0} → ◌≡◌ {A = Result T StoreFault} (Err Memory) (Err FileFault) → ⊥
-not_memory is = cc
-
--- all steps were made
-pub all_made : (tells : Bool) (before after : Session) (was now : Kept) (steps : List TurnStep) (count : ℕ) (old new : World) (earlier later : List TurnStep) →
-    count ≡ length steps → StaysInside before after → HasMade tells was now steps count old new → later ≡ earlier ++ take count steps →
-    MakesAll tells before after old new was steps earlier later (Ok now)
-all_made tells before after was now steps count old new earlier later whole stays has written =
-    let all_taken : take count steps ≡ steps = ap (λ (n : ℕ). take n steps) whole ∙ take-length steps in
-    record {
-      inside = record { stays = stays; cause = record { later = stays.counts.file_faults; rose = λ bad. absurd (no_fault now FileFault bad) } };
-      faults = tt;
-      table_is = has.table_is ∙ ap (λ (l : List TurnStep). after_steps was.table (steps_of l)) all_taken;
-      made = count;
-      begun = 0;
-      few = omega (arith, whole);
-      all = whole;
-      written = written;
-      files = λ is table current. subst (λ (l : List TurnStep). AreMade table (steps_of l) [] [] now old new) all_taken (has.made is table current);
-    }
-
--- the next step was stopped, or not begun
-pub some_made : (tells : Bool) (before after : Session) (was : Kept) (steps : List TurnStep) (count begun : ℕ) (old new : World) (earlier later : List TurnStep) (fault : StoreFault) (result : Result Kept StoreFault) →
-    IsErrAnd result (λ other. other ≡ fault) → count < length steps → CallsInside {T = Kept} FileFault before after (Err fault) → IsOfStep fault → later ≡ earlier ++ take count steps →
-    (tells ≡ true → (table : JobTable) → IsCurrent was old.now.folder table → MakingEnds table steps count begun old new (Err fault)) →
-    MakesAll tells before after old new was steps earlier later result
-some_made tells before after was steps count begun old new earlier later fault (Ok now) is below inside faults written files = absurd is
-some_made tells before after was steps count begun old new earlier later fault (Err other) is below inside faults written files = subst (λ (of : StoreFault). MakesAll tells before after old new was steps earlier later (Err of)) (sym is) (record {
-  inside = inside;
-  faults = faults;
-  table_is = tt;
-  made = count;
-  begun = begun;
-  few = omega (arith, below);
+made_all {tells} {before} {after} {old} {new} {kept} steps was is {made} (Err fault) makes written = record {
+  made = take made steps;
+  next = take makes.begun (drop made steps);
+  goes = record {
+    inside = makes.inside.stays.inside;
+    counts = makes.inside.stays.counts;
+    cause = makes.inside.cause;
+    faults = makes.faults;
+    children = makes.inside.stays.children ∙ sym (append-nil before.children);
+    table_is = tt;
+    whole = tt;
+    files = λ known table current. record {
+      given = [];
+      flagged = refl;
+      numbered = refl;
+      ends = subst (λ (l : List Step). AreStopped table (steps_of (take made steps)) l [] [] old new)
+          (ap (take makes.begun) (drop-map step_of made steps) ∙ take-map step_of makes.begun (drop made steps))
+          (subst (λ (l : List Step). AreStopped table l (take makes.begun (drop made (steps_of steps))) [] [] old new) (take-map step_of made steps) (makes.files known table current));
+    };
+  };
+  prefix = made_prefix steps made makes.begun;
   all = tt;
   written = written;
-  files = files;
-})
+}
 
--- there was no memory to write the next one down
-pub none_begun : (tells : Bool) (before after : Session) (was now : Kept) (steps : List TurnStep) (count : ℕ) (old new : World) (earlier later : List TurnStep) (result : Result Kept StoreFault) →
-    IsErrAnd result (λ other. other ≡ Memory) → count < length steps → StaysInside before after → HasMade tells was now steps count old new → later ≡ earlier ++ take count steps →
-    MakesAll tells before after old new was steps earlier later result
-none_begun tells before after was now steps count old new earlier later result err below stays has written =
-    some_made tells before after was steps count 0 old new earlier later Memory result err below
-    (record { stays = stays; cause = record { later = stays.counts.file_faults; rose = λ bad. absurd (not_memory bad) } }) tt written
-    (λ is table current. made_steps_are_stopped table (steps_of (take count steps)) [] [] now old new (has.made is table current))
+-- what is written down, and then cut after those that were made
+pub written_part : (was steps : List TurnStep) (made count : ℕ) → count ≡ length was + made → take count (was ++ steps) ≡ was ++ take made steps
+written_part [] steps made count is = ap (λ (n : ℕ). take n steps) (let same : count ≡ made = omega (arith, is) in same)
+written_part (step ∷ was) steps made zero is = absurd (omega (arith, is))
+written_part (step ∷ was) steps made (suc count) is = ap (λ (l : List TurnStep). step ∷ l) (written_part was steps made count (omega (arith, is)))
 
--- one step more is written down
-pub written_more : (steps : List TurnStep) (count : ℕ) (default : TurnStep) (earlier later last : List TurnStep) → count < length steps →
-    later ≡ earlier ++ take count steps → last ≡ later ++ get_or steps count default ∷ [] → last ≡ earlier ++ take (count + 1) steps
-written_more steps count default earlier later last below written pushed =
-    pushed ∙ ap (λ (l : List TurnStep). l ++ get_or steps count default ∷ []) written
-    ∙ append_assoc earlier (take count steps) (get_or steps count default ∷ [])
-    ∙ ap (λ (l : List TurnStep). earlier ++ l) (sym (ap (λ (n : ℕ). take n steps) (add-one count) ∙ take-suc steps count default below))
+-- what is too much may be forgotten
+pub may_forget_all : {tells : Bool} {session : Session} {world : World} {kept : Kept} (steps : List TurnStep) → MayGo tells session world kept → steps ≡ forgets kept.table →
+    MayMakeSteps tells session world kept (steps_of steps)
+may_forget_all {tells} {session} {world} {kept} steps may is =
+    may_forget (steps_of steps) (ap steps_of is ∙ map-map step_of Forgotten (surplus kept.table)) may.inside may.current

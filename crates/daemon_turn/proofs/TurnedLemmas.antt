@@ -24,9 +24,9 @@ use Rattle.daemon_turn.specs.StepsOf.{number_of, steps_of}
 use Rattle.daemon_turn.specs.Turning.{AreFirstSteps, AreTurnSteps, with_forgets}
 use Rattle.daemon_turn.specs.inside.Deciding.{Decides, MayDecide}
 use Rattle.daemon_turn.specs.inside.Ended.{without_ended}
-use Rattle.daemon_turn.specs.inside.Forgetting.{Forgets}
-use Rattle.daemon_turn.specs.inside.Going.{Gives, Goes, MayGo, Part, joined}
+use Rattle.daemon_turn.specs.inside.Going.{Gives, Goes, MayGo, Part, joined, quiet_part}
 use Rattle.daemon_turn.specs.inside.Launching.{Launches}
+use Rattle.daemon_turn.specs.inside.Making.{MakesAll}
 use Rattle.daemon_turn.specs.inside.Turned.{AreStepsBy, MakesTurn}
 use Rattle.daemon_turn.specs.inside.Waiting.{AreWaiting, started_of}
 use Rattle.step_runs.proofs.ApartLemmas.{Apart, all_each, apart_append, apart_differ, apart_filter, differ_apart, rise_apart}
@@ -246,9 +246,9 @@ module _ (tells : Bool) (before : Session) (old : World) (kept : Kept) (kids : L
 
           -- after all starts
           module _ (last : Kept) (whole : outcome ≡ Ok last) (after : Session) (new : World) (report : List TurnStep) (result : Result Kept StoreFault)
-              (forgotten : Forgets tells second after started_at new last reported report result) where
+              (forgotten : MakesAll tells second after started_at new last (forgets last.table) reported report result) where
             abbrev forgetting : Part
-            forgetting = forgotten.part
+            forgetting = quiet_part forgotten.made forgotten.next
 
             abbrev all : Part
             all = joined (joined deciding starting) forgetting
@@ -260,10 +260,10 @@ module _ (tells : Bool) (before : Session) (old : World) (kept : Kept) (kids : L
             started_all = subst (λ (of : Result Kept StoreFault). IfOk of (λ store. (length starting.flags ≡ length order) × (starting.steps ≡ starts order turn.now starting.flags))) whole launches.started.all
 
             flags_all : (deciding.flags ++ starting.flags) ++ forgetting.flags ≡ starting.flags
-            flags_all = ap (λ (l : List Bool). (deciding.flags ++ starting.flags) ++ l) forgotten.forgotten.flags ∙ append-nil (deciding.flags ++ starting.flags) ∙ flags_are
+            flags_all = append-nil (deciding.flags ++ starting.flags) ∙ flags_are
 
             added_all : (deciding.added ++ starting.added) ++ forgetting.added ≡ starting.added
-            added_all = ap (λ (l : List Kid). (deciding.added ++ starting.added) ++ l) forgotten.forgotten.added ∙ append-nil (deciding.added ++ starting.added) ∙ added_are
+            added_all = append-nil (deciding.added ++ starting.added) ∙ added_are
 
             all_go : Goes tells before after old new kept (joined (joined deciding starting) forgetting) result
             all_go = goes_then tells before second after old started_at new kept last (joined deciding starting) forgetting result both_made forgotten.goes
@@ -294,8 +294,8 @@ module _ (tells : Bool) (before : Session) (old : World) (kept : Kept) (kids : L
             all_no_end kid runs = none_any (tells_end_of kid.number) (starting.steps ++ forgetting.steps) (λ step has. elim (has_either starting.steps forgetting.steps step has) [
               | inl one ↦ of_none (tells_end_of kid.number) starting.steps (starts_no_end kid runs) step one
               | inr other ↦ forgets_no_end (Rattle.std.proofs.Common.take (Rattle.std.proofs.Common.◌-◌ (length (Rattle.spool_model.specs.Lists.done_numbers last.table)) Rattle.spool_model.specs.declared.decided.TheConstants.MAX_DONE) (Rattle.spool_model.specs.Lists.done_numbers last.table)) kid.number step
-                  (subst (λ (l : List TurnStep). Has l step) (sym forgotten.forgotten.prefix.1)
-                  (has_left (forgetting.steps ++ forgetting.next) forgotten.forgotten.prefix.0 step (has_left forgetting.steps forgetting.next step other)))
+                  (subst (λ (l : List TurnStep). Has l step) (sym forgotten.prefix.1)
+                  (has_left (forgetting.steps ++ forgetting.next) forgotten.prefix.0 step (has_left forgetting.steps forgetting.next step other)))
             ]) where
               of_none : (test : TurnStep → Bool) (steps : List TurnStep) → list_any test steps ≡ false → (step : TurnStep) → Has steps step → test step ≡ false
               of_none test steps none step has = by_test (test step) refl where
@@ -306,7 +306,7 @@ module _ (tells : Bool) (before : Session) (old : World) (kept : Kept) (kids : L
             -- all of the steps, or the first of them
             are_whole : (store : Kept) → result ≡ Ok store → AreTurnSteps turn kept.table known all.flags all.steps
             are_whole store is =
-                let forgot : forgetting.steps ≡ forgets last.table = subst (λ (of : Result Kept StoreFault). IfOk of (λ kept. forgetting.steps ≡ forgets last.table)) is forgotten.forgotten.all in
+                let forgot : forgetting.steps ≡ forgets last.table = subst (λ (of : Result Kept StoreFault). IfOk of (λ kept. forgetting.steps ≡ forgets last.table)) is forgotten.all in
                 subst (AreTurnSteps turn kept.table known all.flags) (sym (ap (λ (l : List TurnStep). (deciding.steps ++ starting.steps) ++ l) forgot ∙ forgets_are all.flags flags_all)) (whole_steps all.flags flags_all)
 
             are_first : AreFirstSteps turn kept.table known all.flags (all.steps ++ all.next)
@@ -314,9 +314,9 @@ module _ (tells : Bool) (before : Session) (old : World) (kept : Kept) (kids : L
               with_forgets kept.table (decisions kept.table turn.kids known ++ starts order turn.now all.flags),
               whole_steps all.flags flags_all,
               (
-                forgotten.forgotten.prefix.0,
-                sym (forgets_are all.flags flags_all) ∙ ap (λ (l : List TurnStep). (deciding.steps ++ starting.steps) ++ l) forgotten.forgotten.prefix.1
-                    ∙ regroup (deciding.steps ++ starting.steps) forgetting.steps forgetting.next forgotten.forgotten.prefix.0,
+                forgotten.prefix.0,
+                sym (forgets_are all.flags flags_all) ∙ ap (λ (l : List TurnStep). (deciding.steps ++ starting.steps) ++ l) forgotten.prefix.1
+                    ∙ regroup (deciding.steps ++ starting.steps) forgetting.steps forgetting.next forgotten.prefix.0,
               ),
             )) where
               regroup : (a b c d : List TurnStep) → a ++ ((b ++ c) ++ d) ≡ ((a ++ b) ++ c) ++ d
@@ -333,7 +333,7 @@ module _ (tells : Bool) (before : Session) (old : World) (kept : Kept) (kids : L
               answers = known;
               are = are_by result refl;
               asked = asked_are known ((deciding.questions ++ starting.questions) ++ forgetting.questions)
-                  (ap (λ (l : List Asked). (deciding.questions ++ starting.questions) ++ l) forgotten.forgotten.asked ∙ append-nil (deciding.questions ++ starting.questions) ∙ both_asked);
+                  (append-nil (deciding.questions ++ starting.questions) ∙ both_asked);
               written = forgotten.written ∙ ap (λ (l : List TurnStep). l ++ forgetting.steps) both_written;
               kids = more_is ∙ ap (λ (l : List Kid). without_ended deciding.steps l ++ starting.added) kids_are
                   ∙ ap (λ (l : List Kid). l ++ starting.added) (kids_stay kept.table deciding.steps (starting.steps ++ forgetting.steps) turn.kids all_no_end

@@ -18,14 +18,13 @@ use Rattle.daemon_turn.specs.declared.kid.Kid.{Kid}
 use Rattle.daemon_turn.specs.declared.mode.Mode.{Mode}
 use Rattle.daemon_turn.specs.declared.mode.Mode.TheVariants.{Full, EndsOnly}
 use Rattle.daemon_turn.specs.declared.step.TurnStep.{TurnStep}
-use Rattle.daemon_turn.specs.declared.step.TurnStep.TheVariants.{Interrupted}
+use Rattle.daemon_turn.specs.declared.step.TurnStep.TheVariants.{HandedOver, Ended, Interrupted, Forgotten}
 use Rattle.daemon_turn.specs.Decisions.{asked_kids, decisions, ends, interrupts, is_without_kid, is_running_entry, runs_in}
 use Rattle.daemon_turn.specs.Kids.{AreKidsAfter, kept_kids, tells_end_of}
 use Rattle.daemon_turn.specs.Starting.{IsBatchOrderWhere, IsOrder, IsOrderIn, Turn, forgets, has_batch_turn, starts}
 use Rattle.daemon_turn.specs.StepsOf.{step_of, steps_of}
 use Rattle.daemon_turn.specs.Turning.{AreFirstSteps, AreTurnSteps, with_forgets}
 use Rattle.step_runs.proofs.ApartLemmas.{filter_alike}
-use Rattle.daemon_turn.proofs.MakeLemmas.{without_scripts_is}
 
 -- a job runs with and without its script
 runs_alike : (table : JobTable) (kid : Kid) → runs_in (without_scripts table) kid ≡ runs_in table kid
@@ -75,6 +74,13 @@ order_alike turn table order is = by_mode turn.mode is where
     both = full.both;
   }
   by_mode EndsOnly none = none
+
+-- no step of a turn has a script
+without_scripts_is : (step : TurnStep) → step_without_script (step_of step) ≡ step_of step
+without_scripts_is (HandedOver number second) = refl
+without_scripts_is (Ended number ending) = refl
+without_scripts_is (Interrupted number) = refl
+without_scripts_is (Forgotten number) = refl
 
 without_scripts_steps : (steps : List TurnStep) → map step_without_script (steps_of steps) ≡ steps_of steps
 without_scripts_steps [] = refl

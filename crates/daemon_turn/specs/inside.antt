@@ -1,7 +1,6 @@
 pub mod Asking
 pub mod Deciding
 pub mod Ended
-pub mod Forgetting
 pub mod Going
 pub mod Handing
 pub mod Launching

@@ -1,17 +1,17 @@
 //! Steps that hand nothing over.
-ghost use Rattle.std.specs.Prelude.{◌≡◌, [], ◌∷◌};
-ghost use Rattle.step_runs.specs.Hands.{StartNothing};
-ghost use Rattle.spool_store.specs.Stepping.{MakesStep, MayStep};
-ghost use Rattle.daemon_turn.specs.inside.Making.{MakesAll, MayMake};
-ghost use Rattle.daemon_turn.specs.StepsOf.{step_of};
+ghost use Rattle.std.specs.Prelude.{◌≡◌, IfOk};
+ghost use Rattle.spool_store.specs.Making.{MayMakeSteps};
+ghost use Rattle.daemon_turn.specs.inside.Making.{MakesAll};
+ghost use Rattle.daemon_turn.specs.StepsOf.{steps_of};
 
 use crate::{TurnStep, Turning};
 use host_calls::Host;
+use spool_model::Step;
 use spool_store::{Store, StoreFault};
-use std::alloc::Global;
+use std::alloc::{AllocError, Global};
 
 impl Turning {
-    // Makes the steps, in order, and writes each down once it stands.
+    // Makes the steps, in order, and writes down those that stand.
     pub(crate) fn make_all<H: Host>(
         &mut self,
         alloc: Global,
@@ -19,37 +19,25 @@ impl Turning {
         store: Store,
         steps: &[TurnStep],
     ) -> Result<Store, StoreFault>
-        requires { MayMake H.tells (H.session host.old) (H.world host.old) store steps.now }
+        requires { MayMakeSteps H.tells (H.session host.old) (H.world host.old) store (steps_of steps.now) }
         ensures makes { MakesAll H.tells (H.session host.old) (H.session host.new)
             (H.world host.old) (H.world host.new) store steps.now self.old.steps.items self.new.steps.items result }
         ensures kids { self.new.kids ≡ self.old.kids }
     {
-        let mut store = store;
-        for step in steps {
-            self.steps.reserve(1)?;
-            store = make(alloc, host, store, *step)?;
-            self.steps.push_reserved(*step);
-        }
-        Ok(store)
+        let changes = steps_of(alloc, steps)?;
+        let before = self.steps.len();
+        // All are written down before the first is made, so that none is made that could not be.
+        self.steps.extend_from_slice(steps)?;
+        let mut made = 0;
+        let outcome = store.make_all(alloc, host, changes.as_slice(), &mut made);
+        self.steps.truncate(before + made);
+        outcome
     }
 }
 
-// Makes one step, which is not a start.
-fn make<H: Host>(
-    alloc: Global,
-    host: &mut H,
-    store: Store,
-    step: TurnStep,
-) -> Result<Store, StoreFault>
-    requires may { MayStep H.tells (H.session host.old) (H.world host.old) store (step_of step) }
-    requires quiet { StartNothing (step_of step ∷ []) }
-    ensures makes { MakesStep H.tells (H.session host.old) (H.session host.new)
-        (H.world host.old) (H.world host.new) store (step_of step) result }
+// The steps of the job table that the steps of a turn report.
+fn steps_of(alloc: Global, steps: &[TurnStep]) -> Result<Vec<Step>, AllocError>
+    ensures { IfOk result (λ made. made.items ≡ steps_of steps.now) }
 {
-    match step {
-        TurnStep::HandedOver(_, _) => unreachable!(),
-        TurnStep::Ended(number, ending) => store.end(alloc, host, number, ending),
-        TurnStep::Interrupted(number) => store.interrupt(alloc, host, number),
-        TurnStep::Forgotten(number) => store.forget(alloc, host, number),
-    }
+    steps.iter().map(|step| step.step()).collect(alloc)
 }

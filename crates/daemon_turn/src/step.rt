@@ -1,8 +1,9 @@
 //! The steps of a turn.
 ghost use Rattle.std.specs.Prelude.{◌≡◌, [], ◌++◌, ◌∷◌};
-ghost use Rattle.daemon_turn.specs.StepsOf.{number_of};
+ghost use Rattle.daemon_turn.specs.StepsOf.{number_of, step_of};
 
 use host_calls::Ending;
+use spool_model::Step;
 use std::alloc::Global;
 use std::marker::Model;
 
@@ -20,6 +21,18 @@ pub enum TurnStep {
 }
 
 impl TurnStep {
+    // The step of the job table that it reports.
+    pub(crate) fn step(&self) -> Step
+        ensures { result ≡ step_of self.now }
+    {
+        match self {
+            TurnStep::HandedOver(number, second) => Step::Start(*number, *second),
+            TurnStep::Ended(number, ending) => Step::End(*number, *ending),
+            TurnStep::Interrupted(number) => Step::Interrupt(*number),
+            TurnStep::Forgotten(number) => Step::Forget(*number),
+        }
+    }
+
     // The number of the job that the step is of.
     pub(crate) fn number(&self) -> u32
         ensures { result ≡ number_of self.now }

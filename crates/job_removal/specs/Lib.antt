@@ -1,2 +1,1 @@
 pub mod Removing
-pub mod inside

@@ -1,22 +1,20 @@
 //! The removal of jobs.
-ghost use Rattle.std.specs.Prelude.{◌≡◌, IfErr, IfOk, IsTrue, map};
+ghost use Rattle.std.specs.Prelude.{◌≡◌, IfErr, IfOk, IsTrue};
 ghost use Rattle.host_calls.specs.Session.{CallsInside, IsInside};
 ghost use Rattle.host_calls.specs.World.{GoesOn};
 ghost use Rattle.listing_text.specs.declared.cause.Cause.TheVariants as cause;
 ghost use Rattle.spool_model.specs.JobTable.{JobTable};
+ghost use Rattle.spool_model.specs.Lists.{surplus};
 ghost use Rattle.spool_model.specs.Steps.{AreLegal};
 ghost use Rattle.step_runs.specs.Current.{IsCurrent};
 ghost use Rattle.command_rules.specs.Causes.{cause_in, error_of};
-ghost use Rattle.command_rules.specs.Requested.{removes};
+ghost use Rattle.command_rules.specs.Requested.{forgets, removes};
 ghost use Rattle.command_rules.specs.Sessions.{Works};
 ghost use Rattle.job_removal.specs.Removing.{AreRemoval, ComesOfRemoving};
-ghost use Rattle.spool_model.specs.Lists.{surplus};
 
-use crate::StepKind;
-use crate::change::change_each;
 use command_rules::CommandError;
 use host_calls::Host;
-use spool_model::{Decided, MAX_DONE};
+use spool_model::Step;
 use spool_store::Store;
 use std::alloc::{AllocError, Global};
 
@@ -37,23 +35,32 @@ pub fn remove_jobs<H: Host>(
     ensures works { IsTrue H.tells → (table : JobTable) → IsCurrent store (H.world host.old).now.folder table
         → Works (AreRemoval numbers.now) table (H.world host.old) (H.world host.new) (cause_in result) }
 {
-    let store = change_each(alloc, host, store, StepKind::Remove, numbers)?;
-    let forgotten = surplus(alloc, &store)?;
-    change_each(alloc, host, store, StepKind::Forget, forgotten.as_slice())?;
+    let mut made = 0;
+    let removals = removals(alloc, numbers)?;
+    let store = store.make_all(alloc, host, removals.as_slice(), &mut made)?;
+    let forgettings = forgettings(alloc, &store)?;
+    store.make_all(alloc, host, forgettings.as_slice(), &mut made)?;
     Ok(())
 }
 
-// The lowest of the done numbers, as many as are too many.
-fn surplus(alloc: Global, store: &Store) -> Result<Vec<u32>, AllocError>
-    ensures { IfOk result (λ numbers. numbers.items ≡ surplus store.now.table) }
+// The steps that take back the jobs of these numbers.
+fn removals(alloc: Global, numbers: &[u32]) -> Result<Vec<Step>, AllocError>
+    ensures { IfOk result (λ steps. steps.items ≡ removes numbers.now) }
 {
-    let decided = store.decided();
-    let count = decided.len().saturating_sub(MAX_DONE);
-    numbers_of(alloc, &decided[..count])
+    numbers
+        .iter()
+        .map(|number| Step::Remove(*number))
+        .collect(alloc)
 }
 
-fn numbers_of(alloc: Global, decided: &[Decided]) -> Result<Vec<u32>, AllocError>
-    ensures { IfOk result (λ numbers. numbers.items ≡ map (λ done. done.number) decided.now) }
+// The steps that forget what is too much.
+fn forgettings(alloc: Global, store: &Store) -> Result<Vec<Step>, AllocError>
+    ensures { IfOk result (λ steps. steps.items ≡ forgets (surplus store.now.table)) }
 {
-    decided.iter().map(|done| done.number).collect(alloc)
+    let numbers = store.surplus(alloc)?;
+    numbers
+        .as_slice()
+        .iter()
+        .map(|number| Step::Forget(*number))
+        .collect(alloc)
 }

@@ -15,6 +15,7 @@ pub mod ListLemmas
 pub mod ListedLemmas
 pub mod Listing
 pub mod SurveyLemmas
+pub mod MakeLemmas
 pub mod MarkingCalls
 pub mod MarkingLemmas
 pub mod Places
@@ -36,5 +37,6 @@ pub mod SubmitAnswers
 pub mod SubmitLemmas
 pub mod SubmitStored
 pub mod SubmittedFolders
+pub mod SurplusLemmas
 pub mod TableLemmas
 pub mod WrittenJobs

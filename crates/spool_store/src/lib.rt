@@ -1,6 +1,7 @@
 //! The store of jobs: a spool folder seen as its job table, each step a call that any crash leaves whole.
 #![tactic(auto)]
 
+mod changes;
 mod fault;
 mod job_rows;
 mod jobs;
@@ -13,6 +14,7 @@ mod starts;
 mod steps;
 mod store;
 mod submit;
+mod surplus;
 mod survey;
 mod surveyed_files;
 mod surveyed_job;

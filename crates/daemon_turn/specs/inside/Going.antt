@@ -26,6 +26,10 @@ pub record Part : Type 0 where
   pub flags : List Bool
   pub added : List Kid
 
+-- a part that asks and starts nothing
+abbrev pub quiet_part : List TurnStep → List TurnStep → Part
+quiet_part steps next = record { steps = steps; next = next; questions = []; flags = []; added = [] }
+
 -- one part after another
 abbrev pub joined : Part → Part → Part
 joined first later = record {

@@ -1,52 +1,60 @@
+use Rattle.std.proofs.Common.{◌∙◌, inl, refl}
 use Rattle.std.proofs.lemmas.Result.{err_from_is_err_and}
-use Rattle.command_rules.proofs.SpoolLemmas.{goes_on_then}
-use Rattle.job_removal.proofs.RemoveLemmas.{forgets_legal_at, forgets_stopped_at, removed_at, removes_stopped, surplus_lacks_memory}
+use Rattle.command_rules.proofs.SpoolLemmas.{goes_on_none, goes_on_then}
+use Rattle.spool_store.proofs.SurplusLemmas.{may_forget}
+use Rattle.job_removal.proofs.RemoveLemmas.{all_removed, forgets_stopped, lacks_memory, may_remove, removes_stopped}
 use Rattle.job_removal.proofs.removal.remove_jobs.Goals as goal
+
+pub returns-in_err-removals-clause-goes_on : goal.returns-in_err-removals-clause-goes_on
+returns-in_err-removals-clause-goes_on g c = λ known. goes_on_none _ _ refl
+
+pub returns-in_err-removals-clause-works : goal.returns-in_err-removals-clause-works
+returns-in_err-removals-clause-works g c = λ known table current.
+    let p = err_from_is_err_and c.from_residual.result c.from_residual.ensures.1 in
+    rw (p.1, p.2) (inl refl)
+
+pub make_all-requires : goal.make_all-requires
+make_all-requires g c =
+    may_remove c.args.numbers.now c.as_slice.result.now (c.as_slice.ensures.value ∙ c.in_ok-removals.ensures) c.requires.inside c.requires.legal c.requires.current
 
 pub returns-in_err-store-clause-works : goal.returns-in_err-store-clause-works
 returns-in_err-store-clause-works g c = λ known table current.
-    let p = err_from_is_err_and c.from_residual.result c.from_residual.ensures.1 in
+    let p = err_from_is_err_and c.from_residual-in_err-store.result c.from_residual-in_err-store.ensures.1 in
     rw (p.1, p.2)
-    (removes_stopped table c.args.numbers.now c.args.store (g.H.Host.world c.args.host.now) (g.H.Host.world c.change_each.new.host)
-    c.in_err-store.field-0.0 c.in_err-store.ensures.faults (c.in_err-store.ensures.files known table current))
+    (removes_stopped known table c.args.numbers.now (g.H.Host.world c.args.host.now) current c.requires.legal
+    (c.as_slice.ensures.value ∙ c.in_ok-removals.ensures) c.in_err-store.ensures)
 
-pub returns-in_err-forgotten-clause-works : goal.returns-in_err-forgotten-clause-works
-returns-in_err-forgotten-clause-works g c = λ known table current.
-    let p = err_from_is_err_and c.from_residual-in_err-forgotten.result c.from_residual-in_err-forgotten.ensures.1 in
+pub returns-in_err-forgettings-clause-works : goal.returns-in_err-forgettings-clause-works
+returns-in_err-forgettings-clause-works g c = λ known table current.
+    let p = err_from_is_err_and c.from_residual-in_err-forgettings.result c.from_residual-in_err-forgettings.ensures.1 in
     rw (p.1, p.2)
-    (surplus_lacks_memory table c.args.numbers.now c.in_ok-store.store (g.H.Host.world c.args.host.now) (g.H.Host.world c.change_each.new.host)
-    (c.in_ok-store.ensures.files known table current))
+    (lacks_memory known table c.args.numbers.now (g.H.Host.world c.args.host.now) current c.requires.legal
+    (c.as_slice.ensures.value ∙ c.in_ok-removals.ensures) c.in_ok-store.ensures)
 
-pub change_each-requires-2-clause-legal : goal.change_each-requires-2-clause-legal
-change_each-requires-2-clause-legal g c =
-    forgets_legal_at c.in_ok-store.store.table c.as_slice.result.now c.in_ok-forgotten.forgotten.items c.as_slice.ensures.value c.in_ok-forgotten.ensures
+pub make_all-requires-2 : goal.make_all-requires-2
+make_all-requires-2 g c = may_forget c.as_slice-2.result.now (c.as_slice-2.ensures.value ∙ c.in_ok-forgettings.ensures) c.in_ok-store.ensures.inside.stays.inside
+    (λ known. (_, (c.in_ok-store.ensures.files known (c.requires.current known).0 (c.requires.current known).1).current))
 
-pub change_each-requires-2-clause-current : goal.change_each-requires-2-clause-current
-change_each-requires-2-clause-current g c = λ known.
-    (_, (c.in_ok-store.ensures.files known (c.requires.current known).0 (c.requires.current known).1).current)
+pub returns-in_err-make_all-clause-goes_on : goal.returns-in_err-make_all-clause-goes_on
+returns-in_err-make_all-clause-goes_on g c = λ known.
+    goes_on_then (g.H.Host.world c.args.host.now) (g.H.Host.world c.make_all.new.host) (g.H.Host.world c.make_all-2.new.host)
+    (c.in_ok-store.ensures.goes_on known) (c.in_err-make_all.ensures.goes_on known)
 
-pub returns-in_err-change_each-clause-goes_on : goal.returns-in_err-change_each-clause-goes_on
-returns-in_err-change_each-clause-goes_on g c = λ known.
-    goes_on_then (g.H.Host.world c.args.host.now) (g.H.Host.world c.change_each.new.host) (g.H.Host.world c.change_each-2.new.host)
-    (c.in_ok-store.ensures.goes_on known) (c.in_err-change_each.ensures.goes_on known)
-
-pub returns-in_err-change_each-clause-works : goal.returns-in_err-change_each-clause-works
-returns-in_err-change_each-clause-works g c = λ known table current.
-    let p = err_from_is_err_and c.from_residual-in_err-change_each.result c.from_residual-in_err-change_each.ensures.1 in
+pub returns-in_err-make_all-clause-works : goal.returns-in_err-make_all-clause-works
+returns-in_err-make_all-clause-works g c = λ known table current.
+    let p = err_from_is_err_and c.from_residual-in_err-make_all.result c.from_residual-in_err-make_all.ensures.1 in
     rw (p.1, p.2)
-    (forgets_stopped_at table c.args.numbers.now c.in_ok-store.store (g.H.Host.world c.args.host.now) (g.H.Host.world c.change_each.new.host)
-    (c.in_ok-store.ensures.files known table current) c.as_slice.result.now c.in_ok-forgotten.forgotten.items c.in_err-change_each.field-0.0
-    (g.H.Host.world c.change_each-2.new.host) c.as_slice.ensures.value c.in_ok-forgotten.ensures c.in_err-change_each.ensures.faults
-    (c.in_err-change_each.ensures.files known _ (c.in_ok-store.ensures.files known table current).current))
+    (forgets_stopped known table c.args.numbers.now (g.H.Host.world c.args.host.now) current c.requires.legal
+    (c.as_slice.ensures.value ∙ c.in_ok-removals.ensures) c.in_ok-store.ensures
+    (c.as_slice-2.ensures.value ∙ c.in_ok-forgettings.ensures) c.in_err-make_all.ensures)
 
 pub returns-clause-goes_on : goal.returns-clause-goes_on
 returns-clause-goes_on g c = λ known.
-    goes_on_then (g.H.Host.world c.args.host.now) (g.H.Host.world c.change_each.new.host) (g.H.Host.world c.change_each-2.new.host)
-    (c.in_ok-store.ensures.goes_on known) (c.in_ok-change_each.ensures.goes_on known)
+    goes_on_then (g.H.Host.world c.args.host.now) (g.H.Host.world c.make_all.new.host) (g.H.Host.world c.make_all-2.new.host)
+    (c.in_ok-store.ensures.goes_on known) (c.in_ok-make_all.ensures.goes_on known)
 
 pub returns-clause-works : goal.returns-clause-works
 returns-clause-works g c = λ known table current.
-    removed_at table c.args.numbers.now c.in_ok-store.store (g.H.Host.world c.args.host.now) (g.H.Host.world c.change_each.new.host)
-    (c.in_ok-store.ensures.files known table current) c.as_slice.result.now c.in_ok-forgotten.forgotten.items c.in_ok-change_each.field-0
-    (g.H.Host.world c.change_each-2.new.host) c.as_slice.ensures.value c.in_ok-forgotten.ensures
-    (c.in_ok-change_each.ensures.files known _ (c.in_ok-store.ensures.files known table current).current)
+    all_removed known table c.args.numbers.now (g.H.Host.world c.args.host.now) current c.requires.legal
+    (c.as_slice.ensures.value ∙ c.in_ok-removals.ensures) c.in_ok-store.ensures
+    (c.as_slice-2.ensures.value ∙ c.in_ok-forgettings.ensures) c.in_ok-make_all.ensures

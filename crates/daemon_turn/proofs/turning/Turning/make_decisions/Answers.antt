@@ -18,7 +18,7 @@ returns-in_err-store-clause-made g c =
 pub ask_all-requires-clause-children : goal.ask_all-requires-clause-children
 ask_all-requires-clause-children g c =
     subst (λ (kids : List Kid). AreChildren (g.H.Host.session c.make_all.new.host).children kids) (sym (ap (λ kids. kids.items) c.in_ok-store.ensures.kids))
-    (children_stay (g.H.Host.session c.args.host.now) (g.H.Host.session c.make_all.new.host) c.args.self.now.kids.items c.in_ok-store.ensures.makes.inside.stays c.requires.may.children)
+    (children_stay (g.H.Host.session c.args.host.now) (g.H.Host.session c.make_all.new.host) c.args.self.now.kids.items c.in_ok-store.ensures.makes.goes.children c.requires.may.children)
 
 pub returns-in_err-known-clause-made : goal.returns-in_err-known-clause-made
 returns-in_err-known-clause-made g c =

@@ -50,4 +50,4 @@ returns g c = λ turn now_is kids_are ordered.
     turn kids_are ordered c.in_ok-store.store c.in_ok-store.ensures
     (g.H.Host.session c.start_all.new.host) (g.H.Host.world c.start_all.new.host) c.start_all.new.self.kids.items c.start_all.new.self.steps.items (Ok c.in_ok-store-2.store)
     (launches_as _ _ _ _ _ _ _ _ _ _ _ _ _ _ _ _ c.as_slice-2.ensures.value (to_z-of_z w64 c.args.second c.ranges.second) now_is c.in_ok-store-2.ensures)
-    c.in_ok-store-2.store refl (g.H.Host.session c.forget_all.new.host) (g.H.Host.world c.forget_all.new.host) c.forget_all.new.self.steps.items c.forget_all.result c.forget_all.ensures.forgets)
+    c.in_ok-store-2.store refl (g.H.Host.session c.forget_all.new.host) (g.H.Host.world c.forget_all.new.host) c.forget_all.new.self.steps.items c.forget_all.result c.forget_all.ensures.makes)
