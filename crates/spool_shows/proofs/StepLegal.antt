@@ -39,8 +39,7 @@ pending_unnamed files table number shows (job, is) =
 
 running_started : (files : Files) (table : JobTable) (number : ℕ) (shows : ShowsByName files table) → IsRunning table number → (is_started number shows.read.marks ≡ true) × (is_ended number shows.read.marks ≡ false)
 running_started files table number shows (job, second, is) =
-    let live : IsLiveBy shows.read.marks files number job (Running second) = live_in files table number job (Running second) shows is in
-    (
+    let live : IsLiveBy shows.read.marks files number job (Running second) = live_in files table number job (Running second) shows is in (
       is_started_since number shows.read.marks second (started_then (started_at number shows.read.marks) second live.state_is),
       none_narrower (ends number) (decides number) shows.read.marks (ends_decides number) live.undecided,
     )
