@@ -1,6 +1,6 @@
 -- What is counted and written in a session, since its start.
 use Rattle.std.proofs.Common.{◌≡◌, ◌∙◌, ℕ, Bool, List, inl, inr, refl, ap, subst}
-use Rattle.std.specs.Prelude.{Option, Some, None, Err}
+use Rattle.std.specs.Prelude.{Option, Some, None}
 use Rattle.std.specs.FinMap as finite
 use Rattle.std.specs.Option.{option_map}
 use Rattle.host_calls.specs.Folder.{Files, Folder, IsImage}
@@ -9,16 +9,13 @@ use Rattle.host_calls.proofs.WorldLemmas.{leaves_weaker}
 use Rattle.account_records.specs.declared.record.AccountRecord.{AccountRecord}
 use Rattle.account_records.specs.News.{known_of, news_of}
 use Rattle.account_totals.specs.Observing.{AreNews, known_in}
-use Rattle.command_rules.specs.Causes.{cause_of}
 use Rattle.listing_text.specs.declared.cause.Cause.{Cause}
 use Rattle.listing_text.specs.declared.cause.Cause.TheVariants.{Done, Refused, FileFault, InputFault, OutputFault, Busy, Memory, Damaged, StillRunning, Faulty}
 use Rattle.listing_text.specs.declared.refusal.Refusal.TheVariants as refusal
 use Rattle.spool_model.specs.declared.entry.Entry.TheVariants.{Live, Done as DoneEntry}
 use Rattle.spool_model.specs.JobTable.{JobEntry, JobTable, entry_at}
-use Rattle.spool_store.specs.declared.fault.StoreFault.{StoreFault}
 use Rattle.spool_store.specs.declared.fault.StoreFault.TheVariants as store
-use Rattle.spool_store.specs.Faults.{IsOfReading}
-use Rattle.spool_store.specs.Recovering.{IsRecovered, Recovered}
+use Rattle.spool_store.specs.Recovering.{IsRecovered}
 use Rattle.spool_store.proofs.BesideLemmas.{shows_the_same}
 use Rattle.step_runs.specs.Calls.{ShowsAsBefore}
 use Rattle.step_runs.specs.Current.{Kept}
@@ -33,7 +30,7 @@ use Rattle.at_account.specs.Names.{account_file, account_temp}
 use Rattle.at_account.specs.Showing.{IsShown}
 use Rattle.at_account.specs.inside.Filing as file
 use Rattle.at_account.specs.inside.Filing.{EachGives, IsWriting}
-use Rattle.at_account.specs.inside.Inside.{IsCounted, IsOfWork, StopsCounting, StopsInside}
+use Rattle.at_account.specs.inside.Inside.{IsCounted, StopsCounting, StopsInside}
 use Rattle.at_account.proofs.NameLemmas.{both_beside, file_beside, temp_beside}
 
 -- an entry is known without its script
@@ -72,34 +69,11 @@ pub accounting_alone : (old new : World) → ChangesFiles (ShowsAsBefore old.now
 accounting_alone old new recovery =
     changes_weaker (ShowsAsBefore old.now.folder) (IsAccounting old.now.folder) old new (recovery_is_accounting old.now.folder) recovery
 
--- the recovery stopped
-pub recovery_stops : (old new : World) (fault : StoreFault) → IsOfReading fault → ChangesFiles (ShowsAsBefore old.now.folder) old new
-    → Recovered old.now.folder new.now.folder (Err fault) → StopsInside old new (cause_of fault)
-recovery_stops old new store.FileFault reads recovery recovered = tt
-recovery_stops old new store.Memory reads recovery recovered = tt
-recovery_stops old new (store.Damaged damage) reads recovery recovered = (inl recovered, recovery)
-recovery_stops old new store.QueueFull reads recovery recovered = absurd reads
-recovery_stops old new store.NumbersUsedUp reads recovery recovered = absurd reads
-
-pub recovery_comes : (fault : StoreFault) → IsOfReading fault → IsOfWork (cause_of fault)
-recovery_comes store.FileFault reads = tt
-recovery_comes store.Memory reads = tt
-recovery_comes (store.Damaged damage) reads = tt
-recovery_comes store.QueueFull reads = absurd reads
-recovery_comes store.NumbersUsedUp reads = absurd reads
-
 -- a fault of a file, or want of memory, leaves what it leaves
 pub host_stops : (old new : World) (cause : Cause) → file.IsOfHost cause → StopsInside old new cause
 host_stops old new FileFault is = tt
 host_stops old new Memory is = tt
 host_stops old new cause is = absurd is
-
--- what stops a reading stops the work
-pub reading_comes : (cause : Cause) → file.IsOfReading cause → IsOfWork cause
-reading_comes FileFault is = tt
-reading_comes Memory is = tt
-reading_comes (Damaged damage) is = tt
-reading_comes cause is = absurd is
 
 -- the spool was recovered, and what it keeps is this
 module _ (old middle : World) (kept : Kept) (recovery : ChangesFiles (ShowsAsBefore old.now.folder) old middle)

@@ -11,7 +11,6 @@ use Rattle.account_records.specs.Records.{MayCome}
 use Rattle.whole_file.specs.Others.{ChangesFiles}
 use Rattle.whole_file.specs.Placing.{IsPlaced, IsPlacing}
 use Rattle.whole_file.proofs.ChangesJoined.{changes_weaker}
-use Rattle.whole_file.proofs.OthersLemmas.{changes_none}
 use Rattle.at_account.specs.Counting.{GivesRecords}
 use Rattle.at_account.specs.Names.{account_file, account_temp}
 use Rattle.at_account.specs.inside.Filing.{EachGives, IsPlacedAt, IsWriting}
@@ -37,7 +36,3 @@ module _ (bytes : List ℕ) (records : List AccountRecord) (spelled : AreSpelled
 
   pub written : (folder : Folder) → IsPlacedAt account_file bytes folder → EachGives records folder
   written folder placed image is = gives (finite.get image account_file) (placed image is)
-
--- and where nothing was done
-pub nothing_written : (records : List AccountRecord) (old : World) → ChangesFiles (IsWriting records old.now.folder) old old
-nothing_written records old = changes_none (IsWriting records old.now.folder) old

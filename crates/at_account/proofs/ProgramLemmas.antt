@@ -9,7 +9,6 @@ use Rattle.cause_output.specs.Saying.{IsSaid, IsUndone, SaysLine}
 use Rattle.command_rules.specs.Causes.{words_cause}
 use Rattle.command_rules.specs.Sinks.{EndsLine, IsPutInPart, IsPutOrCut, IsSilent, SinkAt}
 use Rattle.command_rules.proofs.SpoolLemmas.{goes_on_none}
-use Rattle.host_calls.specs.Causes.{Rose}
 use Rattle.host_calls.specs.declared.host.Host as host
 use Rattle.host_calls.specs.declared.sink.Sink as sink
 use Rattle.host_calls.specs.Session.{IsLeft, IsOutside, Session}
@@ -17,10 +16,8 @@ use Rattle.host_calls.specs.World.{World}
 use Rattle.listing_text.specs.Cause.{cause_line_of}
 use Rattle.listing_text.specs.declared.cause.Cause.{Cause}
 use Rattle.listing_text.specs.declared.cause.Cause.TheVariants.{Done, Refused, FileFault, InputFault, OutputFault, Busy, Memory, Damaged, StillRunning, Faulty}
-use Rattle.spool_session.specs.Sessions.{HasRisenIn, StaysQuiet}
 use Rattle.whole_file.proofs.OthersLemmas.{changes_none}
-use Rattle.at_account.specs.Accounting.{Accounting, IsAccounting, Leaves, MayEnd, OutsideAt, outside_at}
-use Rattle.at_account.specs.inside.Inside.{Accounts}
+use Rattle.at_account.specs.Accounting.{Accounting, IsAccounting, Leaves, OutsideAt}
 
 -- nothing was done
 same_session : (session : Session) → IsOutside session → IsLeft session session
@@ -73,26 +70,6 @@ module _ (asked : Result Bool WordsFault) (at : OutsideAt) (outside : IsOutside 
   unasked_ends words.BadQueue is = refused words.BadQueue is (λ same. (cc)) (λ same. (cc)) (λ same. (cc))
   unasked_ends words.Memory is = unread
 
--- the words asked for something, and the session was held
-pub asked_ends : {H O : Type 0} (h : host.Ghosts H) (o : sink.Ghosts O) (asked : Result Bool WordsFault) (show : Bool) (host_old host_new : H) (out_old out_new : O) (cause : Cause)
-    → Ok show ≡ asked → StaysQuiet h host_old host_new → HasRisenIn h host_old host_new cause → MayEnd cause
-    → (cause ≡ OutputFault → Rose (o.outlet out_old).sink_faults (o.outlet out_new).sink_faults) → (o.outlet out_new).made_as ≡ (o.outlet out_old).made_as
-    → Accounts h.tells h.alone o.tells show (h.world host_old) (h.world host_new) (outside_at h o host_old out_old).out (outside_at h o host_new out_new).out cause
-    → Accounting asked (outside_at h o host_old out_old) (outside_at h o host_new out_new) cause
-asked_ends h o asked show host_old host_new out_old out_new cause is quiet risen may failed made accounts = record {
-  left = quiet.left;
-  goes_on = quiet.goes_on;
-  file_fault = risen.file_fault;
-  busy = risen.busy;
-  output_fault = failed;
-  made_as = made;
-  unasked = λ fault was. absurd (not_both asked fault show (sym was) (sym is));
-  may_end = λ other was. may;
-  images = accounts.images;
-  leaves = λ other was tells alone.
-      let same : show ≡ other = (let both : ◌≡◌ {A = Result Bool WordsFault} (Ok show) (Ok other) = is ∙ was in cc) in
-      subst (λ shows. Leaves shows o.tells (h.world host_old) (h.world host_new) (outside_at h o host_old out_old).out (outside_at h o host_new out_new).out cause) same
-      (accounts.leaves tells alone);
 }
 
 -- what is left where the line of a cause found no memory

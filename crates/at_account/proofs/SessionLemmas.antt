@@ -4,20 +4,19 @@ use Rattle.std.specs.Prelude.{Result, Ok, Err, IfErr}
 use Rattle.std.specs.Fn.{CalledAtMut}
 use Rattle.command_rules.specs.Causes.{cause_of_entry, cause_of_put}
 use Rattle.command_rules.specs.declared.command_error.CommandError.{CommandError}
-use Rattle.command_rules.specs.Sinks.{IsSilent, SinkAt, sink_at}
+use Rattle.command_rules.specs.Sinks.{IsSilent, SinkAt}
 use Rattle.host_calls.specs.Causes.{HasCause, Rose}
 use Rattle.host_calls.specs.declared.fault.EnterFault.{EnterFault}
 use Rattle.host_calls.specs.declared.fault.EnterFault.TheVariants as entry
 use Rattle.host_calls.specs.declared.fault.SinkFault.{SinkFault}
 use Rattle.host_calls.specs.declared.fault.SinkFault.TheVariants as sink
 use Rattle.host_calls.specs.declared.host.Host.{Ghosts}
-use Rattle.host_calls.specs.Sink.{Outlet, Puts}
 use Rattle.host_calls.specs.World.{World}
 use Rattle.host_session.specs.Work.{Calls}
 use Rattle.listing_text.specs.declared.cause.Cause.{Cause}
 use Rattle.listing_text.specs.declared.cause.Cause.TheVariants.{Done, Refused, FileFault, InputFault, OutputFault, Busy, Memory, Damaged, StillRunning, Faulty}
 use Rattle.listing_text.specs.declared.refusal.Refusal.TheVariants as refusal
-use Rattle.spool_session.specs.Sessions.{ComesOfSession, EndsSession, IsOfSession}
+use Rattle.spool_session.specs.Sessions.{EndsSession, IsOfSession}
 use Rattle.whole_file.specs.Others.{ChangesFiles}
 use Rattle.whole_file.proofs.OthersLemmas.{changes_none}
 use Rattle.at_account.specs.Accounting.{IsAccounted, IsAccounting, Leaves, MayEnd}
@@ -37,10 +36,6 @@ work_of_session Memory is = tt
 work_of_session (Damaged damage) is = tt
 work_of_session (Refused refusal.AccountsFull) is = refl
 work_of_session cause is = absurd is
-
-pub work_comes : {T : Type 0} (result : Result T CommandError) → IfErr result (λ stopped. IsOfWork stopped.cause) → IfErr result ComesOfSession
-work_comes (Ok value) is = tt
-work_comes (Err stopped) is = work_of_session stopped.cause is
 
 entry_may_end : (fault : EnterFault) → MayEnd (cause_of_entry fault)
 entry_may_end entry.Taken = tt
@@ -133,22 +128,6 @@ put_leaves show output old new was now text Done puts done = (text, done, puts)
 put_leaves show output old new was now text OutputFault puts done = (text, done, puts)
 put_leaves show output old new was now text Memory puts done = λ tells. inl (puts tells)
 put_leaves show output old new was now text cause puts done = absurd puts
-
-pub put_may_end : (output : Bool) (was now : SinkAt) (text : List ℕ) (cause : Cause) → PutsText output text was now cause → MayEnd cause
-put_may_end output was now text Done puts = tt
-put_may_end output was now text OutputFault puts = tt
-put_may_end output was now text Memory puts = tt
-put_may_end output was now text cause puts = absurd puts
-
--- a put of the text
-pub text_put : (tells : Bool) (text old new : List ℕ) (was now : Outlet) (put : Result (Unit {0}) SinkFault) →
-    (tells ≡ true → Puts text old new put) → HasCause sink.Failed was.sink_faults now.sink_faults put →
-    PutsText tells text (sink_at old was) (sink_at new now) (cause_of_put put)
-text_put tells text old new was now (Ok value) puts has = λ known. record { content = puts known; later = has.later }
-text_put tells text old new was now (Err sink.Failed) puts has = λ known.
-    let part = puts known in
-    record { count = part.0; content = part.1; later = has.later; rose = has.rose refl }
-text_put tells text old new was now (Err sink.Memory) puts has = λ known. record { content = puts known; later = has.later }
 
 -- an output fault comes only of a sink that failed
 pub put_failed : (put : Result (Unit {0}) SinkFault) (was now : ℕ) → HasCause sink.Failed was now put → cause_of_put put ≡ OutputFault → Rose was now

@@ -1,5 +1,5 @@
 -- A command that asks for a daemon.
-use Rattle.std.proofs.Common.{◌≡◌, Bool, false, [], ℕ, sym, subst, refl, append-nil, arith}
+use Rattle.std.proofs.Common.{◌≡◌, Bool, false, [], ℕ, sym, refl, append-nil, arith}
 use Rattle.std.specs.Prelude.{Ok, Err, codes}
 use Rattle.at_words.specs.Answers.{Answers}
 use Rattle.at_words.specs.declared.fault.WordsFault.{WordsFault}
@@ -25,12 +25,6 @@ none_served (Ok (request.Show numbers)) IsSo is = tt
 none_served (Ok (request.Daemon limit interval once turns)) IsSo is = absurd is
 none_served (Ok (request.Make count)) IsSo is = tt
 none_served (Err fault) IsSo is = tt
-
-pub served_asked : (one other : Asked) (IsSo : ℕ → ℕ → Bool → ℕ → Type 0) → one ≡ other → WhereServed one IsSo → WhereServed other IsSo
-served_asked one other IsSo same served = subst (λ (of : Asked). WhereServed of IsSo) same served
-
-pub unserved_asked : (one other : Asked) → one ≡ other → IsNotServed other → IsNotServed one
-unserved_asked one other same is = subst IsNotServed (sym same) is
 
 -- no turn was made, since there was no memory to read the words
 pub nothing_served : (tells : ServeTelling) (limit interval : ℕ) (once : Bool) (turns : ℕ) (old : DaemonState → ServeAt) (out err err_new : SinkAt) (final : Cause)

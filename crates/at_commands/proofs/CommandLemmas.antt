@@ -42,9 +42,6 @@ words_come words.Usage = tt
 words_come words.BadQueue = tt
 words_come words.Memory = tt
 
-pub not_of_words : (fault : WordsFault) (cause other : Cause) → cause ≡ words_cause fault → cause ≡ other → IsOfWords other
-not_of_words fault cause other is same = subst (λ (of : Cause). IsOfWords of) (sym is ∙ same) (words_come fault)
-
 -- a command whose words ask for nothing
 pub words_end : (asked : Asked) (caller : Caller) (tells : Telling) (at : Holding) (fault : WordsFault) → Answers asked (Err fault) →
     Ends NotesBy asked caller tells at at (words_cause fault)
@@ -66,10 +63,6 @@ make_ends count caller tells at = ends_at_words (Ok (request.Make count)) caller
 pub ends_asked : (one other : Asked) (caller : Caller) (tells : Telling) (before after : Holding) (cause : Cause) → one ≡ other →
     Ends NotesBy one caller tells before after cause → Ends NotesBy other caller tells before after cause
 ends_asked one other caller tells before after cause same ends = subst (λ (of : Asked). Ends NotesBy of caller tells before after cause) same ends
-
-pub fails_asked : (one other : Asked) (out_old out_new err_old err_new : Outlet) → one ≡ other → FailsToPrint one out_old out_new err_old err_new →
-    FailsToPrint other out_old out_new err_old err_new
-fails_asked one other out_old out_new err_old err_new same fails = subst (λ (of : Asked). FailsToPrint of out_old out_new err_old err_new) same fails
 
 -- The line of the cause.
 

@@ -37,10 +37,6 @@ abbrev pub OnTable : Option Refusal → Type 0
 OnTable None = Unit {0}
 OnTable (Some refusal) = IsLate (check_of refusal) × (is_before of_folder (check_of refusal) ≡ true)
 
-on_late : (verdict : Option Refusal) → OnTable verdict → AllLate verdict
-on_late None on = tt
-on_late (Some refusal) on = on.0
-
 at_test : (test : Bool) (refusal : Refusal) → OnTable (Some refusal) → OnTable (cond test (Some refusal) None)
 at_test true refusal on = on
 at_test false refusal on = tt

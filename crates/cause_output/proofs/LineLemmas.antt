@@ -1,7 +1,7 @@
 -- Lines that are put one after another, up to one that could not be put.
 use Rattle.std.proofs.Common.{◌≡◌, ◌+◌, ◌<◌, ◌≤◌, ℕ, Bool, List, [], ◌∷◌, ◌++◌, length, take, drop, get_or, refl, sym, ap, subst, ◌∙◌, append-nil, append_assoc, arith}
 use Rattle.std.specs.Prelude.{Err, IsErrAnd, Ok, Result}
-use Rattle.std.proofs.lemmas.List.{take-append-drop, take_all, take_more}
+use Rattle.std.proofs.lemmas.List.{take-append-drop, take_more}
 use Rattle.host_calls.specs.Causes.{Rose}
 use Rattle.host_calls.specs.declared.fault.SinkFault.{SinkFault}
 use Rattle.host_calls.specs.declared.fault.SinkFault.TheVariants.{Failed, Memory}
@@ -66,10 +66,3 @@ module _ {T : Type 0} (tells : Bool) (line : T → List ℕ) (lines : List T) (i
   stopped_at_line fault (Ok value) same second = absurd same
   stopped_at_line fault (Err other) same second =
       subst (λ (some : SinkFault). PutsLines tells (lines_of line lines) old new (Err some)) (sym same) (stopped_here fault second)
-
--- all of them were put
-pub all_put : {T : Type 0} (tells : Bool) (line : T → List ℕ) (lines : List T) (index : ℕ) (old new : SinkAt) (done : Unit {0}) →
-    length lines ≤ index → PutsLines tells (lines_of line (take index lines)) old new (Ok done) →
-    PutsLines tells (lines_of line lines) old new (Ok done)
-all_put tells line lines index old new done past puts =
-    subst (λ (some : List _). PutsLines tells (lines_of line some) old new (Ok done)) (take_all index lines past) puts

@@ -14,7 +14,7 @@ use Rattle.hex_digits.specs.Values.{are_digits, digit_value, is_digit, value_of}
 use Rattle.hex_digits.proofs.DigitLemmas.{one_number, power_of_two}
 use Rattle.hex_digits.proofs.EightDigits.{digits_spelled, spelled_eight}
 use Rattle.hex_digits.proofs.ValueLemmas.{digits_spell, spelled_digits, value_spelled, zeros_digits}
-use Rattle.cron_mark.specs.Mark.{BeginsMark, IsLongestStart, IsMarkText, mark_text}
+use Rattle.cron_mark.specs.Mark.{BeginsMark, IsLongestStart, IsMarkText}
 
 -- with digits after it a number is no less than with zeros in their place
 fold_grows : (number : ℕ) (digits : List ℕ) → number * 16 ^ length digits ≤ fold (λ value byte. value * 16 + digit_value byte) number digits
@@ -125,10 +125,6 @@ start_less bytes less more order mark = record {
       ∙ append_assoc (take less bytes) (drop less (take more bytes)) mark.rest;
 }
 
--- nothing starts a mark
-pub nothing_starts : BeginsMark []
-nothing_starts = record { minute = 0; minute_is = omega arith; rest = mark_text 0; text = refl }
-
 -- the longest start is the one that can't be made longer
 pub longest_so : (bytes : List ℕ) (place : ℕ) → place < length bytes → BeginsMark (take place bytes) → ¬ (BeginsMark (take (place + 1) bytes)) → IsLongestStart bytes place
 longest_so bytes place inside begins no_more = record {
@@ -141,9 +137,6 @@ longest_so bytes place inside begins no_more = record {
   by_order more mark false is =
       let longer : place + 1 ≤ more = grind (arith, nat_tests) in
       absurd (no_more (start_less bytes (place + 1) more longer mark))
-
-pub all_starts : (bytes : List ℕ) → BeginsMark (take (length bytes) bytes) → IsLongestStart bytes (length bytes)
-all_starts bytes begins = record { within = omega arith; begins = begins; longest = λ more within mark. within }
 
 -- eight digits of a minute of the clock
 pub eight_of : (digits : List ℕ) (number : ℕ) → length digits ≡ 8 → SpellsNumber digits number → digits ≡ digits_of number

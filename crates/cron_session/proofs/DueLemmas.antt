@@ -1,5 +1,5 @@
 -- What is due at a minute: the commands aren't too long, and their jobs are those of the entries.
-use Rattle.std.proofs.Common.{◌≡◌, ◌∙◌, ◌<◌, ◌≤◌, ◌+◌, ℕ, Bool, true, false, cond, All, List, [], ◌∷◌, ◌++◌, append-nil, filter, get_or, length, map, take, refl, sym, ap, arith}
+use Rattle.std.proofs.Common.{◌≡◌, ◌∙◌, ◌<◌, ◌≤◌, ◌+◌, ℕ, Bool, true, cond, All, List, [], ◌∷◌, ◌++◌, filter, get_or, length, map, take, refl, sym, ap, arith}
 use Rattle.std.proofs.lemmas.List.{map-append, take_more}
 use Rattle.std.proofs.lemmas.List.Elements.{filter-append, All-filter, All-map, All-weaker}
 use Rattle.civil_minute.specs.declared.civil.CivilMinute.{CivilMinute}
@@ -47,9 +47,6 @@ pub due_more : (entries : List CronEntry) (civil : CivilMinute) (place : ℕ) (e
 due_more entries civil place entry due more inside is so_far put =
     put ∙ ap (λ (l : List (List ℕ)). l ++ due_commands (entry ∷ []) civil) so_far ∙ sym (due_join civil (take place entries) (entry ∷ []))
     ∙ ap (λ (some : List CronEntry). due_commands some civil) (sym (take_more entries place entry inside ∙ ap (λ (one : CronEntry). take place entries ++ one ∷ []) (sym is)))
-
-pub put_none : (entry : CronEntry) (civil : CivilMinute) (due : List (List ℕ)) → is_due entry civil ≡ false → due ≡ due ++ due_commands (entry ∷ []) civil
-put_none entry civil due test = sym (append-nil due) ∙ ap (λ (b : Bool). due ++ map (λ (one : CronEntry). commands one.command) (cond b (entry ∷ []) [])) (sym test)
 
 pub put_one : (entry : CronEntry) (civil : CivilMinute) (due more : List (List ℕ)) (of : List ℕ) → is_due entry civil ≡ true → of ≡ commands entry.command → more ≡ due ++ of ∷ [] →
     more ≡ due ++ due_commands (entry ∷ []) civil

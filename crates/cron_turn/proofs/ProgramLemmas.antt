@@ -1,5 +1,5 @@
 -- What the program does, by its words and its caller, and that its faults come only where their counts rose.
-use Rattle.std.proofs.Common.{◌≡◌, ◌∙◌, ◌≤◌, ℕ, Bool, List, Option, Some, None, Result, Ok, Err, length, refl, sym, ap, subst, inl, inr, arith, le_refl}
+use Rattle.std.proofs.Common.{◌≡◌, ◌∙◌, ◌≤◌, ℕ, Bool, List, Option, Some, None, Result, Ok, Err, length, refl, sym, subst, inl, inr, arith, le_refl}
 use Rattle.at_words.specs.Answers.{Answers}
 use Rattle.at_words.specs.declared.fault.WordsFault.{WordsFault}
 use Rattle.at_words.specs.declared.fault.WordsFault.TheVariants.{Usage, BadQueue, Memory as NoMemory}
@@ -51,13 +51,6 @@ fit_by None zone none = (refl, readable zone none)
 -- a caller that is not refused is fit
 pub fit : (caller : Caller) (refused : Option Cause) → refused ≡ caller_refused caller → refused ≡ None → (first_fault caller.context ≡ None) × IsReadable caller.zone
 fit caller refused is none = fit_by (first_fault caller.context) caller.zone (sym is ∙ none)
-
--- what the caller is refused for is its first fault, or its zone
-pub refused_for : (caller : Caller) (fault : ScriptFault) → first_fault caller.context ≡ Some fault → Some (cause_of_script fault) ≡ caller_refused caller
-refused_for caller fault is = ap (λ of. refused_by of caller.zone) (sym is)
-
-pub refused_zone_of : (caller : Caller) → first_fault caller.context ≡ None → refused_zone caller.zone ≡ caller_refused caller
-refused_zone_of caller is = ap (λ of. refused_by of caller.zone) (sym is)
 
 -- no count fell over the sessions
 record Later (old new : RunAt) : Type 0 where

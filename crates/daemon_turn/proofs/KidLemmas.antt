@@ -87,13 +87,6 @@ interrupts_asked table kids =
       by_state false row has is =
           ap (λ v. v && not (has_kid (asked_kids table kids) row.number)) is ∙ sym (ap (λ v. v && not (has_kid kids row.number)) is)
 
--- a filter twice is the filter once
-pub asked_again : (table : JobTable) (kids : List Kid) → asked_kids table (asked_kids table kids) ≡ asked_kids table kids
-asked_again table kids = all_kept (runs_in table) (asked_kids table kids) (λ kid has. (filtered_has (runs_in table) kids kid has).1) where
-  all_kept : (test : Kid → Bool) (xs : List Kid) → ((x : Kid) → Has xs x → test x ≡ true) → filter test xs ≡ xs
-  all_kept test [] each = refl
-  all_kept test (x ∷ xs) each = ap (λ b. cond b (x ∷ filter test xs) (filter test xs)) (each x (inl refl)) ∙ ap (λ (l : List Kid). x ∷ l) (all_kept test xs (λ y has. each y (inr has)))
-
 -- the numbers of which a child came are some of the numbers
 pub started_has : (numbers : List ℕ) (flags : List Bool) (number : ℕ) → Has (started_of numbers flags) number → Has numbers number
 started_has [] flags number has = has

@@ -1,5 +1,5 @@
 -- The lines of rows, one more at a time.
-use Rattle.std.proofs.Common.{◌≡◌, ℕ, ◌+◌, ◌<◌, List, [], ◌∷◌, ◌++◌, length, take, get_or, refl, sym, ap, subst, ◌∙◌, append-nil, append_assoc}
+use Rattle.std.proofs.Common.{◌≡◌, ℕ, ◌+◌, ◌<◌, List, [], ◌∷◌, ◌++◌, length, take, get_or, sym, ap, subst, ◌∙◌, append-nil, append_assoc}
 use Rattle.std.specs.List.{AllZip, concat}
 use Rattle.std.proofs.lemmas.List.{take_more}
 use Rattle.civil_minute.specs.declared.zone.Zone.{Zone}
@@ -17,9 +17,6 @@ zip_push R (one ∷ xs) (other ∷ ys) x y zip is = (zip.0, zip_push R xs ys x y
 concat_push : (lines : List (List ℕ)) (line : List ℕ) → concat (lines ++ line ∷ []) ≡ concat lines ++ line
 concat_push [] line = append-nil line
 concat_push (first ∷ lines) line = ap (λ (rest : List ℕ). first ++ rest) (concat_push lines line) ∙ sym (append_assoc first (concat lines) line)
-
-pub no_rows : (zone : Zone) → ShowsRows zone [] []
-no_rows zone = record { lines = []; shown = tt; joined = refl }
 
 -- one row more has one line more
 pub one_more : (zone : Zone) (rows : List Row) (index : ℕ) (or : Row) (text line more : List ℕ) → index < length rows

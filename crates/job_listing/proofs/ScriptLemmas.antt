@@ -1,8 +1,8 @@
 -- Scripts put one after another.
-use Rattle.std.proofs.Common.{◌≡◌, ℕ, ◌+◌, ◌<◌, ◌≤◌, Bool, true, List, [], ◌∷◌, ◌++◌, length, take, drop, get_or, refl, sym, ap, subst, ◌∙◌, append-nil, append_assoc, arith}
+use Rattle.std.proofs.Common.{◌≡◌, ℕ, ◌+◌, ◌<◌, Bool, true, List, [], ◌∷◌, ◌++◌, length, take, drop, get_or, refl, sym, ap, subst, ◌∙◌, append-nil, append_assoc, arith}
 use Rattle.std.specs.Prelude.{Err, IsErrAnd, Ok, Result}
 use Rattle.std.proofs.Math.Seq.{take-append_seam}
-use Rattle.std.proofs.lemmas.List.{take-append-drop, take_all, take_more}
+use Rattle.std.proofs.lemmas.List.{take-append-drop, take_more}
 use Rattle.host_calls.specs.World.{World}
 use Rattle.step_runs.specs.Current.{IsCurrent, Kept}
 use Rattle.spool_model.specs.JobTable.{JobTable, entry_at}
@@ -111,10 +111,3 @@ module _ (files output : Bool) (kept : Kept) (numbers : List ℕ) (index or : �
   stopped_by_mark stopped (Ok value) same second = absurd same
   stopped_by_mark stopped (Err other) same second =
       subst (λ (cause : CommandError). PutsScripts files output kept numbers old new was is (Err cause)) (sym same) (stopped_here stopped second)
-
--- all of them were put
-pub all_put : (files output : Bool) (kept : Kept) (numbers : List ℕ) (index : ℕ) (old new : World) (was is : SinkAt) (done : Unit {0})
-    → length numbers ≤ index → PutsScripts files output kept (take index numbers) old new was is (Ok done)
-    → PutsScripts files output kept numbers old new was is (Ok done)
-all_put files output kept numbers index old new was is done past puts =
-    subst (λ (some : List ℕ). PutsScripts files output kept some old new was is (Ok done)) (take_all index numbers past) puts

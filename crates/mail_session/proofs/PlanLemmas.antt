@@ -1,10 +1,9 @@
 -- What a session will do, by what it reads.
 use Rattle.std.proofs.Common.{◌≡◌, ◌∙◌, ◌++◌, ℕ, Bool, true, List, Option, Some, None, [], ◌∷◌, map, filter, refl, sym, ap, subst, inl, inr}
-use Rattle.std.specs.Prelude.{IsErrAnd, Result, Ok, Err, option_map}
+use Rattle.std.specs.Prelude.{Result, Ok, Err, option_map}
 use Rattle.std.specs.FinMap as finite
 use Rattle.std.specs.List.{filter_map, cons_option}
 use Rattle.host_calls.specs.declared.damage.Damage.{Damage}
-use Rattle.host_calls.specs.declared.fault.HostFault.{HostFault}
 use Rattle.host_calls.specs.declared.fault.HostFault.TheVariants as host
 use Rattle.host_calls.specs.Damages.{IfDamaged}
 use Rattle.host_calls.specs.World.{World, reading}
@@ -15,7 +14,7 @@ use Rattle.spool_model.specs.JobTable.{JobEntry, JobTable, entry_at}
 use Rattle.spool_shows.specs.Shown.{shown_by}
 use Rattle.spool_store.specs.declared.fault.StoreFault.{StoreFault}
 use Rattle.spool_store.specs.declared.fault.StoreFault.TheVariants.{Damaged, FileFault, Memory, NumbersUsedUp, QueueFull}
-use Rattle.spool_store.specs.Faults.{IsOfReading, fault_of}
+use Rattle.spool_store.specs.Faults.{IsOfReading}
 use Rattle.spool_store.specs.Recovering.{IsRecovered, Recovered, ShowsTheSame}
 use Rattle.step_runs.specs.Calls.{ShowsAsBefore}
 use Rattle.step_runs.specs.Current.{IsCurrent, Kept}
@@ -76,13 +75,6 @@ plan_for table plan text book read numbers dues text_is = record {
 
 -- Damage of the file of notes.
 
-pub not_planned : {T : Type 0} (world : World) (fault : StoreFault) → IfDamaged {T = T} Damaged (IsDamageOf (finite.get (reading world) mail_file)) (Err fault) → NotPlannedOn world fault
-not_planned world (Damaged damage) damaged = damaged damage refl
-not_planned world FileFault damaged = tt
-not_planned world Memory damaged = tt
-not_planned world QueueFull damaged = tt
-not_planned world NumbersUsedUp damaged = tt
-
 -- The plan by the recovery.
 
 shown_by_fault : (of : StoreFault) (old new : World) → ((damage : Damage) → of ≡ Damaged damage → reading new ≡ reading old) → IsOfReading of → Recovered old.now.folder new.now.folder (Err of) → ShowsTheSame old.now.folder new.now.folder
@@ -128,10 +120,6 @@ pub unplanned : (of : StoreFault) (kept : Kept) (old opened : World) → Changes
     NotPlannedOn opened of → IsUnplanned old opened of
 unplanned of kept old opened changes is damaged =
     record { changes = changes; shown = shown_still kept old opened is; damaged = damage_of_notes of kept old opened is damaged }
-
--- where something else than the first change was wanting, the folder shows what it showed
-pub planned_shown : (kept : Kept) (old opened : World) → IsRecovered old.now.folder opened.now.folder kept → ShowsTheSame old.now.folder opened.now.folder
-planned_shown = shown_still
 
 -- by what came of the recovery
 pub plans_by : (tells : Bool) (old opened new : World) (kept : Kept) (kids : List Kid) (result : Result MailPlan StoreFault) →
@@ -179,12 +167,3 @@ new_on_the_table kept table notes is =
     ∙ ap (λ (rows : List Row). filter (is_new notes) (map (λ (row : Row). row.number) rows)) (lists_as_on_the_table table).rows
 
 -- Nothing was planned.
-
-pub plans_not : (tells : Bool) (world : World) (kept : Kept) (kids : List Kid) (of : StoreFault) (result : Result MailPlan StoreFault) → IsErrAnd result (λ other. other ≡ of) →
-    (tells ≡ true → NotPlannedOn world of) → PlansOn tells world kept kids result
-plans_not tells world kept kids of (Ok plan) err not = absurd err
-plans_not tells world kept kids of (Err other) err not = subst (λ (one : StoreFault). tells ≡ true → NotPlannedOn world one) (sym err) not
-
-pub host_not : (world : World) (of : HostFault) → NotPlannedOn world (fault_of of)
-host_not world host.Failed = tt
-host_not world host.Memory = tt

@@ -40,12 +40,6 @@ pub record IsSound (old new : Session) : Type 0 where
   pub taken : ¬ (Rose old.taken new.taken)
   pub files : ¬ (Rose old.file_faults new.file_faults)
 
-sound_within : (first old new last : Session) → KeepsCounts first old → KeepsCounts new last → IsSound first last → IsSound old new
-sound_within first old new last before beyond sound = record {
-  taken = λ rose. sound.taken (let earlier : first.taken ≤ old.taken = before.taken in let later : new.taken ≤ last.taken = beyond.taken in
-      let risen : Rose old.taken new.taken = rose in omega arith);
-  files = λ rose. sound.files (let earlier : first.file_faults ≤ old.file_faults = before.file_faults in let later : new.file_faults ≤ last.file_faults = beyond.file_faults in
-      let risen : Rose old.file_faults new.file_faults = rose in omega arith);
 }
 
 -- turns that the outside didn't hinder

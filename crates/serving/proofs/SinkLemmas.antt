@@ -1,13 +1,13 @@
 -- What is printed and said, one turn after the other.
 use Rattle.std.proofs.Common.{◌≡◌, ◌≤◌, ℕ, Bool, true, false, List, [], ◌∷◌, ◌++◌, take, refl, sym, ap, subst, ◌∙◌, inl, inr, arith}
-use Rattle.std.specs.Prelude.{Err, Ok}
+use Rattle.std.specs.Prelude.{Err}
 use Rattle.host_calls.specs.Causes.{Rose}
 use Rattle.host_calls.specs.declared.fault.SinkFault.TheVariants.{Failed, Memory as NoMemory}
 use Rattle.command_rules.specs.Sinks.{IsPutInPart, IsPutOrCut, IsSilent, SinkAt}
-use Rattle.cause_output.specs.Ends.{SaysEnd, SaysEndOr}
+use Rattle.cause_output.specs.Ends.{SaysEnd}
 use Rattle.cause_output.specs.Putting.{PutsLines}
 use Rattle.cause_output.proofs.EndLemmas.{silent_same}
-use Rattle.cause_output.proofs.PutLemmas.{cut_after, cut_longer, part_after, part_of_cut, part_of_put, put_after}
+use Rattle.cause_output.proofs.PutLemmas.{cut_after, cut_longer, part_after, part_of_cut, part_of_put}
 use Rattle.daemon_turn.specs.declared.report.TurnEnd.{TurnEnd}
 use Rattle.daemon_turn.specs.declared.report.TurnEnd.TheVariants.{Done, Busy, FileFault, Damaged, Memory}
 use Rattle.serving.specs.Items.{Item}
@@ -28,15 +28,6 @@ more_uncut tells text output_failed now at is same before start prints =
       later = prints.later;
       rose = λ one. prints.rose is;
       puts = λ known. cut_longer before text start at (subst (λ (flag : Bool). PutsUnless flag before start at) is (prints.puts known));
-    })
-
-pub more_put : (tells : Bool) (text : List ℕ) (output_failed now : Bool) (old new : SinkAt) (done : Unit {0}) → output_failed ≡ false → now ≡ false → PutsLines tells text old new (Ok done)
-    → PrintsMore tells text output_failed now old new true
-more_put tells text output_failed now old new done is same puts before start prints =
-    subst (λ (flag : Bool). Prints tells at_the_end flag (before ++ text) start new) (sym same) (record {
-      later = omega (arith, prints.later, puts.later);
-      rose = λ one. absurd (cc);
-      puts = λ known. put_after before text start old new (subst (λ (flag : Bool). PutsUnless flag before start old) is (prints.puts known)) (puts.puts known);
     })
 
 pub more_cut : (tells : Bool) (text : List ℕ) (output_failed now : Bool) (old new : SinkAt) → output_failed ≡ false → now ≡ true → PutsLines tells text old new (Err Failed)
@@ -65,10 +56,6 @@ more_for tells text output_failed now false old new more before start prints =
     record { later = whole.later; rose = whole.rose; puts = λ known. part_of now (before ++ text) start new (whole.puts known) }
 
 -- What is said.
-
--- where nothing was said
-pub unsaid : (tells : Bool) (end : TurnEnd) (at : SinkAt) → SaysEndOr daemon_name tells end at at false
-unsaid tells end at known = silent_same at at refl
 
 silent_then : (old mid new : SinkAt) → IsSilent old mid → IsSilent mid new → IsSilent old new
 silent_then old mid new first second = record { content = second.content ∙ first.content; later = omega (arith, first.later, second.later) }

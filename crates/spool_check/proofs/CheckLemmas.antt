@@ -73,10 +73,6 @@ pub not_ok : {T E : Type 0} (result : Result T E) (P : T → Type 0) → IsErr r
 not_ok (Ok value) P is = let impossible : false ≡ true = is in cc
 not_ok (Err fault) P is = tt
 
-pub same_stop : {T : Type 0} (result : Result T CommandError) (stopped : CommandError) → IsErrAnd result (λ other. other ≡ stopped) → cause_in result ≡ stopped.cause
-same_stop (Ok value) stopped is = absurd is
-same_stop (Err other) stopped is = ap (λ (error : CommandError). error.cause) is
-
 pub stop_by : (result : Result Cause CommandError) (stopped : CommandError) → IsErrAnd result (λ other. other ≡ stopped) → cause_by result ≡ stopped.cause
 stop_by (Ok value) stopped is = absurd is
 stop_by (Err other) stopped is = ap (λ (error : CommandError). error.cause) is

@@ -1,5 +1,5 @@
 -- The first fault of the files of jobs and of starts is the one that recovery answers; without one all files are taken.
-use Rattle.std.proofs.Common.{◌≡◌, ℕ, ◌+◌, Bool, true, false, List, [], ◌∷◌, ◌++◌, Option, Some, None, sym, ap, ◌∙◌, refl}
+use Rattle.std.proofs.Common.{◌≡◌, ℕ, ◌+◌, Bool, true, false, List, [], ◌∷◌, Option, Some, None, sym, ap, ◌∙◌, refl}
 use Rattle.std.specs.Prelude.{◌==◌, not, option_map, if◌then◌else◌}
 use Rattle.std.specs.List.{cons_option, filter, filter_map}
 use Rattle.std.specs.Option.{option_or}
@@ -26,10 +26,6 @@ head_of (fault ∷ later) = Some fault
 head_cons : (one : Option Damage) (later : List Damage) → head_of (cons_option one later) ≡ option_or one (head_of later)
 head_cons None later = refl
 head_cons (Some fault) later = refl
-
-pub head_both : (one other : List Damage) → head_of (one ++ other) ≡ option_or (head_of one) (head_of other)
-head_both [] other = refl
-head_both (fault ∷ later) other = refl
 
 -- the first fault of files
 pub files_first : (last : ℕ) (before : List ℕ) (files : List JobFile) → files_damage last before files ≡ head_of (files_faults last before files)

@@ -12,7 +12,6 @@ use Rattle.std.proofs.lemmas.Bool.Decides.{nat_tests}
 use Rattle.std.proofs.lemmas.List.{append-nil, at_drop_all, map-append, take_all, take_more}
 use Rattle.std.proofs.lemmas.List.Elements.{filter_map-append}
 use Rattle.host_calls.specs.declared.damage.Damage.{Damage}
-use Rattle.host_calls.specs.Damages.{damage_at}
 use Rattle.host_calls.specs.Folder.{Files, name_cmp}
 use Rattle.job_script.specs.HeaderIn.{header_in}
 use Rattle.sequence_file.specs.LastNumber.{last_in}
@@ -180,15 +179,6 @@ pub starts_end : (all : List Mark) (files : List JobFile) (marks : List TakenMar
 starts_end all files marks place start new past is = is ∙ ap (λ list. start ++ starts_faults all files list) (take_all place marks past)
 
 -- Offsets.
-
-pub offsets_step : (bytes offsets : List ℕ) (place other : ℕ) (start old new : List Damage) → place < length offsets → old ≡ start ++ map (damage_at journal_file bytes) (take place offsets) → new ≡ old ++ damage_at journal_file bytes (get_or offsets place other) ∷ [] → new ≡ start ++ map (damage_at journal_file bytes) (take (place + 1) offsets)
-offsets_step bytes offsets place other start old new inside before more =
-    more ∙ ap (λ list. list ++ damage_at journal_file bytes (get_or offsets place other) ∷ []) before
-    ∙ append_assoc start (map (damage_at journal_file bytes) (take place offsets)) (damage_at journal_file bytes (get_or offsets place other) ∷ [])
-    ∙ ap (λ list. start ++ list) (sym (ap (map (damage_at journal_file bytes)) (take_more offsets place other inside) ∙ map-append (damage_at journal_file bytes) (take place offsets) (get_or offsets place other ∷ [])))
-
-pub offsets_end : (bytes offsets : List ℕ) (place : ℕ) (start new : List Damage) → length offsets ≤ place → new ≡ start ++ map (damage_at journal_file bytes) (take place offsets) → new ≡ start ++ map (damage_at journal_file bytes) offsets
-offsets_end bytes offsets place start new past is = is ∙ ap (λ list. start ++ map (damage_at journal_file bytes) list) (take_all place offsets past)
 
 -- All of it.
 

@@ -1,16 +1,14 @@
 -- Lists of what is saved, one element after the other.
 use Rattle.std.proofs.Common.{◌≡◌, ℕ, suc, ◌+◌, ◌<◌, ◌≤◌, Bool, true, false, not, arith, List, Option, Some, None, [], ◌∷◌, ◌++◌, length, get_or, map, take, drop, sym, ap, subst, ◌∙◌, refl, append_assoc, drop-cons}
-use Rattle.std.specs.Prelude.{◌||◌, IfSome, option_to_list, if◌then◌else◌}
+use Rattle.std.specs.Prelude.{◌||◌, option_to_list, if◌then◌else◌}
 use Rattle.std.specs.BTreeSet.{BTreeSet}
 use Rattle.std.specs.List.{cons_option, filter, filter_map}
-use Rattle.std.proofs.lemmas.List.{append-nil, at_drop_all, take_all, take_more}
-use Rattle.std.proofs.lemmas.List.Elements.{All-push, filter_map-append}
+use Rattle.std.proofs.lemmas.List.{at_drop_all, take_all, take_more}
+use Rattle.std.proofs.lemmas.List.Elements.{filter_map-append}
 use Rattle.std.proofs.lemmas.List.Folds.{list_any-append}
 use Rattle.spool_shows.specs.JobFiles.{JobFile}
 use Rattle.start_journal.specs.declared.mark.Mark.{Mark}
-use Rattle.start_journal.specs.Journals.{AreWritable}
 use Rattle.start_journal.specs.Marks.{is_decided, is_named, names}
-use Rattle.start_journal.specs.Slots.{IsWritable}
 use Rattle.spool_faults.specs.declared.first_files.FirstFiles.{FirstFiles}
 use Rattle.spool_faults.specs.Faults.{first_files}
 use Rattle.spool_faults.specs.Plan.{name_of}
@@ -101,7 +99,3 @@ pub greatest_end : {X : Type 0} → (give : X → Option ℕ) (xs : List X) (pla
 greatest_end give xs place last all past so = sym (at_drop_all (λ list. greatest last (filter_map give list)) xs place past) ∙ so
 
 -- Marks that can be written.
-
-pub kept_writable : (marks : List Mark) (mark : Option Mark) (more : List Mark) → more ≡ marks ++ option_to_list mark → IfSome mark IsWritable → AreWritable marks → AreWritable more
-kept_writable marks None more is writable all = subst AreWritable (sym (is ∙ append-nil marks)) all
-kept_writable marks (Some mark) more is writable all = subst AreWritable (sym is) (All-push IsWritable marks mark all writable)
