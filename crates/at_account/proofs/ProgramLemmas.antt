@@ -70,8 +70,6 @@ module _ (asked : Result Bool WordsFault) (at : OutsideAt) (outside : IsOutside 
   unasked_ends words.BadQueue is = refused words.BadQueue is (λ same. (cc)) (λ same. (cc)) (λ same. (cc))
   unasked_ends words.Memory is = unread
 
-}
-
 -- what is left where the line of a cause found no memory
 no_memory_leaves : (show output : Bool) (old new : World) (was now : SinkAt) (cause : Cause) → IsUndone cause → Leaves show output old new was now cause → Leaves show output old new was now Memory
 no_memory_leaves show output old new was now OutputFault undone is = λ tells.

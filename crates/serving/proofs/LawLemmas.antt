@@ -40,8 +40,6 @@ pub record IsSound (old new : Session) : Type 0 where
   pub taken : ¬ (Rose old.taken new.taken)
   pub files : ¬ (Rose old.file_faults new.file_faults)
 
-}
-
 -- turns that the outside didn't hinder
 pub record GoWell (items : List Item) (at : DaemonAt) : Type 0 where
   pub well : AreWell items
