@@ -99,3 +99,6 @@ pub prefixes_all : (marks : List Mark) (files : Files) (names : List (List ℕ))
 prefixes_all marks files names place surveyed_files are after so =
     let past : length (entries files) ≤ place = omega (arith, ap length are, length-map (entries files) (λ (e : List ℕ × List ℕ). e.0)) in
     subst (λ list. AreSurveyedFiles marks list surveyed_files) (take_all place (entries files) past) so
+
+pub none_undecided : (marks : List Mark) (surveyed : List SurveyedJob) → surveyed ≡ [] → AreUndecided marks (files_surveyed surveyed)
+none_undecided marks surveyed is = subst (λ list. AreUndecided marks (files_surveyed list)) (sym is) (λ file has. absurd (has_contained [] file has))

@@ -16,7 +16,7 @@ use Rattle.std.proofs.lemmas.List.Sorted.{IsPermutation-map, searchable_from_sor
 use Rattle.std.proofs.lemmas.Map.Keys.{IsDistinct-IsPermutation}
 use Rattle.std.proofs.lemmas.Map.Made.{AllPairs-from_IsDistinct, IsDistinct-from_AllPairs}
 use Rattle.queue_rules.specs.Order.{Differ}
-use Rattle.spool_shows.proofs.Membership.{Has, any_passes, contained, filtered_has, has_contained, has_either, has_made, made_has}
+use Rattle.spool_shows.proofs.Membership.{Has, any_passes, contained, filtered_has, has_contained, has_either, has_left, has_made, has_right, made_has}
 
 -- an item of a list is the same by any default
 same_default : {X : Type 0} (items : List X) (count : ℕ) (one other : X) → count < length items → slice_index_or items count one ≡ slice_index_or items count other
@@ -72,6 +72,19 @@ apart_append (number ∷ first) later one other none = (
   λ has. elim (has_either first later number has) [ inl is ↦ one.0 is | inr is ↦ none number (inl refl) is ],
   apart_append first later one.1 other (λ n is. none n (inr is)),
 )
+
+pub apart_left : (first later : List ℕ) → Apart (first ++ later) → Apart first
+apart_left [] later apart = tt
+apart_left (number ∷ first) later apart = (λ has. apart.0 (has_left first later number has), apart_left first later apart.1)
+
+pub apart_right : (first later : List ℕ) → Apart (first ++ later) → Apart later
+apart_right [] later apart = apart
+apart_right (number ∷ first) later apart = apart_right first later apart.1
+
+pub apart_between : (first later : List ℕ) → Apart (first ++ later) → (number : ℕ) → Has first number → Has later number → ⊥
+apart_between [] later apart number one other = one
+apart_between (same ∷ first) later apart number (inl is) other = apart.0 (has_right first later same (subst (Has later) (sym is) other))
+apart_between (same ∷ first) later apart number (inr is) other = apart_between first later apart.1 number is other
 
 module _ {X : Type 0} (key : X → ℕ) where
   -- elements that are kept have numbers of elements

@@ -83,3 +83,9 @@ module _ (table : JobTable) (done : List Step) (given : List Handed) (questions 
 
   pub rest_after : new ≡ middle → AreStopped table done [] given questions old new
   rest_after same = made_steps_are_stopped table done given questions kept old new (nothing_after same)
+
+-- where it keeps the world, what was stopped in it is stopped
+pub stopped_kept : (table : JobTable) (done next : List Step) (given : List Handed) (questions : List Asked) (old middle new : World) →
+    new ≡ middle → AreStopped table done next given questions old middle → AreStopped table done next given questions old new
+stopped_kept table done next given questions old middle new same stopped =
+    subst (AreStopped table done next given questions old) (sym same) stopped

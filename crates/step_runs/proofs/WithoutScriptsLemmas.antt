@@ -170,7 +170,10 @@ last_alike last (End number ending) = refl
 last_alike last (Interrupt number) = refl
 last_alike last (Forget number) = refl
 
+-- a table by its parts
+without_scripts_parts : (table : JobTable) → without_scripts table ≡ table_of table.last (without_scripts_map table.entries) table.last_batch
 unfolding without_scripts without_scripts_map
+without_scripts_parts table = refl
 
 last_batch_alike : (table : JobTable) (step : Step) → last_batch_after (without_scripts table) (step_without_script step) ≡ last_batch_after table step
 unfolding without_scripts
