@@ -12,6 +12,7 @@ ghost use Rattle.daemon_turn.specs.inside.Turned.{MakesTurn};
 ghost use Rattle.daemon_turn.specs.inside.Waiting.{AreWaiting};
 ghost use Rattle.daemon_turn.specs.inside.Working.{TurnsOn, Works};
 
+use crate::forget::forgets;
 use crate::kids::sort_kids;
 use crate::plan::{Plan, make_plan};
 use crate::{Kid, TurnInput, TurnStep};
@@ -109,7 +110,8 @@ impl Turning {
         let store = self.decide(alloc, host, store, plan.interrupted.as_slice())?;
         // After this no job starts that the table of the recovery did not have ready.
         let store = self.start_all(alloc, host, store, plan.order.as_slice(), second)?;
-        self.forget_all(alloc, host, store)
+        let forgotten = forgets(alloc, &store)?;
+        self.make_all(alloc, host, store, forgotten.as_slice())
     }
 }
 
