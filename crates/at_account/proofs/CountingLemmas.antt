@@ -14,7 +14,7 @@ use Rattle.listing_text.specs.declared.cause.Cause.TheVariants.{Done, Refused, F
 use Rattle.listing_text.specs.declared.refusal.Refusal.TheVariants as refusal
 use Rattle.spool_model.specs.declared.entry.Entry.TheVariants.{Live, Done as DoneEntry}
 use Rattle.spool_model.specs.JobTable.{JobEntry, JobTable, entry_at}
-use Rattle.spool_store.specs.declared.fault.StoreFault.TheVariants as store
+use Rattle.host_calls.specs.declared.store_fault.StoreFault.TheVariants as store
 use Rattle.spool_store.specs.Recovering.{IsRecovered}
 use Rattle.spool_store.proofs.BesideLemmas.{shows_the_same}
 use Rattle.step_runs.specs.Calls.{ShowsAsBefore}

@@ -6,9 +6,9 @@ use Rattle.at_words.specs.Answers.{Answers}
 use Rattle.at_words.specs.declared.fault.WordsFault.{WordsFault}
 use Rattle.at_words.specs.declared.fault.WordsFault.TheVariants as words
 use Rattle.cause_output.specs.Saying.{IsSaid, IsUndone, SaysLine}
-use Rattle.command_rules.specs.Causes.{words_cause}
-use Rattle.command_rules.specs.Sinks.{EndsLine, IsPutInPart, IsPutOrCut, IsSilent, SinkAt}
-use Rattle.command_rules.proofs.SpoolLemmas.{goes_on_none}
+use Rattle.cause_output.specs.Causes.{words_cause}
+use Rattle.cause_output.specs.Sinks.{EndsLine, IsPutInPart, IsPutOrCut, IsSilent, SinkAt}
+use Rattle.host_calls.proofs.WorldLemmas.{goes_on_none}
 use Rattle.host_calls.specs.declared.host.Host as host
 use Rattle.host_calls.specs.declared.sink.Sink as sink
 use Rattle.host_calls.specs.Session.{IsLeft, IsOutside, Session}

@@ -2,9 +2,9 @@
 use Rattle.std.proofs.Common.{◌≡◌, ◌∙◌, ℕ, Bool, true, List, [], ◌++◌, inl, inr, refl, sym, ap, subst, arith, append-nil}
 use Rattle.std.specs.Prelude.{Result, Ok, Err, IfErr}
 use Rattle.std.specs.Fn.{CalledAtMut}
-use Rattle.command_rules.specs.Causes.{cause_of_entry, cause_of_put}
-use Rattle.command_rules.specs.declared.command_error.CommandError.{CommandError}
-use Rattle.command_rules.specs.Sinks.{IsSilent, SinkAt}
+use Rattle.cause_output.specs.Causes.{cause_of_entry, cause_of_put}
+use Rattle.cause_output.specs.declared.command_error.CommandError.{CommandError}
+use Rattle.cause_output.specs.Sinks.{IsSilent, SinkAt}
 use Rattle.host_calls.specs.Causes.{HasCause, Rose}
 use Rattle.host_calls.specs.declared.fault.EnterFault.{EnterFault}
 use Rattle.host_calls.specs.declared.fault.EnterFault.TheVariants as entry

@@ -2,8 +2,8 @@
 use Rattle.std.specs.Prelude.{◌≡◌, ◌⊎◌, ℕ, Bool, true, List, Option, Result, Ok, Err}
 use Rattle.std.specs.FinMap as finite
 use Rattle.at_words.specs.declared.fault.WordsFault.{WordsFault}
-use Rattle.command_rules.specs.Causes.{words_cause}
-use Rattle.command_rules.specs.Sinks.{IsCut, IsPut, IsPutInPart, IsSilent, SinkAt, sink_at}
+use Rattle.cause_output.specs.Causes.{words_cause}
+use Rattle.cause_output.specs.Sinks.{IsCut, IsPut, IsPutInPart, IsSilent, SinkAt, sink_at}
 use Rattle.host_calls.specs.Causes.{Rose}
 use Rattle.host_calls.specs.declared.damage.Damage.{Damage}
 use Rattle.host_calls.specs.declared.host.Host as host

@@ -2,7 +2,7 @@
 ghost use Rattle.std.specs.Prelude.{◌≡◌, Some, All, IfErr, IfOk, IsTrue, OnOk};
 ghost use Rattle.std.specs.FinMap as map;
 ghost use Rattle.account_records.specs.Lines.{SpellsRecord};
-ghost use Rattle.command_rules.specs.Causes.{error_of};
+ghost use Rattle.cause_output.specs.Causes.{error_of};
 ghost use Rattle.host_calls.specs.Session.{CallsInside, IsInside};
 ghost use Rattle.host_calls.specs.World.{reading};
 ghost use Rattle.listing_text.specs.declared.cause.Cause.TheVariants as cause;
@@ -15,7 +15,7 @@ ghost use Rattle.at_account.specs.inside.Filing.{EachGives, IsOfHost, IsOfReadin
 
 use crate::{account_name, account_temporary_name};
 use account_totals::Account;
-use command_rules::CommandError;
+use cause_output::CommandError;
 use host_calls::{Damage, Host, HostFault};
 use listing_text::Cause;
 use record_lines::{LinesFault, text_of};

@@ -1,6 +1,6 @@
 //! The program: what its words ask for, done.
 ghost use Rattle.std.specs.Prelude.{◌≡◌, IsTrue, codes, map, string_bytes};
-ghost use Rattle.command_rules.specs.Sinks.{EndsLine, sink_at};
+ghost use Rattle.cause_output.specs.Sinks.{EndsLine, sink_at};
 ghost use Rattle.host_calls.specs.Session.{IsOutside};
 ghost use Rattle.listing_text.specs.Cause.{status_of};
 ghost use Rattle.at_account.specs.Accounting.{Accounting, outside_at};
@@ -8,8 +8,7 @@ ghost use Rattle.at_account.specs.Words.{account_asked};
 
 use crate::session::account;
 use crate::words::asks_to_show;
-use cause_output::say_cause;
-use command_rules::cause_of_words;
+use cause_output::{cause_of_words, say_cause};
 use host_calls::{Host, Sink};
 use listing_text::{Cause, Status};
 use std::alloc::Global;

@@ -2,8 +2,8 @@
 ghost use Rattle.std.specs.Prelude.{◌≡◌, ◌≢◌, All, IfErr, IfOk, IsTrue};
 ghost use Rattle.std.specs.FinMap as map;
 ghost use Rattle.account_records.specs.Lines.{SpellsRecord};
-ghost use Rattle.command_rules.specs.Causes.{error_of};
-ghost use Rattle.command_rules.specs.Sinks.{sink_at};
+ghost use Rattle.cause_output.specs.Causes.{error_of};
+ghost use Rattle.cause_output.specs.Sinks.{sink_at};
 ghost use Rattle.host_calls.specs.Causes.{Rose};
 ghost use Rattle.host_calls.specs.Session.{CallsInside, IsInside, IsOutside};
 ghost use Rattle.host_calls.specs.World.{GoesOn, reading};
@@ -18,7 +18,7 @@ ghost use Rattle.at_account.specs.inside.Inside.{Accounts, Counts, EndsInside, I
 use crate::file::{read_account, write_account};
 use crate::show::shown;
 use account_totals::{Account, AccountFault};
-use command_rules::{CommandError, cause_of_put};
+use cause_output::{CommandError, cause_of_put};
 use host_calls::{Bytes, Host, Sink};
 use listing_text::{Cause, Refusal};
 use spool_model::LAST_NUMBER;

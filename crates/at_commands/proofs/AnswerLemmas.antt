@@ -17,17 +17,18 @@ use Rattle.listing_text.specs.declared.refusal.Refusal.TheVariants.{BadUser, Bad
 use Rattle.listing_text.specs.Listing.{IsListing}
 use Rattle.spool_model.specs.JobTable.{JobTable}
 use Rattle.spool_model.specs.Users.{IsUserName}
-use Rattle.command_rules.specs.declared.caller.Caller.{Caller}
-use Rattle.command_rules.specs.declared.command_error.CommandError.{CommandError}
-use Rattle.command_rules.specs.Causes.{cause_in, error_of}
+use Rattle.cause_output.specs.declared.caller.Caller.{Caller}
+use Rattle.cause_output.specs.declared.command_error.CommandError.{CommandError}
+use Rattle.cause_output.specs.Causes.{cause_in, error_of}
 use Rattle.command_rules.specs.Checks.{Check, check_of, is_before, of_lock}
 use Rattle.command_rules.specs.Ends.{Ends, Holding, KeepsOrder, Telling, holding, telling, StopsBeforeLock}
 use Rattle.command_rules.specs.Found.{Finds, Found, answers_read}
 use Rattle.at_commands.specs.inside.Carrying.{AreSessionSteps, Carries, Finding, IsSessionLine, IsSessionText}
 use Rattle.command_rules.specs.Requested.{Prints, Says, next_number, passes_of, scripts_of}
 use Rattle.command_rules.specs.Sessions.{IsNotOpened, IsOpened}
-use Rattle.command_rules.specs.Sinks.{IsPut, NotesBy, PrintsBy, SinkAt, HasBytes}
-use Rattle.command_rules.specs.Verdict.{early_verdict, filter_check, first_refusal, is_unreadable, jobs_check, spool_verdict, user_check, zone_check}
+use Rattle.cause_output.specs.Sinks.{IsPut, NotesBy, PrintsBy, SinkAt, HasBytes}
+use Rattle.command_rules.specs.Verdict.{early_verdict, filter_check, first_refusal, jobs_check, spool_verdict, user_check, zone_check}
+use Rattle.civil_minute.specs.Zone.{is_unreadable}
 use Rattle.at_commands.proofs.EntryLemmas.{IsOfEntry}
 use Rattle.at_commands.specs.inside.Answering.{EndsPrinting, EndsRemoving}
 use Rattle.at_commands.specs.inside.Printing.{PutsWhole}

@@ -15,7 +15,7 @@ use Rattle.listing_text.specs.declared.refusal.Refusal.TheVariants.{NotAllowed}
 use Rattle.spool_model.specs.declared.step.Step.{Step}
 use Rattle.spool_model.specs.JobTable.{JobTable}
 use Rattle.spool_shows.specs.Shown.{shown_by}
-use Rattle.command_rules.specs.declared.caller.Caller.{Caller}
+use Rattle.cause_output.specs.declared.caller.Caller.{Caller}
 use Rattle.command_rules.specs.Checks.{Check, ComesUpTo, check_of, is_before, of_access, of_folder, of_lists, of_lock, of_output, of_steps, place_of}
 use Rattle.command_rules.specs.Ends.{KeepsOrder, Reaches}
 use Rattle.command_rules.specs.Found.{AreInFolder, Found, allow_file, deny_file}

@@ -12,14 +12,14 @@ use Rattle.host_calls.specs.Sink.{Outlet}
 use Rattle.listing_text.specs.declared.cause.Cause.{Cause}
 use Rattle.listing_text.specs.declared.cause.Cause.TheVariants.{Done, Refused, FileFault, InputFault, OutputFault, Busy, Memory, Damaged, StillRunning, Faulty}
 use Rattle.listing_text.specs.declared.refusal.Refusal.TheVariants.{BadQueue, Usage}
-use Rattle.command_rules.specs.declared.caller.Caller.{Caller}
+use Rattle.cause_output.specs.declared.caller.Caller.{Caller}
 use Rattle.command_rules.specs.Ends.{Ends, FailsToPrint, Holding, KeepsOrder, Reaches, Telling, StopsBeforeLock}
 use Rattle.command_rules.specs.Found.{Asked}
-use Rattle.command_rules.specs.Sinks.{NotesBy, SinkAt}
+use Rattle.cause_output.specs.Sinks.{NotesBy, SinkAt}
 use Rattle.command_rules.specs.Verdict.{verdict_of}
 use Rattle.serving.specs.Outside.{EndsOutside}
 use Rattle.at_commands.specs.Outside.{HasRisen, OutsideAt}
-use Rattle.command_rules.specs.Causes.{words_cause}
+use Rattle.cause_output.specs.Causes.{words_cause}
 use Rattle.at_commands.proofs.UnreadLemmas.{ends_at_words}
 use Rattle.at_commands.proofs.LateLemmas.{any_memory}
 use Rattle.host_calls.specs.Inputs.{AreReadAtMostOnce, Sources}

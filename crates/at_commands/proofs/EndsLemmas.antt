@@ -16,13 +16,13 @@ use Rattle.spool_model.specs.declared.step.Step.{Step}
 use Rattle.spool_model.specs.JobTable.{JobTable}
 use Rattle.spool_shows.specs.Shown.{shown_by}
 use Rattle.step_runs.specs.Attempts.{Achieves}
-use Rattle.command_rules.specs.declared.caller.Caller.{Caller}
+use Rattle.cause_output.specs.declared.caller.Caller.{Caller}
 use Rattle.command_rules.specs.Checks.{Check, ComesUpTo, check_of, is_before, of_lock, place_of}
 use Rattle.command_rules.specs.Ends.{Ends, Holding, IsNoRefusal, KeepsOrder, Reaches, Telling}
 use Rattle.command_rules.specs.Found.{Asked, Finds, Found, allow_file, answers_read, deny_file, is_listing}
 use Rattle.at_commands.specs.inside.Carrying.{AreSessionSteps, Carries, Finding, IsSessionLine, IsSessionText}
 use Rattle.command_rules.specs.Requested.{AreAskedSteps, AreNoSteps, IsAskedLine, IsAskedText}
-use Rattle.command_rules.specs.Sinks.{EndsLine, IsPutInPart, IsPutOrCut, IsSilent, NotesBy, PrintsBy, PutsCut, PutsPart, SaysBy, SinkAt, HasBytes}
+use Rattle.cause_output.specs.Sinks.{EndsLine, IsPutInPart, IsPutOrCut, IsSilent, NotesBy, PrintsBy, PutsCut, PutsPart, SaysBy, SinkAt, HasBytes}
 use Rattle.command_rules.specs.Spool.{SpoolEnds}
 use Rattle.command_rules.specs.Verdict.{early_verdict, first_refusal, spool_verdict, verdict_of}
 use Rattle.command_rules.proofs.SpoolLemmas.{attempt_of, unbegun_same}

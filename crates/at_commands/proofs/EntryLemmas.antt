@@ -4,7 +4,7 @@ use Rattle.host_calls.specs.declared.fault.EnterFault.{EnterFault}
 use Rattle.host_calls.specs.declared.fault.EnterFault.TheVariants as entry
 use Rattle.listing_text.specs.declared.cause.Cause.{Cause}
 use Rattle.listing_text.specs.declared.cause.Cause.TheVariants.{Done, Refused, FileFault, InputFault, OutputFault, Busy, Memory, Damaged, StillRunning, Faulty}
-use Rattle.command_rules.specs.Causes.{cause_of_entry}
+use Rattle.cause_output.specs.Causes.{cause_of_entry}
 
 -- a fault of a file, a lock that is taken, or want of memory
 abbrev pub IsOfEntry : Cause → Type 0

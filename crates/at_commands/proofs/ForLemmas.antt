@@ -21,14 +21,14 @@ use Rattle.spool_model.specs.declared.row.Row.{Row}
 use Rattle.spool_model.specs.declared.step.Step.{Step}
 use Rattle.spool_model.specs.JobTable.{JobTable}
 use Rattle.spool_model.specs.Lists.{live_rows}
-use Rattle.command_rules.specs.declared.caller.Caller.{Caller}
-use Rattle.command_rules.specs.declared.command_error.CommandError.{CommandError}
-use Rattle.command_rules.specs.Causes.{cause_in, error_of}
+use Rattle.cause_output.specs.declared.caller.Caller.{Caller}
+use Rattle.cause_output.specs.declared.command_error.CommandError.{CommandError}
+use Rattle.cause_output.specs.Causes.{cause_in, error_of}
 use Rattle.command_rules.specs.Found.{Found}
 use Rattle.at_commands.specs.inside.Carrying.{AreWorkSteps, Carries, IsSessionText}
 use Rattle.command_rules.specs.Requested.{passes_of, scripts_of, steps_of}
 use Rattle.command_rules.specs.Sessions.{IsKeptOf, IsNotOpened, IsOpened, IsWorkedOut, Works}
-use Rattle.command_rules.specs.Sinks.{IsPut, IsPutInPart, IsSilent, PutsPart, SinkAt}
+use Rattle.cause_output.specs.Sinks.{IsPut, IsPutInPart, IsSilent, PutsPart, SinkAt}
 use Rattle.command_rules.specs.Verdict.{filter_check, jobs_check, table_verdict}
 use Rattle.at_commands.proofs.EntryLemmas.{IsOfEntry}
 use Rattle.at_commands.specs.inside.Sessions.{Lists, Shows, lists_alone}

@@ -8,11 +8,11 @@ use Rattle.host_calls.specs.declared.fault.EnterFault.{EnterFault}
 use Rattle.host_calls.specs.declared.host.Host.{Ghosts}
 use Rattle.host_session.specs.Work.{Calls}
 use Rattle.listing_text.specs.declared.cause.Cause.TheVariants.{InputFault, OutputFault}
-use Rattle.command_rules.specs.declared.caller.Caller.{Caller}
-use Rattle.command_rules.specs.declared.command_error.CommandError.{CommandError}
-use Rattle.command_rules.specs.Causes.{cause_in, cause_of_entry, error_of}
+use Rattle.cause_output.specs.declared.caller.Caller.{Caller}
+use Rattle.cause_output.specs.declared.command_error.CommandError.{CommandError}
+use Rattle.cause_output.specs.Causes.{cause_in, cause_of_entry, error_of}
 use Rattle.command_rules.specs.Found.{found_of}
-use Rattle.command_rules.specs.Sinks.{SinkAt}
+use Rattle.cause_output.specs.Sinks.{SinkAt}
 use Rattle.spool_session.specs.Sessions.{ComesOfSession, EndsSession}
 use Rattle.at_commands.specs.inside.Carrying.{Carries}
 use Rattle.at_commands.specs.inside.Session.{IsNoOutput}

@@ -10,11 +10,11 @@ use Rattle.step_runs.proofs.ListLemmas.{lists_as_on_the_table}
 use Rattle.listing_text.specs.declared.refusal.Refusal.{Refusal}
 use Rattle.listing_text.specs.declared.refusal.Refusal.TheVariants.{NumbersUsedUp, QueueFull}
 use Rattle.spool_model.specs.declared.number.TheConstants.{LAST_NUMBER}
-use Rattle.spool_store.specs.declared.submit.TheConstants.{MAX_LIVE}
+use Rattle.spool_model.specs.declared.row.TheConstants.{MAX_LIVE}
 use Rattle.spool_model.specs.declared.entry.Entry.TheVariants.{Live, Done}
 use Rattle.spool_model.specs.JobTable.{JobEntry, JobTable, entry_at}
 use Rattle.spool_model.specs.Lists.{row_under}
-use Rattle.command_rules.specs.declared.caller.Caller.{Caller}
+use Rattle.cause_output.specs.declared.caller.Caller.{Caller}
 use Rattle.command_rules.specs.Sessions.{IsKeptOf}
 use Rattle.command_rules.specs.Verdict.{first_refusal, jobs_check, number_check, room_check, row_at, row_check, table_verdict}
 

@@ -6,7 +6,7 @@ use Rattle.access_lists.specs.Access.{may_use}
 use Rattle.at_words.specs.declared.filter.Filter.TheVariants as filter
 use Rattle.at_words.specs.declared.tool_request.ToolRequest.{ToolRequest}
 use Rattle.at_words.specs.declared.tool_request.ToolRequest.TheVariants as request
-use Rattle.spool_model.specs.Lists.{is_running}
+use Rattle.spool_model.specs.Lists.{is_running, live_count}
 use Rattle.host_calls.specs.declared.damage.Damage.{Damage}
 use Rattle.listing_text.specs.declared.cause.Cause.TheVariants.{Busy, FileFault, InputFault, Memory}
 use Rattle.listing_text.specs.declared.refusal.Refusal.{Refusal}
@@ -15,9 +15,8 @@ use Rattle.listing_text.specs.Listing.{may_see}
 use Rattle.spool_model.specs.declared.number.TheConstants.{LAST_NUMBER}
 use Rattle.spool_model.specs.declared.row.Row.{Row}
 use Rattle.spool_model.specs.JobTable.{JobTable}
-use Rattle.spool_model.specs.Lists.{live_count}
-use Rattle.spool_store.specs.declared.submit.TheConstants.{MAX_LIVE}
-use Rattle.command_rules.specs.declared.caller.Caller.{Caller}
+use Rattle.spool_model.specs.declared.row.TheConstants.{MAX_LIVE}
+use Rattle.cause_output.specs.declared.caller.Caller.{Caller}
 use Rattle.command_rules.specs.Checks.{Check, ComesUpTo, check_of, is_before, of_folder, of_input, of_lists, of_lock, place_of}
 use Rattle.command_rules.specs.Ends.{KeepsOrder}
 use Rattle.command_rules.specs.Found.{Found}

@@ -13,14 +13,14 @@ use Rattle.listing_text.specs.declared.cause.Cause.{Cause}
 use Rattle.listing_text.specs.declared.cause.Cause.TheVariants.{Done, Refused, FileFault, InputFault, OutputFault, Busy, Memory, Damaged, StillRunning, Faulty}
 use Rattle.listing_text.specs.declared.refusal.Refusal.{Refusal}
 use Rattle.spool_model.specs.Users.{IsUserName}
-use Rattle.command_rules.specs.declared.caller.Caller.{Caller}
-use Rattle.command_rules.specs.declared.command_error.CommandError.{CommandError}
+use Rattle.cause_output.specs.declared.caller.Caller.{Caller}
+use Rattle.cause_output.specs.declared.command_error.CommandError.{CommandError}
 use Rattle.command_rules.specs.Checks.{Check, is_before, of_input, of_lock, of_variables, of_zone, place_of}
 use Rattle.command_rules.specs.Ends.{holding, telling}
 use Rattle.command_rules.specs.Found.{FindsInput, Found, answers_read, found_of}
 use Rattle.at_commands.specs.inside.Carrying.{Finding, IsSessionLine}
 use Rattle.command_rules.specs.Requested.{IsAcceptedLine}
-use Rattle.command_rules.specs.Sinks.{IsSilent, SinkAt}
+use Rattle.cause_output.specs.Sinks.{IsSilent, SinkAt}
 use Rattle.command_rules.specs.Times.{minute_in}
 use Rattle.command_rules.specs.Verdict.{clock_check, directory_check, length_check, spool_verdict, time_check, user_check, variables_check, zone_check}
 use Rattle.submission_checks.specs.declared.submission.Submission.{Submission}

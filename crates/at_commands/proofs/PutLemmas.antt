@@ -1,8 +1,8 @@
 -- The cause of a put, by what its sink answers.
 use Rattle.std.proofs.Common.{◌≡◌, ◌≢◌, ◌∙◌, [], ap, ◌++◌, ◌==◌, ◌∷◌, append-nil, arith, refl, sym, Bool, List, ℕ, Result, Ok, Err, true, false, length}
 use Rattle.std.proofs.lemmas.Bool.{eqb-true}
-use Rattle.command_rules.specs.Causes.{cause_of_put}
-use Rattle.command_rules.specs.Sinks.{SinkAt, sink_at}
+use Rattle.cause_output.specs.Causes.{cause_of_put}
+use Rattle.cause_output.specs.Sinks.{SinkAt, sink_at}
 use Rattle.host_calls.specs.Causes.{HasCause, Rose}
 use Rattle.host_calls.specs.declared.fault.SinkFault.{SinkFault}
 use Rattle.host_calls.specs.declared.fault.SinkFault.TheVariants.{Failed, Memory as NoMemory}

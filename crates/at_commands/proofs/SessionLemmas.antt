@@ -6,12 +6,12 @@ use Rattle.host_calls.specs.Session.{IsOutside}
 use Rattle.host_calls.specs.World.{World}
 use Rattle.listing_text.specs.declared.cause.Cause.{Cause}
 use Rattle.listing_text.specs.declared.cause.Cause.TheVariants.{Done, Refused, FileFault, InputFault, OutputFault, Busy, Memory, Damaged, StillRunning, Faulty}
-use Rattle.spool_store.specs.declared.fault.StoreFault.{StoreFault}
-use Rattle.spool_store.specs.declared.fault.StoreFault.TheVariants as store
-use Rattle.command_rules.specs.declared.command_error.CommandError.{CommandError}
-use Rattle.command_rules.specs.Causes.{cause_in, cause_of, error_of}
+use Rattle.host_calls.specs.declared.store_fault.StoreFault.{StoreFault}
+use Rattle.host_calls.specs.declared.store_fault.StoreFault.TheVariants as store
+use Rattle.cause_output.specs.declared.command_error.CommandError.{CommandError}
+use Rattle.cause_output.specs.Causes.{cause_in, cause_of, error_of}
 use Rattle.command_rules.specs.Sessions.{IsNotOpened, faults, is_damaged, lacks_memory, lists_fault, lists_lack_memory, refuses}
-use Rattle.command_rules.proofs.SpoolLemmas.{goes_on_none}
+use Rattle.host_calls.proofs.WorldLemmas.{goes_on_none}
 use Rattle.job_listing.specs.Scripts.{ComesOfShowing, IsOfShowing}
 use Rattle.job_removal.specs.Removing.{ComesOfRemoving, IsOfWork}
 use Rattle.spool_session.specs.Sessions.{ComesOfSession, HasRisenIn, IsOfSession, StaysQuiet}

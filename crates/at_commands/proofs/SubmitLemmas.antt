@@ -11,7 +11,7 @@ use Rattle.step_runs.specs.Current.{IsCurrent, Kept}
 use Rattle.step_runs.proofs.MadeLemmas.{calls_make_their_steps}
 use Rattle.step_runs.proofs.RunLemmas.{calls_are_runs}
 use Rattle.job_script.specs.HeaderIn.{header_in}
-use Rattle.job_script.specs.JobText.{text_for}
+use Rattle.job_script.specs.JobText.{text_for, job_for}
 use Rattle.listing_text.specs.declared.cause.Cause.{Cause}
 use Rattle.listing_text.specs.declared.refusal.Refusal.{Refusal}
 use Rattle.listing_text.specs.declared.refusal.Refusal.TheVariants as refusal
@@ -20,16 +20,16 @@ use Rattle.spool_model.specs.declared.number.TheConstants.{LAST_NUMBER}
 use Rattle.spool_model.specs.declared.step.Step.{Step}
 use Rattle.spool_model.specs.JobTable.{JobTable}
 use Rattle.spool_model.specs.Lists.{live_count}
-use Rattle.spool_model.specs.Steps.{AreLegal}
+use Rattle.spool_model.specs.Steps.{AreLegal, submission}
 use Rattle.spool_shows.proofs.SoundTables.{shown_tables_are_sound}
-use Rattle.spool_store.specs.declared.fault.StoreFault.{StoreFault}
-use Rattle.spool_store.specs.declared.fault.StoreFault.TheVariants.{Damaged, FileFault as Failed, Memory as NoMemory, NumbersUsedUp, QueueFull}
-use Rattle.spool_store.specs.declared.submit.TheConstants.{MAX_LIVE}
-use Rattle.spool_store.specs.Submitting.{HasRoom, IsAnswerOn, IsFull, IsUsedUp, job_for, job_of_script, submission}
+use Rattle.host_calls.specs.declared.store_fault.StoreFault.{StoreFault}
+use Rattle.host_calls.specs.declared.store_fault.StoreFault.TheVariants.{Damaged, FileFault as Failed, Memory as NoMemory, NumbersUsedUp, QueueFull}
+use Rattle.spool_model.specs.declared.row.TheConstants.{MAX_LIVE}
+use Rattle.spool_store.specs.Submitting.{HasRoom, IsAnswerOn, IsFull, IsUsedUp, job_of_script}
 use Rattle.spool_store.proofs.SubmitStored.{submission_legal}
-use Rattle.command_rules.specs.declared.caller.Caller.{Caller}
-use Rattle.command_rules.specs.declared.command_error.CommandError.{CommandError}
-use Rattle.command_rules.specs.Causes.{cause_in, cause_of, error_of}
+use Rattle.cause_output.specs.declared.caller.Caller.{Caller}
+use Rattle.cause_output.specs.declared.command_error.CommandError.{CommandError}
+use Rattle.cause_output.specs.Causes.{cause_in, cause_of, error_of}
 use Rattle.command_rules.specs.Found.{found_of}
 use Rattle.at_commands.specs.inside.Carrying.{AreWorkSteps, Finding}
 use Rattle.spool_store.proofs.WrittenJobs.{header_of_written, job_of_written}

@@ -12,12 +12,12 @@ use Rattle.listing_text.specs.declared.cause.Cause.{Cause}
 use Rattle.listing_text.specs.declared.refusal.Refusal.{Refusal}
 use Rattle.spool_model.specs.JobTable.{JobTable}
 use Rattle.spool_shows.specs.Shown.{shown_by}
-use Rattle.command_rules.specs.declared.caller.Caller.{Caller}
+use Rattle.cause_output.specs.declared.caller.Caller.{Caller}
 use Rattle.command_rules.specs.Checks.{Check, ComesUpTo, check_of, is_before, of_access, of_clock, of_date, of_directory, of_folder, of_input, of_jobs, of_length, of_lists, of_lock, of_number, of_output, of_room, of_spelling, of_steps, of_user, of_variables, of_words, of_zone}
 use Rattle.command_rules.specs.Ends.{Ends, Holding, KeepsOrder, Reaches, Telling}
 use Rattle.command_rules.specs.Found.{Asked, Finds, Found, allow_file, answers_read, deny_file, found_of}
 use Rattle.command_rules.specs.Requested.{AreAskedSteps, IsAskedLine, IsAskedText}
-use Rattle.command_rules.specs.Sinks.{IsSilent, NotesBy, SinkAt}
+use Rattle.cause_output.specs.Sinks.{IsSilent, NotesBy, SinkAt}
 use Rattle.command_rules.specs.Verdict.{verdict_of}
 use Rattle.at_commands.proofs.EndsLemmas.{IsEarly, no_true, silent_notes, silent_prints, untouched}
 

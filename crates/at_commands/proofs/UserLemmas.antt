@@ -4,13 +4,13 @@ use Rattle.std.specs.Prelude.{◌==◌, not, slice_index, Option, Some, None}
 use Rattle.std.proofs.lemmas.Bool.{and_from, and_parts, eq-eqb, leb-true, le-leb, ne_eqb}
 use Rattle.civil_minute.specs.declared.zone.Zone.{Zone}
 use Rattle.civil_minute.specs.declared.zone.Zone.TheVariants.{Utc, Rules, Unreadable}
-use Rattle.civil_minute.specs.Zone.{IsReadable}
+use Rattle.civil_minute.specs.Zone.{IsReadable, is_unreadable}
 use Rattle.job_script.specs.Check.{is_user_name}
 use Rattle.job_script.specs.declared.context.Context.{Context}
 use Rattle.listing_text.specs.declared.refusal.Refusal.{Refusal}
 use Rattle.listing_text.specs.declared.refusal.Refusal.TheVariants.{BadUser, BadZone}
 use Rattle.spool_model.specs.Users.{IsUserName}
-use Rattle.command_rules.specs.Verdict.{first_refusal, is_unreadable, user_check, zone_check}
+use Rattle.command_rules.specs.Verdict.{first_refusal, user_check, zone_check}
 
 no_not : (b : Bool) → not b ≡ true → b ≡ false
 no_not true is = cc

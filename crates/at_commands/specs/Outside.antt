@@ -1,10 +1,10 @@
 -- All that a command is handed, at a moment, and what a command leaves of it (own).
 use Rattle.std.specs.Prelude.{◌≡◌, ◌≢◌, ℕ, true, false, List, Err}
 use Rattle.at_words.specs.declared.fault.WordsFault.{WordsFault}
-use Rattle.command_rules.specs.declared.caller.Caller.{Caller}
+use Rattle.cause_output.specs.declared.caller.Caller.{Caller}
 use Rattle.command_rules.specs.Ends.{Ends, FailsToPrint, Holding, StopsBeforeLock, Telling, holding, telling}
 use Rattle.command_rules.specs.Found.{Asked, is_submission}
-use Rattle.command_rules.specs.Sinks.{SinkAt, sink_at}
+use Rattle.cause_output.specs.Sinks.{SinkAt, sink_at}
 use Rattle.daemon_turn.specs.Daemons.{DaemonState}
 use Rattle.host_calls.specs.Causes.{Rose}
 use Rattle.host_calls.specs.Clock.{Readers}

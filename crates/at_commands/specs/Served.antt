@@ -2,7 +2,7 @@
 use Rattle.std.specs.Prelude.{ℕ, Bool, Ok, Err}
 use Rattle.at_words.specs.declared.tool_request.ToolRequest.TheVariants as request
 use Rattle.command_rules.specs.Found.{Asked}
-use Rattle.command_rules.specs.Sinks.{SinkAt}
+use Rattle.cause_output.specs.Sinks.{SinkAt}
 use Rattle.daemon_turn.specs.Daemons.{DaemonState, new_daemon}
 use Rattle.listing_text.specs.declared.cause.Cause.{Cause}
 use Rattle.serving.specs.Serves.{ServeAt, ServeTelling}

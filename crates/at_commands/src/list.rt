@@ -1,17 +1,17 @@
 //! Listings: `atq` and `at -l`.
 ghost use Rattle.std.specs.Prelude.{◌≡◌, ◌≢◌, IfErr, IfOk, IsTrue, true};
 ghost use Rattle.at_words.specs.declared.tool_request.ToolRequest.TheVariants as request;
-ghost use Rattle.civil_minute.specs.Zone.{IsReadable};
+ghost use Rattle.civil_minute.specs.Zone.{IsReadable, is_unreadable};
 ghost use Rattle.host_calls.specs.Causes.{Rose};
 ghost use Rattle.host_calls.specs.Session.{CallsInside, IsInside, IsOutside};
 ghost use Rattle.host_calls.specs.World.{GoesOn};
 ghost use Rattle.listing_text.specs.declared.cause.Cause.TheVariants as cause;
 ghost use Rattle.listing_text.specs.Listing.{IsListing};
 ghost use Rattle.spool_model.specs.Users.{IsUserName};
-ghost use Rattle.command_rules.specs.Causes.{error_of};
+ghost use Rattle.cause_output.specs.Causes.{error_of};
 ghost use Rattle.command_rules.specs.Requested.{passes_of};
-ghost use Rattle.command_rules.specs.Sinks.{sink_at};
-ghost use Rattle.command_rules.specs.Verdict.{filter_check, is_unreadable};
+ghost use Rattle.cause_output.specs.Sinks.{sink_at};
+ghost use Rattle.command_rules.specs.Verdict.{filter_check};
 ghost use Rattle.at_commands.specs.inside.Answering.{EndsPrinting};
 ghost use Rattle.at_commands.specs.inside.Printing.{PutsWhole};
 ghost use Rattle.spool_session.specs.Sessions.{ComesOfSession, HasRisenIn, StaysQuiet};

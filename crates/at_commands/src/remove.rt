@@ -5,7 +5,7 @@ ghost use Rattle.at_words.specs.Numbers.{are_distinct};
 ghost use Rattle.host_calls.specs.Session.{CallsInside, IsInside, IsOutside};
 ghost use Rattle.host_calls.specs.World.{GoesOn};
 ghost use Rattle.listing_text.specs.declared.cause.Cause.TheVariants as cause;
-ghost use Rattle.command_rules.specs.Causes.{error_of};
+ghost use Rattle.cause_output.specs.Causes.{error_of};
 ghost use Rattle.spool_session.specs.Sessions.{ComesOfSession, HasRisenIn, StaysQuiet};
 ghost use Rattle.at_commands.specs.inside.Answering.{EndsRemoving};
 ghost use Rattle.at_commands.specs.inside.Session.{IsNoOutput};

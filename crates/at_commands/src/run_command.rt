@@ -4,7 +4,7 @@ ghost use Rattle.at_words.specs.Queues.{HasQueueLetter};
 ghost use Rattle.at_words.specs.Requests.{request_of};
 ghost use Rattle.host_calls.specs.Session.{IsOutside};
 ghost use Rattle.listing_text.specs.Cause.{status_of};
-ghost use Rattle.command_rules.specs.Sinks.{NotesBy, SaysBy, sink_at};
+ghost use Rattle.cause_output.specs.Sinks.{NotesBy, SaysBy, sink_at};
 ghost use Rattle.daemon_turn.specs.Daemons.{new_daemon};
 ghost use Rattle.serving.specs.Outside.{EndsOutside, HasRisenServing, StaysMadeServing, work_at};
 ghost use Rattle.serving.specs.Serves.{serve_at, serve_telling};

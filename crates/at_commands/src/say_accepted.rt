@@ -4,7 +4,7 @@ ghost use Rattle.std.specs.Prelude.{◌≡◌, IsTrue};
 ghost use Rattle.civil_minute.specs.Zone.{IsReadable};
 ghost use Rattle.host_calls.specs.Causes.{HasCause};
 ghost use Rattle.command_rules.specs.Requested.{IsAcceptedLine};
-ghost use Rattle.command_rules.specs.Sinks.{sink_at};
+ghost use Rattle.cause_output.specs.Sinks.{sink_at};
 ghost use Rattle.at_commands.specs.inside.Saying.{SaysAccepted};
 
 use civil_minute::{Zone, civil_of};

@@ -6,8 +6,8 @@ ghost use Rattle.host_calls.specs.Session.{CallsInside, IsInside, IsOutside};
 ghost use Rattle.host_calls.specs.World.{GoesOn};
 ghost use Rattle.spool_session.specs.Sessions.{ComesOfSession, HasRisenIn, StaysQuiet};
 ghost use Rattle.listing_text.specs.declared.cause.Cause.TheVariants as cause;
-ghost use Rattle.command_rules.specs.Causes.{error_of};
-ghost use Rattle.command_rules.specs.Sinks.{sink_at};
+ghost use Rattle.cause_output.specs.Causes.{error_of};
+ghost use Rattle.cause_output.specs.Sinks.{sink_at};
 ghost use Rattle.at_commands.specs.inside.Answering.{EndsPrinting};
 ghost use Rattle.at_commands.specs.inside.Sessions.{ShowsFor};
 

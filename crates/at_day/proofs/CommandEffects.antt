@@ -4,15 +4,14 @@ use Rattle.std.specs.Prelude.{Some, Ok, Err}
 use Rattle.at_words.specs.declared.tool_request.ToolRequest.TheVariants as request
 use Rattle.at_words.specs.Requests.{request_of}
 use Rattle.civil_minute.specs.declared.zone.Zone.{Zone}
-use Rattle.command_rules.specs.declared.caller.Caller.{Caller}
+use Rattle.cause_output.specs.declared.caller.Caller.{Caller}
 use Rattle.command_rules.specs.Checks.{Check, is_before, of_words, of_user, of_directory, of_variables, of_clock, of_zone, of_spelling, of_date, of_input, of_length, of_lock, of_lists, of_access, of_folder, of_room, of_number, of_jobs, of_steps, of_output}
 use Rattle.command_rules.specs.Ends.{Reaches}
 use Rattle.command_rules.specs.Found.{Asked, Finds, Found, is_submission}
 use Rattle.command_rules.specs.Requested.{AreAskedSteps, OrNone, forgets, removes, steps_asked}
 use Rattle.command_rules.specs.Spool.{SpoolEnds}
 use Rattle.command_rules.proofs.SpoolLemmas.{refusal_left, unbegun_same}
-use Rattle.headline.specs.Effects.{TakesEffect, IsEffectOf, Effect}
-use Rattle.headline.specs.Effects.{Untouched, Partial, Whole}
+use Rattle.headline.specs.Effects.{TakesEffect, IsEffectOf, Effect, Untouched, Partial, Whole}
 use Rattle.host_calls.specs.Inputs.{Contents}
 use Rattle.host_calls.specs.World.{World}
 use Rattle.step_runs.specs.Attempts.{Attempts, IsBegun}

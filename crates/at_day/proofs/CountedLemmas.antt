@@ -17,8 +17,8 @@ use Rattle.spool_model.specs.JobTable.{JobTable}
 use Rattle.spool_model.specs.Lists.{live_rows}
 use Rattle.spool_store.specs.Listed.{ListsDecided, ListsLive}
 use Rattle.spool_store.specs.Recovering.{IsRecovered}
-use Rattle.spool_store.specs.declared.fault.StoreFault.{StoreFault}
-use Rattle.spool_store.specs.declared.fault.StoreFault.TheVariants as fault
+use Rattle.host_calls.specs.declared.store_fault.StoreFault.{StoreFault}
+use Rattle.host_calls.specs.declared.store_fault.StoreFault.TheVariants as fault
 use Rattle.at_day.specs.declared.counts.Counts.{Counts}
 use Rattle.at_day.specs.Counting.{CountsBy, IsCounted, done_so, runs, waits, was_finished, was_interrupted, was_not_started, was_removed}
 use Rattle.at_day.proofs.CountLemmas.{done_counted, live_is}

@@ -1,21 +1,20 @@
 -- What an event does to the spool, as a move of its steps.
 use Rattle.std.proofs.Common.{◌≡◌, ◌++◌, [], ◌∷◌, ℕ, ℤ, Bool, false, List, sym, ap, subst, refl, inl, inr}
-use Rattle.daemon_turn.specs.declared.report.TurnEnd.{TurnEnd}
-use Rattle.daemon_turn.specs.declared.report.TurnEnd.TheVariants.{Done, Busy, FileFault, Damaged, Memory}
-use Rattle.daemon_turn.specs.declared.step.TurnStep.{TurnStep}
-use Rattle.daemon_turn.specs.declared.step.TurnStep.TheVariants.{HandedOver, Ended, Interrupted, Forgotten}
+use Rattle.host_session.specs.declared.turn_end.TurnEnd.{TurnEnd}
+use Rattle.host_session.specs.declared.turn_end.TurnEnd.TheVariants.{Done, Busy, FileFault, Damaged, Memory}
+use Rattle.spool_model.specs.declared.turn_step.TurnStep.{TurnStep}
+use Rattle.spool_model.specs.declared.turn_step.TurnStep.TheVariants.{HandedOver, Ended, Interrupted, Forgotten}
 use Rattle.daemon_turn.specs.Leaving.{DaemonAt, IsStopped, TurnLeaves}
 use Rattle.daemon_turn.specs.Starting.{Turn as TurnOf, turn_of}
-use Rattle.daemon_turn.specs.StepsOf.{steps_of}
+use Rattle.spool_model.specs.StepsOf.{steps_of}
 use Rattle.day_events.specs.declared.event.Event.{Event}
 use Rattle.day_events.specs.declared.event.Event.TheVariants.{Command, Turn, Reboot}
 use Rattle.day_events.specs.declared.report.EventReport.{EventReport}
 use Rattle.day_events.specs.declared.report.EventReport.TheVariants as known
-use Rattle.headline.specs.Effects.{ComesUpWith, TakesEffect, IsEffectOf, Effect}
-use Rattle.headline.specs.Effects.{Untouched, Partial, Whole, Crashed}
+use Rattle.headline.specs.Effects.{ComesUpWith, TakesEffect, IsEffectOf, Effect, Untouched, Partial, Whole, Crashed}
 use Rattle.host_calls.specs.Folder.{Files, IsImage}
 use Rattle.host_calls.specs.World.{Moment, World, reading}
-use Rattle.command_rules.specs.declared.caller.Caller.{Caller}
+use Rattle.cause_output.specs.declared.caller.Caller.{Caller}
 use Rattle.step_runs.specs.Made.{flags_of}
 use Rattle.listing_text.specs.Cause.{is_done}
 use Rattle.listing_text.specs.declared.status.Status.{Status}

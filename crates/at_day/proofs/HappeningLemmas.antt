@@ -2,7 +2,7 @@
 use Rattle.std.proofs.Common.{◌≡◌, ℕ, ℤ, List, refl, inl, inr, subst}
 use Rattle.std.specs.Prelude.{Result, Ok, Err, OnErr}
 use Rattle.std.specs.declared.alloc.AllocError.{AllocError}
-use Rattle.command_rules.specs.declared.caller.Caller.{Caller}
+use Rattle.cause_output.specs.declared.caller.Caller.{Caller}
 use Rattle.daemon_turn.specs.Daemons.{DaemonState}
 use Rattle.day_events.specs.declared.event.Event.TheVariants.{Command}
 use Rattle.day_events.specs.declared.report.EventReport.{EventReport}

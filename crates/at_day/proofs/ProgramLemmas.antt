@@ -8,10 +8,10 @@ use Rattle.at_words.specs.declared.fault.WordsFault.{WordsFault}
 use Rattle.at_words.specs.declared.fault.WordsFault.TheVariants as words
 use Rattle.at_words.specs.declared.tool_request.ToolRequest.{ToolRequest}
 use Rattle.at_words.specs.declared.tool_request.ToolRequest.TheVariants as request
-use Rattle.command_rules.specs.Causes.{words_cause}
+use Rattle.cause_output.specs.Causes.{words_cause}
 use Rattle.command_rules.specs.Ends.{FailsToPrint}
 use Rattle.command_rules.specs.Found.{Asked}
-use Rattle.command_rules.specs.Sinks.{EndsLine, IsCut, IsPut, IsPutInPart, IsPutOrCut, IsSilent, SinkAt, sink_at}
+use Rattle.cause_output.specs.Sinks.{EndsLine, IsCut, IsPut, IsPutInPart, IsPutOrCut, IsSilent, SinkAt, sink_at}
 use Rattle.host_calls.specs.Sink.{Outlet}
 use Rattle.host_calls.specs.declared.fault.SinkFault.{SinkFault}
 use Rattle.host_calls.specs.declared.fault.SinkFault.TheVariants as sink

@@ -27,8 +27,8 @@ use Rattle.spool_model.specs.JobTable.{JobTable}
 use Rattle.start_journal.specs.Journals.{journal_in}
 use Rattle.spool_shows.specs.Examples.{without_jobs}
 use Rattle.spool_shows.specs.Shown.{Shows, shown, shown_by}
-use Rattle.spool_store.specs.declared.fault.StoreFault.{StoreFault}
-use Rattle.spool_store.specs.declared.fault.StoreFault.TheVariants as fault
+use Rattle.host_calls.specs.declared.store_fault.StoreFault.{StoreFault}
+use Rattle.host_calls.specs.declared.store_fault.StoreFault.TheVariants as fault
 use Rattle.at_day.specs.declared.counts.Counts.{Counts}
 use Rattle.at_day.specs.declared.report.DayReport.{DayReport}
 use Rattle.at_day.specs.Counting.{CountsBy, IsCounted}

@@ -10,11 +10,11 @@ use Rattle.at_words.specs.Tools.{tool_of_words}
 use Rattle.at_commands.specs.Served.{IsNotServed}
 use Rattle.at_commands.proofs.ServedLemmas.{not_served}
 use Rattle.day_events.specs.Days.{is_day_tool}
-use Rattle.command_rules.specs.declared.caller.Caller.{Caller}
+use Rattle.cause_output.specs.declared.caller.Caller.{Caller}
 use Rattle.command_rules.specs.Checks.{Check}
 use Rattle.command_rules.specs.Ends.{Ends, FailsToPrint, Holding, holding}
 use Rattle.command_rules.specs.Found.{Asked, answers_read}
-use Rattle.command_rules.specs.Sinks.{SaysBy, SinkAt, sink_at}
+use Rattle.cause_output.specs.Sinks.{SaysBy, SinkAt, sink_at}
 use Rattle.host_calls.specs.Causes.{Rose}
 use Rattle.host_calls.specs.Clock.{Answers, Readers, with_now}
 use Rattle.host_calls.specs.Inputs.{Contents}

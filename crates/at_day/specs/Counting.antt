@@ -14,8 +14,8 @@ use Rattle.spool_model.specs.declared.row.Row.{Row}
 use Rattle.spool_model.specs.JobTable.{JobEntry, JobTable, entry_at}
 use Rattle.spool_model.specs.Lists.{done_numbers, is_running, live_rows}
 use Rattle.spool_shows.specs.Shown.{Shows, shown_by}
-use Rattle.spool_store.specs.declared.fault.StoreFault.{StoreFault}
-use Rattle.spool_store.specs.declared.fault.StoreFault.TheVariants as fault
+use Rattle.host_calls.specs.declared.store_fault.StoreFault.{StoreFault}
+use Rattle.host_calls.specs.declared.store_fault.StoreFault.TheVariants as fault
 use Rattle.at_day.specs.declared.counts.Counts.{Counts}
 
 -- the job of the row runs, or waits

@@ -1,22 +1,21 @@
 -- The outcomes of the events of a day (own): what happened with each, what it did to the spool, and the machine that it left.
 use Rattle.std.specs.Prelude.{◌≡◌, [], ◌∷◌, ℕ, ℤ, Bool, true, false, List, Option, Some, MatchBool, map}
 use Rattle.at_words.specs.Requests.{request_of}
-use Rattle.command_rules.specs.declared.caller.Caller.{Caller}
+use Rattle.cause_output.specs.declared.caller.Caller.{Caller}
 use Rattle.command_rules.specs.Checks.{of_output}
 use Rattle.command_rules.specs.Found.{Finds, Found, is_submission}
 use Rattle.command_rules.specs.Requested.{AreAskedSteps, OrNone}
-use Rattle.daemon_turn.specs.declared.report.TurnEnd.{TurnEnd}
-use Rattle.daemon_turn.specs.declared.report.TurnEnd.TheVariants.{Done, Busy, FileFault, Damaged, Memory}
-use Rattle.daemon_turn.specs.declared.step.TurnStep.{TurnStep}
+use Rattle.host_session.specs.declared.turn_end.TurnEnd.{TurnEnd}
+use Rattle.host_session.specs.declared.turn_end.TurnEnd.TheVariants.{Done, Busy, FileFault, Damaged, Memory}
+use Rattle.spool_model.specs.declared.turn_step.TurnStep.{TurnStep}
 use Rattle.daemon_turn.specs.Starting.{Turn as TurnOf, turn_of}
-use Rattle.daemon_turn.specs.StepsOf.{steps_of}
+use Rattle.spool_model.specs.StepsOf.{steps_of}
 use Rattle.daemon_turn.specs.Turning.{AreFirstSteps, AreTurnSteps, IsPrefixOf}
 use Rattle.day_events.specs.declared.event.Event.{Event}
 use Rattle.day_events.specs.declared.event.Event.TheVariants.{Command, Turn, Reboot}
 use Rattle.day_events.specs.declared.report.EventReport.{EventReport}
 use Rattle.day_events.specs.declared.report.EventReport.TheVariants as known
-use Rattle.headline.specs.Effects.{TakesEffect, IsEffectOf, Effect, Passed}
-use Rattle.headline.specs.Effects.{Untouched, Partial, Whole, Crashed}
+use Rattle.headline.specs.Effects.{TakesEffect, IsEffectOf, Effect, Passed, Untouched, Partial, Whole, Crashed}
 use Rattle.host_calls.specs.declared.child.Ending.{Ending}
 use Rattle.listing_text.specs.Cause.{is_done}
 use Rattle.memory_host.specs.Inputs.{given_contents}

@@ -1,6 +1,6 @@
 -- What happens on a machine with an event, and what it reports (own).
 use Rattle.std.specs.Prelude.{◌≡◌, ◌⊎◌, ℕ, ℤ, true, List, Option}
-use Rattle.command_rules.specs.declared.caller.Caller.{Caller}
+use Rattle.cause_output.specs.declared.caller.Caller.{Caller}
 use Rattle.daemon_turn.specs.declared.mode.Mode.TheVariants.{Full}
 use Rattle.daemon_turn.specs.declared.turn_input.TurnInput.{TurnInput}
 use Rattle.daemon_turn.specs.declared.report.TurnReport.{TurnReport}

@@ -1,7 +1,7 @@
 //! Days that are made from a number.
 ghost use Rattle.std.specs.Prelude.{◌≡◌, ◌≤◌, IfOk, Ok};
 ghost use Rattle.std.specs.List.{list_any};
-ghost use Rattle.command_rules.specs.Sinks.{sink_at};
+ghost use Rattle.cause_output.specs.Sinks.{sink_at};
 ghost use Rattle.day_events.specs.Plans.{made_plan};
 ghost use Rattle.memory_host.specs.Host.{IsNew};
 ghost use Rattle.at_day.specs.MadeDays.{ComesTo, deny_alone, lacks_memory};

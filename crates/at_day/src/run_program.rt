@@ -4,7 +4,7 @@ ghost use Rattle.at_commands.specs.Outside.{HasRisen, ServesAsked, StaysMade, ou
 ghost use Rattle.at_commands.specs.Served.{IsNotServed};
 ghost use Rattle.at_words.specs.declared.tool_request.ToolRequest.TheVariants as request;
 ghost use Rattle.at_words.specs.Requests.{request_of};
-ghost use Rattle.command_rules.specs.Sinks.{EndsLine, sink_at};
+ghost use Rattle.cause_output.specs.Sinks.{EndsLine, sink_at};
 ghost use Rattle.host_calls.specs.Session.{IsOutside};
 ghost use Rattle.listing_text.specs.Cause.{status_of};
 ghost use Rattle.serving.specs.Outside.{EndsOutside};

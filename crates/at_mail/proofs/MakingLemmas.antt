@@ -9,10 +9,10 @@ use Rattle.host_calls.specs.declared.fault.SinkFault.{SinkFault}
 use Rattle.host_calls.specs.declared.fault.SinkFault.TheVariants as put
 use Rattle.host_session.proofs.SessionLemmas.{counts_on, no_counts}
 use Rattle.listing_text.specs.declared.cause.Cause.TheVariants as cause
-use Rattle.command_rules.specs.Sinks.{SinkAt}
+use Rattle.cause_output.specs.Sinks.{SinkAt}
 use Rattle.daemon_turn.specs.Kids.{AreChildren, KeepsChildren}
-use Rattle.daemon_turn.specs.declared.report.TurnEnd.{TurnEnd}
-use Rattle.daemon_turn.specs.declared.report.TurnEnd.TheVariants.{Done, Busy, FileFault, Damaged, Memory}
+use Rattle.host_session.specs.declared.turn_end.TurnEnd.{TurnEnd}
+use Rattle.host_session.specs.declared.turn_end.TurnEnd.TheVariants.{Done, Busy, FileFault, Damaged, Memory}
 use Rattle.mail_session.specs.Leaving.{PostAt}
 use Rattle.at_mail.specs.Making.{IsSession, MakesSessions, RestsAfter, Telling, WorkAt, next_session, no_session, rest_seconds}
 use Rattle.at_mail.specs.Outcomes.{PostItem, last_outcome, outcome_by, outcome_or_done}

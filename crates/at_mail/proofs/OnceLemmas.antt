@@ -10,8 +10,8 @@ use Rattle.host_calls.proofs.FolderLemmas.{reading_is_image}
 use Rattle.host_calls.proofs.WorldLemmas.{AtEach-append, leaves_weaker}
 use Rattle.at_words.specs.Numbers.{are_distinct}
 use Rattle.spool_model.specs.JobTable.{JobTable}
-use Rattle.daemon_turn.specs.declared.report.TurnEnd.{TurnEnd}
-use Rattle.daemon_turn.specs.declared.report.TurnEnd.TheVariants.{Done, Busy, FileFault, Damaged, Memory}
+use Rattle.host_session.specs.declared.turn_end.TurnEnd.{TurnEnd}
+use Rattle.host_session.specs.declared.turn_end.TurnEnd.TheVariants.{Done, Busy, FileFault, Damaged, Memory}
 use Rattle.mail_notes.specs.declared.note.Note.{Note}
 use Rattle.mail_notes.specs.Hands.{Mailing}
 use Rattle.mail_notes.specs.Names.{mail_file}

@@ -1,7 +1,7 @@
 -- The sessions of the program, one after another, with a rest between two (own).
 use Rattle.std.specs.Prelude.{◌≡◌, ◌++◌, [], ◌∷◌, ℕ, Bool, true, List, None}
 use Rattle.host_calls.specs.Clock.{Answers, Readers, with_rest}
-use Rattle.command_rules.specs.Sinks.{SinkAt}
+use Rattle.cause_output.specs.Sinks.{SinkAt}
 use Rattle.mail_session.specs.Leaving.{PostAt, PostsTo}
 use Rattle.at_mail.specs.Outcomes.{PostItem, SaysEnd, last_outcome}
 

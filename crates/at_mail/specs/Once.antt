@@ -6,7 +6,7 @@ use Rattle.host_calls.specs.Folder.{Files, Folder, HasImagesOf, IsImage}
 use Rattle.host_calls.specs.World.{AtSome, HasEachImage, LeavesOnly, Moment, World, moments}
 use Rattle.at_words.specs.Numbers.{are_distinct}
 use Rattle.job_script.specs.HeaderIn.{header_in}
-use Rattle.daemon_turn.specs.declared.report.TurnEnd.{TurnEnd}
+use Rattle.host_session.specs.declared.turn_end.TurnEnd.{TurnEnd}
 use Rattle.mail_notes.specs.declared.note.Note.{Note}
 use Rattle.mail_notes.specs.Names.{mail_file}
 use Rattle.mail_session.specs.Leaving.{GivesNotes, MailLeaves, PostAt, PostsTo}

@@ -6,9 +6,9 @@ use Rattle.host_calls.specs.declared.fault.SinkFault.TheVariants as put
 use Rattle.listing_text.specs.Cause.{cause_line_of}
 use Rattle.listing_text.specs.declared.cause.Cause.TheVariants as cause
 use Rattle.cause_output.specs.Ends.{cause_of_end}
-use Rattle.command_rules.specs.Sinks.{IsCut, IsPut, IsSilent, SinkAt}
-use Rattle.daemon_turn.specs.declared.report.TurnEnd.{TurnEnd}
-use Rattle.daemon_turn.specs.declared.report.TurnEnd.TheVariants.{Done, Busy, FileFault, Damaged, Memory}
+use Rattle.cause_output.specs.Sinks.{IsCut, IsPut, IsSilent, SinkAt}
+use Rattle.host_session.specs.declared.turn_end.TurnEnd.{TurnEnd}
+use Rattle.host_session.specs.declared.turn_end.TurnEnd.TheVariants.{Done, Busy, FileFault, Damaged, Memory}
 use Rattle.at_mail.specs.declared.outcome.Outcome.{Outcome}
 use Rattle.at_mail.specs.declared.outcome.Outcome.TheVariants.{OfSession, Own}
 

@@ -2,8 +2,8 @@
 use Rattle.std.specs.Prelude.{◌≡◌, ◌⊎◌, ◌≤◌, ℕ, Bool, true, List, Result, Ok, Err, IsSome, length}
 use Rattle.at_words.specs.declared.fault.WordsFault.{WordsFault}
 use Rattle.cause_output.specs.Saying.{IsSaid}
-use Rattle.command_rules.specs.Causes.{words_cause}
-use Rattle.command_rules.specs.Sinks.{SinkAt, sink_at}
+use Rattle.cause_output.specs.Causes.{words_cause}
+use Rattle.cause_output.specs.Sinks.{SinkAt, sink_at}
 use Rattle.daemon_turn.specs.Kids.{KeepsChildren}
 use Rattle.host_calls.specs.Causes.{Rose}
 use Rattle.host_calls.specs.Clock.{Answers, Readers}

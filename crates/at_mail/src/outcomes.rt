@@ -1,6 +1,6 @@
 //! The line of a session's end, and what the program comes to by it.
 ghost use Rattle.std.specs.Prelude.{◌≡◌, ◌≤◌, Some};
-ghost use Rattle.command_rules.specs.Sinks.{sink_at};
+ghost use Rattle.cause_output.specs.Sinks.{sink_at};
 ghost use Rattle.at_mail.specs.Outcomes.{SaysEnd, outcome_by, outcome_cut, outcome_said, outcome_unsaid};
 ghost use Rattle.at_mail.specs.Program.{SaysOutcome};
 

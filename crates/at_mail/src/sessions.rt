@@ -1,6 +1,6 @@
 //! Sessions, one after another.
 ghost use Rattle.std.specs.Prelude.{◌≡◌, ◌≤◌};
-ghost use Rattle.command_rules.specs.Sinks.{sink_at};
+ghost use Rattle.cause_output.specs.Sinks.{sink_at};
 ghost use Rattle.daemon_turn.specs.Kids.{AreChildren};
 ghost use Rattle.host_calls.specs.Session.{IsOutside};
 ghost use Rattle.at_mail.specs.Program.{outside_at, work_with};

@@ -7,7 +7,7 @@ use Rattle.host_calls.specs.Causes.{HasCause, Rose}
 use Rattle.host_calls.specs.Sink.{Puts}
 use Rattle.host_calls.specs.declared.fault.SinkFault.{SinkFault}
 use Rattle.host_calls.specs.declared.fault.SinkFault.TheVariants.{Failed, Memory}
-use Rattle.command_rules.specs.Sinks.{IsCut, IsPut, IsPutInPart, SinkAt}
+use Rattle.cause_output.specs.Sinks.{IsCut, IsPut, IsPutInPart, SinkAt}
 use Rattle.cause_output.specs.Putting.{PutsLines, PutsText}
 
 -- What is put after a text that was put.

@@ -1,4 +1,6 @@
+pub mod Causes
 pub mod Ends
 pub mod Putting
 pub mod Saying
+pub mod Sinks
 pub mod Steps

@@ -3,7 +3,7 @@ use Rattle.std.specs.Prelude.{◌≡◌, ◌≤◌, ◌++◌, [], ◌∷◌, ℕ
 use Rattle.host_calls.specs.Causes.{Rose}
 use Rattle.host_calls.specs.declared.fault.SinkFault.{SinkFault}
 use Rattle.host_calls.specs.declared.fault.SinkFault.TheVariants.{Failed, Memory}
-use Rattle.command_rules.specs.Sinks.{IsCut, IsPut, IsPutInPart, SinkAt}
+use Rattle.cause_output.specs.Sinks.{IsCut, IsPut, IsPutInPart, SinkAt}
 
 -- the lines of what is told, one after another
 abbrev pub lines_of : {T : Type 0} → (T → List ℕ) → List T → List ℕ

@@ -3,7 +3,7 @@ use Rattle.std.specs.Prelude.{◌≡◌, ◌⊎◌, ℕ, Bool, true, List}
 use Rattle.listing_text.specs.declared.cause.Cause.{Cause}
 use Rattle.listing_text.specs.declared.cause.Cause.TheVariants.{Done, Refused, FileFault, InputFault, OutputFault, Busy, Memory, Damaged, StillRunning, Faulty}
 use Rattle.listing_text.specs.Cause.{cause_line_of}
-use Rattle.command_rules.specs.Sinks.{IsPutOrCut, IsSilent, SinkAt}
+use Rattle.cause_output.specs.Sinks.{IsPutOrCut, IsSilent, SinkAt}
 
 -- the command was not done
 abbrev pub IsUndone : Cause → Type 0

@@ -2,8 +2,8 @@
 use Rattle.std.specs.Prelude.{[], ℕ, List}
 use Rattle.listing_text.specs.Lines.{turn_line_of}
 use Rattle.listing_text.specs.declared.turn_step.TurnStepText.TheVariants as text
-use Rattle.daemon_turn.specs.declared.step.TurnStep.{TurnStep}
-use Rattle.daemon_turn.specs.declared.step.TurnStep.TheVariants.{HandedOver, Ended, Interrupted, Forgotten}
+use Rattle.spool_model.specs.declared.turn_step.TurnStep.{TurnStep}
+use Rattle.spool_model.specs.declared.turn_step.TurnStep.TheVariants.{HandedOver, Ended, Interrupted, Forgotten}
 
 -- the line of a step: what is forgotten has none
 abbrev pub step_line : TurnStep → List ℕ

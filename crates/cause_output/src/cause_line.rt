@@ -1,11 +1,11 @@
 //! The lines of causes.
 ghost use Rattle.std.specs.Prelude.{◌≡◌, ◌⊎◌, ◌≤◌};
-ghost use Rattle.command_rules.specs.Sinks.{sink_at};
+ghost use Rattle.cause_output.specs.Sinks.{sink_at};
 ghost use Rattle.cause_output.specs.Ends.{SaysEndOr, cause_of_end, finds_memory};
 ghost use Rattle.cause_output.specs.Saying.{IsSaid};
 
-use daemon_turn::TurnEnd;
 use host_calls::{Sink, SinkFault};
+use host_session::TurnEnd;
 use listing_text::{Cause, cause_line};
 use std::alloc::Global;
 

@@ -1,6 +1,6 @@
 //! Lines that are put one after another.
 ghost use Rattle.std.specs.Prelude.{◌≡◌, List, ℕ};
-ghost use Rattle.command_rules.specs.Sinks.{sink_at};
+ghost use Rattle.cause_output.specs.Sinks.{sink_at};
 ghost use Rattle.cause_output.specs.Putting.{PutsLines, lines_of};
 
 use host_calls::{Bytes, Sink, SinkFault};

@@ -1,14 +1,14 @@
 //! The lines of the steps of a turn.
 ghost use Rattle.std.specs.Prelude.{◌≡◌};
-ghost use Rattle.command_rules.specs.Sinks.{sink_at};
+ghost use Rattle.cause_output.specs.Sinks.{sink_at};
 ghost use Rattle.listing_text.specs.Lines.{turn_line_of};
 ghost use Rattle.cause_output.specs.Putting.{PutsLines};
 ghost use Rattle.cause_output.specs.Steps.{step_line};
 
 use crate::Line;
-use daemon_turn::TurnStep;
 use host_calls::{Sink, SinkFault};
 use listing_text::{TurnStepText, turn_line};
+use spool_model::TurnStep;
 use std::alloc::Global;
 
 impl Line for TurnStep {

@@ -1,5 +1,5 @@
 -- What the zone of a caller stands for.
-use Rattle.std.specs.Prelude.{ℤ}
+use Rattle.std.specs.Prelude.{ℤ, Bool, true, false}
 use Rattle.jiff.specs.Types.{TimeZone, UTC}
 use Rattle.jiff.specs.Words.{plain_zone, offset_at, nanos_of_seconds}
 use Rattle.civil_minute.specs.declared.zone.Zone.{Zone}
@@ -20,3 +20,9 @@ rules_of Unreadable = UTC
 -- how far a clock in the zone is ahead of UTC at a second since 1970, in seconds
 abbrev pub offset_in : Zone → ℤ → ℤ
 offset_in zone second = offset_at (rules_of zone) (nanos_of_seconds second)
+
+-- the zone could not be read, as a test
+abbrev pub is_unreadable : Zone → Bool
+is_unreadable Utc = false
+is_unreadable (Rules rules) = false
+is_unreadable Unreadable = true

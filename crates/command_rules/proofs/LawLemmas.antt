@@ -10,12 +10,12 @@ use Rattle.listing_text.specs.declared.refusal.Refusal.{Refusal}
 use Rattle.spool_model.specs.declared.step.Step.{Step}
 use Rattle.spool_model.specs.JobTable.{JobTable}
 use Rattle.spool_shows.specs.Shown.{shown_by}
-use Rattle.command_rules.specs.declared.caller.Caller.{Caller}
+use Rattle.cause_output.specs.declared.caller.Caller.{Caller}
 use Rattle.command_rules.specs.Ends.{Ends, IsNoRefusal, KeepsOrder}
 use Rattle.command_rules.specs.Found.{Asked, Found}
 use Rattle.command_rules.specs.Laws.{CrashesLeavePrefixes, RefusalsChangeNothing, WhatIsAllowedIsDone, WhatIsDoneStands, WhatIsRefusedHasNoStep}
 use Rattle.command_rules.specs.Requested.{AreAskedSteps, OrNone}
-use Rattle.command_rules.specs.Sinks.{SinkAt}
+use Rattle.cause_output.specs.Sinks.{SinkAt}
 use Rattle.command_rules.specs.Spool.{SpoolEnds}
 use Rattle.command_rules.specs.Verdict.{verdict_of}
 use Rattle.command_rules.proofs.SpoolLemmas.{attempt_of, refusal_left, shown_as_before}

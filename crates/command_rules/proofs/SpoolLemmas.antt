@@ -1,11 +1,8 @@
 -- What is left in the spool, put together from its parts.
-use Rattle.std.proofs.Common.{◌≡◌, ◌⊎◌, Bool, true, false, List, [], sym, ap, subst, ◌∙◌, inl, inr}
+use Rattle.std.proofs.Common.{◌≡◌, ◌⊎◌, Bool, true, false, List, [], sym, subst, ◌∙◌, inl, inr}
 use Rattle.std.specs.Prelude.{MatchBool}
-use Rattle.host_calls.specs.Folder.{Files}
-use Rattle.host_calls.specs.World.{GoesOn, World, reading}
+use Rattle.host_calls.specs.World.{World, reading}
 use Rattle.host_calls.proofs.FolderLemmas.{reading_is_image}
-use Rattle.host_calls.proofs.WorldLemmas.{leaves_none, leaves_then, leaves_weaker}
-use Rattle.whole_file.specs.Others.{ChangesFiles}
 use Rattle.whole_file.proofs.OthersLemmas.{changes_none}
 use Rattle.spool_model.specs.declared.step.Step.{Step}
 use Rattle.spool_model.specs.JobTable.{JobTable}
@@ -19,29 +16,6 @@ use Rattle.listing_text.specs.declared.refusal.Refusal.{Refusal}
 use Rattle.command_rules.specs.Checks.{check_of, is_before, of_folder}
 use Rattle.command_rules.specs.Requested.{AreNoSteps, OrNone}
 use Rattle.command_rules.specs.Spool.{RefusalLeaves, SpoolEnds}
-
--- nothing is handed over
-pub goes_on_none : (old new : World) → new ≡ old → GoesOn old new
-goes_on_none old new same = record {
-  asked = ap (λ (world : World). world.asked) same;
-  handed = ap (λ (world : World). world.now.handed) same;
-  leaves = leaves_none (λ image handed. handed ≡ old.now.handed) old new same;
-}
-
-pub goes_on_then : (first second third : World) → GoesOn first second → GoesOn second third → GoesOn first third
-goes_on_then first second third before after = record {
-  asked = after.asked ∙ before.asked;
-  handed = after.handed ∙ before.handed;
-  leaves = leaves_then (λ image handed. handed ≡ first.now.handed) first second third before.leaves
-      (leaves_weaker (λ image handed. handed ≡ second.now.handed) (λ image handed. handed ≡ first.now.handed) second third (λ image handed is. is ∙ before.handed) after.leaves);
-}
-
-pub changes_go_on : (P : Files → Type 0) (old new : World) → ChangesFiles P old new → GoesOn old new
-changes_go_on P old new changes = record {
-  asked = changes.asked;
-  handed = changes.handed;
-  leaves = leaves_weaker (λ image handed. P image × (handed ≡ old.now.handed)) (λ image handed. handed ≡ old.now.handed) old new (λ image handed is. is.1) changes.leaves;
-}
 
 -- where the spool is as it was, no step was begun
 pub unbegun_same : (old new : World) → new ≡ old → IsUnbegun old new

@@ -11,11 +11,11 @@ use Rattle.listing_text.specs.declared.cause.Cause.{Cause}
 use Rattle.listing_text.specs.declared.cause.Cause.TheVariants.{Done, Refused, FileFault, InputFault, OutputFault, Busy, Memory, Damaged, StillRunning, Faulty}
 use Rattle.listing_text.specs.declared.refusal.Refusal.{Refusal}
 use Rattle.spool_model.specs.JobTable.{JobTable}
-use Rattle.command_rules.specs.declared.caller.Caller.{Caller}
+use Rattle.cause_output.specs.declared.caller.Caller.{Caller}
 use Rattle.command_rules.specs.Checks.{Check, ComesUpTo, check_of, is_before, of_input, of_lock, of_folder, of_output}
 use Rattle.command_rules.specs.Found.{AreInFolder, Asked, Finds, Found, answers_read, is_listing}
 use Rattle.command_rules.specs.Requested.{AreAskedSteps, IsAskedLine, IsAskedText}
-use Rattle.command_rules.specs.Sinks.{HasBytes, PrintsBy, SinkAt}
+use Rattle.cause_output.specs.Sinks.{HasBytes, PrintsBy, SinkAt}
 use Rattle.command_rules.specs.Spool.{SpoolEnds}
 use Rattle.command_rules.specs.Verdict.{verdict_of}
 

@@ -10,11 +10,11 @@ use Rattle.spool_model.specs.declared.step.Step.{Step}
 use Rattle.spool_model.specs.JobTable.{JobTable}
 use Rattle.spool_model.specs.Steps.{after_steps}
 use Rattle.spool_shows.specs.Shown.{shown_by}
-use Rattle.command_rules.specs.declared.caller.Caller.{Caller}
+use Rattle.cause_output.specs.declared.caller.Caller.{Caller}
 use Rattle.command_rules.specs.Ends.{Ends, Holding, Telling}
 use Rattle.command_rules.specs.Found.{Asked}
 use Rattle.command_rules.specs.Requested.{AreAskedSteps, OrNone}
-use Rattle.command_rules.specs.Sinks.{SinkAt}
+use Rattle.cause_output.specs.Sinks.{SinkAt}
 use Rattle.command_rules.specs.Verdict.{verdict_of}
 
 -- the command ended so, on a host that tells its files and is alone

@@ -1,11 +1,9 @@
-pub mod Causes
 pub mod Checks
 pub mod Ends
 pub mod Found
 pub mod Laws
 pub mod Requested
 pub mod Sessions
-pub mod Sinks
 pub mod Spool
 pub mod Times
 pub mod Verdict

@@ -18,9 +18,9 @@ use Rattle.spool_model.specs.declared.step.Step.{Step}
 use Rattle.spool_model.specs.declared.step.Step.TheVariants as step
 use Rattle.spool_model.specs.JobTable.{JobEntry, JobTable, entry_at}
 use Rattle.spool_model.specs.Lists.{surplus}
-use Rattle.spool_model.specs.Steps.{after_steps}
-use Rattle.spool_store.specs.Submitting.{job_for, submission}
-use Rattle.command_rules.specs.declared.caller.Caller.{Caller}
+use Rattle.spool_model.specs.Steps.{after_steps, submission}
+use Rattle.job_script.specs.JobText.{job_for}
+use Rattle.cause_output.specs.declared.caller.Caller.{Caller}
 use Rattle.command_rules.specs.Found.{Asked, Found}
 use Rattle.command_rules.specs.Times.{minute_in}
 use Rattle.command_rules.specs.Verdict.{verdict_of}

@@ -8,9 +8,9 @@ use Rattle.at_words.specs.declared.filter.Filter.TheVariants as filter
 use Rattle.at_words.specs.declared.tool_request.ToolRequest.{ToolRequest}
 use Rattle.at_words.specs.declared.tool_request.ToolRequest.TheVariants as request
 use Rattle.civil_minute.specs.declared.zone.Zone.{Zone}
-use Rattle.civil_minute.specs.declared.zone.Zone.TheVariants.{Utc, Rules, Unreadable}
+use Rattle.civil_minute.specs.Zone.{is_unreadable}
 use Rattle.clock_range.specs.ClockRange.{is_clock_second}
-use Rattle.spool_model.specs.Lists.{is_running}
+use Rattle.spool_model.specs.Lists.{is_running, live_count, row_under}
 use Rattle.host_calls.specs.declared.damage.Damage.{Damage}
 use Rattle.job_script.specs.Check.{has_room, is_directory, is_user_name}
 use Rattle.job_script.specs.declared.context.Context.{Context}
@@ -21,9 +21,8 @@ use Rattle.listing_text.specs.Listing.{may_see}
 use Rattle.spool_model.specs.declared.number.TheConstants.{LAST_NUMBER}
 use Rattle.spool_model.specs.declared.row.Row.{Row}
 use Rattle.spool_model.specs.JobTable.{JobTable, entry_at}
-use Rattle.spool_model.specs.Lists.{live_count, row_under}
-use Rattle.spool_store.specs.declared.submit.TheConstants.{MAX_LIVE}
-use Rattle.command_rules.specs.declared.caller.Caller.{Caller}
+use Rattle.spool_model.specs.declared.row.TheConstants.{MAX_LIVE}
+use Rattle.cause_output.specs.declared.caller.Caller.{Caller}
 use Rattle.command_rules.specs.Found.{Asked, Found}
 
 -- the refusal of words that ask for nothing
@@ -47,12 +46,6 @@ variables_check context = if has_room context.environment then None else Some En
 -- the clock's answer is out of range
 abbrev pub clock_check : Found → Option Refusal
 clock_check found = if is_clock_second found.now then None else Some BadClock
-
--- the zone could not be read
-abbrev pub is_unreadable : Zone → Bool
-is_unreadable Utc = false
-is_unreadable (Rules rules) = false
-is_unreadable Unreadable = true
 
 abbrev pub zone_check : Zone → Option Refusal
 zone_check zone = if is_unreadable zone then Some BadZone else None

@@ -1,6 +1,6 @@
 //! What follows from how a command ends, each law as the contract of a function.
 ghost use Rattle.command_rules.specs.Laws.{CrashesLeavePrefixes, RefusalsChangeNothing, WhatIsAllowedIsDone, WhatIsDoneStands, WhatIsRefusedHasNoStep};
-ghost use Rattle.command_rules.specs.Sinks.{SaysBy};
+ghost use Rattle.cause_output.specs.Sinks.{SaysBy};
 
 /// What is allowed and meets no fault of the outside is done, or finds no memory.
 pub fn what_is_allowed_is_done(tool: &str)

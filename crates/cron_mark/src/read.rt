@@ -5,13 +5,12 @@ ghost use Rattle.clock_range.specs.ClockRange.{IsClockMinute};
 ghost use Rattle.host_calls.specs.Damages.{IfDamaged};
 ghost use Rattle.host_calls.specs.Session.{CallsInside, IsInside};
 ghost use Rattle.host_calls.specs.World.{reading};
-ghost use Rattle.spool_store.specs.Faults.{IsOfReading};
+ghost use Rattle.host_calls.specs.StoreFaults.{IsOfReading};
 ghost use Rattle.cron_mark.specs.Mark.{IsMark, IsMarkDamage};
 ghost use Rattle.cron_mark.specs.Names.{mark_file};
 
 use crate::{mark_name, minute_in};
-use host_calls::Host;
-use spool_store::StoreFault;
+use host_calls::{Host, StoreFault};
 use std::alloc::Global;
 use whole_file::content;
 

@@ -1,8 +1,8 @@
 -- A fault of a file is the only one that a count of such faults has to explain.
 use Rattle.std.proofs.Common.{◌≡◌, ap}
 use Rattle.std.specs.Prelude.{IsErrOf, Ok, Err}
-use Rattle.spool_store.specs.declared.fault.StoreFault.{StoreFault}
-use Rattle.spool_store.specs.declared.fault.StoreFault.TheVariants.{FileFault, Memory, NumbersUsedUp, QueueFull}
+use Rattle.host_calls.specs.declared.store_fault.StoreFault.{StoreFault}
+use Rattle.host_calls.specs.declared.store_fault.StoreFault.TheVariants.{FileFault, Memory, NumbersUsedUp, QueueFull}
 
 pub ok_is_none : {T : Type 0} (value : T) → IsErrOf {T = T} {E = StoreFault} (Ok value) FileFault → ⊥
 ok_is_none value is = cc

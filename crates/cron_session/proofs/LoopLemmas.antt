@@ -9,9 +9,8 @@ use Rattle.job_script.specs.declared.context.Context.{Context}
 use Rattle.spool_model.specs.declared.job.Job.{Job}
 use Rattle.spool_model.specs.JobTable.{JobTable}
 use Rattle.spool_model.specs.Lists.{live_count}
-use Rattle.spool_model.specs.Steps.{after_steps}
-use Rattle.spool_store.specs.declared.fault.StoreFault.{StoreFault}
-use Rattle.spool_store.specs.Submitting.{submission}
+use Rattle.spool_model.specs.Steps.{after_steps, submission}
+use Rattle.host_calls.specs.declared.store_fault.StoreFault.{StoreFault}
 use Rattle.spool_store.proofs.AddedJobs.{submissions_add_one_job}
 use Rattle.step_runs.specs.Current.{IsCurrent, Kept}
 use Rattle.step_runs.specs.WithoutScripts.{job_without_script}

@@ -9,7 +9,7 @@ use Rattle.spool_model.specs.declared.step.Step.{Step}
 use Rattle.spool_model.specs.JobTable.{JobTable}
 use Rattle.spool_model.specs.Steps.{after_steps}
 use Rattle.spool_shows.specs.Shown.{Shows}
-use Rattle.spool_store.specs.declared.fault.StoreFault.{StoreFault}
+use Rattle.host_calls.specs.declared.store_fault.StoreFault.{StoreFault}
 use Rattle.spool_store.proofs.BesideLemmas.{shows_the_same, stays_current}
 use Rattle.step_runs.specs.Calls.{IsSteppingOn}
 use Rattle.step_runs.specs.Current.{EachShows, IsCurrent, IsSpoolName, Kept}

@@ -7,9 +7,9 @@ use Rattle.host_calls.specs.Session.{CallsInside, Session}
 use Rattle.host_calls.specs.World.{World}
 use Rattle.host_session.proofs.SessionLemmas.{counts_on}
 use Rattle.spool_model.specs.declared.job.Job.{Job}
-use Rattle.spool_store.specs.declared.fault.StoreFault.{StoreFault}
-use Rattle.spool_store.specs.declared.fault.StoreFault.TheVariants.{FileFault, Memory}
-use Rattle.spool_store.specs.Faults.{IsOfStep, fault_of}
+use Rattle.host_calls.specs.declared.store_fault.StoreFault.{StoreFault}
+use Rattle.host_calls.specs.declared.store_fault.StoreFault.TheVariants.{FileFault, Memory}
+use Rattle.host_calls.specs.StoreFaults.{IsOfStep, fault_of}
 use Rattle.step_runs.specs.Current.{Kept}
 use Rattle.whole_file.specs.Others.{ChangesFiles}
 use Rattle.whole_file.specs.Placing.{IsPlaced}

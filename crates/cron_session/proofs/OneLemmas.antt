@@ -10,11 +10,11 @@ use Rattle.job_script.specs.HeaderIn.{header_in}
 use Rattle.job_script.specs.JobText.{text_for}
 use Rattle.spool_model.specs.declared.job.Job.{Job}
 use Rattle.spool_model.specs.JobTable.{JobTable}
-use Rattle.spool_model.specs.Steps.{after_steps}
-use Rattle.spool_store.specs.declared.fault.StoreFault.{StoreFault}
-use Rattle.spool_store.specs.declared.fault.StoreFault.TheVariants.{Damaged, FileFault, Memory, NumbersUsedUp, QueueFull}
-use Rattle.spool_store.specs.Faults.{IsOfStep}
-use Rattle.spool_store.specs.Submitting.{HasRoom, IsAnswerOn, job_of_script, kept_of, submission}
+use Rattle.spool_model.specs.Steps.{after_steps, submission}
+use Rattle.host_calls.specs.declared.store_fault.StoreFault.{StoreFault}
+use Rattle.host_calls.specs.declared.store_fault.StoreFault.TheVariants.{Damaged, FileFault, Memory, NumbersUsedUp, QueueFull}
+use Rattle.host_calls.specs.StoreFaults.{IsOfStep}
+use Rattle.spool_store.specs.Submitting.{HasRoom, IsAnswerOn, job_of_script, kept_of}
 use Rattle.spool_store.proofs.WrittenJobs.{header_of_written, job_of_written}
 use Rattle.step_runs.specs.Calls.{IsSteppingOn, StoreCall}
 use Rattle.step_runs.specs.Current.{IsCurrent, Kept}

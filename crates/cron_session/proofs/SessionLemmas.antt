@@ -11,8 +11,8 @@ use Rattle.host_calls.specs.Session.{Session}
 use Rattle.host_calls.specs.World.{World}
 use Rattle.host_session.specs.Work.{Calls, EndsSession, IsUndone}
 use Rattle.host_session.proofs.SessionLemmas.{counts_on}
-use Rattle.spool_store.specs.declared.fault.StoreFault.{StoreFault}
-use Rattle.spool_store.specs.declared.fault.StoreFault.TheVariants as fault
+use Rattle.host_calls.specs.declared.store_fault.StoreFault.{StoreFault}
+use Rattle.host_calls.specs.declared.store_fault.StoreFault.TheVariants as fault
 use Rattle.whole_file.proofs.OthersLemmas.{changes_none}
 use Rattle.cron_session.specs.declared.report.CronEnd.{CronEnd}
 use Rattle.cron_session.specs.declared.report.CronEnd.TheVariants.{Busy, FileFault, Memory}

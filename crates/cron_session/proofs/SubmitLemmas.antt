@@ -8,10 +8,9 @@ use Rattle.spool_model.specs.declared.number.TheConstants.{LAST_NUMBER}
 use Rattle.spool_model.specs.declared.step.Step.{Step}
 use Rattle.spool_model.specs.declared.step.Step.TheVariants.{Draw, Accept}
 use Rattle.spool_model.specs.JobTable.{IsSound, JobTable}
-use Rattle.spool_model.specs.Steps.{AreLegal, IsPrefix, after_steps}
+use Rattle.spool_model.specs.Steps.{AreLegal, IsPrefix, after_steps, submission}
 use Rattle.spool_model.proofs.StepLemmas.{steps_keep_the_table_sound}
 use Rattle.spool_shows.specs.Shown.{Shows}
-use Rattle.spool_store.specs.Submitting.{submission}
 use Rattle.spool_store.proofs.SubmitStored.{submission_legal}
 use Rattle.step_runs.specs.Calls.{IsSteppingOn, KeepsOthers}
 use Rattle.step_runs.specs.Current.{EachShows, IsCurrent, IsSpoolName, Kept}

@@ -16,9 +16,9 @@ use Rattle.spool_model.specs.declared.number.TheConstants.{LAST_NUMBER}
 use Rattle.spool_model.specs.JobTable.{JobTable}
 use Rattle.spool_model.specs.Lists.{live_count}
 use Rattle.spool_shows.proofs.SoundTables.{shown_tables_are_sound}
-use Rattle.spool_store.specs.declared.fault.StoreFault.{StoreFault}
-use Rattle.spool_store.specs.declared.fault.StoreFault.TheVariants as fault
-use Rattle.spool_store.specs.declared.submit.TheConstants.{MAX_LIVE}
+use Rattle.host_calls.specs.declared.store_fault.StoreFault.{StoreFault}
+use Rattle.host_calls.specs.declared.store_fault.StoreFault.TheVariants as fault
+use Rattle.spool_model.specs.declared.row.TheConstants.{MAX_LIVE}
 use Rattle.spool_store.specs.Recovering.{IsRecovered}
 use Rattle.step_runs.specs.Calls.{ShowsAsBefore}
 use Rattle.step_runs.specs.Current.{IsCurrent, Kept}

@@ -9,9 +9,9 @@ use Rattle.host_calls.specs.Damages.{IfDamaged}
 use Rattle.host_calls.specs.Session.{CallsInside, Session}
 use Rattle.host_calls.specs.World.{World, reading}
 use Rattle.host_session.proofs.SessionLemmas.{counts_on}
-use Rattle.spool_store.specs.declared.fault.StoreFault.{StoreFault}
-use Rattle.spool_store.specs.declared.fault.StoreFault.TheVariants as fault
-use Rattle.spool_store.specs.Faults.{IsOfReading}
+use Rattle.host_calls.specs.declared.store_fault.StoreFault.{StoreFault}
+use Rattle.host_calls.specs.declared.store_fault.StoreFault.TheVariants as fault
+use Rattle.host_calls.specs.StoreFaults.{IsOfReading}
 use Rattle.spool_store.specs.Recovering.{IsRecovered, Recovered}
 use Rattle.step_runs.specs.Calls.{ShowsAsBefore}
 use Rattle.step_runs.specs.Current.{Kept}

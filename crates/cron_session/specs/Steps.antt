@@ -13,8 +13,8 @@ use Rattle.spool_model.specs.JobTable.{JobTable}
 use Rattle.spool_model.specs.Lists.{live_count}
 use Rattle.job_script.specs.declared.context.Context.{Context}
 use Rattle.spool_shows.specs.Shown.{Shows}
-use Rattle.spool_store.specs.declared.submit.TheConstants.{MAX_LIVE}
-use Rattle.spool_store.specs.Submitting.{job_for}
+use Rattle.spool_model.specs.declared.row.TheConstants.{MAX_LIVE}
+use Rattle.job_script.specs.JobText.{job_for}
 use Rattle.civil_minute.specs.Civil.{IsCivilTime}
 use Rattle.civil_minute.specs.declared.civil.CivilMinute.{CivilMinute}
 use Rattle.civil_minute.specs.declared.zone.Zone.{Zone}

@@ -3,8 +3,8 @@ ghost use Rattle.std.specs.Prelude.{◌<◌, IfOk};
 ghost use Rattle.host_calls.specs.Session.{IsOutside};
 ghost use Rattle.memory_host.specs.Host.{memory_session};
 
+use cause_output::Caller;
 use civil_minute::Zone;
-use command_rules::Caller;
 use cron_turn::cron_program;
 use host_calls::{Name, Text};
 use job_script::{Context, Variables};

@@ -5,7 +5,7 @@
 ghost use Rattle.std.specs.Prelude.{◌<◌};
 ghost use Rattle.host_calls.specs.Session.{IsOutside};
 
-use command_rules::Caller;
+use cause_output::Caller;
 use cron_turn::cron_program;
 use host_calls::{Host, Text};
 use job_script::MAX_HEADER;

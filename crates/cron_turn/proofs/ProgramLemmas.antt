@@ -7,8 +7,8 @@ use Rattle.cause_output.specs.Saying.{IsSaid}
 use Rattle.civil_minute.specs.declared.zone.Zone.{Zone}
 use Rattle.civil_minute.specs.declared.zone.Zone.TheVariants.{Utc, Rules, Unreadable}
 use Rattle.civil_minute.specs.Zone.{IsReadable}
-use Rattle.command_rules.specs.Causes.{cause_of_script, words_cause}
-use Rattle.command_rules.specs.declared.caller.Caller.{Caller}
+use Rattle.cause_output.specs.Causes.{cause_of_script, words_cause}
+use Rattle.cause_output.specs.declared.caller.Caller.{Caller}
 use Rattle.host_calls.specs.Causes.{Rose}
 use Rattle.job_script.specs.Check.{first_fault}
 use Rattle.job_script.specs.declared.fault.ScriptFault.{ScriptFault}

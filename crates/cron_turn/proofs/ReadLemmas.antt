@@ -4,7 +4,7 @@ use Rattle.listing_text.specs.declared.cause.Cause.{Cause}
 use Rattle.listing_text.specs.declared.cause.Cause.TheVariants as cause
 use Rattle.listing_text.specs.declared.refusal.Refusal.{Refusal}
 use Rattle.listing_text.specs.declared.refusal.Refusal.TheVariants.{Usage, NotAllowed, Timespec, NoSuchDay, OutOfRange, Past, BadTimeArg, BadZone, BadQueue, BadDirectory, BadUser, TooLong, EnvironmentTooLarge, QueueFull, NumbersUsedUp, NoSuchJob, NotYours, RunningJob, BadClock, BadCrontab, AccountsFull, TargetNotEmpty}
-use Rattle.command_rules.specs.declared.command_error.CommandError.{CommandError}
+use Rattle.cause_output.specs.declared.command_error.CommandError.{CommandError}
 use Rattle.cron_turn.specs.Outside.{InputAt, RunAt, Telling}
 use Rattle.cron_turn.specs.Sessions.{AsksFile, ReadsFile, StopsAtFile, StopsBefore}
 use Rattle.cron_turn.specs.inside.Turning.{IsUnread, ReadsEntries, StopsText}

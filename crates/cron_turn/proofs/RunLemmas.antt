@@ -4,7 +4,7 @@ use Rattle.host_calls.specs.Session.{IsLeft, IsOutside, Session}
 use Rattle.host_session.proofs.SessionLemmas.{counts_on, no_counts}
 use Rattle.listing_text.specs.declared.cause.Cause.{Cause}
 use Rattle.listing_text.specs.declared.cause.Cause.TheVariants.{Done}
-use Rattle.command_rules.specs.declared.caller.Caller.{Caller}
+use Rattle.cause_output.specs.declared.caller.Caller.{Caller}
 use Rattle.cron_turn.specs.declared.words.CronRequest.{CronRequest}
 use Rattle.cron_turn.specs.Items.{Item, rest_after}
 use Rattle.cron_turn.specs.Outside.{ClockAt, RunAt, StaysSo, Telling}

@@ -5,7 +5,7 @@ use Rattle.listing_text.specs.declared.cause.Cause.{Cause}
 use Rattle.listing_text.specs.declared.cause.Cause.TheVariants as cause
 use Rattle.listing_text.specs.declared.refusal.Refusal.TheVariants as refusal
 use Rattle.listing_text.specs.Cause.{cause_line_of}
-use Rattle.command_rules.specs.Sinks.{IsCut, IsPut, IsSilent, SinkAt}
+use Rattle.cause_output.specs.Sinks.{IsCut, IsPut, IsSilent, SinkAt}
 use Rattle.cron_text.specs.declared.entry.CronEntry.{CronEntry}
 use Rattle.cron_session.specs.declared.report.CronEnd.{CronEnd}
 use Rattle.cron_session.specs.declared.report.CronEnd.TheVariants.{Done, Busy, FileFault, Damaged, QueueFull, NumbersUsedUp, Memory}

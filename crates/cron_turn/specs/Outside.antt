@@ -7,7 +7,7 @@ use Rattle.host_calls.specs.declared.readings.Readings as readings
 use Rattle.host_calls.specs.declared.sink.Sink as sink
 use Rattle.host_calls.specs.Inputs.{Contents, Sources}
 use Rattle.host_calls.specs.Session.{IsLeft}
-use Rattle.command_rules.specs.Sinks.{SinkAt, sink_at}
+use Rattle.cause_output.specs.Sinks.{SinkAt, sink_at}
 use Rattle.cron_session.specs.Leaving.{CronAt}
 
 -- the clock: its answers, and what it tells always

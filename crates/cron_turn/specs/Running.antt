@@ -1,9 +1,9 @@
 -- The sessions of the program, one after another, and how it ends (own).
 use Rattle.std.specs.Prelude.{◌≡◌, ◌⊎◌, ◌<◌, ◌++◌, [], ◌∷◌, ℕ, Bool, List, Option, Some, None, Result, Ok, Err, length, if◌then◌else◌}
 use Rattle.at_words.specs.declared.fault.WordsFault.{WordsFault}
-use Rattle.command_rules.specs.Causes.{cause_of_script, words_cause}
-use Rattle.command_rules.specs.declared.caller.Caller.{Caller}
-use Rattle.command_rules.specs.Verdict.{is_unreadable}
+use Rattle.cause_output.specs.Causes.{cause_of_script, words_cause}
+use Rattle.cause_output.specs.declared.caller.Caller.{Caller}
+use Rattle.civil_minute.specs.Zone.{is_unreadable}
 use Rattle.cause_output.specs.Saying.{IsSaid}
 use Rattle.civil_minute.specs.declared.zone.Zone.{Zone}
 use Rattle.host_calls.specs.Causes.{Rose}

@@ -8,7 +8,7 @@ use Rattle.host_calls.specs.Inputs.{AreReadOnce, IsPrefixOf}
 use Rattle.listing_text.specs.declared.cause.Cause.{Cause}
 use Rattle.listing_text.specs.declared.cause.Cause.TheVariants.{Done, Refused, FileFault, InputFault, OutputFault, Busy, Memory, Damaged, StillRunning, Faulty}
 use Rattle.listing_text.specs.declared.refusal.Refusal.TheVariants.{BadClock, BadCrontab, TooLong}
-use Rattle.command_rules.specs.declared.caller.Caller.{Caller}
+use Rattle.cause_output.specs.declared.caller.Caller.{Caller}
 use Rattle.cron_text.specs.declared.crontab.TheConstants.{MAX_CRONTAB}
 use Rattle.cron_text.specs.Crontab.{IsFirstBad, SpellsCrontab}
 use Rattle.cron_session.specs.Leaving.{CronsTo}

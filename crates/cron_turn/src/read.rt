@@ -4,7 +4,7 @@ ghost use Rattle.cron_text.specs.declared.crontab.TheConstants.{MAX_CRONTAB};
 ghost use Rattle.cron_turn.specs.Outside.{input_at};
 ghost use Rattle.cron_turn.specs.inside.Turning.{IsOfText, ReadsEntries};
 
-use command_rules::CommandError;
+use cause_output::CommandError;
 use cron_text::{CronFault, Entries, MAX_CRONTAB, crontabs_have_one_reading, read_crontab};
 use host_calls::Inputs;
 use listing_text::{Cause, Refusal};

@@ -8,7 +8,7 @@ ghost use Rattle.cron_turn.specs.Running.{Works};
 
 use crate::turn::{rest_before, turn};
 use crate::words::CronRequest;
-use command_rules::Caller;
+use cause_output::Caller;
 use host_calls::{Host, Inputs, Readings, Sink};
 use listing_text::Cause;
 use std::alloc::Global;

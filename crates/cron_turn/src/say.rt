@@ -1,6 +1,6 @@
 //! What is said of a session.
 ghost use Rattle.std.specs.Prelude.{◌≡◌, ◌≤◌, None};
-ghost use Rattle.command_rules.specs.Sinks.{sink_at};
+ghost use Rattle.cause_output.specs.Sinks.{sink_at};
 ghost use Rattle.cron_turn.specs.Items.{end_line};
 ghost use Rattle.cron_turn.specs.inside.Turning.{PutsLine, Says, after_put, damage_in};
 

@@ -13,7 +13,7 @@ use Rattle.step_runs.specs.Made.{AreMade}
 use Rattle.step_runs.proofs.MadeLemmas.{no_steps_are_made}
 use Rattle.step_runs.proofs.TurnLemmas.{question_after}
 use Rattle.daemon_turn.specs.declared.kid.Kid.{Kid}
-use Rattle.daemon_turn.specs.declared.step.TurnStep.{TurnStep}
+use Rattle.spool_model.specs.declared.turn_step.TurnStep.{TurnStep}
 use Rattle.daemon_turn.specs.inside.Asking.{AsksAll}
 use Rattle.daemon_turn.specs.Kids.{AreChildren}
 use Rattle.daemon_turn.specs.Decisions.{end_of, ends, questions}

@@ -18,23 +18,23 @@ use Rattle.whole_file.proofs.OthersLemmas.{changes_none}
 use Rattle.step_runs.specs.Attempts.{IsUnbegun}
 use Rattle.step_runs.specs.Calls.{ShowsAsBefore}
 use Rattle.step_runs.proofs.AttemptLemmas.{recoveries_begin_nothing}
-use Rattle.spool_store.specs.declared.fault.StoreFault.{StoreFault}
-use Rattle.spool_store.specs.declared.fault.StoreFault.TheVariants as fault
+use Rattle.host_calls.specs.declared.store_fault.StoreFault.{StoreFault}
+use Rattle.host_calls.specs.declared.store_fault.StoreFault.TheVariants as fault
 use Rattle.host_session.proofs.SessionLemmas.{counts_on}
 use Rattle.daemon_turn.specs.declared.kid.Kid.{Kid}
 use Rattle.daemon_turn.specs.declared.mode.Mode.{Mode}
 use Rattle.daemon_turn.specs.declared.turn_input.TurnInput.{TurnInput}
-use Rattle.daemon_turn.specs.declared.report.TurnEnd.{TurnEnd}
-use Rattle.daemon_turn.specs.declared.report.TurnEnd.TheVariants.{Done, Busy, FileFault, Damaged, Memory}
-use Rattle.daemon_turn.specs.declared.step.TurnStep.{TurnStep}
+use Rattle.host_session.specs.declared.turn_end.TurnEnd.{TurnEnd}
+use Rattle.host_session.specs.declared.turn_end.TurnEnd.TheVariants.{Done, Busy, FileFault, Damaged, Memory}
+use Rattle.spool_model.specs.declared.turn_step.TurnStep.{TurnStep}
 use Rattle.daemon_turn.specs.Daemons.{DaemonState}
 use Rattle.daemon_turn.specs.Kids.{AreByNumber, AreChildren}
 use Rattle.daemon_turn.specs.Leaving.{Gave, IfUnread, IsIdle, IsNone, IsStopped, IsWhole, DaemonAt, TurnLeaves, TurnsTo}
 use Rattle.daemon_turn.specs.Starting.{Turn, turn_of}
-use Rattle.spool_store.specs.Faults.{IsOfReading}
-use Rattle.daemon_turn.specs.Ends.{end_after, end_of_session}
+use Rattle.host_calls.specs.StoreFaults.{IsOfReading}
+use Rattle.host_session.specs.Ends.{end_after, end_of_session}
 use Rattle.daemon_turn.specs.inside.Working.{Works}
-use Rattle.daemon_turn.proofs.EndLemmas.{is_fault, not_busy}
+use Rattle.host_session.proofs.EndLemmas.{is_fault, not_busy}
 
 abbrev stand : Session → World → DaemonState → DaemonAt
 stand session world daemon = record { session = session; world = world; daemon = daemon }

@@ -17,15 +17,15 @@ use Rattle.spool_model.specs.Laws.{PrefixAndRest}
 use Rattle.spool_model.proofs.StepLemmas.{prefixes_are_legal}
 use Rattle.step_runs.specs.Current.{IsCurrent, Kept}
 use Rattle.spool_store.specs.Making.{AreChanges, MayMakeSteps}
-use Rattle.spool_store.specs.declared.fault.StoreFault.{StoreFault}
-use Rattle.spool_store.specs.declared.fault.StoreFault.TheVariants.{Memory}
+use Rattle.host_calls.specs.declared.store_fault.StoreFault.{StoreFault}
+use Rattle.host_calls.specs.declared.store_fault.StoreFault.TheVariants.{Memory}
 use Rattle.spool_shows.proofs.Membership.{Has, has_left, made_has}
 use Rattle.daemon_turn.specs.declared.kid.Kid.{Kid}
-use Rattle.daemon_turn.specs.declared.step.TurnStep.{TurnStep}
-use Rattle.daemon_turn.specs.declared.step.TurnStep.TheVariants.{Ended, Interrupted}
+use Rattle.spool_model.specs.declared.turn_step.TurnStep.{TurnStep}
+use Rattle.spool_model.specs.declared.turn_step.TurnStep.TheVariants.{Ended, Interrupted}
 use Rattle.daemon_turn.specs.Decisions.{ends, interrupts, is_without_kid, questions, runs_in}
 use Rattle.daemon_turn.specs.Kids.{AreByNumber, AreChildren, tells_end_of}
-use Rattle.daemon_turn.specs.StepsOf.{number_of, steps_of}
+use Rattle.spool_model.specs.StepsOf.{number_of, steps_of}
 use Rattle.daemon_turn.specs.inside.Asking.{AsksAll}
 use Rattle.daemon_turn.specs.inside.Deciding.{AreDecided, MakesDecisions, MayDecide}
 use Rattle.daemon_turn.specs.inside.Ended.{AreEndsByNumber, is_end, without_ended}

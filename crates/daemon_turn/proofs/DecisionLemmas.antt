@@ -10,15 +10,14 @@ use Rattle.spool_model.specs.declared.job.Job.{Job}
 use Rattle.spool_model.specs.declared.row.Row.{Row}
 use Rattle.spool_model.specs.declared.state.State.TheVariants.{Pending, Running}
 use Rattle.spool_model.specs.JobTable.{IsRunning, JobEntry, JobTable, entry_at}
-use Rattle.spool_model.specs.Lists.{live_rows}
+use Rattle.spool_model.specs.Lists.{live_rows, is_running}
 use Rattle.spool_model.specs.Steps.{AreLegal, IsLegal}
 use Rattle.spool_shows.proofs.Membership.{Has, any_passes, filtered_has, has_either, has_made, made_has}
 use Rattle.daemon_turn.specs.declared.kid.Kid.{Kid}
-use Rattle.daemon_turn.specs.declared.step.TurnStep.{TurnStep}
-use Rattle.daemon_turn.specs.declared.step.TurnStep.TheVariants.{Ended, Interrupted}
-use Rattle.spool_model.specs.Lists.{is_running}
+use Rattle.spool_model.specs.declared.turn_step.TurnStep.{TurnStep}
+use Rattle.spool_model.specs.declared.turn_step.TurnStep.TheVariants.{Ended, Interrupted}
 use Rattle.daemon_turn.specs.Decisions.{ends, has_kid, interrupts, is_without_kid, is_running_entry, runs_in}
-use Rattle.daemon_turn.specs.StepsOf.{number_of, step_of, steps_of}
+use Rattle.spool_model.specs.StepsOf.{number_of, step_of, steps_of}
 use Rattle.step_runs.proofs.ApartLemmas.{Apart, apart_append, apart_filter}
 use Rattle.daemon_turn.proofs.LegalLemmas.{legal_apart}
 use Rattle.step_runs.proofs.RowLemmas.{row_held, rows_apart}

@@ -3,7 +3,7 @@ use Rattle.std.proofs.Common.{◌≡◌, true, false, [], ◌∷◌, pos, refl}
 use Rattle.std.specs.Prelude.{Some, None}
 use Rattle.host_calls.specs.declared.child.Ending.TheVariants.{Exit, NotStarted}
 use Rattle.queue_rules.specs.Queues.{may_start_batch, niceness_of}
-use Rattle.daemon_turn.specs.declared.step.TurnStep.TheVariants.{Ended, HandedOver}
+use Rattle.spool_model.specs.declared.turn_step.TurnStep.TheVariants.{Ended, HandedOver}
 use Rattle.daemon_turn.specs.Decisions.{ends}
 use Rattle.daemon_turn.specs.Starting.{starts}
 

@@ -15,13 +15,13 @@ use Rattle.step_runs.specs.Current.{IsCurrent, Kept}
 use Rattle.step_runs.specs.Made.{AreMade, AreStopped, IsStarted, flags_of}
 use Rattle.step_runs.proofs.HandsLemmas.{steps_then}
 use Rattle.step_runs.proofs.MadeLemmas.{made_steps_are_stopped, no_steps_are_made, steps_are_made_after, steps_are_stopped_after}
-use Rattle.spool_store.specs.declared.fault.StoreFault.{StoreFault}
-use Rattle.spool_store.specs.declared.fault.StoreFault.TheVariants.{FileFault, Memory}
+use Rattle.host_calls.specs.declared.store_fault.StoreFault.{StoreFault}
+use Rattle.host_calls.specs.declared.store_fault.StoreFault.TheVariants.{FileFault, Memory}
 use Rattle.daemon_turn.specs.declared.kid.Kid.{Kid}
-use Rattle.daemon_turn.specs.declared.step.TurnStep.{TurnStep}
-use Rattle.daemon_turn.specs.declared.step.TurnStep.TheVariants.{HandedOver}
+use Rattle.spool_model.specs.declared.turn_step.TurnStep.{TurnStep}
+use Rattle.spool_model.specs.declared.turn_step.TurnStep.TheVariants.{HandedOver}
 use Rattle.daemon_turn.specs.Kids.{started_numbers}
-use Rattle.daemon_turn.specs.StepsOf.{step_of, steps_of}
+use Rattle.spool_model.specs.StepsOf.{step_of, steps_of}
 use Rattle.daemon_turn.specs.inside.Going.{Gives, Goes, Part, PartEnds, joined}
 use Rattle.daemon_turn.specs.inside.Handing.{HandsJobOver}
 use Rattle.host_session.proofs.SessionLemmas.{counts_on, no_counts}

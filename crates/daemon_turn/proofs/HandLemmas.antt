@@ -25,8 +25,8 @@ use Rattle.step_runs.proofs.WithoutScriptsLemmas.{entries_are_without_scripts}
 use Rattle.step_runs.proofs.MadeLemmas.{calls_stop_at_their_step}
 use Rattle.step_runs.proofs.StartedLemmas.{starts_end}
 use Rattle.step_runs.proofs.TurnLemmas.{legal_when_kept}
-use Rattle.spool_store.specs.declared.fault.StoreFault.{StoreFault}
-use Rattle.spool_store.specs.declared.fault.StoreFault.TheVariants.{FileFault, Memory}
+use Rattle.host_calls.specs.declared.store_fault.StoreFault.{StoreFault}
+use Rattle.host_calls.specs.declared.store_fault.StoreFault.TheVariants.{FileFault, Memory}
 use Rattle.spool_store.specs.Listed.{IsLive}
 use Rattle.spool_store.specs.Scripts.{HoldsScript, IsFileOf}
 use Rattle.spool_store.specs.Stepping.{MakesStep}

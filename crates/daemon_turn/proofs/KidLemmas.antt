@@ -8,15 +8,14 @@ use Rattle.spool_model.specs.declared.entry.Entry.TheVariants.{Live}
 use Rattle.spool_model.specs.declared.job.Job.{Job}
 use Rattle.spool_model.specs.declared.row.Row.{Row}
 use Rattle.spool_model.specs.JobTable.{JobTable, entry_at}
-use Rattle.spool_model.specs.Lists.{live_rows}
+use Rattle.spool_model.specs.Lists.{live_rows, is_running}
 use Rattle.spool_shows.proofs.Membership.{Has, filtered_has, has_made, one_passes}
 use Rattle.daemon_turn.specs.declared.kid.Kid.{Kid}
-use Rattle.daemon_turn.specs.declared.step.TurnStep.{TurnStep}
-use Rattle.daemon_turn.specs.declared.step.TurnStep.TheVariants.{HandedOver, Ended, Interrupted, Forgotten}
-use Rattle.spool_model.specs.Lists.{is_running}
+use Rattle.spool_model.specs.declared.turn_step.TurnStep.{TurnStep}
+use Rattle.spool_model.specs.declared.turn_step.TurnStep.TheVariants.{HandedOver, Ended, Interrupted, Forgotten}
 use Rattle.daemon_turn.specs.Decisions.{asked_kids, has_kid, interrupts, is_without_kid, is_running_entry, runs_in}
 use Rattle.daemon_turn.specs.Kids.{kept_kids, tells_end_of}
-use Rattle.daemon_turn.specs.StepsOf.{number_of}
+use Rattle.spool_model.specs.StepsOf.{number_of}
 use Rattle.daemon_turn.specs.inside.Ended.{without_ended}
 use Rattle.daemon_turn.specs.inside.Waiting.{started_of}
 use Rattle.step_runs.proofs.ApartLemmas.{Apart, filter_alike}

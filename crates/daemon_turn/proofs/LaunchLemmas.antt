@@ -11,16 +11,16 @@ use Rattle.spool_model.specs.declared.step.Step.TheVariants.{Start}
 use Rattle.spool_model.specs.JobTable.{IsPending, IsRunning, JobTable}
 use Rattle.spool_model.specs.Steps.{IsLegal, after_step, after_steps}
 use Rattle.step_runs.specs.Current.{IsCurrent, Kept}
-use Rattle.spool_store.specs.declared.fault.StoreFault.{StoreFault}
-use Rattle.spool_store.specs.declared.fault.StoreFault.TheVariants.{Memory}
+use Rattle.host_calls.specs.declared.store_fault.StoreFault.{StoreFault}
+use Rattle.host_calls.specs.declared.store_fault.StoreFault.TheVariants.{Memory}
 use Rattle.spool_store.specs.Making.{MayMakeSteps}
 use Rattle.spool_store.specs.Stepping.{MayStep}
 use Rattle.spool_shows.proofs.Membership.{Has}
 use Rattle.daemon_turn.specs.declared.kid.Kid.{Kid}
-use Rattle.daemon_turn.specs.declared.step.TurnStep.{TurnStep}
-use Rattle.daemon_turn.specs.declared.step.TurnStep.TheVariants.{HandedOver, Ended}
+use Rattle.spool_model.specs.declared.turn_step.TurnStep.{TurnStep}
+use Rattle.spool_model.specs.declared.turn_step.TurnStep.TheVariants.{HandedOver, Ended}
 use Rattle.daemon_turn.specs.Starting.{start_steps, starts}
-use Rattle.daemon_turn.specs.StepsOf.{number_of, steps_of}
+use Rattle.spool_model.specs.StepsOf.{number_of, steps_of}
 use Rattle.daemon_turn.specs.inside.Going.{Gives, Goes, Part, joined, quiet_part}
 use Rattle.daemon_turn.specs.inside.Handing.{HandsJobOver}
 use Rattle.daemon_turn.specs.inside.Launching.{Launches}

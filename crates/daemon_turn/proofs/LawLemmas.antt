@@ -13,13 +13,13 @@ use Rattle.spool_shows.specs.Shown.{shown_by}
 use Rattle.step_runs.specs.Attempts.{IsBegun, IsUnbegun}
 use Rattle.step_runs.specs.Good.{IsGood}
 use Rattle.step_runs.proofs.GoodLemmas.{begun_attempts_keep_good, unbegun_attempts_keep_good}
-use Rattle.daemon_turn.specs.declared.report.TurnEnd.{TurnEnd}
-use Rattle.daemon_turn.specs.declared.report.TurnEnd.TheVariants.{Done, Busy, FileFault, Damaged, Memory}
-use Rattle.daemon_turn.specs.declared.step.TurnStep.{TurnStep}
+use Rattle.host_session.specs.declared.turn_end.TurnEnd.{TurnEnd}
+use Rattle.host_session.specs.declared.turn_end.TurnEnd.TheVariants.{Done, Busy, FileFault, Damaged, Memory}
+use Rattle.spool_model.specs.declared.turn_step.TurnStep.{TurnStep}
 use Rattle.daemon_turn.specs.Laws.{GoodFoldersStayGood, ReadingsStayGood, TurnsAreDone}
 use Rattle.daemon_turn.specs.Leaving.{DaemonAt, IsIdle, IsStopped, TurnLeaves}
 use Rattle.daemon_turn.specs.Starting.{Turn, turn_of}
-use Rattle.daemon_turn.specs.StepsOf.{steps_of}
+use Rattle.spool_model.specs.StepsOf.{steps_of}
 
 no_damage : (table : JobTable) (damage : Damage) (shown : Result JobTable Damage) → shown ≡ Ok table → shown ≡ Err damage → ⊥
 no_damage table damage shown is bad = let impossible : ◌≡◌ {A = Result JobTable Damage} (Ok table) (Err damage) = sym is ∙ bad in cc

@@ -9,9 +9,9 @@ use Rattle.spool_model.specs.JobTable.{JobEntry, JobTable, entry_at}
 use Rattle.spool_model.specs.Steps.{AreLegal, IsLegal, after_step, after_steps, in_state, with_state}
 use Rattle.spool_model.proofs.TableLemmas.{get-put_other, get-taken_other}
 use Rattle.spool_shows.proofs.Membership.{Has, has_made}
-use Rattle.daemon_turn.specs.declared.step.TurnStep.{TurnStep}
-use Rattle.daemon_turn.specs.declared.step.TurnStep.TheVariants.{HandedOver, Ended, Interrupted, Forgotten}
-use Rattle.daemon_turn.specs.StepsOf.{number_of, step_of, steps_of}
+use Rattle.spool_model.specs.declared.turn_step.TurnStep.{TurnStep}
+use Rattle.spool_model.specs.declared.turn_step.TurnStep.TheVariants.{HandedOver, Ended, Interrupted, Forgotten}
+use Rattle.spool_model.specs.StepsOf.{number_of, step_of, steps_of}
 use Rattle.step_runs.proofs.ApartLemmas.{Apart}
 
 -- what another step leaves

@@ -2,7 +2,6 @@ pub mod AskLemmas
 pub mod DaemonLemmas
 pub mod DecideLemmas
 pub mod DecisionLemmas
-pub mod EndLemmas
 pub mod Examples
 pub mod GoLemmas
 pub mod HandLemmas

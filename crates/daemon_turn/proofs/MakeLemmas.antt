@@ -12,16 +12,16 @@ use Rattle.spool_model.specs.Lists.{surplus}
 use Rattle.step_runs.specs.Current.{Kept}
 use Rattle.step_runs.specs.Made.{AreStopped}
 use Rattle.step_runs.proofs.MadeLemmas.{no_steps_are_made}
-use Rattle.spool_store.specs.declared.fault.StoreFault.{StoreFault}
-use Rattle.spool_store.specs.declared.fault.StoreFault.TheVariants.{Memory}
+use Rattle.host_calls.specs.declared.store_fault.StoreFault.{StoreFault}
+use Rattle.host_calls.specs.declared.store_fault.StoreFault.TheVariants.{Memory}
 use Rattle.spool_store.specs.Making.{MakesSteps, MayMakeSteps}
 use Rattle.spool_store.proofs.MakeLemmas.{made_prefix}
 use Rattle.spool_store.proofs.SurplusLemmas.{may_forget}
 use Rattle.host_session.proofs.SessionLemmas.{stays_inside}
-use Rattle.daemon_turn.specs.declared.step.TurnStep.{TurnStep}
-use Rattle.daemon_turn.specs.declared.step.TurnStep.TheVariants.{Forgotten}
+use Rattle.spool_model.specs.declared.turn_step.TurnStep.{TurnStep}
+use Rattle.spool_model.specs.declared.turn_step.TurnStep.TheVariants.{Forgotten}
 use Rattle.daemon_turn.specs.Starting.{forgets}
-use Rattle.daemon_turn.specs.StepsOf.{step_of, steps_of}
+use Rattle.spool_model.specs.StepsOf.{step_of, steps_of}
 use Rattle.daemon_turn.specs.inside.Going.{MayGo}
 use Rattle.daemon_turn.specs.inside.Making.{MakesAll}
 use Rattle.daemon_turn.proofs.GoLemmas.{memory_goes}

@@ -13,7 +13,7 @@ use Rattle.queue_rules.specs.Order.{AreInDueOrder, IsFirstBatch, is_ready_batch,
 use Rattle.spool_store.specs.Listed.{ListsLive}
 use Rattle.spool_store.proofs.CountLemmas.{rows_listed}
 use Rattle.daemon_turn.specs.declared.kid.Kid.{Kid}
-use Rattle.daemon_turn.specs.declared.step.TurnStep.TheVariants.{Interrupted}
+use Rattle.spool_model.specs.declared.turn_step.TurnStep.TheVariants.{Interrupted}
 use Rattle.daemon_turn.specs.Decisions.{interrupts, is_without_kid}
 use Rattle.daemon_turn.specs.Starting.{IsBatchOrderWhere, IsFullOrder, Turn, has_batch_turn}
 

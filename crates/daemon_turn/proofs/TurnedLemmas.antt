@@ -12,15 +12,15 @@ use Rattle.spool_model.specs.JobTable.{IsPending, JobTable}
 use Rattle.spool_model.specs.Steps.{after_steps}
 use Rattle.step_runs.specs.Current.{IsCurrent, Kept}
 use Rattle.queue_rules.specs.Order.{Differ}
-use Rattle.spool_store.specs.declared.fault.StoreFault.{StoreFault}
+use Rattle.host_calls.specs.declared.store_fault.StoreFault.{StoreFault}
 use Rattle.spool_shows.proofs.Membership.{Has, contained, filtered_has, has_contained, has_either, has_left, has_made, has_right, made_has}
 use Rattle.daemon_turn.specs.declared.kid.Kid.{Kid}
-use Rattle.daemon_turn.specs.declared.step.TurnStep.{TurnStep}
-use Rattle.daemon_turn.specs.declared.step.TurnStep.TheVariants.{Forgotten}
+use Rattle.spool_model.specs.declared.turn_step.TurnStep.{TurnStep}
+use Rattle.spool_model.specs.declared.turn_step.TurnStep.TheVariants.{Forgotten}
 use Rattle.daemon_turn.specs.Decisions.{asked_kids, decisions, ends, interrupts, questions, runs_in}
 use Rattle.daemon_turn.specs.Kids.{AreChildren, kept_kids, tells_end_of}
 use Rattle.daemon_turn.specs.Starting.{IsOrder, Turn, forgets, starts}
-use Rattle.daemon_turn.specs.StepsOf.{number_of, steps_of}
+use Rattle.spool_model.specs.StepsOf.{number_of, steps_of}
 use Rattle.daemon_turn.specs.Turning.{AreFirstSteps, AreTurnSteps, with_forgets}
 use Rattle.daemon_turn.specs.inside.Deciding.{Decides, MayDecide}
 use Rattle.daemon_turn.specs.inside.Ended.{without_ended}

@@ -16,9 +16,9 @@ use Rattle.queue_rules.proofs.StartLemmas.{batch_is_apart, batch_number, due_num
 use Rattle.spool_shows.proofs.Membership.{Has, has_contained, has_either}
 use Rattle.daemon_turn.specs.declared.mode.Mode.{Mode}
 use Rattle.daemon_turn.specs.declared.mode.Mode.TheVariants.{Full, EndsOnly}
-use Rattle.daemon_turn.specs.declared.step.TurnStep.{TurnStep}
+use Rattle.spool_model.specs.declared.turn_step.TurnStep.{TurnStep}
 use Rattle.daemon_turn.specs.Starting.{IsBatchOrderWhere, IsFullOrder, IsOrder, IsOrderIn, Turn, has_batch_turn}
-use Rattle.daemon_turn.specs.StepsOf.{number_of, steps_of}
+use Rattle.spool_model.specs.StepsOf.{number_of, steps_of}
 use Rattle.daemon_turn.specs.inside.Waiting.{AreWaiting}
 use Rattle.step_runs.proofs.ApartLemmas.{Apart, all_each, apart_append, apart_differ, differ_apart, each_all}
 use Rattle.daemon_turn.proofs.LegalLemmas.{entries_stay}

@@ -17,12 +17,12 @@ use Rattle.queue_rules.specs.Queues.{may_start_batch}
 use Rattle.daemon_turn.specs.declared.kid.Kid.{Kid}
 use Rattle.daemon_turn.specs.declared.mode.Mode.{Mode}
 use Rattle.daemon_turn.specs.declared.mode.Mode.TheVariants.{Full, EndsOnly}
-use Rattle.daemon_turn.specs.declared.step.TurnStep.{TurnStep}
-use Rattle.daemon_turn.specs.declared.step.TurnStep.TheVariants.{HandedOver, Ended, Interrupted, Forgotten}
+use Rattle.spool_model.specs.declared.turn_step.TurnStep.{TurnStep}
+use Rattle.spool_model.specs.declared.turn_step.TurnStep.TheVariants.{HandedOver, Ended, Interrupted, Forgotten}
 use Rattle.daemon_turn.specs.Decisions.{asked_kids, decisions, ends, interrupts, is_without_kid, is_running_entry, runs_in}
 use Rattle.daemon_turn.specs.Kids.{AreKidsAfter, kept_kids, tells_end_of}
 use Rattle.daemon_turn.specs.Starting.{IsBatchOrderWhere, IsOrder, IsOrderIn, Turn, forgets, has_batch_turn, starts}
-use Rattle.daemon_turn.specs.StepsOf.{step_of, steps_of}
+use Rattle.spool_model.specs.StepsOf.{step_of, steps_of}
 use Rattle.daemon_turn.specs.Turning.{AreFirstSteps, AreTurnSteps, with_forgets}
 use Rattle.step_runs.proofs.ApartLemmas.{filter_alike}
 
@@ -93,7 +93,7 @@ after_alike table steps = sym (lists_step_as_on_the_table table (steps_of steps)
 forgets_alike : (table : JobTable) (steps : List TurnStep) → with_forgets (without_scripts table) steps ≡ with_forgets table steps
 forgets_alike table steps =
     ap (λ (after : JobTable). steps ++ forgets after) (after_alike table steps)
-    ∙ ap (λ (done : List ℕ). steps ++ map Rattle.daemon_turn.specs.declared.step.TurnStep.TheVariants.Forgotten (Rattle.std.proofs.Common.take (Rattle.std.proofs.Common.◌-◌ (length done) Rattle.spool_model.specs.declared.decided.TheConstants.MAX_DONE) done)) (lists_as_on_the_table (after_steps table (steps_of steps))).done
+    ∙ ap (λ (done : List ℕ). steps ++ map Rattle.spool_model.specs.declared.turn_step.TurnStep.TheVariants.Forgotten (Rattle.std.proofs.Common.take (Rattle.std.proofs.Common.◌-◌ (length done) Rattle.spool_model.specs.declared.decided.TheConstants.MAX_DONE) done)) (lists_as_on_the_table (after_steps table (steps_of steps))).done
 
 module _ (turn : Turn) (table : JobTable) (answers : List (Option Ending)) where
   asked_all : length answers ≡ length (asked_kids (without_scripts table) turn.kids) → length answers ≡ length (asked_kids table turn.kids)

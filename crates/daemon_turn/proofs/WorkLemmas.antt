@@ -24,22 +24,22 @@ use Rattle.step_runs.specs.Current.{Kept}
 use Rattle.step_runs.specs.Made.{AreMade, AreStopped, HandsPrefixes, flags_of}
 use Rattle.step_runs.proofs.AttemptLemmas.{recoveries_begin_nothing}
 use Rattle.step_runs.proofs.MadeLemmas.{prefixes_changed, prefixes_then, made_steps_are_achieved, no_steps_are_made, stopped_steps_are_begun}
-use Rattle.spool_store.specs.declared.fault.StoreFault.{StoreFault}
-use Rattle.spool_store.specs.declared.fault.StoreFault.TheVariants as fault
-use Rattle.spool_store.specs.Faults.{IsOfReading, IsOfStep}
+use Rattle.host_calls.specs.declared.store_fault.StoreFault.{StoreFault}
+use Rattle.host_calls.specs.declared.store_fault.StoreFault.TheVariants as fault
+use Rattle.host_calls.specs.StoreFaults.{IsOfReading, IsOfStep}
 use Rattle.spool_store.specs.Recovering.{IsRecovered, Recovered, ShowsTheSame}
 use Rattle.daemon_turn.specs.declared.kid.Kid.{Kid}
-use Rattle.daemon_turn.specs.declared.step.TurnStep.{TurnStep}
+use Rattle.spool_model.specs.declared.turn_step.TurnStep.{TurnStep}
 use Rattle.daemon_turn.specs.Decisions.{asked_kids, is_running_entry, questions, runs_in}
 use Rattle.daemon_turn.specs.Kids.{AreByNumber, AreChildren, AreKidsAfter, KeepsChildren, kept_kids, tells_end_of}
 use Rattle.daemon_turn.specs.Leaving.{Gave, IsIdle, IsStopped, IsWhole, DaemonAt, TurnLeaves}
 use Rattle.daemon_turn.specs.Starting.{Turn}
-use Rattle.daemon_turn.specs.StepsOf.{steps_of}
+use Rattle.spool_model.specs.StepsOf.{steps_of}
 use Rattle.daemon_turn.specs.inside.Deciding.{MayDecide}
 use Rattle.daemon_turn.specs.inside.Ended.{without_ended}
 use Rattle.daemon_turn.specs.inside.Going.{Gives, Goes, Part}
 use Rattle.daemon_turn.specs.inside.Turned.{MakesTurn}
-use Rattle.daemon_turn.specs.Ends.{end_after}
+use Rattle.host_session.specs.Ends.{end_after}
 use Rattle.daemon_turn.specs.inside.Working.{TurnsOn, Works, unit_of}
 use Rattle.step_runs.proofs.ApartLemmas.{all_each, each_all, rise_filter}
 use Rattle.daemon_turn.proofs.AskLemmas.{questions_of_none}
@@ -233,7 +233,7 @@ module _ (tells : Bool) (turn : Turn) (before between after : Session) (old midd
           given = gives.given;
           answers = answers;
           next = part.next;
-          few = omega (arith, stopped.few, length-map part.next Rattle.daemon_turn.specs.StepsOf.step_of);
+          few = omega (arith, stopped.few, length-map part.next Rattle.spool_model.specs.StepsOf.step_of);
           first = first_alike turn shown answers (flags_of gives.given) (part.steps ++ part.next)
               (subst (λ (table : JobTable). Rattle.daemon_turn.specs.Turning.AreFirstSteps turn table answers (flags_of gives.given) (part.steps ++ part.next)) without_scripts_table
               (subst (λ (flags : List Bool). Rattle.daemon_turn.specs.Turning.AreFirstSteps turn kept.table answers flags (part.steps ++ part.next)) (sym gives.flagged) are));

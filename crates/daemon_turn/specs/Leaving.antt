@@ -15,14 +15,14 @@ use Rattle.step_runs.specs.Made.{HandsPrefixes, flags_of}
 use Rattle.spool_store.specs.Recovering.{ShowsTheSame}
 use Rattle.daemon_turn.specs.declared.kid.Kid.{Kid}
 use Rattle.daemon_turn.specs.declared.turn_input.TurnInput.{TurnInput}
-use Rattle.daemon_turn.specs.declared.report.TurnEnd.{TurnEnd}
-use Rattle.daemon_turn.specs.declared.report.TurnEnd.TheVariants.{Done, Busy, FileFault, Damaged, Memory}
-use Rattle.daemon_turn.specs.declared.step.TurnStep.{TurnStep}
+use Rattle.host_session.specs.declared.turn_end.TurnEnd.{TurnEnd}
+use Rattle.host_session.specs.declared.turn_end.TurnEnd.TheVariants.{Done, Busy, FileFault, Damaged, Memory}
+use Rattle.spool_model.specs.declared.turn_step.TurnStep.{TurnStep}
 use Rattle.daemon_turn.specs.Daemons.{DaemonState}
 use Rattle.daemon_turn.specs.Decisions.{asked_kids, questions}
 use Rattle.daemon_turn.specs.Kids.{AreByNumber, AreChildren, AreKidsAfter, KeepsChildren, started_numbers}
 use Rattle.daemon_turn.specs.Starting.{Turn, turn_of}
-use Rattle.daemon_turn.specs.StepsOf.{steps_of}
+use Rattle.spool_model.specs.StepsOf.{steps_of}
 use Rattle.daemon_turn.specs.Turning.{AreFirstSteps, AreTurnSteps}
 
 -- a host at one moment, and what the daemon that works on it keeps

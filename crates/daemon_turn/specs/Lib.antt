@@ -1,11 +1,9 @@
 pub mod Daemons
 pub mod Decisions
-pub mod Ends
 pub mod Kids
 pub mod Laws
 pub mod Leaving
 pub mod Starting
-pub mod StepsOf
 pub mod Turning
 pub mod Twice
 pub mod inside

@@ -9,8 +9,8 @@ use Rattle.daemon_turn.specs.declared.kid.Kid.{Kid}
 use Rattle.daemon_turn.specs.declared.mode.Mode.{Mode}
 use Rattle.daemon_turn.specs.declared.mode.Mode.TheVariants.{Full, EndsOnly}
 use Rattle.daemon_turn.specs.declared.turn_input.TurnInput.{TurnInput}
-use Rattle.daemon_turn.specs.declared.step.TurnStep.{TurnStep}
-use Rattle.daemon_turn.specs.declared.step.TurnStep.TheVariants.{HandedOver, Ended, Forgotten}
+use Rattle.spool_model.specs.declared.turn_step.TurnStep.{TurnStep}
+use Rattle.spool_model.specs.declared.turn_step.TurnStep.TheVariants.{HandedOver, Ended, Forgotten}
 use Rattle.daemon_turn.specs.Daemons.{DaemonState}
 
 -- What a turn is made with: the kids, the limit of the load in hundredths, the interval of batch starts in seconds, the

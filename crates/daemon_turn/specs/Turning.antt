@@ -3,10 +3,10 @@ use Rattle.std.specs.Prelude.{◌≡◌, ◌⊎◌, ◌≤◌, ◌++◌, [], ℕ
 use Rattle.host_calls.specs.declared.child.Ending.{Ending}
 use Rattle.spool_model.specs.JobTable.{JobTable}
 use Rattle.spool_model.specs.Steps.{after_steps}
-use Rattle.daemon_turn.specs.declared.step.TurnStep.{TurnStep}
+use Rattle.spool_model.specs.declared.turn_step.TurnStep.{TurnStep}
 use Rattle.daemon_turn.specs.Decisions.{asked_kids, decisions}
 use Rattle.daemon_turn.specs.Starting.{IsOrder, Turn, forgets, starts}
-use Rattle.daemon_turn.specs.StepsOf.{steps_of}
+use Rattle.spool_model.specs.StepsOf.{steps_of}
 
 -- the steps, and after them those that forget what is too much then
 abbrev pub with_forgets : JobTable → List TurnStep → List TurnStep

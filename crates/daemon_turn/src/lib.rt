@@ -5,7 +5,6 @@
 mod ask_all;
 mod daemon;
 mod decide;
-mod ends;
 mod forget;
 mod hand_over;
 mod kid;
@@ -22,12 +21,13 @@ mod turning;
 mod twice;
 
 pub use daemon::Daemon;
-pub use ends::end_of_session;
+pub use host_session::{TurnEnd, end_of_session};
 pub use kid::Kid;
 pub use laws::turns_end_well;
 pub use mode::Mode;
-pub use report::{TurnEnd, TurnReport};
-pub use step::{TurnStep, TurnSteps};
+pub use report::TurnReport;
+pub use spool_model::TurnStep;
+pub use step::TurnSteps;
 pub use turn_input::TurnInput;
 pub(crate) use turning::Turning;
 pub use twice::turn_twice;

@@ -2,7 +2,7 @@
 ghost use Rattle.std.specs.Prelude.{◌≡◌, IfOk};
 ghost use Rattle.spool_store.specs.Making.{MayMakeSteps};
 ghost use Rattle.daemon_turn.specs.inside.Making.{MakesAll};
-ghost use Rattle.daemon_turn.specs.StepsOf.{steps_of};
+ghost use Rattle.spool_model.specs.StepsOf.{steps_of};
 
 use crate::{TurnStep, Turning};
 use host_calls::Host;

@@ -6,7 +6,7 @@ ghost use Rattle.daemon_turn.specs.Decisions.{interrupts, is_without_kid};
 ghost use Rattle.daemon_turn.specs.Kids.{AreByNumber};
 ghost use Rattle.daemon_turn.specs.Starting.{IsBatchOrderWhere, IsFullOrder, IsOrder, turn_of};
 ghost use Rattle.daemon_turn.specs.declared.kid.Kid.{Kid};
-ghost use Rattle.daemon_turn.specs.declared.step.TurnStep.TheVariants.{Interrupted};
+ghost use Rattle.spool_model.specs.declared.turn_step.TurnStep.TheVariants.{Interrupted};
 ghost use Rattle.daemon_turn.specs.inside.Planning.{IsPlan};
 ghost use Rattle.queue_rules.specs.Queues.{may_start_batch};
 

@@ -1,20 +1,5 @@
 //! What a turn reports.
-use crate::TurnSteps;
-use host_calls::Damage;
-
-/// How a turn ended.
-#[derive(Clone, Copy)]
-pub enum TurnEnd {
-    /// All steps were made.
-    Done,
-    /// Another program holds the lock.
-    Busy,
-    /// A call on the spool folder failed.
-    FileFault,
-    /// The folder shows a damage.
-    Damaged(Damage),
-    Memory,
-}
+use crate::{TurnEnd, TurnSteps};
 
 /// How a turn ended, and the steps that it made.
 #[derive(Drop)]

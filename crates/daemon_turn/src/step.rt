@@ -1,50 +1,9 @@
 //! The steps of a turn.
-ghost use Rattle.std.specs.Prelude.{◌≡◌, [], ◌++◌, ◌∷◌};
-ghost use Rattle.daemon_turn.specs.StepsOf.{number_of, step_of};
+ghost use Rattle.std.specs.Prelude.{◌≡◌, []};
 
-use host_calls::Ending;
-use spool_model::Step;
+use crate::TurnStep;
 use std::alloc::Global;
 use std::marker::Model;
-
-/// A step that a turn made.
-#[derive(Clone, Copy, Debug, PartialEq, Eq)]
-pub enum TurnStep {
-    /// The job was started at this second, and its script handed over.
-    HandedOver(u32, i64),
-    /// The job ended so.
-    Ended(u32, Ending),
-    /// The running job was given up.
-    Interrupted(u32),
-    /// What became of the job is no longer kept.
-    Forgotten(u32),
-}
-
-impl TurnStep {
-    // The step of the job table that it reports.
-    pub(crate) fn step(&self) -> Step
-        ensures { result ≡ step_of self.now }
-    {
-        match self {
-            TurnStep::HandedOver(number, second) => Step::Start(*number, *second),
-            TurnStep::Ended(number, ending) => Step::End(*number, *ending),
-            TurnStep::Interrupted(number) => Step::Interrupt(*number),
-            TurnStep::Forgotten(number) => Step::Forget(*number),
-        }
-    }
-
-    // The number of the job that the step is of.
-    pub(crate) fn number(&self) -> u32
-        ensures { result ≡ number_of self.now }
-    {
-        match self {
-            TurnStep::HandedOver(number, _) => *number,
-            TurnStep::Ended(number, _) => *number,
-            TurnStep::Interrupted(number) => *number,
-            TurnStep::Forgotten(number) => *number,
-        }
-    }
-}
 
 /// Steps that a turn made, in order.
 #[derive(Drop)]
@@ -55,8 +14,8 @@ pub struct TurnSteps {
 impl Model for TurnSteps {
     ghost use Rattle.std.specs.Prelude.{List};
     ghost use Rattle.std.specs.Coded.{coded_list};
-    ghost use Rattle.daemon_turn.specs.contracts.step.TurnStep as turn_step;
-    ghost use Rattle.daemon_turn.specs.declared.step.TurnStep.{TurnStep};
+    ghost use Rattle.spool_model.specs.contracts.turn_step.TurnStep as turn_step;
+    ghost use Rattle.spool_model.specs.declared.turn_step.TurnStep.{TurnStep};
 
     ghost Value = { List TurnStep };
 

@@ -2,7 +2,7 @@
 use Rattle.std.specs.Prelude.{◌+◌, ◌*◌, ◌/◌, ◌%◌, ◌==◌, ◌++◌, [], ◌∷◌, ℕ, ℤ, pos, zero, suc, List, Some, None, codes, if◌then◌else◌}
 use Rattle.std.specs.Fmt.{decimal}
 use Rattle.civil_minute.specs.declared.zone.Zone.TheVariants.{Utc}
-use Rattle.command_rules.specs.declared.caller.Caller.{Caller}
+use Rattle.cause_output.specs.declared.caller.Caller.{Caller}
 use Rattle.day_events.specs.declared.event.Event.{Event}
 use Rattle.day_events.specs.declared.event.Event.TheVariants.{Command, Turn, Reboot}
 use Rattle.day_events.specs.declared.made.Made.{Made}

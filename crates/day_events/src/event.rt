@@ -6,8 +6,8 @@ ghost use Rattle.day_events.specs.Days.{is_day_event, is_day_tool};
 
 use crate::Words;
 use at_words::{Tool, tool_of};
+use cause_output::Caller;
 use clock_range::is_clock_second;
-use command_rules::Caller;
 use host_calls::Bytes;
 
 /// What happens on a machine.

@@ -4,8 +4,8 @@ ghost use Rattle.day_events.specs.Made.{echo_of, last_of_eight, made_caller, mad
 
 use crate::{Event, Words};
 use at_words::MAX_EVENTS;
+use cause_output::Caller;
 use civil_minute::Zone;
-use command_rules::Caller;
 use host_calls::{Bytes, Text};
 use job_script::{Context, Variables};
 use std::alloc::{AllocError, Global};

@@ -2,10 +2,9 @@
 use at_day::Counts;
 use daemon_turn::TurnEnd;
 use day_events::EventReport;
-use host_calls::Handed;
+use host_calls::{Handed, StoreFault};
 use listing_text::Cause;
 use memory_host::MemoryHost;
-use spool_store::StoreFault;
 use std::alloc::{AllocError, Global};
 
 /// What is seen of a day after its last event.

@@ -3,7 +3,7 @@ use Rattle.std.proofs.Common.{◌≡◌, ◌⊎◌, ◌+◌, ◌-◌, ◌≤◌,
 use Rattle.host_calls.specs.declared.child.Handed.{Handed}
 use Rattle.host_calls.specs.declared.fault.HostFault.{HostFault}
 use Rattle.host_calls.specs.Folder.{Folder, Files}
-use Rattle.host_calls.specs.World.{Moment, World, moments, moment, AtSome, AtEach, Leaves, Could, HasEachImage, LeavesOnly, IsWithin, WithinCall, FileCall}
+use Rattle.host_calls.specs.World.{Moment, World, moments, moment, AtSome, AtEach, Leaves, Could, HasEachImage, LeavesOnly, IsWithin, WithinCall, FileCall, GoesOn}
 
 -- what holds of each moment of two lists holds of each of both together
 pub AtEach-append : (P : Moment → Type 0) (first second : List Moment) → AtEach P first → AtEach P second → AtEach P (first ++ second)
@@ -118,3 +118,20 @@ at_end P old new leaves start = by_run leaves.more leaves.run leaves.each where
   by_run : (more : List Moment) → moments new ≡ more ++ moments old → AtEach (HasEachImage P) more → HasEachImage P new.now
   by_run [] run each = let same : new.now ≡ old.now = cc in subst (HasEachImage P) (sym same) start
   by_run (here ∷ others) run each = let same : new.now ≡ here = cc in subst (HasEachImage P) (sym same) each.0
+
+-- nothing is handed over
+pub goes_on_none : (old new : World) → new ≡ old → GoesOn old new
+goes_on_none old new same = record {
+  asked = ap (λ (world : World). world.asked) same;
+  handed = ap (λ (world : World). world.now.handed) same;
+  leaves = leaves_none (λ image handed. handed ≡ old.now.handed) old new same;
+}
+
+-- one run after another hands over what the two do
+pub goes_on_then : (first second third : World) → GoesOn first second → GoesOn second third → GoesOn first third
+goes_on_then first second third before after = record {
+  asked = after.asked ∙ before.asked;
+  handed = after.handed ∙ before.handed;
+  leaves = leaves_then (λ image handed. handed ≡ first.now.handed) first second third before.leaves
+      (leaves_weaker (λ image handed. handed ≡ second.now.handed) (λ image handed. handed ≡ first.now.handed) second third (λ image handed is. is ∙ before.handed) after.leaves);
+}

@@ -6,4 +6,5 @@ pub mod Inputs
 pub mod Names
 pub mod Session
 pub mod Sink
+pub mod StoreFaults
 pub mod World

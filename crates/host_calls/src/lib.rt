@@ -11,6 +11,7 @@ mod inputs;
 mod name;
 mod readings;
 mod sink;
+mod store_fault;
 mod text;
 
 pub use bytes::Bytes;
@@ -22,4 +23,5 @@ pub use inputs::Inputs;
 pub use name::Name;
 pub use readings::Readings;
 pub use sink::Sink;
+pub use store_fault::StoreFault;
 pub use text::Text;

@@ -6,9 +6,9 @@ use Rattle.std.proofs.lemmas.List.{take-append-drop, take_more}
 use Rattle.host_calls.specs.World.{World}
 use Rattle.step_runs.specs.Current.{IsCurrent, Kept}
 use Rattle.spool_model.specs.JobTable.{JobTable, entry_at}
-use Rattle.command_rules.specs.declared.command_error.CommandError.{CommandError}
+use Rattle.cause_output.specs.declared.command_error.CommandError.{CommandError}
 use Rattle.command_rules.specs.Requested.{script_in, scripts_of}
-use Rattle.command_rules.specs.Sinks.{IsPut, IsPutInPart, SinkAt}
+use Rattle.cause_output.specs.Sinks.{IsPut, IsPutInPart, SinkAt}
 use Rattle.job_listing.specs.Scripts.{PutsScripts}
 
 -- scripts of two lists of numbers

@@ -6,10 +6,10 @@ use Rattle.step_runs.specs.Current.{IsCurrent, Kept}
 use Rattle.listing_text.specs.declared.cause.Cause.{Cause}
 use Rattle.listing_text.specs.declared.cause.Cause.TheVariants.{Done, Refused, FileFault, InputFault, OutputFault, Busy, Memory, Damaged, StillRunning, Faulty}
 use Rattle.spool_model.specs.JobTable.{JobTable}
-use Rattle.command_rules.specs.declared.command_error.CommandError.{CommandError}
-use Rattle.command_rules.specs.Causes.{error_of}
+use Rattle.cause_output.specs.declared.command_error.CommandError.{CommandError}
+use Rattle.cause_output.specs.Causes.{error_of}
 use Rattle.command_rules.specs.Requested.{scripts_of}
-use Rattle.command_rules.specs.Sinks.{IsPut, IsPutInPart, SinkAt}
+use Rattle.cause_output.specs.Sinks.{IsPut, IsPutInPart, SinkAt}
 
 -- a script could not be read or put, or there was no memory
 abbrev pub IsOfShowing : Cause → Type 0

@@ -5,8 +5,8 @@ ghost use Rattle.step_runs.specs.Current.{IsCurrent};
 ghost use Rattle.listing_text.specs.declared.cause.Cause.TheVariants as cause;
 ghost use Rattle.spool_model.specs.JobTable.{JobTable};
 ghost use Rattle.spool_store.specs.Listed.{IsLive};
-ghost use Rattle.command_rules.specs.Causes.{error_of};
-ghost use Rattle.command_rules.specs.Sinks.{sink_at};
+ghost use Rattle.cause_output.specs.Causes.{error_of};
+ghost use Rattle.cause_output.specs.Sinks.{sink_at};
 ghost use Rattle.job_listing.specs.Scripts.{PutsScripts};
 
 use command_rules::CommandError;

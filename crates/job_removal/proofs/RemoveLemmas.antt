@@ -17,13 +17,13 @@ use Rattle.step_runs.specs.Runs.{Runs}
 use Rattle.step_runs.proofs.MadeLemmas.{legal_then, steps_are_made_after}
 use Rattle.step_runs.proofs.RunLemmas.{prefixes_run_as_the_steps, runs_go_on}
 use Rattle.step_runs.proofs.TurnLemmas.{all_legal_when_kept}
-use Rattle.spool_store.specs.declared.fault.StoreFault.{StoreFault}
-use Rattle.spool_store.specs.declared.fault.StoreFault.TheVariants as store
-use Rattle.spool_store.specs.Faults.{IsOfStep}
+use Rattle.host_calls.specs.declared.store_fault.StoreFault.{StoreFault}
+use Rattle.host_calls.specs.declared.store_fault.StoreFault.TheVariants as store
+use Rattle.host_calls.specs.StoreFaults.{IsOfStep}
 use Rattle.spool_store.specs.Making.{MakesSteps, MayMakeSteps}
 use Rattle.spool_store.proofs.MakeLemmas.{changes_made, stopped_runs}
 use Rattle.spool_store.proofs.SurplusLemmas.{surplus_legal, surplus_without_scripts}
-use Rattle.command_rules.specs.Causes.{cause_of}
+use Rattle.cause_output.specs.Causes.{cause_of}
 use Rattle.command_rules.specs.Requested.{forgets, removal, removes}
 use Rattle.command_rules.specs.Sessions.{Works}
 use Rattle.job_removal.specs.Removing.{AreRemoval}

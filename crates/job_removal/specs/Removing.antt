@@ -4,7 +4,7 @@ use Rattle.listing_text.specs.declared.cause.Cause.{Cause}
 use Rattle.listing_text.specs.declared.cause.Cause.TheVariants.{Done, Refused, FileFault, InputFault, OutputFault, Busy, Memory, Damaged, StillRunning, Faulty}
 use Rattle.spool_model.specs.declared.step.Step.{Step}
 use Rattle.spool_model.specs.JobTable.{JobTable}
-use Rattle.command_rules.specs.declared.command_error.CommandError.{CommandError}
+use Rattle.cause_output.specs.declared.command_error.CommandError.{CommandError}
 use Rattle.command_rules.specs.Requested.{removal}
 
 -- the steps are those of a removal of these numbers

@@ -7,7 +7,7 @@ ghost use Rattle.spool_model.specs.JobTable.{JobTable};
 ghost use Rattle.spool_model.specs.Lists.{surplus};
 ghost use Rattle.spool_model.specs.Steps.{AreLegal};
 ghost use Rattle.step_runs.specs.Current.{IsCurrent};
-ghost use Rattle.command_rules.specs.Causes.{cause_in, error_of};
+ghost use Rattle.cause_output.specs.Causes.{cause_in, error_of};
 ghost use Rattle.command_rules.specs.Requested.{forgets, removes};
 ghost use Rattle.command_rules.specs.Sessions.{Works};
 ghost use Rattle.job_removal.specs.Removing.{AreRemoval, ComesOfRemoving};

@@ -5,6 +5,7 @@ use Rattle.std.specs.List.{flat_map}
 use Rattle.job_script.specs.Header.{header_text}
 use Rattle.job_script.specs.Variables.{kept}
 use Rattle.job_script.specs.declared.context.Context.{Context}
+use Rattle.spool_model.specs.declared.job.Job.{Job}
 
 -- a byte between single quotes: a single quote ends them, stands after a backslash, and opens them again
 abbrev pub quoted_part : ℕ → List ℕ
@@ -45,3 +46,8 @@ job_text user mail umask variables directory commands =
 abbrev pub text_for : Context → Bool → List ℕ → List ℕ
 text_for context mail commands =
     job_text context.user mail context.umask (kept context.environment) context.directory commands
+
+-- the job of who submits: the user, the minute, and a text that does the commands as the user would
+abbrev pub job_for : Context → ℕ → Bool → ℕ → List ℕ → Job
+job_for context queue mail minute commands =
+    record { queue = queue; minute = minute; user = context.user; script = text_for context mail commands }

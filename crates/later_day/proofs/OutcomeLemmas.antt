@@ -2,7 +2,7 @@
 use Rattle.std.proofs.Common.{◌≡◌, ◌⊎◌, ◌++◌, ℕ, ℤ, Bool, true, false, List, [], ◌∷◌, sym, subst, inl, inr, map, Result, Ok, Err, Option}
 use Rattle.at_words.specs.declared.tool_request.ToolRequest.TheVariants as request
 use Rattle.at_words.specs.Requests.{request_of}
-use Rattle.command_rules.specs.declared.caller.Caller.{Caller}
+use Rattle.cause_output.specs.declared.caller.Caller.{Caller}
 use Rattle.command_rules.specs.Found.{Asked, Found}
 use Rattle.command_rules.specs.Requested.{forgets, removes, steps_asked}
 use Rattle.spool_model.specs.declared.step.Step.{Step}
@@ -10,9 +10,9 @@ use Rattle.spool_model.specs.Lists.{surplus}
 use Rattle.spool_model.specs.JobTable.{JobTable}
 use Rattle.spool_model.specs.Steps.{after_steps}
 use Rattle.step_runs.specs.Hands.{StartNothing}
-use Rattle.daemon_turn.specs.declared.step.TurnStep.{TurnStep}
-use Rattle.daemon_turn.specs.declared.step.TurnStep.TheVariants.{HandedOver, Ended, Interrupted, Forgotten}
-use Rattle.daemon_turn.specs.StepsOf.{steps_of}
+use Rattle.spool_model.specs.declared.turn_step.TurnStep.{TurnStep}
+use Rattle.spool_model.specs.declared.turn_step.TurnStep.TheVariants.{HandedOver, Ended, Interrupted, Forgotten}
+use Rattle.spool_model.specs.StepsOf.{steps_of}
 use Rattle.day_events.specs.declared.event.Event.{Event}
 use Rattle.day_events.specs.declared.event.Event.TheVariants.{Command, Turn, Reboot}
 use Rattle.day_events.specs.declared.report.EventReport.{EventReport}

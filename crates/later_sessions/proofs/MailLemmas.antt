@@ -6,8 +6,8 @@ use Rattle.host_calls.specs.Folder.{Files, Folder, IsImage}
 use Rattle.host_calls.specs.World.{Moment, World}
 use Rattle.host_calls.proofs.WorldLemmas.{leaves_weaker}
 use Rattle.spool_model.specs.JobTable.{JobTable}
-use Rattle.daemon_turn.specs.declared.report.TurnEnd.{TurnEnd}
-use Rattle.daemon_turn.specs.declared.report.TurnEnd.TheVariants.{Done, Busy, FileFault, Damaged, Memory}
+use Rattle.host_session.specs.declared.turn_end.TurnEnd.{TurnEnd}
+use Rattle.host_session.specs.declared.turn_end.TurnEnd.TheVariants.{Done, Busy, FileFault, Damaged, Memory}
 use Rattle.mail_notes.specs.declared.note.Note.{Note}
 use Rattle.mail_notes.specs.Hands.{Mailing}
 use Rattle.mail_session.specs.Leaving.{IsIdle, IsStopped, IsWhole, MailLeaves, PostAt, mailing_of}

@@ -1,7 +1,7 @@
 -- What holds of sessions of mail and of crontabs among the events of a day.
 use Rattle.std.specs.Prelude.{ℕ, List, true}
 use Rattle.host_calls.specs.World.{World}
-use Rattle.daemon_turn.specs.declared.report.TurnEnd.{TurnEnd}
+use Rattle.host_session.specs.declared.turn_end.TurnEnd.{TurnEnd}
 use Rattle.mail_session.specs.Leaving.{PostAt, PostsTo}
 use Rattle.cron_session.specs.declared.report.CronEnd.{CronEnd}
 use Rattle.cron_session.specs.Leaving.{CronLeaves}

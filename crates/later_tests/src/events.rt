@@ -3,7 +3,7 @@ ghost use Rattle.std.specs.Prelude.{IfOk};
 ghost use Rattle.host_calls.specs.Session.{IsOutside};
 ghost use Rattle.memory_host.specs.Host.{memory_session};
 
-use command_rules::Caller;
+use cause_output::Caller;
 use cron_text::{MAX_CRONTAB, read_crontab};
 use day_events::Words;
 use host_calls::{Bytes, Name, Text};

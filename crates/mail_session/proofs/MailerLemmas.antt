@@ -13,18 +13,18 @@ use Rattle.host_calls.specs.World.{World, reading}
 use Rattle.host_session.specs.Work.{Calls, EndsSession, IsUndone}
 use Rattle.host_session.proofs.SessionLemmas.{counts_on}
 use Rattle.spool_shows.specs.Shown.{shown_by}
-use Rattle.spool_store.specs.declared.fault.StoreFault.{StoreFault}
-use Rattle.spool_store.specs.declared.fault.StoreFault.TheVariants as fault
-use Rattle.spool_store.specs.Faults.{IsOfReading}
+use Rattle.host_calls.specs.declared.store_fault.StoreFault.{StoreFault}
+use Rattle.host_calls.specs.declared.store_fault.StoreFault.TheVariants as fault
+use Rattle.host_calls.specs.StoreFaults.{IsOfReading}
 use Rattle.step_runs.specs.Calls.{ShowsAsBefore}
 use Rattle.whole_file.proofs.OthersLemmas.{changes_none}
 use Rattle.daemon_turn.specs.declared.kid.Kid.{Kid}
-use Rattle.daemon_turn.specs.declared.report.TurnEnd.{TurnEnd}
-use Rattle.daemon_turn.specs.declared.report.TurnEnd.TheVariants.{Busy, Damaged, Done, FileFault, Memory}
+use Rattle.host_session.specs.declared.turn_end.TurnEnd.{TurnEnd}
+use Rattle.host_session.specs.declared.turn_end.TurnEnd.TheVariants.{Busy, Damaged, Done, FileFault, Memory}
 use Rattle.daemon_turn.specs.Kids.{AreChildren}
 use Rattle.daemon_turn.specs.Leaving.{IfUnread}
-use Rattle.daemon_turn.specs.Ends.{end_after, end_of_session}
-use Rattle.daemon_turn.proofs.EndLemmas.{is_fault, not_busy}
+use Rattle.host_session.specs.Ends.{end_after, end_of_session}
+use Rattle.host_session.proofs.EndLemmas.{is_fault, not_busy}
 use Rattle.mail_notes.specs.declared.note.Note.{Note}
 use Rattle.mail_notes.specs.Hands.{Mailing}
 use Rattle.mail_session.specs.Leaving.{Gave, IsIdle, IsNone, IsStopped, IsWhole, MailLeaves, PostAt, PostsTo}

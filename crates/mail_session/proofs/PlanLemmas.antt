@@ -12,9 +12,9 @@ use Rattle.spool_model.specs.declared.entry.Entry.TheVariants.{Done, Live}
 use Rattle.spool_model.specs.declared.row.Row.{Row}
 use Rattle.spool_model.specs.JobTable.{JobEntry, JobTable, entry_at}
 use Rattle.spool_shows.specs.Shown.{shown_by}
-use Rattle.spool_store.specs.declared.fault.StoreFault.{StoreFault}
-use Rattle.spool_store.specs.declared.fault.StoreFault.TheVariants.{Damaged, FileFault, Memory, NumbersUsedUp, QueueFull}
-use Rattle.spool_store.specs.Faults.{IsOfReading}
+use Rattle.host_calls.specs.declared.store_fault.StoreFault.{StoreFault}
+use Rattle.host_calls.specs.declared.store_fault.StoreFault.TheVariants.{Damaged, FileFault, Memory, NumbersUsedUp, QueueFull}
+use Rattle.host_calls.specs.StoreFaults.{IsOfReading}
 use Rattle.spool_store.specs.Recovering.{IsRecovered, Recovered, ShowsTheSame}
 use Rattle.step_runs.specs.Calls.{ShowsAsBefore}
 use Rattle.step_runs.specs.Current.{IsCurrent, Kept}

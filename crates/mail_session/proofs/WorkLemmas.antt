@@ -16,9 +16,9 @@ use Rattle.host_calls.proofs.FolderLemmas.{reading_is_image}
 use Rattle.host_session.proofs.SessionLemmas.{counts_on}
 use Rattle.spool_model.specs.JobTable.{JobTable}
 use Rattle.spool_shows.proofs.Membership.{Has, contained, has_contained, has_either, has_left, has_right}
-use Rattle.spool_store.specs.declared.fault.StoreFault.{StoreFault}
-use Rattle.spool_store.specs.declared.fault.StoreFault.TheVariants as fault
-use Rattle.spool_store.specs.Faults.{IsOfReading, fault_of}
+use Rattle.host_calls.specs.declared.store_fault.StoreFault.{StoreFault}
+use Rattle.host_calls.specs.declared.store_fault.StoreFault.TheVariants as fault
+use Rattle.host_calls.specs.StoreFaults.{IsOfReading, fault_of}
 use Rattle.spool_store.specs.Recovering.{IsRecovered}
 use Rattle.step_runs.specs.Calls.{ShowsAsBefore}
 use Rattle.step_runs.proofs.ApartLemmas.{all_each}
@@ -27,7 +27,7 @@ use Rattle.whole_file.specs.Others.{ChangesFiles}
 use Rattle.daemon_turn.specs.declared.kid.Kid.{Kid}
 use Rattle.daemon_turn.specs.Decisions.{questions}
 use Rattle.daemon_turn.specs.Kids.{AreChildren}
-use Rattle.daemon_turn.specs.Ends.{end_after}
+use Rattle.host_session.specs.Ends.{end_after}
 use Rattle.mail_notes.specs.declared.note.Note.{Note}
 use Rattle.mail_notes.specs.declared.note.Note.TheVariants.{Noted}
 use Rattle.mail_notes.specs.Hands.{Mailing}

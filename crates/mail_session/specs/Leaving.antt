@@ -15,8 +15,8 @@ use Rattle.spool_store.specs.Recovering.{ShowsTheSame}
 use Rattle.step_runs.specs.Attempts.{IsUnbegun}
 use Rattle.step_runs.specs.Current.{IsSpoolName}
 use Rattle.daemon_turn.specs.declared.kid.Kid.{Kid}
-use Rattle.daemon_turn.specs.declared.report.TurnEnd.{TurnEnd}
-use Rattle.daemon_turn.specs.declared.report.TurnEnd.TheVariants.{Done, Busy, FileFault, Damaged, Memory}
+use Rattle.host_session.specs.declared.turn_end.TurnEnd.{TurnEnd}
+use Rattle.host_session.specs.declared.turn_end.TurnEnd.TheVariants.{Done, Busy, FileFault, Damaged, Memory}
 use Rattle.daemon_turn.specs.Decisions.{has_kid, questions}
 use Rattle.daemon_turn.specs.Kids.{AreChildren, KeepsChildren, started_numbers}
 use Rattle.daemon_turn.specs.Leaving.{IfUnread}

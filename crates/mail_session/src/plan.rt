@@ -6,7 +6,7 @@ ghost use Rattle.mail_notes.specs.declared.note.Note.{Note};
 ghost use Rattle.mail_session.specs.Steps.{AreDuesOf};
 ghost use Rattle.mail_session.specs.inside.Planning.{Plans, PlansOn};
 ghost use Rattle.spool_model.specs.JobTable.{JobTable};
-ghost use Rattle.spool_store.specs.Faults.{IsOfReading};
+ghost use Rattle.host_calls.specs.StoreFaults.{IsOfReading};
 ghost use Rattle.step_runs.specs.Current.{IsCurrent};
 
 use crate::news::news_of;

@@ -6,7 +6,7 @@ ghost use Rattle.host_calls.specs.Session.{CallsInside, IsInside};
 ghost use Rattle.host_calls.specs.World.{reading};
 ghost use Rattle.mail_notes.specs.Names.{mail_file};
 ghost use Rattle.mail_session.specs.Reading.{AreRead, IsDamageAt, IsDamageOf, IsTextOf};
-ghost use Rattle.spool_store.specs.Faults.{IsOfReading};
+ghost use Rattle.host_calls.specs.StoreFaults.{IsOfReading};
 
 use host_calls::{Bytes, Damage, Host};
 use mail_notes::{MailBook, Note, mail_name};

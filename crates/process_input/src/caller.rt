@@ -3,8 +3,8 @@ ghost use Rattle.std.specs.Prelude.{◌<◌, IfOk};
 
 use crate::environment::{text_of, variable, variables_of};
 use crate::umask::umask_of;
+use cause_output::Caller;
 use civil_minute::zone_of;
-use command_rules::Caller;
 use job_script::Context;
 use std::alloc::AllocError;
 

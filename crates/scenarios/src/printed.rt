@@ -2,8 +2,7 @@
 use crate::transcript::Transcript;
 use at_day::Counts;
 use daemon_turn::{TurnEnd, TurnReport, TurnStep};
-use host_calls::{Asked, Ending, Handed};
-use spool_store::StoreFault;
+use host_calls::{Asked, Ending, Handed, StoreFault};
 use std::alloc::{AllocError, Global};
 
 /// Prints how a turn ended, and the steps that it reports.

@@ -1,8 +1,8 @@
 //! Why the last number could not be read.
 ghost use Rattle.std.specs.Prelude.{◌≡◌};
-ghost use Rattle.sequence_file.specs.Faults.{fault_of};
+ghost use Rattle.sequence_file.specs.Faults.{fault_of, fault_of_sequence};
 
-use host_calls::{Damage, HostFault};
+use host_calls::{Damage, HostFault, StoreFault};
 use std::fmt;
 use thiserror::Error;
 
@@ -30,6 +30,18 @@ impl From<HostFault> for SequenceFault {
         match fault {
             HostFault::Failed => SequenceFault::Failed,
             HostFault::Memory => SequenceFault::Memory,
+        }
+    }
+}
+
+impl From<SequenceFault> for StoreFault {
+    ghost from_gives = { λ fault made. made ≡ fault_of_sequence fault };
+
+    fn from(fault: SequenceFault) -> Self {
+        match fault {
+            SequenceFault::Failed => StoreFault::FileFault,
+            SequenceFault::Memory => StoreFault::Memory,
+            SequenceFault::Damaged(damage) => StoreFault::Damaged(damage),
         }
     }
 }

@@ -8,15 +8,15 @@ use Rattle.host_calls.specs.declared.child.Child.{Child}
 use Rattle.host_calls.specs.declared.child.Ending.TheVariants.{Exit}
 use Rattle.host_calls.specs.Clock.{Readers, with_load, with_now, with_rest}
 use Rattle.host_calls.specs.World.{World}
-use Rattle.command_rules.specs.Sinks.{IsSilent}
+use Rattle.cause_output.specs.Sinks.{IsSilent}
 use Rattle.listing_text.specs.declared.cause.Cause.{Cause}
 use Rattle.listing_text.specs.declared.cause.Cause.TheVariants as cause
 use Rattle.daemon_turn.specs.declared.kid.Kid.{Kid}
-use Rattle.daemon_turn.specs.declared.report.TurnEnd.{TurnEnd}
-use Rattle.daemon_turn.specs.declared.report.TurnEnd.TheVariants.{Done, Busy, FileFault}
+use Rattle.host_session.specs.declared.turn_end.TurnEnd.{TurnEnd}
+use Rattle.host_session.specs.declared.turn_end.TurnEnd.TheVariants.{Done, Busy, FileFault}
 use Rattle.daemon_turn.specs.declared.turn_input.TurnInput.{TurnInput}
-use Rattle.daemon_turn.specs.declared.step.TurnStep.{TurnStep}
-use Rattle.daemon_turn.specs.declared.step.TurnStep.TheVariants.{Ended, HandedOver}
+use Rattle.spool_model.specs.declared.turn_step.TurnStep.{TurnStep}
+use Rattle.spool_model.specs.declared.turn_step.TurnStep.TheVariants.{Ended, HandedOver}
 use Rattle.daemon_turn.specs.Kids.{AreByNumber, AreChildren}
 use Rattle.daemon_turn.specs.Leaving.{DaemonAt, TurnsTo}
 use Rattle.serving.specs.Examples.{ServesTwice, SmallServings, daemon_with, first_child, first_kid, host_with, midnight, minute_later, second_later, served_with, sink, known}

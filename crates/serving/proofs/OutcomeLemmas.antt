@@ -5,11 +5,11 @@ use Rattle.host_calls.specs.Causes.{Rose}
 use Rattle.host_calls.specs.Session.{Session}
 use Rattle.listing_text.specs.declared.cause.Cause.{Cause}
 use Rattle.listing_text.specs.declared.cause.Cause.TheVariants as cause
-use Rattle.command_rules.specs.Sinks.{SinkAt}
+use Rattle.cause_output.specs.Sinks.{SinkAt}
 use Rattle.daemon_turn.specs.Leaving.{DaemonAt}
 use Rattle.daemon_turn.specs.declared.kid.Kid.{Kid}
-use Rattle.daemon_turn.specs.declared.report.TurnEnd.{TurnEnd}
-use Rattle.daemon_turn.specs.declared.report.TurnEnd.TheVariants.{Done, Busy, FileFault, Damaged, Memory}
+use Rattle.host_session.specs.declared.turn_end.TurnEnd.{TurnEnd}
+use Rattle.host_session.specs.declared.turn_end.TurnEnd.TheVariants.{Done, Busy, FileFault, Damaged, Memory}
 use Rattle.serving.specs.Items.{Item, ends_after, first_end, is_last, last_item}
 use Rattle.serving.specs.Outcomes.{Stop, StopsBy, at_a_line, at_the_clock, at_the_end, damage_outcome, end_outcome, kids_outcome, last_outcome, outcome_by, output_outcome, turns_outcome}
 use Rattle.serving.specs.Serves.{ServeAt, ServeTelling}

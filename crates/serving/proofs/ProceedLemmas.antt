@@ -7,10 +7,10 @@ use Rattle.host_calls.specs.Clock.{Answers, Readers, with_load, with_now}
 use Rattle.listing_text.specs.declared.cause.Cause.{Cause}
 use Rattle.listing_text.specs.declared.cause.Cause.TheVariants as cause
 use Rattle.listing_text.specs.declared.refusal.Refusal.TheVariants.{BadClock}
-use Rattle.command_rules.specs.Sinks.{IsSilent, SinkAt}
+use Rattle.cause_output.specs.Sinks.{IsSilent, SinkAt}
 use Rattle.daemon_turn.specs.Leaving.{DaemonAt, TurnsTo}
 use Rattle.daemon_turn.specs.declared.mode.Mode.{Mode}
-use Rattle.daemon_turn.specs.declared.report.TurnEnd.{TurnEnd}
+use Rattle.host_session.specs.declared.turn_end.TurnEnd.{TurnEnd}
 use Rattle.serving.specs.Items.{Item, ends_after, first_end, is_last, last_item, mode_after, next_rest}
 use Rattle.cause_output.specs.Ends.{SaysEnd}
 use Rattle.cause_output.proofs.EndLemmas.{silent_same}

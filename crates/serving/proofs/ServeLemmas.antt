@@ -9,8 +9,8 @@ use Rattle.daemon_turn.specs.Daemons.{DaemonState}
 use Rattle.daemon_turn.specs.Kids.{KeepsChildren}
 use Rattle.host_calls.specs.declared.child.Child.{Child}
 use Rattle.daemon_turn.specs.Leaving.{DaemonAt}
-use Rattle.daemon_turn.specs.declared.report.TurnEnd.{TurnEnd}
-use Rattle.daemon_turn.specs.declared.report.TurnEnd.TheVariants.{Done, Busy, FileFault, Damaged, Memory}
+use Rattle.host_session.specs.declared.turn_end.TurnEnd.{TurnEnd}
+use Rattle.host_session.specs.declared.turn_end.TurnEnd.TheVariants.{Done, Busy, FileFault, Damaged, Memory}
 use Rattle.host_session.proofs.SessionLemmas.{counts_on, no_counts}
 use Rattle.serving.specs.Items.{Item, but_last, first_end, last_item, mode_after}
 use Rattle.serving.specs.Lines.{step_lines, turn_lines}

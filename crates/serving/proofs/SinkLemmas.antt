@@ -3,13 +3,13 @@ use Rattle.std.proofs.Common.{◌≡◌, ◌≤◌, ℕ, Bool, true, false, List
 use Rattle.std.specs.Prelude.{Err}
 use Rattle.host_calls.specs.Causes.{Rose}
 use Rattle.host_calls.specs.declared.fault.SinkFault.TheVariants.{Failed, Memory as NoMemory}
-use Rattle.command_rules.specs.Sinks.{IsPutInPart, IsPutOrCut, IsSilent, SinkAt}
+use Rattle.cause_output.specs.Sinks.{IsPutInPart, IsPutOrCut, IsSilent, SinkAt}
 use Rattle.cause_output.specs.Ends.{SaysEnd}
 use Rattle.cause_output.specs.Putting.{PutsLines}
 use Rattle.cause_output.proofs.EndLemmas.{silent_same}
 use Rattle.cause_output.proofs.PutLemmas.{cut_after, cut_longer, part_after, part_of_cut, part_of_put}
-use Rattle.daemon_turn.specs.declared.report.TurnEnd.{TurnEnd}
-use Rattle.daemon_turn.specs.declared.report.TurnEnd.TheVariants.{Done, Busy, FileFault, Damaged, Memory}
+use Rattle.host_session.specs.declared.turn_end.TurnEnd.{TurnEnd}
+use Rattle.host_session.specs.declared.turn_end.TurnEnd.TheVariants.{Done, Busy, FileFault, Damaged, Memory}
 use Rattle.serving.specs.Items.{Item}
 use Rattle.serving.specs.Lines.{SaysEnds, daemon_name}
 use Rattle.serving.specs.Outcomes.{at_a_line, at_the_end}

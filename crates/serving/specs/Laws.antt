@@ -7,7 +7,7 @@ use Rattle.host_calls.specs.Clock.{Answers, with_now}
 use Rattle.host_calls.specs.World.{reading}
 use Rattle.listing_text.specs.declared.cause.Cause.{Cause}
 use Rattle.listing_text.specs.declared.cause.Cause.TheVariants.{Done, Refused, FileFault, InputFault, OutputFault, Busy, Memory, Damaged, StillRunning, Faulty}
-use Rattle.command_rules.specs.Sinks.{SinkAt}
+use Rattle.cause_output.specs.Sinks.{SinkAt}
 use Rattle.step_runs.specs.Good.{IsGood}
 use Rattle.serving.specs.Serves.{ServeAt, ServeTelling}
 use Rattle.serving.specs.Serving.{Serving}

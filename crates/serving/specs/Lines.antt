@@ -1,10 +1,10 @@
 -- What serving prints and says, turn by turn (own).
 use Rattle.std.specs.Prelude.{◌++◌, [], ◌∷◌, ℕ, List, codes}
-use Rattle.command_rules.specs.Sinks.{IsSilent, SinkAt}
+use Rattle.cause_output.specs.Sinks.{IsSilent, SinkAt}
 use Rattle.cause_output.specs.Ends.{SaysEnd}
 use Rattle.cause_output.specs.Putting.{lines_of}
 use Rattle.cause_output.specs.Steps.{step_line}
-use Rattle.daemon_turn.specs.declared.step.TurnStep.{TurnStep}
+use Rattle.spool_model.specs.declared.turn_step.TurnStep.{TurnStep}
 use Rattle.serving.specs.Items.{Item}
 
 -- the name of the daemon, which begins its lines

@@ -4,8 +4,8 @@ use Rattle.listing_text.specs.declared.cause.Cause.{Cause}
 use Rattle.listing_text.specs.declared.cause.Cause.TheVariants as cause
 use Rattle.listing_text.specs.declared.refusal.Refusal.TheVariants.{BadClock}
 use Rattle.daemon_turn.specs.declared.kid.Kid.{Kid}
-use Rattle.daemon_turn.specs.declared.report.TurnEnd.{TurnEnd}
-use Rattle.daemon_turn.specs.declared.report.TurnEnd.TheVariants.{Done, Busy, FileFault, Damaged, Memory}
+use Rattle.host_session.specs.declared.turn_end.TurnEnd.{TurnEnd}
+use Rattle.host_session.specs.declared.turn_end.TurnEnd.TheVariants.{Done, Busy, FileFault, Damaged, Memory}
 use Rattle.serving.specs.Items.{Item, ends_after, first_end, last_item}
 use Rattle.serving.specs.Serves.{ServeAt, StopsAtClock}
 use Rattle.serving.specs.declared.outcome.Outcome.{Outcome}

@@ -1,6 +1,6 @@
 -- What is served with, at a moment, and what serving leaves of it (own).
 use Rattle.std.specs.Prelude.{◌≡◌, ◌≢◌, ℕ, Bool, List}
-use Rattle.command_rules.specs.Sinks.{SinkAt, sink_at}
+use Rattle.cause_output.specs.Sinks.{SinkAt, sink_at}
 use Rattle.daemon_turn.specs.Daemons.{DaemonState}
 use Rattle.daemon_turn.specs.Kids.{KeepsChildren}
 use Rattle.host_calls.specs.Causes.{Rose}

@@ -2,7 +2,7 @@
 use Rattle.std.specs.Prelude.{◌≡◌, ◌≤◌, ℕ, Bool, true, false, List, length}
 use Rattle.host_calls.specs.Causes.{Rose}
 use Rattle.listing_text.specs.declared.cause.Cause.{Cause}
-use Rattle.command_rules.specs.Sinks.{IsCut, IsPut, IsPutInPart, SinkAt}
+use Rattle.cause_output.specs.Sinks.{IsCut, IsPut, IsPutInPart, SinkAt}
 use Rattle.cause_output.specs.Saying.{IsSaid}
 use Rattle.serving.specs.Items.{Item, but_last}
 use Rattle.serving.specs.Lines.{SaysEnds, daemon_name, turn_lines}

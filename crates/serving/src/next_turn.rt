@@ -1,6 +1,6 @@
 //! One turn of serving: the readings are asked, the turn is made, and what it did is printed and said.
 ghost use Rattle.std.specs.Prelude.{◌≡◌, List};
-ghost use Rattle.command_rules.specs.Sinks.{SinkAt, sink_at};
+ghost use Rattle.cause_output.specs.Sinks.{SinkAt, sink_at};
 ghost use Rattle.cause_output.specs.Ends.{SaysEndOr};
 ghost use Rattle.daemon_turn.specs.Kids.{AreChildren, KeepsChildren};
 ghost use Rattle.host_calls.specs.Session.{IsOutside, KeepsCounts};

@@ -1,6 +1,6 @@
 //! The last line of serving.
 ghost use Rattle.std.specs.Prelude.{◌≡◌};
-ghost use Rattle.command_rules.specs.Sinks.{sink_at};
+ghost use Rattle.cause_output.specs.Sinks.{sink_at};
 ghost use Rattle.serving.specs.Lines.{daemon_name};
 ghost use Rattle.serving.specs.Serving.{SaysOutcome};
 

@@ -4,10 +4,10 @@ use Rattle.std.specs.Prelude.{Result, Ok, Err, IfOk, IfErr, IsErr, IsErrAnd, fal
 use Rattle.at_words.specs.Answers.{Answers}
 use Rattle.at_words.specs.declared.fault.WordsFault.{WordsFault}
 use Rattle.at_words.specs.declared.fault.WordsFault.TheVariants as words
-use Rattle.command_rules.specs.Causes.{cause_in, cause_of_entry, cause_of_host, error_of, words_cause}
-use Rattle.command_rules.specs.declared.command_error.CommandError.{CommandError}
-use Rattle.command_rules.specs.Sinks.{IsPut, IsPutInPart, SinkAt}
-use Rattle.command_rules.proofs.SpoolLemmas.{goes_on_none}
+use Rattle.cause_output.specs.Causes.{cause_in, cause_of_entry, cause_of_host, error_of, words_cause}
+use Rattle.cause_output.specs.declared.command_error.CommandError.{CommandError}
+use Rattle.cause_output.specs.Sinks.{IsPut, IsPutInPart, SinkAt}
+use Rattle.host_calls.proofs.WorldLemmas.{goes_on_none}
 use Rattle.cause_output.proofs.PutLemmas.{part_of_put}
 use Rattle.host_calls.specs.Causes.{Rose}
 use Rattle.host_calls.specs.declared.damage.Damage.{Damage}

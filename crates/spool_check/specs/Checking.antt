@@ -2,8 +2,8 @@
 use Rattle.std.specs.Prelude.{◌≡◌, ◌≢◌, ◌⊎◌, [], ℕ, Bool, true, false, List, Result, Ok, Err, codes}
 use Rattle.at_words.specs.declared.fault.WordsFault.{WordsFault}
 use Rattle.cause_output.specs.Saying.{IsSaid}
-use Rattle.command_rules.specs.Causes.{words_cause}
-use Rattle.command_rules.specs.Sinks.{IsCut, IsPut, IsPutInPart, SinkAt}
+use Rattle.cause_output.specs.Causes.{words_cause}
+use Rattle.cause_output.specs.Sinks.{IsCut, IsPut, IsPutInPart, SinkAt}
 use Rattle.host_calls.specs.declared.damage.Damage.{Damage}
 use Rattle.host_calls.specs.Folder.{Files}
 use Rattle.host_calls.specs.World.{World, reading}

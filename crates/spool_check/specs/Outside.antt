@@ -1,6 +1,6 @@
 -- The folders and the streams that the checker is handed, at a moment (own).
 use Rattle.std.specs.Prelude.{◌≡◌, ◌⊎◌, ℕ, Bool, true, List}
-use Rattle.command_rules.specs.Sinks.{SinkAt, sink_at}
+use Rattle.cause_output.specs.Sinks.{SinkAt, sink_at}
 use Rattle.host_calls.specs.Causes.{Rose}
 use Rattle.host_calls.specs.declared.host.Host as host
 use Rattle.host_calls.specs.declared.sink.Sink as sink

@@ -1,6 +1,6 @@
 //! Saving what can be saved of the folder that is checked.
 ghost use Rattle.std.specs.Prelude.{◌≡◌, true, IfErr, IsTrue};
-ghost use Rattle.command_rules.specs.Causes.{cause_in, error_of};
+ghost use Rattle.cause_output.specs.Causes.{cause_in, error_of};
 ghost use Rattle.host_calls.specs.Session.{IsInside, IsLeft, IsOutside, StaysInside};
 ghost use Rattle.host_calls.specs.World.{reading};
 ghost use Rattle.spool_check.specs.Checking.{Checks, IsChecked, Writes};
@@ -9,7 +9,7 @@ ghost use Rattle.spool_check.specs.Outside.{HasRisen, folder_at, outside_at, str
 ghost use Rattle.spool_faults.specs.Plan.{IsPlanOf};
 
 use crate::tell::tell;
-use command_rules::CommandError;
+use cause_output::CommandError;
 use host_calls::{Host, Sink};
 use listing_text::{Cause, Refusal};
 use spool_faults::{Plan, take_survey};

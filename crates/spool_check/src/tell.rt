@@ -1,12 +1,12 @@
 //! Telling the faults of a folder.
 ghost use Rattle.std.specs.Prelude.{◌≡◌};
 ghost use Rattle.cause_output.specs.Putting.{PutsLines, lines_of};
-ghost use Rattle.command_rules.specs.Sinks.{sink_at};
+ghost use Rattle.cause_output.specs.Sinks.{sink_at};
 ghost use Rattle.listing_text.specs.Cause.{fault_line_of};
 ghost use Rattle.spool_check.specs.inside.Looking.{Tells};
 ghost use Rattle.spool_check.specs.Telling.{verdict_of};
 
-use command_rules::CommandError;
+use cause_output::CommandError;
 use host_calls::{Damage, Sink, SinkFault};
 use listing_text::{Cause, fault_line};
 use std::alloc::Global;

@@ -4,4 +4,5 @@ pub mod Laws
 pub mod Lists
 pub mod Numbers
 pub mod Steps
+pub mod StepsOf
 pub mod Users

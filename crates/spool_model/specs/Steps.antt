@@ -4,6 +4,7 @@ use Rattle.std.specs.FinMap as map
 use Rattle.spool_model.specs.declared.entry.Entry.TheVariants.{Live, Done}
 use Rattle.spool_model.specs.declared.fate.Fate.TheVariants.{Removed, Finished, Interrupted}
 use Rattle.spool_model.specs.declared.state.State.TheVariants.{Pending, Running}
+use Rattle.spool_model.specs.declared.job.Job.{Job}
 use Rattle.spool_model.specs.declared.step.Step.{Step}
 use Rattle.spool_model.specs.declared.step.Step.TheVariants.{Draw, Accept, Remove, Start, End, Interrupt, Forget}
 use Rattle.spool_model.specs.declared.number.TheConstants.{LAST_NUMBER}
@@ -99,3 +100,7 @@ plus_accepted number _ times = times
 abbrev pub times_accepted : ℕ → List Step → ℕ
 times_accepted number [] = 0
 times_accepted number (step ∷ later) = plus_accepted number step (times_accepted number later)
+
+-- the steps of a submission: the next number is drawn, and the job accepted under it
+abbrev pub submission : JobTable → Job → List Step
+submission table job = Draw ∷ Accept (table.last + 1) job ∷ []

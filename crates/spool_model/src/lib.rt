@@ -15,6 +15,7 @@ mod row;
 mod state;
 mod step;
 mod table;
+mod turn_step;
 mod user_name;
 
 pub use decided::{Decided, MAX_DONE};
@@ -27,8 +28,9 @@ pub use laws::{
 };
 pub use number::{LAST_NUMBER, number_digits};
 pub use queue::is_batch;
-pub use row::Row;
+pub use row::{MAX_LIVE, Row};
 pub use state::State;
 pub use step::Step;
 pub use table::Table;
+pub use turn_step::TurnStep;
 pub use user_name::{MAX_USER_NAME, UserName};

@@ -11,11 +11,11 @@ use Rattle.step_runs.proofs.AttemptLemmas.{recoveries_begin_nothing}
 use Rattle.host_calls.specs.Damages.{IfDamaged}
 use Rattle.host_calls.specs.declared.fault.HostFault.{HostFault}
 use Rattle.host_calls.specs.declared.fault.HostFault.TheVariants as host
-use Rattle.spool_store.specs.declared.fault.StoreFault.{StoreFault}
-use Rattle.spool_store.specs.declared.fault.StoreFault.TheVariants as store
-use Rattle.spool_store.specs.Faults.{IsOfReading}
+use Rattle.host_calls.specs.declared.store_fault.StoreFault.{StoreFault}
+use Rattle.host_calls.specs.declared.store_fault.StoreFault.TheVariants as store
+use Rattle.host_calls.specs.StoreFaults.{IsOfReading}
 use Rattle.spool_store.specs.Recovering.{IsRecovered, Recovered}
-use Rattle.command_rules.specs.Causes.{cause_of, cause_of_host}
+use Rattle.cause_output.specs.Causes.{cause_of, cause_of_host}
 use Rattle.command_rules.specs.Sessions.{AreListsIn, IsNotOpened, IsOpened, faults, lists_lack_memory, is_damaged, lacks_memory, lists_fault}
 
 -- a list could not be read

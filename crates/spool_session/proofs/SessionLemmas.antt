@@ -10,11 +10,11 @@ use Rattle.host_session.proofs.SessionLemmas.{counts_on}
 use Rattle.host_session.specs.Work.{Calls, IsDoneInside, IsUndone}
 use Rattle.listing_text.specs.declared.cause.Cause.{Cause}
 use Rattle.listing_text.specs.declared.cause.Cause.TheVariants.{Done, Refused, FileFault, InputFault, OutputFault, Busy, Memory, Damaged, StillRunning, Faulty}
-use Rattle.command_rules.specs.Causes.{cause_in, cause_of_entry, error_of}
-use Rattle.command_rules.specs.declared.command_error.CommandError.{CommandError}
+use Rattle.cause_output.specs.Causes.{cause_in, cause_of_entry, error_of}
+use Rattle.cause_output.specs.declared.command_error.CommandError.{CommandError}
 use Rattle.command_rules.specs.Checks.{check_of, place_of}
 use Rattle.command_rules.specs.Ends.{StopsBeforeLock}
-use Rattle.command_rules.proofs.SpoolLemmas.{goes_on_then}
+use Rattle.host_calls.proofs.WorldLemmas.{goes_on_then}
 use Rattle.spool_session.specs.Sessions.{ComesOfSession, HasRisenIn, IsOfSession, IsWork, StaysQuiet, WorksInside}
 
 -- a count that rose on the way has risen in all

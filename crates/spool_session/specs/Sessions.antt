@@ -10,10 +10,10 @@ use Rattle.host_calls.specs.World.{GoesOn}
 use Rattle.host_session.specs.Work.{Calls, IsDoneInside, IsUndone}
 use Rattle.listing_text.specs.declared.cause.Cause.{Cause}
 use Rattle.listing_text.specs.declared.cause.Cause.TheVariants.{Done, Refused, FileFault, InputFault, OutputFault, Busy, Memory, Damaged, StillRunning, Faulty}
-use Rattle.command_rules.specs.Causes.{cause_of_entry, error_of}
+use Rattle.cause_output.specs.Causes.{cause_of_entry, error_of}
 use Rattle.command_rules.specs.Checks.{check_of, is_before, of_lock}
 use Rattle.command_rules.specs.Ends.{StopsBeforeLock}
-use Rattle.command_rules.specs.declared.command_error.CommandError.{CommandError}
+use Rattle.cause_output.specs.declared.command_error.CommandError.{CommandError}
 
 -- a cause that comes within a session: the lock was had, and the inputs were read before
 abbrev pub IsOfSession : Cause → Type 0

@@ -3,8 +3,8 @@ ghost use Rattle.std.specs.Prelude.{◌≡◌, IfErr, IfOk, IsTrue};
 ghost use Rattle.host_calls.specs.Session.{CallsInside, IsInside};
 ghost use Rattle.host_calls.specs.World.{GoesOn};
 ghost use Rattle.listing_text.specs.declared.cause.Cause.TheVariants as cause;
-ghost use Rattle.command_rules.specs.Causes.{error_of};
-ghost use Rattle.command_rules.specs.declared.command_error.CommandError.{CommandError as Stop};
+ghost use Rattle.cause_output.specs.Causes.{error_of};
+ghost use Rattle.cause_output.specs.declared.command_error.CommandError.{CommandError as Stop};
 ghost use Rattle.command_rules.specs.Sessions.{IsNotOpened, IsOpened};
 
 use crate::lists::{are_permitting, read_lists};

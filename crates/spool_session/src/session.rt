@@ -1,6 +1,6 @@
 //! The session of a command, round its work.
 ghost use Rattle.host_calls.specs.Session.{IsOutside};
-ghost use Rattle.command_rules.specs.Causes.{cause_in};
+ghost use Rattle.cause_output.specs.Causes.{cause_in};
 ghost use Rattle.spool_session.specs.Sessions.{EndsSession, HasRisenIn, IsWork, MayWorkInside, StaysQuiet};
 
 use command_rules::CommandError;

@@ -25,7 +25,7 @@ use Rattle.sequence_file.proofs.LastNumbers.{last_given, last_spelled}
 use Rattle.spool_shows.proofs.StepLaws.{accepts_are_shown, by_name, draws_are_shown, shown}
 use Rattle.step_runs.specs.Calls.{IsSteppingOn}
 use Rattle.step_runs.specs.Current.{EachShows, IsSpoolName}
-use Rattle.spool_store.specs.Submitting.{submission}
+use Rattle.spool_model.specs.Steps.{submission}
 
 -- where each image shows the table, each gives its last number
 pub each_gives : (folder : Folder) (table : JobTable) → EachShows folder table → EachGives table.last folder

@@ -19,8 +19,8 @@ use Rattle.step_runs.proofs.HandsLemmas.{steps_then}
 use Rattle.step_runs.proofs.MadeLemmas.{no_steps_are_made}
 use Rattle.step_runs.proofs.RunLemmas.{prefixes_run_as_the_steps}
 use Rattle.step_runs.proofs.TurnLemmas.{fault_after, legal_when_kept, step_after}
-use Rattle.spool_store.specs.declared.fault.StoreFault.{StoreFault}
-use Rattle.spool_store.specs.declared.fault.StoreFault.TheVariants.{FileFault}
+use Rattle.host_calls.specs.declared.store_fault.StoreFault.{StoreFault}
+use Rattle.host_calls.specs.declared.store_fault.StoreFault.TheVariants.{FileFault}
 use Rattle.spool_store.specs.Making.{AreChanges, IsChange, MakesSteps, MayMakeSteps}
 use Rattle.spool_store.specs.Stepping.{MakesStep, MayStep}
 

@@ -28,11 +28,11 @@ use Rattle.spool_shows.proofs.OtherLemmas.{other_files_count_for_nothing}
 use Rattle.spool_shows.proofs.StepLaws.{by_name}
 use Rattle.step_runs.specs.Calls.{ShowsAsBefore}
 use Rattle.step_runs.specs.Current.{HaveForms, IsCurrent, IsSpoolName, Kept}
-use Rattle.spool_store.specs.declared.fault.StoreFault.{StoreFault}
-use Rattle.spool_store.specs.declared.fault.StoreFault.TheVariants.{Damaged, FileFault, Memory, NumbersUsedUp, QueueFull}
+use Rattle.host_calls.specs.declared.store_fault.StoreFault.{StoreFault}
+use Rattle.host_calls.specs.declared.store_fault.StoreFault.TheVariants.{Damaged, FileFault, Memory, NumbersUsedUp, QueueFull}
 use Rattle.spool_store.specs.declared.survey.Survey.{Survey}
 use Rattle.host_calls.specs.Damages.{IfDamaged}
-use Rattle.spool_store.specs.Faults.{IsOfReading, fault_of}
+use Rattle.host_calls.specs.StoreFaults.{IsOfReading, fault_of}
 use Rattle.spool_store.specs.inside.Survey.{IsSurvey, is_left_over}
 use Rattle.spool_store.specs.Recovering.{IsRecovered, Recovered, ShowsAsBeforeNewFormNames, ShowsTheSame}
 use Rattle.whole_file.proofs.ChangesJoined.{changes_join}

@@ -16,13 +16,15 @@ use Rattle.step_runs.specs.WithoutScripts.{without_scripts}
 use Rattle.spool_shows.specs.JobFiles.{job_files}
 use Rattle.sequence_file.specs.LastNumber.{last_in}
 use Rattle.spool_shows.specs.Shown.{damage_of_jobs, shown_after_journal, shown_after_last, shown_by, shown_by_files, table_or_damage, table_shown}
-use Rattle.spool_store.specs.declared.fault.StoreFault.{StoreFault}
-use Rattle.spool_store.specs.declared.fault.StoreFault.TheVariants.{Damaged}
+use Rattle.host_calls.specs.declared.store_fault.StoreFault.{StoreFault}
+use Rattle.host_calls.specs.declared.store_fault.StoreFault.TheVariants.{Damaged}
 use Rattle.spool_store.specs.declared.surveyed_files.SurveyedFiles.{SurveyedFiles}
 use Rattle.spool_store.specs.declared.survey.Survey.{Survey}
 use Rattle.spool_store.specs.declared.surveyed_job.SurveyedJob.{SurveyedJob}
 use Rattle.host_calls.specs.Damages.{IfDamaged}
-use Rattle.spool_store.specs.Faults.{IsFound, fault_of_journal, fault_of_sequence}
+use Rattle.host_calls.specs.StoreFaults.{IsFound}
+use Rattle.sequence_file.specs.Faults.{fault_of_sequence}
+use Rattle.start_journal.specs.JournalFaults.{fault_of_journal}
 use Rattle.std.specs.List.{filter}
 use Rattle.spool_store.specs.inside.Survey.{AreSurveyedFiles, IsSurvey, is_left_over}
 use Rattle.spool_store.specs.inside.SurveyedJobs.{files_surveyed, old_form_numbers}

@@ -24,9 +24,9 @@ use Rattle.step_runs.specs.Calls.{IsSteppingOn, StoreCall}
 use Rattle.step_runs.specs.Current.{HaveForms, IsCurrent, Kept, is_new_form}
 use Rattle.step_runs.proofs.WithoutScriptsLemmas.{entries_are_without_scripts, legal_as_on_the_table, steps_as_on_the_table}
 use Rattle.spool_shows.specs.Laws.{AddsMark}
-use Rattle.spool_store.specs.declared.fault.StoreFault.{StoreFault}
-use Rattle.spool_store.specs.declared.fault.StoreFault.TheVariants.{FileFault}
-use Rattle.spool_store.specs.Faults.{IsOfStep}
+use Rattle.host_calls.specs.declared.store_fault.StoreFault.{StoreFault}
+use Rattle.host_calls.specs.declared.store_fault.StoreFault.TheVariants.{FileFault}
+use Rattle.host_calls.specs.StoreFaults.{IsOfStep}
 use Rattle.spool_store.specs.inside.Marking.{HaveOneMore, IsDecisionOf, IsMarkOf, IsMarked, KeepsFiles, kept_with}
 use Rattle.spool_store.specs.Scripts.{IsFileOf}
 use Rattle.spool_store.specs.Stepping.{HasItsMark, MakesStep, with_room}

@@ -15,21 +15,21 @@ use Rattle.spool_model.specs.declared.row.Row.{Row}
 use Rattle.spool_model.specs.declared.step.Step.{Step}
 use Rattle.spool_model.specs.declared.step.Step.TheVariants.{Draw, Accept}
 use Rattle.spool_model.specs.JobTable.{JobTable}
-use Rattle.spool_model.specs.Steps.{after_step, after_steps}
+use Rattle.spool_model.specs.Steps.{after_step, after_steps, submission}
 use Rattle.start_journal.specs.Journals.{JournalRead}
 use Rattle.spool_shows.specs.Shown.{user_of}
 use Rattle.step_runs.specs.WithoutScripts.{job_without_script}
 use Rattle.step_runs.specs.Calls.{StoreCall}
 use Rattle.step_runs.specs.Current.{IsCurrent, Kept}
-use Rattle.spool_store.specs.declared.fault.StoreFault.{StoreFault}
+use Rattle.host_calls.specs.declared.store_fault.StoreFault.{StoreFault}
 use Rattle.spool_store.specs.Listed.{ListsLive}
 use Rattle.spool_store.specs.Stored.{IsStored}
-use Rattle.spool_store.specs.Submitting.{IsFull, IsNextNumber, IsNextOn, IsUsedUp, job_of_script, kept_of, submission, with_job}
+use Rattle.spool_store.specs.Submitting.{IsFull, IsNextNumber, IsNextOn, IsUsedUp, job_of_script, kept_of, with_job}
 use Rattle.spool_model.specs.Lists.{live_count}
 use Rattle.spool_store.proofs.CountLemmas.{rows_counted}
 use Rattle.spool_store.proofs.SurveyedJobLemmas.{user_read}
 use Rattle.spool_store.proofs.SubmittedFolders.{last_without_scripts}
-use Rattle.spool_store.specs.declared.submit.TheConstants.{MAX_LIVE}
+use Rattle.spool_model.specs.declared.row.TheConstants.{MAX_LIVE}
 
 -- nothing is not something
 not_some : (found : Option (List ℕ × Bool)) → found ≡ None → IsSome found → ⊥

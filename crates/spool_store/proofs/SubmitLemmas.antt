@@ -21,7 +21,8 @@ use Rattle.sequence_file.proofs.LastNumbers.{last_given}
 use Rattle.job_name.proofs.NamedJobs.{name_given}
 use Rattle.step_runs.specs.Calls.{IsSteppingOn, StoreCall}
 use Rattle.step_runs.specs.Current.{EachShows, Kept}
-use Rattle.spool_store.specs.Submitting.{HasNewFormFile, IsNextOn, job_of_script, submission, with_job_if}
+use Rattle.spool_store.specs.Submitting.{HasNewFormFile, IsNextOn, job_of_script, with_job_if}
+use Rattle.spool_model.specs.Steps.{submission}
 use Rattle.whole_file.proofs.ChangesJoined.{changes_end, changes_on, changes_weaker, left_alone}
 use Rattle.spool_store.proofs.DrawnFolders.{IsAfterDraw, IsFileOfNext, drawing_steps, each_gives, placing_steps}
 use Rattle.spool_store.proofs.SubmittedFolders.{IsSubmitted, keeps_others, submitted_current}

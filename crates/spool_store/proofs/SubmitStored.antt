@@ -8,7 +8,7 @@ use Rattle.spool_model.specs.declared.job.Job.{Job}
 use Rattle.spool_model.specs.declared.number.TheConstants.{LAST_NUMBER}
 use Rattle.spool_model.specs.declared.state.State.TheVariants.{Pending}
 use Rattle.spool_model.specs.JobTable.{IsDrawn, IsSound, JobEntry, JobTable, entry_at}
-use Rattle.spool_model.specs.Steps.{AreLegal}
+use Rattle.spool_model.specs.Steps.{AreLegal, submission}
 use Rattle.spool_model.proofs.StepLemmas.{steps_keep_the_table_sound}
 use Rattle.spool_model.proofs.TableLemmas.{get-put_other, get-put_same}
 use Rattle.start_journal.specs.declared.mark.Mark.{Mark}
@@ -19,7 +19,7 @@ use Rattle.spool_shows.proofs.FreshNumbers.{fresh_unnamed}
 use Rattle.step_runs.specs.WithoutScripts.{job_without_script}
 use Rattle.step_runs.specs.Current.{Kept}
 use Rattle.spool_store.specs.Stored.{CanBeNamed, IsEntryBy, IsLiveBy, IsStored}
-use Rattle.spool_store.specs.Submitting.{submission, with_job}
+use Rattle.spool_store.specs.Submitting.{with_job}
 
 -- no job has the next number
 next_is_free : (table : JobTable) → IsSound table → entry_at table (table.last + 1) ≡ None

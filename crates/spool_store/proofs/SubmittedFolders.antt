@@ -10,7 +10,7 @@ use Rattle.whole_file.specs.Temporary.{temporary_file}
 use Rattle.spool_model.specs.declared.job.Job.{Job}
 use Rattle.spool_model.specs.declared.step.Step.TheVariants.{Draw, Accept}
 use Rattle.spool_model.specs.JobTable.{JobTable}
-use Rattle.spool_model.specs.Steps.{after_step, after_steps}
+use Rattle.spool_model.specs.Steps.{after_step, after_steps, submission}
 use Rattle.start_journal.specs.Changing.{Gives}
 use Rattle.start_journal.specs.Journals.{are_drawn, journal_file}
 use Rattle.start_journal.specs.Marks.{is_decided}
@@ -24,7 +24,7 @@ use Rattle.step_runs.specs.WithoutScripts.{without_scripts, job_without_script}
 use Rattle.step_runs.specs.Calls.{KeepsOthers}
 use Rattle.step_runs.specs.Current.{EachShows, HaveForms, IsCurrent, Kept, is_new_form}
 use Rattle.step_runs.proofs.WithoutScriptsLemmas.{steps_as_on_the_table}
-use Rattle.spool_store.specs.Submitting.{IsNextOn, submission, with_job}
+use Rattle.spool_store.specs.Submitting.{IsNextOn, with_job}
 use Rattle.spool_store.proofs.DrawnFolders.{IsAfterDraw, IsFileOfNext, accepted, not_either, sequence_differs}
 
 -- the table without scripts, after a submission

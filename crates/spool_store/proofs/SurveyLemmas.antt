@@ -19,10 +19,10 @@ use Rattle.spool_shows.specs.JobFiles.{JobFile, damage_of, file_of, file_place, 
 use Rattle.job_script.specs.HeaderIn.{header_in}
 use Rattle.spool_shows.proofs.MarkTests.{neither}
 use Rattle.spool_shows.proofs.StartLemmas.{number_passes}
-use Rattle.spool_store.specs.declared.fault.StoreFault.{StoreFault}
-use Rattle.spool_store.specs.declared.fault.StoreFault.TheVariants.{Damaged}
+use Rattle.host_calls.specs.declared.store_fault.StoreFault.{StoreFault}
+use Rattle.host_calls.specs.declared.store_fault.StoreFault.TheVariants.{Damaged}
 use Rattle.spool_store.specs.declared.surveyed_job.SurveyedJob.{SurveyedJob}
-use Rattle.spool_store.specs.Faults.{IsFound}
+use Rattle.host_calls.specs.StoreFaults.{IsFound}
 use Rattle.spool_store.specs.inside.SurveyedJobs.{file_surveyed, files_surveyed}
 use Rattle.spool_store.specs.inside.JobRows.{AreRowsOf, IsSurveyedSoFar, HaveNumbers, IsRowOrDamage, RowMap, numbers_after, row_of}
 use Rattle.start_journal.proofs.LifecycleLemmas.{or_nothing}

@@ -3,12 +3,12 @@ use Rattle.std.proofs.Common.{◌≡◌, List, ℕ, ap, refl}
 use Rattle.std.specs.Prelude.{Bool, Some}
 use Rattle.job_script.specs.declared.context.Context.{Context}
 use Rattle.job_script.specs.HeaderIn.{header_in}
-use Rattle.job_script.specs.JobText.{text_for}
+use Rattle.job_script.specs.JobText.{text_for, job_for}
 use Rattle.job_script.proofs.HeaderInLemmas.{header_in-some}
 use Rattle.spool_model.specs.Users.{IsUserName}
 use Rattle.spool_model.specs.declared.job.Job.{Job}
 use Rattle.spool_shows.specs.Shown.{user_of}
-use Rattle.spool_store.specs.Submitting.{job_for, job_of_script}
+use Rattle.spool_store.specs.Submitting.{job_of_script}
 
 -- it begins with the header of its user
 pub header_of_written : (context : Context) (mail : Bool) (commands : List ℕ) → IsUserName context.user →

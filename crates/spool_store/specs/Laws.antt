@@ -5,9 +5,8 @@ use Rattle.spool_model.specs.declared.job.Job.{Job}
 use Rattle.spool_model.specs.declared.row.Row.{Row}
 use Rattle.spool_model.specs.JobTable.{JobTable}
 use Rattle.spool_model.specs.Lists.{done_count, done_numbers, live_count, live_rows}
-use Rattle.spool_model.specs.Steps.{after_steps}
+use Rattle.spool_model.specs.Steps.{after_steps, submission}
 use Rattle.spool_store.specs.Listed.{ListsDecided, ListsLive}
-use Rattle.spool_store.specs.Submitting.{submission}
 
 -- the rows of a table are its live rows, and as many as its live jobs
 abbrev pub RowsAreLive : Type 0

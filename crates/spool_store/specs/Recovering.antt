@@ -7,8 +7,8 @@ use Rattle.spool_shows.specs.OldForm.{HasNoNewFormName, ShowsOldForm}
 use Rattle.spool_shows.specs.Shown.{shown_by}
 use Rattle.step_runs.specs.Calls.{KeepsOthers}
 use Rattle.step_runs.specs.Current.{IsCurrent, IsSpoolName, Kept}
-use Rattle.spool_store.specs.declared.fault.StoreFault.{StoreFault}
-use Rattle.spool_store.specs.declared.fault.StoreFault.TheVariants.{Damaged, FileFault, Memory, NumbersUsedUp, QueueFull}
+use Rattle.host_calls.specs.declared.store_fault.StoreFault.{StoreFault}
+use Rattle.host_calls.specs.declared.store_fault.StoreFault.TheVariants.{Damaged, FileFault, Memory, NumbersUsedUp, QueueFull}
 
 -- The reading showed a table, and what is kept is current with it. Other files read as before, and are certain: each
 -- image has them so.

@@ -12,9 +12,9 @@ use Rattle.start_journal.specs.Compaction.{wants_compaction}
 use Rattle.start_journal.specs.Journals.{JournalRead}
 use Rattle.step_runs.specs.Calls.{StoreCall}
 use Rattle.step_runs.specs.Current.{IsCurrent, Kept}
-use Rattle.spool_store.specs.declared.fault.StoreFault.{StoreFault}
-use Rattle.spool_store.specs.declared.fault.StoreFault.TheVariants.{FileFault}
-use Rattle.spool_store.specs.Faults.{IsOfStep}
+use Rattle.host_calls.specs.declared.store_fault.StoreFault.{StoreFault}
+use Rattle.host_calls.specs.declared.store_fault.StoreFault.TheVariants.{FileFault}
+use Rattle.host_calls.specs.StoreFaults.{IsOfStep}
 
 -- The step may be made: a session is on, the step is legal, and on a host that tells its files what is kept is current.
 pub record MayStep (tells : Bool) (session : Session) (world : World) (kept : Kept) (step : Step) : Type 0 where

@@ -1,23 +1,19 @@
 -- A submission (own): whether there is room for its job, and the steps that it makes.
-use Rattle.std.specs.Prelude.{◌≡◌, ◌≤◌, ◌<◌, ◌+◌, [], ◌∷◌, ℕ, Bool, true, List, Some, Result, Ok, Err}
+use Rattle.std.specs.Prelude.{◌≡◌, ◌≤◌, ◌<◌, ◌+◌, ℕ, true, List, Some, Result, Ok, Err}
 use Rattle.std.specs.FinMap as finite
 use Rattle.host_calls.specs.Folder.{Folder, reading_of}
 use Rattle.job_name.specs.JobName.{SpellsJobName}
-use Rattle.job_script.specs.declared.context.Context.{Context}
 use Rattle.job_script.specs.HeaderIn.{header_in}
-use Rattle.job_script.specs.JobText.{text_for}
 use Rattle.spool_model.specs.declared.job.Job.{Job}
 use Rattle.spool_model.specs.declared.number.TheConstants.{LAST_NUMBER}
-use Rattle.spool_model.specs.declared.step.Step.{Step}
-use Rattle.spool_model.specs.declared.step.Step.TheVariants.{Draw, Accept}
 use Rattle.spool_model.specs.JobTable.{JobTable}
-use Rattle.spool_model.specs.Steps.{after_steps}
+use Rattle.spool_model.specs.Steps.{after_steps, submission}
 use Rattle.spool_shows.specs.Shown.{user_of}
 use Rattle.step_runs.specs.WithoutScripts.{job_without_script}
 use Rattle.step_runs.specs.Current.{IsCurrent, Kept}
-use Rattle.spool_store.specs.declared.fault.StoreFault.{StoreFault}
-use Rattle.spool_store.specs.declared.fault.StoreFault.TheVariants.{FileFault, Memory, NumbersUsedUp, QueueFull, Damaged}
-use Rattle.spool_store.specs.declared.submit.TheConstants.{MAX_LIVE}
+use Rattle.host_calls.specs.declared.store_fault.StoreFault.{StoreFault}
+use Rattle.host_calls.specs.declared.store_fault.StoreFault.TheVariants.{FileFault, Memory, NumbersUsedUp, QueueFull, Damaged}
+use Rattle.spool_model.specs.declared.row.TheConstants.{MAX_LIVE}
 use Rattle.spool_store.specs.Stored.{IsStored}
 use Rattle.spool_model.specs.Lists.{live_count}
 
@@ -48,18 +44,9 @@ pub record IsNextNumber (table : JobTable) (number : ℕ) : Type 0 where
   pub room : HasRoom table
   pub next : number ≡ table.last + 1
 
--- the job of who submits: the user, the minute, and a text that does the commands as the user would
-abbrev pub job_for : Context → ℕ → Bool → ℕ → List ℕ → Job
-job_for context queue mail minute commands =
-    record { queue = queue; minute = minute; user = context.user; script = text_for context mail commands }
-
 -- the job of a script: its user is that of the script's header
 abbrev pub job_of_script : ℕ → ℕ → List ℕ → Job
 job_of_script queue minute script = record { queue = queue; minute = minute; user = user_of (header_in script); script = script }
-
--- the steps of a submission: the next number is drawn, and the job accepted under it
-abbrev pub submission : JobTable → Job → List Step
-submission table job = Draw ∷ Accept (table.last + 1) job ∷ []
 
 -- What is kept is current with the table, and this is the number after its last one.
 pub record IsNextOn (kept : Kept) (folder : Folder) (table : JobTable) (number : ℕ) : Type 0 where

@@ -6,12 +6,12 @@ ghost use Rattle.spool_model.specs.declared.row.Row.{Row};
 ghost use Rattle.spool_shows.specs.JobFiles.{files_damage};
 ghost use Rattle.spool_shows.specs.Shown.{state_since};
 ghost use Rattle.start_journal.specs.declared.mark.Mark.{Mark};
-ghost use Rattle.spool_store.specs.Faults.{IsFound};
+ghost use Rattle.host_calls.specs.StoreFaults.{IsFound};
 ghost use Rattle.start_journal.specs.Lifecycles.{TellLifecycles};
 ghost use Rattle.spool_store.specs.inside.JobRows.{AreRowsOf, HaveNumbers, IsRowOrDamage};
 ghost use Rattle.spool_store.specs.inside.SurveyedJobs.{file_surveyed, files_surveyed};
 
-use crate::fault::StoreFault;
+use crate::StoreFault;
 use crate::surveyed_job::SurveyedJob;
 use host_calls::Damage;
 use spool_model::{Row, State};

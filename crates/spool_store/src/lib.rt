@@ -2,7 +2,6 @@
 #![tactic(auto)]
 
 mod changes;
-mod fault;
 mod job_rows;
 mod jobs;
 mod laws;
@@ -21,11 +20,11 @@ mod surveyed_job;
 mod tables;
 
 pub use due_lines::Due;
-pub use fault::StoreFault;
+pub use host_calls::StoreFault;
 pub(crate) use jobs::Jobs;
 pub use laws::{
     changes_beside_show_the_same, lists_are_of_the_table, stores_stay_current_beside,
     submissions_add_one_job,
 };
+pub use spool_model::MAX_LIVE;
 pub use store::Store;
-pub use submit::MAX_LIVE;

@@ -5,7 +5,7 @@ ghost use Rattle.host_calls.specs.World.{reading};
 ghost use Rattle.whole_file.specs.Others.{ChangesFiles};
 ghost use Rattle.step_runs.specs.Calls.{ShowsAsBefore};
 ghost use Rattle.host_calls.specs.Damages.{IfDamaged};
-ghost use Rattle.spool_store.specs.Faults.{IsOfReading};
+ghost use Rattle.host_calls.specs.StoreFaults.{IsOfReading};
 ghost use Rattle.spool_store.specs.Recovering.{Recovered, ShowsAsBeforeNewFormNames};
 
 use crate::survey::{Survey, take_survey};

@@ -5,23 +5,20 @@ ghost use Rattle.clock_range.specs.ClockRange.{IsClockMinute};
 ghost use Rattle.host_calls.specs.Session.{CallsInside, IsInside};
 ghost use Rattle.job_script.specs.HeaderIn.{header_in};
 ghost use Rattle.spool_model.specs.JobTable.{JobTable};
-ghost use Rattle.spool_model.specs.Steps.{after_steps};
+ghost use Rattle.spool_model.specs.Steps.{after_steps, submission};
 ghost use Rattle.step_runs.specs.WithoutScripts.{job_without_script};
 ghost use Rattle.step_runs.specs.Calls.{StoreCall};
 ghost use Rattle.step_runs.specs.Current.{IsCurrent, Kept};
-ghost use Rattle.spool_store.specs.Submitting.{HasNewFormFile, IsAnswerOn, IsNextNumber, IsNextOn, IsRefusal, job_of_script, kept_of, submission, with_job_if};
+ghost use Rattle.spool_store.specs.Submitting.{HasNewFormFile, IsAnswerOn, IsNextNumber, IsNextOn, IsRefusal, job_of_script, kept_of, with_job_if};
 
 use crate::{Store, StoreFault};
 use host_calls::{Host, HostFault};
 use job_name::JobName;
 use job_script::header;
 use sequence_file::draw;
-use spool_model::{LAST_NUMBER, Row, State};
+use spool_model::{LAST_NUMBER, MAX_LIVE, Row, State};
 use std::alloc::Global;
 use whole_file::{place, temporary_name};
-
-/// How many jobs may live at a time.
-pub const MAX_LIVE: usize = 10_000;
 
 impl Store {
     /// Draws the next number, and accepts a pending job under it, whose script begins with the header of

@@ -4,11 +4,11 @@ ghost use Rattle.host_calls.specs.Session.{CallsInside, IsInside};
 ghost use Rattle.host_calls.specs.World.{reading};
 ghost use Rattle.spool_shows.specs.Shown.{shown_by};
 ghost use Rattle.host_calls.specs.Damages.{IfDamaged};
-ghost use Rattle.spool_store.specs.Faults.{IsOfReading};
+ghost use Rattle.host_calls.specs.StoreFaults.{IsOfReading};
 ghost use Rattle.spool_store.specs.inside.Survey.{IsSurvey};
 ghost use Rattle.spool_store.specs.Stored.{IsStored};
 
-use crate::fault::StoreFault;
+use crate::StoreFault;
 use crate::jobs::Jobs;
 use crate::surveyed_files::{SurveyedFiles, old_form_numbers, survey_files};
 use crate::tables::jobs_shown;

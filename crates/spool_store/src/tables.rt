@@ -4,12 +4,12 @@ ghost use Rattle.std.specs.BTreeMap.{IsOrdered, values};
 ghost use Rattle.std.specs.Ordering.{nat_cmp};
 ghost use Rattle.spool_shows.specs.Shown.{damage_of_jobs};
 ghost use Rattle.start_journal.specs.Journals.{AreWritable, are_drawn};
-ghost use Rattle.spool_store.specs.Faults.{IsFound};
+ghost use Rattle.host_calls.specs.StoreFaults.{IsFound};
 ghost use Rattle.start_journal.specs.Lifecycles.{TellLifecycles};
 ghost use Rattle.spool_store.specs.inside.SurveyedJobs.{files_surveyed};
 ghost use Rattle.spool_store.specs.inside.Tables.{AreUndecided, IsTableShown, ListsDrawn, ListsTable};
 
-use crate::fault::StoreFault;
+use crate::StoreFault;
 use crate::job_rows::rows_of_files;
 use crate::jobs::Jobs;
 use crate::starts::starts_fault;

@@ -1,9 +1,9 @@
 //! Why the journal could not be read.
 ghost use Rattle.std.specs.Prelude.{◌≡◌};
-ghost use Rattle.start_journal.specs.JournalFaults.{fault_of};
+ghost use Rattle.start_journal.specs.JournalFaults.{fault_of, fault_of_journal};
 ghost use Rattle.start_journal.specs.declared.fault.JournalFault.TheVariants as variant;
 
-use host_calls::{Damage, HostFault};
+use host_calls::{Damage, HostFault, StoreFault};
 use std::alloc::AllocError;
 use std::fmt;
 use thiserror::Error;
@@ -41,5 +41,17 @@ impl From<AllocError> for JournalFault {
 
     fn from(_: AllocError) -> Self {
         JournalFault::Memory
+    }
+}
+
+impl From<JournalFault> for StoreFault {
+    ghost from_gives = { λ fault made. made ≡ fault_of_journal fault };
+
+    fn from(fault: JournalFault) -> Self {
+        match fault {
+            JournalFault::Failed => StoreFault::FileFault,
+            JournalFault::Memory => StoreFault::Memory,
+            JournalFault::Damaged(damage) => StoreFault::Damaged(damage),
+        }
     }
 }

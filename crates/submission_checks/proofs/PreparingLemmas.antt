@@ -18,13 +18,14 @@ use Rattle.listing_text.specs.declared.cause.Cause.{Cause}
 use Rattle.listing_text.specs.declared.cause.Cause.TheVariants.{Done, Refused, FileFault, InputFault, OutputFault, Busy, Memory, Damaged, StillRunning, Faulty}
 use Rattle.listing_text.specs.declared.refusal.Refusal.{Refusal}
 use Rattle.listing_text.specs.declared.refusal.Refusal.TheVariants.{BadClock, BadZone, TooLong}
-use Rattle.command_rules.specs.declared.caller.Caller.{Caller}
-use Rattle.command_rules.specs.Causes.{cause_of_script, error_of}
+use Rattle.cause_output.specs.declared.caller.Caller.{Caller}
+use Rattle.cause_output.specs.Causes.{cause_of_script, error_of}
 use Rattle.command_rules.specs.Checks.{Check, check_of, is_before, of_clock, of_input, of_length, of_lock, of_variables, of_zone}
 use Rattle.command_rules.specs.Ends.{KeepsOrder}
 use Rattle.command_rules.specs.Found.{AreRead, FindsInput, Found, found_of}
 use Rattle.command_rules.specs.Times.{IsMeant, IsTimeOf}
-use Rattle.command_rules.specs.Verdict.{clock_check, directory_check, first_refusal, is_unreadable, length_check, submission_checks, time_check, user_check, variables_check, zone_check}
+use Rattle.command_rules.specs.Verdict.{clock_check, directory_check, first_refusal, length_check, submission_checks, time_check, user_check, variables_check, zone_check}
+use Rattle.civil_minute.specs.Zone.{is_unreadable}
 use Rattle.command_rules.proofs.CheckLemmas.{allowed_up_to, refused_up_to}
 use Rattle.submission_checks.specs.Preparing.{Prepares}
 use Rattle.submission_checks.specs.Reading.{IsOfInput}

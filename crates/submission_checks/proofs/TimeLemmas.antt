@@ -17,7 +17,7 @@ use Rattle.timespec_lexer.specs.declared.token.Token.{Token}
 use Rattle.timespec_lexer.specs.Tokens.{IsOnlyReading, IsOnlyRefusal, RefusedAt, Tokenizes}
 use Rattle.touch_time.specs.declared.touch.TouchTime.{TouchTime}
 use Rattle.touch_time.specs.Touch.{SpellsTouch}
-use Rattle.command_rules.specs.declared.command_error.CommandError.{CommandError}
+use Rattle.cause_output.specs.declared.command_error.CommandError.{CommandError}
 use Rattle.command_rules.specs.Times.{IsDated, IsOnly, IsSpecTime, IsTouchTime, no_timespec, no_tokens, no_touch, place_in, timespec, touch_time}
 use Rattle.submission_checks.specs.Timing.{IsDatedAs, Means}
 

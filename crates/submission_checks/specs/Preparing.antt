@@ -7,8 +7,8 @@ use Rattle.job_script.specs.JobText.{text_for}
 use Rattle.listing_text.specs.declared.cause.Cause.{Cause}
 use Rattle.listing_text.specs.declared.cause.Cause.TheVariants.{Done, Refused, FileFault, InputFault, OutputFault, Busy, Memory, Damaged, StillRunning, Faulty}
 use Rattle.listing_text.specs.declared.refusal.Refusal.{Refusal}
-use Rattle.command_rules.specs.declared.caller.Caller.{Caller}
-use Rattle.command_rules.specs.declared.command_error.CommandError.{CommandError}
+use Rattle.cause_output.specs.declared.caller.Caller.{Caller}
+use Rattle.cause_output.specs.declared.command_error.CommandError.{CommandError}
 use Rattle.command_rules.specs.Checks.{Check, ComesUpTo, is_before, of_variables, of_lock}
 use Rattle.command_rules.specs.Ends.{KeepsOrder, Reaches}
 use Rattle.command_rules.specs.Found.{FindsInput, Found, found_of}

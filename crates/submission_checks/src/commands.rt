@@ -3,7 +3,7 @@ ghost use Rattle.std.specs.Prelude.{◌≡◌, IfErr, IfOk, IsTrue, option_copie
 ghost use Rattle.host_calls.specs.Causes.{HasCause};
 ghost use Rattle.host_calls.specs.Inputs.{AreReadOnce};
 ghost use Rattle.listing_text.specs.declared.cause.Cause.TheVariants as cause;
-ghost use Rattle.command_rules.specs.Causes.{error_of};
+ghost use Rattle.cause_output.specs.Causes.{error_of};
 ghost use Rattle.command_rules.specs.Found.{AreRead};
 ghost use Rattle.submission_checks.specs.Reading.{ComesOfReading};
 

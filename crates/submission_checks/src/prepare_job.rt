@@ -3,8 +3,8 @@ ghost use Rattle.std.specs.Prelude.{◌≡◌, ◌<◌, option_copied};
 ghost use Rattle.host_calls.specs.Causes.{HasCause};
 ghost use Rattle.host_calls.specs.Inputs.{AreReadAtMostOnce};
 ghost use Rattle.listing_text.specs.declared.cause.Cause.TheVariants as cause;
-ghost use Rattle.command_rules.specs.Causes.{error_of};
-ghost use Rattle.command_rules.specs.Verdict.{is_unreadable};
+ghost use Rattle.cause_output.specs.Causes.{error_of};
+ghost use Rattle.civil_minute.specs.Zone.{is_unreadable};
 ghost use Rattle.submission_checks.specs.Preparing.{Prepares};
 
 use crate::Submission;

@@ -2,7 +2,7 @@
 ghost use Rattle.std.specs.Prelude.{◌≡◌, IfOk};
 ghost use Rattle.civil_minute.specs.Zone.{IsReadable};
 ghost use Rattle.clock_range.specs.ClockRange.{IsClockMinute, IsClockSecond};
-ghost use Rattle.command_rules.specs.Causes.{error_of};
+ghost use Rattle.cause_output.specs.Causes.{error_of};
 ghost use Rattle.listing_text.specs.declared.cause.Cause.TheVariants as cause;
 ghost use Rattle.listing_text.specs.declared.refusal.Refusal.TheVariants as refusal;
 ghost use Rattle.command_rules.specs.Times.{IsSpecTime, IsTimeOf, IsTouchTime, place_in};

@@ -7,9 +7,9 @@ use Rattle.std.proofs.lemmas.Bool.Decides.{nat_tests}
 use Rattle.std.proofs.lemmas.Slice.Eq.{bytes_eq-Decides}
 use Rattle.host_calls.specs.declared.fault.HostFault.{HostFault}
 use Rattle.host_calls.specs.Folder.{AreAfterSome, Body, Files, Folder, IsImage, IsInNoImage, MayHold, MayStand, Names, files_of, names_of, reading_of, with_body, with_names_certain}
-use Rattle.host_calls.specs.World.{FileCall, IsWithin, World}
+use Rattle.host_calls.specs.World.{FileCall, GoesOn, IsWithin, World}
 use Rattle.host_calls.proofs.FolderLemmas.{all_are_some, get-insert_other, get-insert_same, get-remove_other, get-remove_same, get-files_of, reading_is_image}
-use Rattle.host_calls.proofs.WorldLemmas.{call_then, leaves_none}
+use Rattle.host_calls.proofs.WorldLemmas.{call_then, leaves_none, leaves_weaker}
 use Rattle.whole_file.specs.Others.{ChangesFiles, IsEither}
 
 -- before any call
@@ -101,3 +101,11 @@ held_reads folder name number held = rw (get-files_of folder.body (names_of fold
 -- once the names are certain, no image is new
 pub names_certain : (folder : Folder) (image : Files) → IsImage (with_names_certain folder) image → IsImage folder image
 names_certain folder image is = record { names = is.names; chosen = subst (AreAfterSome folder.pending folder.certain) (sym is.chosen) (all_are_some folder.pending folder.certain); each = is.each }
+
+-- calls on files hand nothing over
+pub changes_go_on : (P : Files → Type 0) (old new : World) → ChangesFiles P old new → GoesOn old new
+changes_go_on P old new changes = record {
+  asked = changes.asked;
+  handed = changes.handed;
+  leaves = leaves_weaker (λ image handed. P image × (handed ≡ old.now.handed)) (λ image handed. handed ≡ old.now.handed) old new (λ image handed is. is.1) changes.leaves;
+}

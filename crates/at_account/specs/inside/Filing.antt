@@ -2,7 +2,7 @@
 use Rattle.std.specs.Prelude.{◌≡◌, ◌⊎◌, ℕ, List, Option, Some, Result, Ok, Err}
 use Rattle.std.specs.FinMap as finite
 use Rattle.account_records.specs.declared.record.AccountRecord.{AccountRecord}
-use Rattle.command_rules.specs.declared.command_error.CommandError.{CommandError}
+use Rattle.cause_output.specs.declared.command_error.CommandError.{CommandError}
 use Rattle.host_calls.specs.Folder.{Files, Folder, IsImage}
 use Rattle.listing_text.specs.declared.cause.Cause.{Cause}
 use Rattle.listing_text.specs.declared.cause.Cause.TheVariants.{Done, Refused, FileFault, InputFault, OutputFault, Busy, Memory, Damaged, StillRunning, Faulty}

@@ -5,9 +5,9 @@ use Rattle.host_calls.specs.Clock.{Answers}
 use Rattle.host_calls.specs.Inputs.{Contents}
 use Rattle.host_calls.specs.World.{World}
 use Rattle.listing_text.specs.declared.cause.Cause.{Cause}
-use Rattle.command_rules.specs.declared.caller.Caller.{Caller}
+use Rattle.cause_output.specs.declared.caller.Caller.{Caller}
 use Rattle.command_rules.specs.Ends.{Ends, holding, telling}
-use Rattle.command_rules.specs.Sinks.{NotesBy, SinkAt}
+use Rattle.cause_output.specs.Sinks.{NotesBy, SinkAt}
 
 -- which of a host, a clock, inputs and a sink tell what they hold
 pub record Tells : Type 0 where

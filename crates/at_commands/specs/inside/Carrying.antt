@@ -6,7 +6,7 @@ use Rattle.host_calls.specs.World.{World, reading}
 use Rattle.listing_text.specs.declared.cause.Cause.{Cause}
 use Rattle.spool_model.specs.declared.step.Step.{Step}
 use Rattle.spool_model.specs.JobTable.{JobTable}
-use Rattle.command_rules.specs.declared.caller.Caller.{Caller}
+use Rattle.cause_output.specs.declared.caller.Caller.{Caller}
 use Rattle.command_rules.specs.Checks.{Check, ComesUpTo, is_before, of_lock, of_folder}
 use Rattle.command_rules.specs.Ends.{KeepsOrder, Reaches}
 use Rattle.command_rules.specs.Found.{AreInFolder, Found}

@@ -2,7 +2,7 @@
 use Rattle.std.specs.Prelude.{◌≡◌, ◌≢◌, [], ℕ, Bool, true, List}
 use Rattle.listing_text.specs.declared.cause.Cause.{Cause}
 use Rattle.listing_text.specs.declared.cause.Cause.TheVariants.{Done, Refused, FileFault, InputFault, OutputFault, Busy, Memory, Damaged, StillRunning, Faulty}
-use Rattle.command_rules.specs.Sinks.{IsPut, IsPutInPart, IsSilent, SinkAt}
+use Rattle.cause_output.specs.Sinks.{IsPut, IsPutInPart, IsSilent, SinkAt}
 
 -- all of it was put, a prefix of it where there is a byte to put, or nothing for want of memory
 abbrev pub PutsWhole : Bool → List ℕ → SinkAt → SinkAt → Cause → Type 0

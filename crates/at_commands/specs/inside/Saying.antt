@@ -4,7 +4,7 @@ use Rattle.host_calls.specs.declared.fault.SinkFault.{SinkFault}
 use Rattle.host_calls.specs.declared.fault.SinkFault.TheVariants.{Failed, Memory as NoMemory}
 use Rattle.listing_text.specs.declared.cause.Cause.{Cause}
 use Rattle.listing_text.specs.declared.cause.Cause.TheVariants.{Done, Refused, FileFault, InputFault, OutputFault, Busy, Memory, Damaged, StillRunning, Faulty}
-use Rattle.command_rules.specs.Sinks.{IsCut, IsSilent, PutsSome, SinkAt}
+use Rattle.cause_output.specs.Sinks.{IsCut, IsSilent, PutsSome, SinkAt}
 
 -- the accepted line was put, by the answer of its put
 abbrev pub SaysAccepted : (List ℕ → Type 0) → SinkAt → SinkAt → Result (Unit {0}) SinkFault → Type 0

@@ -3,12 +3,12 @@ use Rattle.std.specs.Prelude.{◌≡◌, [], ℕ, Bool, true, List, Result, Ok, 
 use Rattle.at_words.specs.declared.tool_request.ToolRequest.{ToolRequest}
 use Rattle.civil_minute.specs.declared.zone.Zone.{Zone}
 use Rattle.host_calls.specs.World.{World}
-use Rattle.command_rules.specs.declared.caller.Caller.{Caller}
-use Rattle.command_rules.specs.declared.command_error.CommandError.{CommandError}
-use Rattle.command_rules.specs.Causes.{cause_in}
+use Rattle.cause_output.specs.declared.caller.Caller.{Caller}
+use Rattle.cause_output.specs.declared.command_error.CommandError.{CommandError}
+use Rattle.cause_output.specs.Causes.{cause_in}
 use Rattle.command_rules.specs.Found.{found_of}
 use Rattle.at_commands.specs.inside.Carrying.{Carries, Finding, IsSessionText}
-use Rattle.command_rules.specs.Sinks.{PrintsBy, SinkAt}
+use Rattle.cause_output.specs.Sinks.{PrintsBy, SinkAt}
 
 -- nothing was found outside but the lists of users
 abbrev pub lists_alone : Finding

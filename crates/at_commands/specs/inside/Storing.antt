@@ -8,13 +8,13 @@ use Rattle.job_script.specs.JobText.{text_for}
 use Rattle.listing_text.specs.declared.cause.Cause.{Cause}
 use Rattle.listing_text.specs.declared.refusal.Refusal.{Refusal}
 use Rattle.spool_model.specs.Users.{IsUserName}
-use Rattle.command_rules.specs.declared.caller.Caller.{Caller}
-use Rattle.command_rules.specs.declared.command_error.CommandError.{CommandError}
-use Rattle.command_rules.specs.Causes.{cause_in}
+use Rattle.cause_output.specs.declared.caller.Caller.{Caller}
+use Rattle.cause_output.specs.declared.command_error.CommandError.{CommandError}
+use Rattle.cause_output.specs.Causes.{cause_in}
 use Rattle.command_rules.specs.Found.{found_of}
 use Rattle.at_commands.specs.inside.Carrying.{Carries, Finding, IsSessionLine}
 use Rattle.command_rules.specs.Requested.{next_number}
-use Rattle.command_rules.specs.Sinks.{NotesBy, SinkAt}
+use Rattle.cause_output.specs.Sinks.{NotesBy, SinkAt}
 use Rattle.command_rules.specs.Times.{minute_in}
 
 -- the script does these commands as the caller would, whose name a job can have

@@ -1,7 +1,7 @@
 -- One session more, and the end of all (own).
 use Rattle.std.specs.Prelude.{◌≡◌, ◌⊎◌, ◌≤◌, ℕ, zero, suc, Bool, true, List, Option, IsSome, length}
 use Rattle.host_calls.specs.Clock.{Answers, Readers, with_rest}
-use Rattle.command_rules.specs.Sinks.{SinkAt}
+use Rattle.cause_output.specs.Sinks.{SinkAt}
 use Rattle.mail_session.specs.Leaving.{PostAt, PostsTo}
 use Rattle.at_mail.specs.declared.outcome.Outcome.{Outcome}
 use Rattle.at_mail.specs.Making.{MakesSessions, Telling, WorkAt, rest_seconds}

@@ -9,7 +9,7 @@ use Rattle.cron_minutes.specs.Due.{is_due}
 use Rattle.cron_text.specs.declared.entry.CronEntry.{CronEntry}
 use Rattle.job_script.specs.declared.context.Context.{Context}
 use Rattle.spool_model.specs.declared.job.Job.{Job}
-use Rattle.spool_store.specs.Submitting.{job_for}
+use Rattle.job_script.specs.JobText.{job_for}
 use Rattle.cron_session.specs.declared.session.TheConstants.{CRON_QUEUE}
 
 -- the commands of the entries that are due at the civil minute, in their order

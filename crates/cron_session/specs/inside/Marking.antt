@@ -6,9 +6,9 @@ use Rattle.host_calls.specs.World.{World}
 use Rattle.spool_model.specs.declared.job.Job.{Job}
 use Rattle.spool_model.specs.JobTable.{JobTable}
 use Rattle.spool_shows.specs.Shown.{Shows}
-use Rattle.spool_store.specs.declared.fault.StoreFault.{StoreFault}
-use Rattle.spool_store.specs.declared.fault.StoreFault.TheVariants.{FileFault}
-use Rattle.spool_store.specs.Faults.{IsOfStep}
+use Rattle.host_calls.specs.declared.store_fault.StoreFault.{StoreFault}
+use Rattle.host_calls.specs.declared.store_fault.StoreFault.TheVariants.{FileFault}
+use Rattle.host_calls.specs.StoreFaults.{IsOfStep}
 use Rattle.step_runs.specs.Current.{IsCurrent, Kept}
 use Rattle.whole_file.specs.Others.{ChangesFiles}
 use Rattle.cron_mark.specs.Names.{mark_temp}

@@ -3,9 +3,9 @@ use Rattle.std.specs.Prelude.{◌≤◌, ◌<◌, ◌+◌, ℕ}
 use Rattle.spool_model.specs.declared.number.TheConstants.{LAST_NUMBER}
 use Rattle.spool_model.specs.JobTable.{JobTable}
 use Rattle.spool_model.specs.Lists.{live_count}
-use Rattle.spool_store.specs.declared.fault.StoreFault.{StoreFault}
-use Rattle.spool_store.specs.declared.fault.StoreFault.TheVariants.{Damaged, FileFault, Memory, NumbersUsedUp, QueueFull}
-use Rattle.spool_store.specs.declared.submit.TheConstants.{MAX_LIVE}
+use Rattle.host_calls.specs.declared.store_fault.StoreFault.{StoreFault}
+use Rattle.host_calls.specs.declared.store_fault.StoreFault.TheVariants.{Damaged, FileFault, Memory, NumbersUsedUp, QueueFull}
+use Rattle.spool_model.specs.declared.row.TheConstants.{MAX_LIVE}
 
 -- there is room for so many jobs more, and no number for each
 pub record IsUsedUpFor (table : JobTable) (count : ℕ) : Type 0 where

@@ -5,11 +5,11 @@ use Rattle.host_calls.specs.Session.{CallsInside, Session}
 use Rattle.host_calls.specs.World.{World}
 use Rattle.spool_model.specs.declared.job.Job.{Job}
 use Rattle.spool_model.specs.JobTable.{JobTable}
-use Rattle.spool_model.specs.Steps.{after_steps}
-use Rattle.spool_store.specs.declared.fault.StoreFault.{StoreFault}
-use Rattle.spool_store.specs.declared.fault.StoreFault.TheVariants.{FileFault}
-use Rattle.spool_store.specs.Faults.{IsOfStep}
-use Rattle.spool_store.specs.Submitting.{kept_of, submission}
+use Rattle.spool_model.specs.Steps.{after_steps, submission}
+use Rattle.host_calls.specs.declared.store_fault.StoreFault.{StoreFault}
+use Rattle.host_calls.specs.declared.store_fault.StoreFault.TheVariants.{FileFault}
+use Rattle.host_calls.specs.StoreFaults.{IsOfStep}
+use Rattle.spool_store.specs.Submitting.{kept_of}
 use Rattle.step_runs.specs.Calls.{IsSteppingOn, KeepsOthers, StoreCall}
 use Rattle.step_runs.specs.Current.{EachShows, IsCurrent, Kept}
 use Rattle.step_runs.specs.Made.{ShowsAfterPrefix}

@@ -6,9 +6,9 @@ use Rattle.host_calls.specs.declared.fault.SinkFault.TheVariants as sink
 use Rattle.listing_text.specs.declared.cause.Cause.{Cause}
 use Rattle.listing_text.specs.declared.cause.Cause.TheVariants as cause
 use Rattle.listing_text.specs.declared.refusal.Refusal.TheVariants.{BadCrontab, TooLong}
-use Rattle.command_rules.specs.declared.caller.Caller.{Caller}
-use Rattle.command_rules.specs.declared.command_error.CommandError.{CommandError}
-use Rattle.command_rules.specs.Sinks.{IsCut, IsPut, IsSilent, SinkAt}
+use Rattle.cause_output.specs.declared.caller.Caller.{Caller}
+use Rattle.cause_output.specs.declared.command_error.CommandError.{CommandError}
+use Rattle.cause_output.specs.Sinks.{IsCut, IsPut, IsSilent, SinkAt}
 use Rattle.host_calls.specs.declared.damage.Damage.{Damage}
 use Rattle.cron_text.specs.declared.crontab.TheConstants.{MAX_CRONTAB}
 use Rattle.cron_text.specs.declared.entry.CronEntry.{CronEntry}

@@ -9,13 +9,13 @@ use Rattle.spool_model.specs.JobTable.{JobTable}
 use Rattle.spool_model.specs.Steps.{after_steps}
 use Rattle.step_runs.specs.Current.{IsCurrent, Kept}
 use Rattle.step_runs.specs.Made.{AreMade, AreStopped, flags_of}
-use Rattle.spool_store.specs.declared.fault.StoreFault.{StoreFault}
-use Rattle.spool_store.specs.declared.fault.StoreFault.TheVariants.{FileFault}
-use Rattle.spool_store.specs.Faults.{IsOfStep}
+use Rattle.host_calls.specs.declared.store_fault.StoreFault.{StoreFault}
+use Rattle.host_calls.specs.declared.store_fault.StoreFault.TheVariants.{FileFault}
+use Rattle.host_calls.specs.StoreFaults.{IsOfStep}
 use Rattle.daemon_turn.specs.declared.kid.Kid.{Kid}
-use Rattle.daemon_turn.specs.declared.step.TurnStep.{TurnStep}
+use Rattle.spool_model.specs.declared.turn_step.TurnStep.{TurnStep}
 use Rattle.daemon_turn.specs.Kids.{started_numbers}
-use Rattle.daemon_turn.specs.StepsOf.{steps_of}
+use Rattle.spool_model.specs.StepsOf.{steps_of}
 
 -- The steps of a part of a turn, the next one that may stand where it was stopped, the questions, whether a child came of
 -- each start, and the kids that came.

@@ -9,9 +9,9 @@ use Rattle.spool_model.specs.JobTable.{JobTable}
 use Rattle.spool_model.specs.Steps.{after_step}
 use Rattle.step_runs.specs.Current.{IsCurrent, Kept}
 use Rattle.step_runs.specs.Made.{AreStopped, IsStarted}
-use Rattle.spool_store.specs.declared.fault.StoreFault.{StoreFault}
-use Rattle.spool_store.specs.declared.fault.StoreFault.TheVariants.{FileFault}
-use Rattle.spool_store.specs.Faults.{IsOfStep}
+use Rattle.host_calls.specs.declared.store_fault.StoreFault.{StoreFault}
+use Rattle.host_calls.specs.declared.store_fault.StoreFault.TheVariants.{FileFault}
+use Rattle.host_calls.specs.StoreFaults.{IsOfStep}
 
 -- the children that a call adds, by what it answers
 abbrev pub added_by : Result (Kept × Option Child) StoreFault → List Child

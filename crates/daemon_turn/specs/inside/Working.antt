@@ -6,12 +6,12 @@ use Rattle.host_calls.specs.Damages.{IfDamaged}
 use Rattle.host_calls.specs.Session.{IsInside, KeepsCounts, Session}
 use Rattle.host_calls.specs.World.{World}
 use Rattle.step_runs.specs.Current.{Kept}
-use Rattle.spool_store.specs.declared.fault.StoreFault.{StoreFault}
-use Rattle.spool_store.specs.declared.fault.StoreFault.TheVariants as fault
-use Rattle.spool_store.specs.Faults.{IsOfReading}
+use Rattle.host_calls.specs.declared.store_fault.StoreFault.{StoreFault}
+use Rattle.host_calls.specs.declared.store_fault.StoreFault.TheVariants as fault
+use Rattle.host_calls.specs.StoreFaults.{IsOfReading}
 use Rattle.daemon_turn.specs.declared.kid.Kid.{Kid}
-use Rattle.daemon_turn.specs.declared.step.TurnStep.{TurnStep}
-use Rattle.daemon_turn.specs.Ends.{end_after}
+use Rattle.spool_model.specs.declared.turn_step.TurnStep.{TurnStep}
+use Rattle.host_session.specs.Ends.{end_after}
 use Rattle.daemon_turn.specs.Decisions.{asked_kids, questions}
 use Rattle.daemon_turn.specs.Kids.{AreByNumber, AreChildren, AreKidsAfter, KeepsChildren}
 use Rattle.daemon_turn.specs.Leaving.{IsNone, DaemonAt, TurnLeaves}

@@ -13,14 +13,14 @@ use Rattle.host_calls.specs.Folder.{Files, IsImage}
 use Rattle.host_calls.specs.Session.{IsInside, KeepsCounts, Session}
 use Rattle.host_calls.specs.World.{Moment, World, moments, reading}
 use Rattle.spool_model.specs.JobTable.{JobTable}
-use Rattle.spool_store.specs.declared.fault.StoreFault.{StoreFault}
-use Rattle.spool_store.specs.declared.fault.StoreFault.TheVariants as fault
-use Rattle.spool_store.specs.Faults.{IsOfReading}
+use Rattle.host_calls.specs.declared.store_fault.StoreFault.{StoreFault}
+use Rattle.host_calls.specs.declared.store_fault.StoreFault.TheVariants as fault
+use Rattle.host_calls.specs.StoreFaults.{IsOfReading}
 use Rattle.whole_file.specs.Others.{LeavesOthers}
 use Rattle.daemon_turn.specs.declared.kid.Kid.{Kid}
 use Rattle.daemon_turn.specs.Decisions.{has_kid, questions}
 use Rattle.daemon_turn.specs.Kids.{AreChildren, KeepsChildren, started_numbers}
-use Rattle.daemon_turn.specs.Ends.{end_after}
+use Rattle.host_session.specs.Ends.{end_after}
 use Rattle.mail_notes.specs.declared.note.Note.{Note}
 use Rattle.mail_notes.specs.Hands.{Hands, Mailing}
 use Rattle.mail_notes.specs.Lines.{Fits, notes_text}

@@ -1,11 +1,11 @@
 -- How far serving has come, and one turn more (own).
 use Rattle.std.specs.Prelude.{◌≡◌, ◌<◌, ◌≤◌, ◌++◌, [], ◌∷◌, ℕ, Bool, true, false, List, Option, Some, None, length, if◌then◌else◌}
 use Rattle.host_calls.specs.Clock.{Answers, Readers, with_rest}
-use Rattle.command_rules.specs.Sinks.{SinkAt}
+use Rattle.cause_output.specs.Sinks.{SinkAt}
 use Rattle.daemon_turn.specs.declared.kid.Kid.{Kid}
 use Rattle.daemon_turn.specs.declared.mode.Mode.{Mode}
 use Rattle.daemon_turn.specs.declared.mode.Mode.TheVariants.{Full, EndsOnly}
-use Rattle.daemon_turn.specs.declared.report.TurnEnd.{TurnEnd}
+use Rattle.host_session.specs.declared.turn_end.TurnEnd.{TurnEnd}
 use Rattle.serving.specs.Items.{Item, ends_after, first_end, is_last, last_item, next_rest}
 use Rattle.serving.specs.Lines.{SaysEnds, turn_lines}
 use Rattle.serving.specs.Outcomes.{Stop, StopsBy, at_a_line, at_the_end, damage_outcome, outcome_by, turns_outcome}

@@ -1,5 +1,5 @@
 use Rattle.std.proofs.Common.{List, rules, subst, ℕ}
-use Rattle.command_rules.specs.Sinks.{sink_at}
+use Rattle.cause_output.specs.Sinks.{sink_at}
 use Rattle.at_account.specs.inside.Inside.{PutsText}
 use Rattle.at_account.proofs.SessionLemmas.{Ends, put_leaves, session_ends, session_images, session_may_end, stopped_leaves}
 use Rattle.at_account.proofs.session.account.Goals as goal

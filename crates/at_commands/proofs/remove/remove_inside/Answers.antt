@@ -1,8 +1,8 @@
 use Rattle.std.proofs.Common.{sym, refl, true}
 use Rattle.std.proofs.lemmas.Result.{err_from_is_err_and}
 use Rattle.at_words.specs.declared.tool_request.ToolRequest.TheVariants as request
-use Rattle.command_rules.specs.Causes.{cause_in}
-use Rattle.command_rules.proofs.SpoolLemmas.{goes_on_then}
+use Rattle.cause_output.specs.Causes.{cause_in}
+use Rattle.host_calls.proofs.WorldLemmas.{goes_on_then}
 use Rattle.at_commands.proofs.ForLemmas.{carries_unopened, removal_by, removal_comes, removal_refused}
 use Rattle.at_commands.proofs.JobsLemmas.{removal_allowed}
 use Rattle.at_commands.proofs.SessionLemmas.{jobs_come, not_opened_comes, not_opened_of_spool, removing_comes, removing_no_output}

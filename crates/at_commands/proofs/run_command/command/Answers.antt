@@ -6,15 +6,15 @@ use Rattle.at_words.specs.Tools.{tool_of_words}
 use Rattle.at_words.specs.declared.fault.WordsFault.{WordsFault}
 use Rattle.at_words.specs.declared.tool.Tool.{Tool}
 use Rattle.command_rules.specs.Ends.{holding, telling}
-use Rattle.command_rules.specs.Sinks.{sink_at}
+use Rattle.cause_output.specs.Sinks.{sink_at}
 use Rattle.listing_text.specs.declared.cause.Cause.{Cause}
 use Rattle.listing_text.specs.declared.cause.Cause.TheVariants.{Memory}
 use Rattle.cause_output.specs.Saying.{IsSaid}
 use Rattle.serving.specs.Serves.{serve_at, serve_telling}
-use Rattle.command_rules.specs.Causes.{words_cause}
+use Rattle.cause_output.specs.Causes.{words_cause}
 use Rattle.at_commands.specs.Tools.{tool_name_of}
 use Rattle.at_commands.proofs.AtdLemmas.{nothing_served, words_served}
-use Rattle.command_rules.proofs.SpoolLemmas.{goes_on_none}
+use Rattle.host_calls.proofs.WorldLemmas.{goes_on_none}
 use Rattle.at_commands.proofs.CommandLemmas.{left_same, outside_left, words_end, words_not_running, words_risen, read_never}
 use Rattle.at_commands.proofs.EndsLemmas.{ends_said}
 use Rattle.at_commands.proofs.ServedLemmas.{daemon_named, has_turns}

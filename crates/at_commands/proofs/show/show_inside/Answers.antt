@@ -1,8 +1,8 @@
 use Rattle.std.proofs.Common.{refl, sym, false}
 use Rattle.std.proofs.lemmas.Result.{err_from_is_err_and}
 use Rattle.at_words.specs.declared.tool_request.ToolRequest.TheVariants as request
-use Rattle.command_rules.specs.Sinks.{sink_at}
-use Rattle.command_rules.proofs.SpoolLemmas.{goes_on_none, goes_on_then}
+use Rattle.cause_output.specs.Sinks.{sink_at}
+use Rattle.host_calls.proofs.WorldLemmas.{goes_on_none, goes_on_then}
 use Rattle.at_commands.proofs.AnswerLemmas.{showing_of, showing_unopened}
 use Rattle.at_commands.proofs.UnreadLemmas.{silent}
 use Rattle.at_commands.proofs.ForLemmas.{showing_refused}

@@ -1,9 +1,10 @@
 use Rattle.std.proofs.Common.{List, ap, inl, inr, subst, sym, ℕ}
 use Rattle.std.specs.Prelude.{Err}
 use Rattle.std.proofs.lemmas.Result.{err_from_is_err_and}
-use Rattle.spool_store.specs.declared.fault.StoreFault.{StoreFault}
+use Rattle.host_calls.specs.declared.store_fault.StoreFault.{StoreFault}
 use Rattle.command_rules.specs.Sessions.{IsOpened}
-use Rattle.command_rules.proofs.SpoolLemmas.{changes_go_on, goes_on_then}
+use Rattle.host_calls.proofs.WorldLemmas.{goes_on_then}
+use Rattle.whole_file.proofs.OthersLemmas.{changes_go_on}
 use Rattle.at_commands.proofs.SessionLemmas.{not_opened_comes, not_opened_of_spool, store_comes, store_of_spool}
 use Rattle.at_commands.proofs.SubmitLemmas.{store_failed, store_not_opened, stored}
 use Rattle.at_commands.proofs.submit.store_inside.Goals as goal

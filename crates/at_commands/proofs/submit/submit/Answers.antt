@@ -2,8 +2,8 @@ use Rattle.std.proofs.Common.{ap, refl, subst}
 use Rattle.std.specs.Prelude.{Err}
 use Rattle.listing_text.specs.declared.cause.Cause.{Cause}
 use Rattle.submission_checks.specs.Preparing.{IsOfPreparing}
-use Rattle.command_rules.specs.Causes.{error_of}
-use Rattle.command_rules.specs.Sinks.{sink_at}
+use Rattle.cause_output.specs.Causes.{error_of}
+use Rattle.cause_output.specs.Sinks.{sink_at}
 use Rattle.at_commands.specs.inside.Answering.{held_by, tells_of}
 use Rattle.at_commands.proofs.PreparedLemmas.{prepared_header, prepared_named, prepared_zoned, submission_answered, submission_stopped}
 use Rattle.at_commands.proofs.SessionLemmas.{quiet_none, risen_none}

@@ -1,6 +1,6 @@
 use Rattle.std.proofs.Common.{◌∙◌, List, ℕ, subst}
 use Rattle.std.specs.List.{concat}
-use Rattle.command_rules.specs.Sinks.{sink_at}
+use Rattle.cause_output.specs.Sinks.{sink_at}
 use Rattle.cause_output.specs.Putting.{PutsLines}
 use Rattle.at_day.proofs.LineLemmas.{lines_concat}
 use Rattle.at_day.proofs.ProgramLemmas.{day_put, day_unput}

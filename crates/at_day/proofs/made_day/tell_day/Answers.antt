@@ -1,5 +1,5 @@
 use Rattle.std.proofs.Common.{subst, sym}
-use Rattle.command_rules.specs.Sinks.{sink_at}
+use Rattle.cause_output.specs.Sinks.{sink_at}
 use Rattle.listing_text.specs.declared.cause.Cause.{Cause}
 use Rattle.at_day.specs.Programs.{EndsMade}
 use Rattle.at_day.proofs.made_day.tell_day.Goals as goal

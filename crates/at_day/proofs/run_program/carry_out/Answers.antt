@@ -1,6 +1,6 @@
 use Rattle.std.proofs.Common.{map, string_bytes, subst, sym}
 use Rattle.at_words.specs.Requests.{request_of}
-use Rattle.command_rules.specs.Sinks.{sink_at}
+use Rattle.cause_output.specs.Sinks.{sink_at}
 use Rattle.at_day.specs.inside.Making.{IsDayRequest}
 use Rattle.at_day.proofs.ProgramLemmas.{ends_asked, ends_unasked}
 use Rattle.at_day.proofs.RequestLemmas.{IsDayAsked, day_asked}

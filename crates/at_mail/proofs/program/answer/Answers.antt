@@ -2,7 +2,7 @@ use Rattle.std.proofs.Common.{refl, subst, map, string_bytes}
 use Rattle.listing_text.specs.declared.cause.Cause.{Cause}
 use Rattle.at_mail.specs.Outcomes.{program_name}
 use Rattle.cause_output.specs.Saying.{IsSaid}
-use Rattle.command_rules.specs.Sinks.{sink_at}
+use Rattle.cause_output.specs.Sinks.{sink_at}
 use Rattle.at_mail.specs.Program.{PostEnds, outside_at}
 use Rattle.at_mail.specs.Words.{post_asked}
 use Rattle.at_mail.proofs.ProgramLemmas.{unasked_ends}

@@ -1,5 +1,5 @@
 use Rattle.std.proofs.Common.{rules}
-use Rattle.command_rules.specs.Sinks.{sink_at}
+use Rattle.cause_output.specs.Sinks.{sink_at}
 use Rattle.cause_output.proofs.LineLemmas.{one_more, stopped_at_line}
 use Rattle.cause_output.proofs.lines.put_lines.Goals as goal
 

@@ -1,6 +1,6 @@
 use Rattle.std.proofs.Common.{◌≡◌, take}
 use Rattle.std.specs.Prelude.{Ok}
-use Rattle.command_rules.specs.Sinks.{sink_at}
+use Rattle.cause_output.specs.Sinks.{sink_at}
 use Rattle.cause_output.specs.Putting.{PutsLines, lines_of}
 use Rattle.cause_output.proofs.lines.put_lines.Given as goal
 

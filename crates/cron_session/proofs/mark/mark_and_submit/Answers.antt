@@ -1,4 +1,4 @@
-use Rattle.spool_store.specs.Faults.{fault_of}
+use Rattle.host_calls.specs.StoreFaults.{fault_of}
 use Rattle.cron_session.specs.inside.Due.{cron_jobs}
 use Rattle.cron_session.proofs.MarkLemmas.{current_then}
 use Rattle.cron_session.proofs.MarkedLemmas.{marks_at, marks_failed, marks_submitted}

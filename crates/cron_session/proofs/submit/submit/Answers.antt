@@ -1,6 +1,6 @@
 use Rattle.std.proofs.Common.{◌≡◌, ◌∙◌, subst}
 use Rattle.std.specs.Prelude.{IsErrAnd}
-use Rattle.spool_store.specs.declared.fault.StoreFault.TheVariants.{Memory}
+use Rattle.host_calls.specs.declared.store_fault.StoreFault.TheVariants.{Memory}
 use Rattle.cron_session.specs.inside.Due.{cron_job}
 use Rattle.cron_session.proofs.OneLemmas.{no_memory, script_has_header, submits_one_at, submitted_one}
 use Rattle.cron_session.proofs.submit.submit.Goals as goal

@@ -1,7 +1,7 @@
 use Rattle.std.proofs.Common.{◌≡◌, ◌+◌, ◌≤◌, ◌++◌, length, take, vec_capacity, vec_len}
 use Rattle.host_calls.specs.Session.{StaysInside}
 use Rattle.spool_model.specs.Lists.{live_count}
-use Rattle.spool_store.specs.declared.submit.TheConstants.{MAX_LIVE}
+use Rattle.spool_model.specs.declared.row.TheConstants.{MAX_LIVE}
 use Rattle.cron_session.specs.Steps.{numbers_after}
 use Rattle.cron_session.specs.inside.Due.{cron_jobs}
 use Rattle.cron_session.proofs.LoopLemmas.{AllSoFar}

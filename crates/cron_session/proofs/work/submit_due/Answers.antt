@@ -1,6 +1,6 @@
 use Rattle.std.proofs.Common.{◌∙◌, ◌≤◌, All, List, ℕ, length, sym, subst}
 use Rattle.job_script.specs.declared.writer.TheConstants.{MAX_COMMANDS}
-use Rattle.spool_store.specs.declared.fault.StoreFault.TheVariants.{Memory}
+use Rattle.host_calls.specs.declared.store_fault.StoreFault.TheVariants.{Memory}
 use Rattle.cron_session.specs.Steps.{Cron}
 use Rattle.cron_session.specs.inside.Due.{cron_jobs}
 use Rattle.cron_session.specs.inside.Marking.{MarksAndSubmits}

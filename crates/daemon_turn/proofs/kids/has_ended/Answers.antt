@@ -1,9 +1,9 @@
 use Rattle.std.proofs.Common.{◌≡◌, ◌==◌, ℕ, true, ◌∙◌, refl, rules}
 use Rattle.std.proofs.lemmas.List.Sorted.{answers_always}
-use Rattle.daemon_turn.specs.declared.step.TurnStep.{TurnStep}
-use Rattle.daemon_turn.specs.declared.step.TurnStep.TheVariants.{HandedOver, Ended, Interrupted, Forgotten}
+use Rattle.spool_model.specs.declared.turn_step.TurnStep.{TurnStep}
+use Rattle.spool_model.specs.declared.turn_step.TurnStep.TheVariants.{HandedOver, Ended, Interrupted, Forgotten}
 use Rattle.daemon_turn.specs.Kids.{tells_end_of}
-use Rattle.daemon_turn.specs.StepsOf.{number_of}
+use Rattle.spool_model.specs.StepsOf.{number_of}
 use Rattle.daemon_turn.specs.inside.Ended.{is_end}
 use Rattle.step_runs.proofs.ApartLemmas.{all_each, any_alike, found_by}
 use Rattle.daemon_turn.proofs.kids.has_ended.Goals as goal

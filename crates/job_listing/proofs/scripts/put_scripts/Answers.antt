@@ -1,7 +1,7 @@
 use Rattle.std.proofs.Common.{rules, subst, sym}
 use Rattle.host_calls.specs.World.{World}
 use Rattle.step_runs.specs.Current.{IsCurrent}
-use Rattle.command_rules.specs.Sinks.{sink_at}
+use Rattle.cause_output.specs.Sinks.{sink_at}
 use Rattle.job_listing.proofs.ScriptLemmas.{none_put, one_more, stopped_by_mark}
 use Rattle.job_listing.proofs.scripts.put_scripts.Goals as goal
 

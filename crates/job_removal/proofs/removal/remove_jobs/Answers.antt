@@ -1,6 +1,6 @@
 use Rattle.std.proofs.Common.{◌∙◌, inl, refl}
 use Rattle.std.proofs.lemmas.Result.{err_from_is_err_and}
-use Rattle.command_rules.proofs.SpoolLemmas.{goes_on_none, goes_on_then}
+use Rattle.host_calls.proofs.WorldLemmas.{goes_on_none, goes_on_then}
 use Rattle.spool_store.proofs.SurplusLemmas.{may_forget}
 use Rattle.job_removal.proofs.RemoveLemmas.{all_removed, forgets_stopped, lacks_memory, may_remove, removes_stopped}
 use Rattle.job_removal.proofs.removal.remove_jobs.Goals as goal

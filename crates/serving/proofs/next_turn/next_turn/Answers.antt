@@ -2,7 +2,7 @@ use Rattle.std.proofs.Common.{◌≡◌, ℤ, FitsSigned, refl, rules, w64, to_z
 use Rattle.std.proofs.lemmas.Int.{to_z-of_z}
 use Rattle.std.specs.Prelude.{IsTrue}
 use Rattle.clock_range.specs.ClockRange.{IsClockSecond}
-use Rattle.command_rules.specs.Sinks.{sink_at}
+use Rattle.cause_output.specs.Sinks.{sink_at}
 use Rattle.serving.specs.Items.{Item, next_rest}
 use Rattle.serving.specs.Lines.{step_lines}
 use Rattle.serving.specs.Serves.{ServeAt, serve_at, serve_telling}

@@ -1,4 +1,4 @@
-use Rattle.command_rules.specs.Sinks.{sink_at}
+use Rattle.cause_output.specs.Sinks.{sink_at}
 use Rattle.serving.specs.Lines.{step_lines}
 use Rattle.serving.proofs.SinkLemmas.{more_for}
 use Rattle.serving.proofs.next_turn.tell.Goals as goal

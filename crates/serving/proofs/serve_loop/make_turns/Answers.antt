@@ -1,5 +1,5 @@
 use Rattle.std.proofs.Common.{refl, ◌∙◌, [], ◌∷◌, ◌++◌, length, ◌≡◌, ◌+◌, arith}
-use Rattle.command_rules.specs.Sinks.{sink_at}
+use Rattle.cause_output.specs.Sinks.{sink_at}
 use Rattle.host_session.proofs.SessionLemmas.{counts_on, no_counts}
 use Rattle.serving.specs.Serves.{serve_at, serve_telling}
 use Rattle.serving.proofs.ProceedLemmas.{ended_made, nothing_served}

@@ -1,5 +1,5 @@
 use Rattle.std.proofs.Common.{◌≡◌, List, length}
-use Rattle.command_rules.specs.Sinks.{sink_at}
+use Rattle.cause_output.specs.Sinks.{sink_at}
 use Rattle.daemon_turn.specs.Kids.{AreChildren, KeepsChildren}
 use Rattle.host_calls.specs.Session.{IsOutside, KeepsCounts}
 use Rattle.serving.specs.Items.{Item}

@@ -1,7 +1,8 @@
 use Rattle.std.proofs.Common.{◌∙◌, sym}
 use Rattle.std.proofs.lemmas.Result.{err_from_is_err_and}
 use Rattle.command_rules.specs.Sessions.{refuses}
-use Rattle.command_rules.proofs.SpoolLemmas.{changes_go_on, goes_on_none, goes_on_then}
+use Rattle.host_calls.proofs.WorldLemmas.{goes_on_none, goes_on_then}
+use Rattle.whole_file.proofs.OthersLemmas.{changes_go_on}
 use Rattle.spool_session.proofs.OpeningLemmas.{lists_unread, store_opened, unrecovered}
 use Rattle.spool_session.proofs.open_store.open.Goals as goal
 

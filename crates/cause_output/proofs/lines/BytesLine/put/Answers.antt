@@ -1,5 +1,5 @@
 use Rattle.std.proofs.Common.{List, ℕ, subst}
-use Rattle.command_rules.specs.Sinks.{sink_at}
+use Rattle.cause_output.specs.Sinks.{sink_at}
 use Rattle.host_calls.specs.Sink.{Puts}
 use Rattle.cause_output.proofs.PutLemmas.{put_one}
 use Rattle.cause_output.proofs.lines.BytesLine.put.Goals as goal

@@ -1,5 +1,5 @@
 use Rattle.std.proofs.Common.{◌≡◌, ◌++◌, List, ap, sym, subst, ◌∙◌}
-use Rattle.daemon_turn.specs.declared.step.TurnStep.{TurnStep}
+use Rattle.spool_model.specs.declared.turn_step.TurnStep.{TurnStep}
 use Rattle.daemon_turn.specs.inside.Ended.{AreEndsByNumber, without_ended}
 use Rattle.daemon_turn.proofs.DecideLemmas.{reported_ends, reported_slice, reported_without}
 use Rattle.daemon_turn.proofs.turning.Turning.decide.Goals as goal

@@ -2,7 +2,7 @@ use Rattle.std.proofs.Common.{List, ℕ, ap, w64, refl, subst, sym, ◌∙◌}
 use Rattle.std.specs.Prelude.{Ok, Err}
 use Rattle.std.proofs.lemmas.Int.{to_z-of_z}
 use Rattle.daemon_turn.specs.declared.kid.Kid.{Kid}
-use Rattle.daemon_turn.specs.declared.step.TurnStep.{TurnStep}
+use Rattle.spool_model.specs.declared.turn_step.TurnStep.{TurnStep}
 use Rattle.daemon_turn.specs.inside.Making.{MakesAll}
 use Rattle.daemon_turn.specs.inside.Turned.{MakesTurn}
 use Rattle.daemon_turn.proofs.MakeLemmas.{may_forget_all, nothing_made}

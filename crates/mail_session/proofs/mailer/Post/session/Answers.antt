@@ -1,7 +1,7 @@
 use Rattle.std.proofs.Common.{◌∙◌, List, ℕ, refl, rules, subst, sym}
 use Rattle.daemon_turn.specs.Kids.{AreChildren}
-use Rattle.daemon_turn.specs.declared.report.TurnEnd.{TurnEnd}
-use Rattle.daemon_turn.specs.Ends.{end_of_session}
+use Rattle.host_session.specs.declared.turn_end.TurnEnd.{TurnEnd}
+use Rattle.host_session.specs.Ends.{end_of_session}
 use Rattle.mail_session.specs.Leaving.{PostsTo}
 use Rattle.mail_session.specs.PostState.{PostState}
 use Rattle.mail_session.proofs.MailerLemmas.{distinct_of_session, post_of_session, reads_of_session}

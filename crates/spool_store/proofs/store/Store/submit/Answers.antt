@@ -2,7 +2,8 @@ use Rattle.std.proofs.Common.{subst, sym}
 use Rattle.host_calls.specs.Folder.{Folder}
 use Rattle.spool_model.specs.declared.job.Job.{Job}
 use Rattle.spool_store.specs.Stored.{IsStored}
-use Rattle.spool_store.specs.Submitting.{job_of_script, submission, with_job}
+use Rattle.spool_store.specs.Submitting.{job_of_script, with_job}
+use Rattle.spool_model.specs.Steps.{submission}
 use Rattle.spool_store.proofs.SubmitAnswers.{call_done, call_failed, header_found, is_next, submitted_kept, submitted_table}
 use Rattle.spool_store.proofs.SubmitStored.{submitted_stored}
 use Rattle.spool_store.proofs.store.Store.submit.Goals as goal

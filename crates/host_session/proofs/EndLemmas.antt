@@ -1,10 +1,10 @@
 -- Why a session ends so.
 use Rattle.std.proofs.Common.{◌≡◌, refl}
 use Rattle.std.specs.Prelude.{Result, Ok, Err}
-use Rattle.spool_store.specs.declared.fault.StoreFault.{StoreFault}
-use Rattle.spool_store.specs.declared.fault.StoreFault.TheVariants as fault
-use Rattle.daemon_turn.specs.declared.report.TurnEnd.TheVariants.{Busy, FileFault}
-use Rattle.daemon_turn.specs.Ends.{end_after}
+use Rattle.host_calls.specs.declared.store_fault.StoreFault.{StoreFault}
+use Rattle.host_calls.specs.declared.store_fault.StoreFault.TheVariants as fault
+use Rattle.host_session.specs.declared.turn_end.TurnEnd.TheVariants.{Busy, FileFault}
+use Rattle.host_session.specs.Ends.{end_after}
 
 pub not_busy : (result : Result (Unit {0}) StoreFault) → end_after result ≡ Busy → ⊥
 not_busy (Ok done) is = cc

@@ -1,6 +1,6 @@
 //! The cause of words that ask for nothing.
 ghost use Rattle.std.specs.Prelude.{◌≡◌};
-ghost use Rattle.command_rules.specs.Causes.{words_cause};
+ghost use Rattle.cause_output.specs.Causes.{words_cause};
 
 use at_words::WordsFault;
 use listing_text::{Cause, Refusal};

@@ -1,6 +1,6 @@
 //! The cause of a put.
 ghost use Rattle.std.specs.Prelude.{◌≡◌};
-ghost use Rattle.command_rules.specs.Causes.{cause_of_put};
+ghost use Rattle.cause_output.specs.Causes.{cause_of_put};
 
 use host_calls::SinkFault;
 use listing_text::Cause;

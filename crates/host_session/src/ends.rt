@@ -1,11 +1,10 @@
 //! How a session ends that recovers the store and works on it.
 ghost use Rattle.std.specs.Prelude.{◌≡◌, IfErr, IfOk};
-ghost use Rattle.daemon_turn.specs.Ends.{end_after, end_of_session};
-ghost use Rattle.spool_store.specs.Faults.{IsOfReading};
+ghost use Rattle.host_session.specs.Ends.{end_after, end_of_session};
+ghost use Rattle.host_calls.specs.StoreFaults.{IsOfReading};
 
 use crate::TurnEnd;
-use host_calls::EnterFault;
-use spool_store::StoreFault;
+use host_calls::{EnterFault, StoreFault};
 
 /// The end of a session, by what came of it: of its work, or of the host's `enter`.
 pub fn end_of_session(worked: Result<Result<(), StoreFault>, EnterFault>) -> TurnEnd

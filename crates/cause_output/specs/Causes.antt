@@ -15,9 +15,9 @@ use Rattle.job_script.specs.declared.fault.ScriptFault.TheVariants as script
 use Rattle.listing_text.specs.declared.cause.Cause.{Cause}
 use Rattle.listing_text.specs.declared.cause.Cause.TheVariants.{Busy, Damaged, Done, FileFault, InputFault as InputFailed, Memory, OutputFault, Refused}
 use Rattle.listing_text.specs.declared.refusal.Refusal.TheVariants as refusal
-use Rattle.spool_store.specs.declared.fault.StoreFault.{StoreFault}
-use Rattle.spool_store.specs.declared.fault.StoreFault.TheVariants as store
-use Rattle.command_rules.specs.declared.command_error.CommandError.{CommandError}
+use Rattle.host_calls.specs.declared.store_fault.StoreFault.{StoreFault}
+use Rattle.host_calls.specs.declared.store_fault.StoreFault.TheVariants as store
+use Rattle.cause_output.specs.declared.command_error.CommandError.{CommandError}
 
 -- a fault of the store, as the cause of a command
 abbrev pub cause_of : StoreFault → Cause

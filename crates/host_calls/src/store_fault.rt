@@ -1,11 +1,9 @@
 //! Why a call of the store did not succeed.
 ghost use Rattle.std.specs.Prelude.{◌≡◌};
-ghost use Rattle.spool_store.specs.Faults.{fault_of, fault_of_journal, fault_of_sequence};
-ghost use Rattle.spool_store.specs.declared.fault.StoreFault.TheVariants as variant;
+ghost use Rattle.host_calls.specs.StoreFaults.{fault_of};
+ghost use Rattle.host_calls.specs.declared.store_fault.StoreFault.TheVariants as variant;
 
-use host_calls::{Damage, HostFault};
-use sequence_file::SequenceFault;
-use start_journal::JournalFault;
+use crate::{Damage, HostFault};
 use std::alloc::AllocError;
 use std::fmt;
 use thiserror::Error;
@@ -59,29 +57,5 @@ impl From<Damage> for StoreFault {
 
     fn from(damage: Damage) -> Self {
         StoreFault::Damaged(damage)
-    }
-}
-
-impl From<SequenceFault> for StoreFault {
-    ghost from_gives = { λ fault made. made ≡ fault_of_sequence fault };
-
-    fn from(fault: SequenceFault) -> Self {
-        match fault {
-            SequenceFault::Failed => StoreFault::FileFault,
-            SequenceFault::Memory => StoreFault::Memory,
-            SequenceFault::Damaged(damage) => StoreFault::Damaged(damage),
-        }
-    }
-}
-
-impl From<JournalFault> for StoreFault {
-    ghost from_gives = { λ fault made. made ≡ fault_of_journal fault };
-
-    fn from(fault: JournalFault) -> Self {
-        match fault {
-            JournalFault::Failed => StoreFault::FileFault,
-            JournalFault::Memory => StoreFault::Memory,
-            JournalFault::Damaged(damage) => StoreFault::Damaged(damage),
-        }
     }
 }

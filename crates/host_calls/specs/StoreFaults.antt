@@ -3,29 +3,13 @@ use Rattle.std.specs.Prelude.{◌≡◌, Option, Some}
 use Rattle.host_calls.specs.declared.damage.Damage.{Damage}
 use Rattle.host_calls.specs.declared.fault.HostFault.{HostFault}
 use Rattle.host_calls.specs.declared.fault.HostFault.TheVariants.{Failed as HostFailed, Memory as HostMemory}
-use Rattle.sequence_file.specs.declared.fault.SequenceFault.{SequenceFault}
-use Rattle.sequence_file.specs.declared.fault.SequenceFault.TheVariants as sequence
-use Rattle.start_journal.specs.declared.fault.JournalFault.{JournalFault}
-use Rattle.start_journal.specs.declared.fault.JournalFault.TheVariants as journal
-use Rattle.spool_store.specs.declared.fault.StoreFault.{StoreFault}
-use Rattle.spool_store.specs.declared.fault.StoreFault.TheVariants.{Damaged, FileFault, Memory, NumbersUsedUp, QueueFull}
+use Rattle.host_calls.specs.declared.store_fault.StoreFault.{StoreFault}
+use Rattle.host_calls.specs.declared.store_fault.StoreFault.TheVariants.{Damaged, FileFault, Memory, NumbersUsedUp, QueueFull}
 
 -- a fault of the host, as this one
 abbrev pub fault_of : HostFault → StoreFault
 fault_of HostFailed = FileFault
 fault_of HostMemory = Memory
-
--- a fault of the sequence file's reading, as this one
-abbrev pub fault_of_sequence : SequenceFault → StoreFault
-fault_of_sequence sequence.Failed = FileFault
-fault_of_sequence sequence.Memory = Memory
-fault_of_sequence (sequence.Damaged damage) = Damaged damage
-
--- a fault of the journal's reading, as this one
-abbrev pub fault_of_journal : JournalFault → StoreFault
-fault_of_journal journal.Failed = FileFault
-fault_of_journal journal.Memory = Memory
-fault_of_journal (journal.Damaged damage) = Damaged damage
 
 -- the fault is one of reading: the queue is not full, and the numbers are not used up
 abbrev pub IsOfReading : StoreFault → Type 0

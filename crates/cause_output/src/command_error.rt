@@ -1,12 +1,11 @@
 //! Why a command stopped before it was done.
 ghost use Rattle.std.specs.Prelude.{◌≡◌};
 ghost use Rattle.listing_text.specs.declared.cause.Cause.TheVariants as cause;
-ghost use Rattle.command_rules.specs.Causes.{cause_of, cause_of_entry, cause_of_host, cause_of_input, cause_of_script, cause_of_sink, error_of};
+ghost use Rattle.cause_output.specs.Causes.{cause_of, cause_of_entry, cause_of_host, cause_of_input, cause_of_script, cause_of_sink, error_of};
 
-use host_calls::{EnterFault, HostFault, InputFault, SinkFault};
+use host_calls::{EnterFault, HostFault, InputFault, SinkFault, StoreFault};
 use job_script::ScriptFault;
 use listing_text::{Cause, Refusal};
-use spool_store::StoreFault;
 use std::alloc::AllocError;
 
 /// A command was stopped before it was done, and why.
