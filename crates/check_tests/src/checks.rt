@@ -18,6 +18,14 @@ const FREE_THEN_REMOVED: &[u8] =
 
 const START_OF_FIVE: &[u8] = b"+S00000005a-000000000067748580.\n";
 
+// What is to be saved of a folder: the last number, the slots of the marks, and the names of the jobs.
+#[derive(Clone, Copy)]
+struct Saved<'a> {
+    number: &'a str,
+    marks: &'a str,
+    names: &'a [&'a str],
+}
+
 const POINTS: &[u8] = b".................................";
 
 // What a check answered: its status and its lines.
@@ -72,47 +80,61 @@ fn is_whole(alloc: Global, host: &mut MemoryHost) -> Result<bool, Fail>
     Ok(answered.code == 0 && answered.out.content().is_empty())
 }
 
-// Whether just the jobs of these names are saved of a folder of these files, and a check of what is saved finds nothing.
-fn is_saved(alloc: Global, files: &[(&str, &[u8])], names: &[&str]) -> Result<bool, Fail> {
-    let mut to = salvaged(alloc, files)?;
-    let has = has_jobs(&to, files, names)?;
-    let whole = is_whole(alloc, &mut to)?;
-    drop(to);
-    Ok(has && whole)
+// Whether the journal has these slots, and then 256 free ones.
+fn has_marks(host: &MemoryHost, marks: &[u8]) -> Result<bool, Fail> {
+    let journal = host.reading(&named(".JRN")?).ok_or("a journal")?;
+    let is_long = journal.len() == marks.len() + 256 * 32;
+    Ok(is_long && journal.starts_with(marks) && journal.get(marks.len()) == Some(&b'-'))
 }
 
-// A folder of these files has these lines, and the jobs of these names are saved.
+// Whether just this is saved of a folder of these files, and a check of what is saved finds nothing.
+fn is_saved(alloc: Global, files: &[(&str, &[u8])], saved: &Saved) -> Result<bool, Fail> {
+    let mut to = salvaged(alloc, files)?;
+    let number = to.reading(&named(".SEQ")?) == Some(saved.number.as_bytes());
+    let marks = has_marks(&to, saved.marks.as_bytes())?;
+    let jobs = has_jobs(&to, files, saved.names)?;
+    let whole = is_whole(alloc, &mut to)?;
+    drop(to);
+    Ok(number && marks && jobs && whole)
+}
+
+// A folder of these files has these lines, and this is saved of it.
 fn try_folder(
     rt: &impl Abort,
     alloc: Global,
     files: &[(&str, &[u8])],
     lines: &str,
-    names: &[&str],
+    saved: &Saved,
 ) -> Result<(), Fail> {
     let told = told(alloc, files)?;
     assert_eq!(rt; told.code, 9, "{lines}");
     assert_eq!(rt; told.lines.as_slice(), lines.as_bytes(), "{lines}");
     drop(told);
-    assert!(rt; is_saved(alloc, files, names)?, "{lines}");
+    assert!(rt; is_saved(alloc, files, saved)?, "{lines}");
     Ok(())
 }
 
 #[test]
 fn a_number_above_the_last_one(rt: HostRuntime) -> Result<(), Fail> {
+    let alloc = rt.alloc();
     let first = ("a0000101b968a0", JOB);
     let second = ("a0000201b968a0", JOB);
-    let line = "a0000201b968a0 damaged at 0\n";
-    let names = ["a0000101b968a0", "a0000201b968a0"];
     let sequence = (".SEQ", b"00001\n".as_slice());
-    try_folder(&rt, rt.alloc(), &[sequence, first, second], line, &names)?;
-    let both = ".JRN damaged at 32\na0000201b968a0 damaged at 0\n";
-    try_folder(
-        &rt,
-        rt.alloc(),
-        &[sequence, (".JRN", POINTS), first, second],
-        both,
-        &[],
-    )
+    let both = Saved {
+        number: "00000002\n",
+        marks: "",
+        names: &["a0000101b968a0", "a0000201b968a0"],
+    };
+    let line = "a0000201b968a0 damaged at 0\n";
+    try_folder(&rt, alloc, &[sequence, first, second], line, &both)?;
+    let none = Saved {
+        number: "00000002\n",
+        marks: "+R00000001--000000000000000000.\n+R00000002--000000000000000000.\n",
+        names: &[],
+    };
+    let lines = ".JRN damaged at 32\na0000201b968a0 damaged at 0\n";
+    let spoiled = [sequence, (".JRN", POINTS), first, second];
+    try_folder(&rt, alloc, &spoiled, lines, &none)
 }
 
 #[test]
@@ -120,32 +142,50 @@ fn starts_and_their_files(rt: HostRuntime) -> Result<(), Fail> {
     let alloc = rt.alloc();
     let sequence = (".SEQ", b"00000001\n".as_slice());
     let start = (".JRN", START);
+    let given_up = Saved {
+        number: "00000001\n",
+        marks: "+S00000001a-000000000067748580.\n+I00000001--000000000000000000.\n",
+        names: &[],
+    };
+    try_folder(&rt, alloc, &[sequence, start], ".JRN damaged at 0\n", &given_up)?;
+    let other = [sequence, start, ("b0000101b968a0", JOB)];
+    try_folder(&rt, alloc, &other, ".JRN damaged at 10\n", &given_up)?;
+    let running = Saved {
+        number: "00000001\n",
+        marks: "+S00000001a-000000000067748580.\n",
+        names: &["a0000101b968a0"],
+    };
+    let twice = [sequence, (".JRN", STARTS), ("a0000101b968a0", JOB)];
+    try_folder(&rt, alloc, &twice, ".JRN damaged at 32\n", &running)
+}
+
+// A start whose job has no file takes back each job that no mark names where its number was not drawn, since the digits of
+// the start of one of these may be damaged.
+#[test]
+fn a_start_above_the_last_number(rt: HostRuntime) -> Result<(), Fail> {
+    let alloc = rt.alloc();
+    let start = (".JRN", START_OF_FIVE);
     let job = ("a0000101b968a0", JOB);
-    let other = ("b0000101b968a0", JOB);
-    try_folder(&rt, alloc, &[sequence, start], ".JRN damaged at 0\n", &[])?;
-    try_folder(
-        &rt,
-        alloc,
-        &[sequence, start, other],
-        ".JRN damaged at 10\n",
-        &[],
-    )?;
-    let twice = [sequence, (".JRN", STARTS), job];
-    try_folder(
-        &rt,
-        alloc,
-        &twice,
-        ".JRN damaged at 32\n",
-        &["a0000101b968a0"],
-    )?;
-    let five = [sequence, (".JRN", START_OF_FIVE)];
-    try_folder(
-        &rt,
-        alloc,
-        &five,
-        ".JRN damaged at 0\n.JRN damaged at 0\n",
-        &[],
-    )
+    let alone = Saved {
+        number: "00000005\n",
+        marks: "+S00000005a-000000000067748580.\n+I00000005--000000000000000000.\n",
+        names: &[],
+    };
+    let sequence = (".SEQ", b"00000001\n".as_slice());
+    let lines = ".JRN damaged at 0\n.JRN damaged at 0\n";
+    try_folder(&rt, alloc, &[sequence, start], lines, &alone)?;
+    let taken_back = Saved {
+        number: "00000005\n",
+        marks: "+S00000005a-000000000067748580.\n+I00000005--000000000000000000.\n+R00000001--000000000000000000.\n",
+        names: &[],
+    };
+    try_folder(&rt, alloc, &[sequence, start, job], lines, &taken_back)?;
+    let drawn = (".SEQ", b"00000005\n".as_slice());
+    let waits = Saved {
+        names: &["a0000101b968a0"],
+        ..alone
+    };
+    try_folder(&rt, alloc, &[drawn, start, job], ".JRN damaged at 0\n", &waits)
 }
 
 #[test]
@@ -153,23 +193,32 @@ fn one_fault_of_each_kind(rt: HostRuntime) -> Result<(), Fail> {
     let alloc = rt.alloc();
     let sequence = (".SEQ", b"00000001\n".as_slice());
     let job = ("a0000101b968a0", JOB);
-    let removed = [sequence, (".JRN", FREE_THEN_REMOVED), job];
-    try_folder(&rt, alloc, &removed, ".JRN damaged at 32\n", &[])?;
+    let removed = Saved {
+        number: "00000001\n",
+        marks: "+R00000001--000000000000000000.\n",
+        names: &[],
+    };
+    let after_free = [sequence, (".JRN", FREE_THEN_REMOVED), job];
+    try_folder(&rt, alloc, &after_free, ".JRN damaged at 32\n", &removed)?;
+    let first = Saved {
+        number: "00000001\n",
+        marks: "",
+        names: &["a0000101b968a0"],
+    };
     let pair = [sequence, job, ("b0000101b968a0", JOB)];
-    try_folder(
-        &rt,
-        alloc,
-        &pair,
-        "b0000101b968a0 damaged at 0\n",
-        &["a0000101b968a0"],
-    )?;
+    try_folder(&rt, alloc, &pair, "b0000101b968a0 damaged at 0\n", &first)?;
+    let taken_back = Saved {
+        number: "00000002\n",
+        marks: "+S00000001a-000000000067748580.\n+I00000001--000000000000000000.\n+R00000002--000000000000000000.\n",
+        names: &[],
+    };
     let spoiled = [
         (".SEQ", b"0000g\n".as_slice()),
         (".JRN", START),
         ("a0000201b968a0", JOB),
     ];
     let lines = ".SEQ damaged at 4\n.JRN damaged at 0\n";
-    try_folder(&rt, alloc, &spoiled, lines, &["a0000201b968a0"])
+    try_folder(&rt, alloc, &spoiled, lines, &taken_back)
 }
 
 // Words that are none of the checker's.

@@ -7,3 +7,5 @@ mod checks;
 mod crashes;
 #[cfg(test)]
 mod folders;
+#[cfg(test)]
+mod many;

@@ -1,5 +1,5 @@
 -- The marks that are added to those that are taken are legal after them, and can be written.
-use Rattle.std.proofs.Common.{◌≡◌, ℕ, ℤ, Bool, true, false, List, [], ◌∷◌, ◌++◌, Option, Some, None, map, cond, sym, ap, subst, ◌∙◌, refl, inl, inr, append_assoc, eq-eqb, length, ◌+◌}
+use Rattle.std.proofs.Common.{◌≡◌, ℕ, ℤ, Bool, true, false, List, [], ◌∷◌, ◌++◌, Option, Some, None, map, cond, sym, ap, subst, ◌∙◌, refl, inl, inr, append_assoc, eq-eqb, length, ◌+◌, Result}
 use Rattle.std.specs.Prelude.{◌==◌, ◌&&◌, not, nat_le, option_map, slice_index, slice_range, if◌then◌else◌}
 use Rattle.std.specs.List.{cons_option, filter, filter_map, list_all, list_any}
 use Rattle.std.specs.Char.{is_ascii_alphabetic}
@@ -28,7 +28,7 @@ use Rattle.start_journal.proofs.LifeLemmas.{ends_decides, none_narrower}
 use Rattle.start_journal.proofs.MarkLemmas.{ends_names}
 use Rattle.start_journal.proofs.ReadLemmas.{IsSound, legal_list, sound_is, sound_more, sound_tested}
 use Rattle.spool_faults.specs.Faults.{files_taken, first_files, has_header}
-use Rattle.spool_faults.specs.Salvaged.{given_up, is_unnamed, marks_with, removal, saved_marks, taken_back}
+use Rattle.spool_faults.specs.Salvaged.{given_up, is_unnamed, loses_marks, marks_with, removal, saved_marks, taken_back}
 use Rattle.spool_faults.proofs.SavedMarks.{taken_sound}
 
 -- each mark is legal after those before it
@@ -200,8 +200,8 @@ have_numbers marks files file has =
     named_number from.0.0 file.job (file_says from.0.0 from.0.1 (job_named from.0.0) file from.2).2
 
 -- what is added to sound marks leaves them sound
-with_sound : (marks : List Mark) (files : List (List ℕ × List ℕ)) (faults : List Damage) → IsSound marks → IsSound (marks_with marks (files_taken marks files) faults)
-with_sound marks files faults sound = by_faults faults where
+with_sound : (marks : List Mark) (files : List (List ℕ × List ℕ)) (lost : Bool) → IsSound marks → IsSound (marks_with marks (files_taken marks files) lost)
+with_sound marks files lost sound = by_lost lost where
   interrupted : IsSound (marks ++ filter_map (given_up marks (files_taken marks files)) marks)
   interrupted = interrupted_sound marks (files_taken marks files) [] marks refl sound (subst IsSound (sym (append-nil marks)) sound)
 
@@ -210,12 +210,12 @@ with_sound marks files faults sound = by_faults faults where
       list_any-append (names number) marks (filter_map (given_up marks (files_taken marks files)) marks)
       ∙ or_from (is_named number marks) (is_named number (filter_map (given_up marks (files_taken marks files)) marks)) unnamed (none_given_up marks (files_taken marks files) number marks unnamed)
 
-  by_faults : (list : List Damage) → IsSound (marks ++ (filter_map (given_up marks (files_taken marks files)) marks ++ taken_back marks (files_taken marks files) list))
-  by_faults [] = subst (λ list. IsSound (marks ++ list)) (sym (append-nil (filter_map (given_up marks (files_taken marks files)) marks))) interrupted
-  by_faults (fault ∷ later) =
+  by_lost : (is : Bool) → IsSound (marks ++ (filter_map (given_up marks (files_taken marks files)) marks ++ taken_back marks (files_taken marks files) is))
+  by_lost false = subst (λ list. IsSound (marks ++ list)) (sym (append-nil (filter_map (given_up marks (files_taken marks files)) marks))) interrupted
+  by_lost true =
       subst IsSound (append_assoc marks (filter_map (given_up marks (files_taken marks files)) marks) (map removal (filter (is_unnamed marks) (files_taken marks files))))
       (removed_sound marks [] (filter has_header (job_files marks files)) (marks ++ filter_map (given_up marks (files_taken marks files)) marks) interrupted only (have_numbers marks files))
 
-pub saved_sound : (journal : Option (List ℕ)) (files : List (List ℕ × List ℕ)) → are_sound (saved_marks journal files) ≡ true
-saved_sound journal files =
-    sound_tested (saved_marks journal files) (with_sound (marks_taken journal) files (journal_faults LAST_NUMBER journal) (sound_is (marks_taken journal) (taken_sound journal)))
+pub saved_sound : (last : Result ℕ Damage) (journal : Option (List ℕ)) (files : List (List ℕ × List ℕ)) → are_sound (saved_marks last journal files) ≡ true
+saved_sound last journal files =
+    sound_tested (saved_marks last journal files) (with_sound (marks_taken journal) files (loses_marks last journal (files_taken (marks_taken journal) files)) (sound_is (marks_taken journal) (taken_sound journal)))

@@ -1,7 +1,7 @@
 -- The first fault of the files of jobs and of starts is the one that recovery answers; without one all files are taken.
 use Rattle.std.proofs.Common.{◌≡◌, ℕ, ◌+◌, Bool, true, false, List, [], ◌∷◌, Option, Some, None, sym, ap, ◌∙◌, refl}
-use Rattle.std.specs.Prelude.{◌==◌, not, option_map, if◌then◌else◌}
-use Rattle.std.specs.List.{cons_option, filter, filter_map}
+use Rattle.std.specs.Prelude.{◌==◌, ◌&&◌, ◌||◌, is_some, nat_lt, not, option_map, if◌then◌else◌}
+use Rattle.std.specs.List.{cons_option, filter, filter_map, list_any}
 use Rattle.std.specs.Option.{option_or}
 use Rattle.host_calls.specs.declared.damage.Damage.{Damage}
 use Rattle.job_name.specs.JobName.{NamedJob, job_named}
@@ -15,7 +15,7 @@ use Rattle.start_journal.specs.Journals.{gate_damage, queue_damage}
 use Rattle.start_journal.specs.Marks.{is_decided}
 use Rattle.start_journal.specs.Taken.{marks_of}
 use Rattle.spool_faults.specs.Faults.{files_faults, first_files, has_header, starts_faults}
-use Rattle.spool_faults.specs.Salvaged.{given_up, is_left}
+use Rattle.spool_faults.specs.Salvaged.{given_up, is_left, is_orphan}
 use Rattle.spool_faults.proofs.JournalFirst.{numbered}
 
 -- the first of a list
@@ -90,6 +90,28 @@ none_given_up marks files (one ∷ later) none =
     let both : (mark_damage marks files one.place one.mark ≡ None) × (starts_faults marks files later ≡ []) = none_first _ _ none in
     ap (λ o. cons_option o (filter_map (given_up marks files) (marks_of later))) (not_given_up marks files one.mark (whole_elsewhere marks files one.place 0 one.mark both.0))
     ∙ none_given_up marks files later both.1
+
+-- a start whose job has a file that is taken is no orphan
+not_orphan : (last : ℕ) (marks : List Mark) (files : List JobFile) (mark : Mark) → mark_damage marks files 0 mark ≡ None → is_orphan last marks files mark ≡ false
+not_orphan last marks files (Removed number) is = refl
+not_orphan last marks files (Ended number ending) is = refl
+not_orphan last marks files (Interrupted number) is = refl
+not_orphan last marks files (Forgotten number) is = refl
+not_orphan last marks files (Batch second) is = refl
+not_orphan last marks files (Started number queue second) is = by_tests (nat_lt last number) (is_decided number marks) (file_of number files) is where
+  by_tests : (above decided : Bool) (found : Option JobFile) → (if decided then None else start_damage 0 queue found) ≡ None → (above && (not decided && not (is_some found))) ≡ false
+  by_tests false decided found none = refl
+  by_tests true true found none = refl
+  by_tests true false (Some file) none = refl
+  by_tests true false None none = let impossible : ◌≡◌ {A = Option Damage} (Some (gate_damage 0)) None = none in cc
+
+-- there is no orphan where no start has a fault
+pub no_orphan : (last : ℕ) (marks : List Mark) (files : List JobFile) (taken : List TakenMark) → starts_faults marks files taken ≡ [] → list_any (is_orphan last marks files) (marks_of taken) ≡ false
+no_orphan last marks files [] none = refl
+no_orphan last marks files (one ∷ later) none =
+    let both : (mark_damage marks files one.place one.mark ≡ None) × (starts_faults marks files later ≡ []) = none_first _ _ none in
+    ap (λ b. b || list_any (is_orphan last marks files) (marks_of later)) (not_orphan last marks files one.mark (whole_elsewhere marks files one.place 0 one.mark both.0))
+    ∙ no_orphan last marks files later both.1
 
 -- each file of a job that counts is left
 counts_left : (marks : List Mark) (file : List ℕ × List ℕ) (of : JobFile) → counts marks file.0 ≡ true → job_file file ≡ Some of → is_left marks of ≡ true

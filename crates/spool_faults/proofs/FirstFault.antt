@@ -1,8 +1,8 @@
 -- A folder shows its first fault, and without one the table that is saved of it.
 use Rattle.std.proofs.Common.{◌≡◌, ◌≤◌, ℕ, List, [], ◌∷◌, ◌++◌, Option, sym, ap, ◌∙◌, refl}
-use Rattle.std.specs.Prelude.{Result, Ok, Err}
+use Rattle.std.specs.Prelude.{◌||◌, Result, Ok, Err}
 use Rattle.std.specs.FinMap.{entries, find}
-use Rattle.std.specs.List.{filter, filter_map}
+use Rattle.std.specs.List.{filter, filter_map, list_any}
 use Rattle.std.proofs.lemmas.List.{append-nil}
 use Rattle.host_calls.specs.declared.damage.Damage.{Damage}
 use Rattle.host_calls.specs.Folder.{Files, name_cmp}
@@ -17,8 +17,8 @@ use Rattle.start_journal.specs.Journals.{journal_file, journal_in}
 use Rattle.start_journal.specs.Taken.{journal_faults, marks_taken, taken_of}
 use Rattle.spool_faults.specs.Faults.{faults_after, faults_of, files_faults, files_taken, jobs_faults, starts_faults}
 use Rattle.spool_faults.specs.Laws.{DamageIsTheFirstFault, FaultlessFoldersAreSavedWhole, IsSavedWhole, unless_faulty}
-use Rattle.spool_faults.specs.Salvaged.{greatest, is_left, marks_with, name_numbers, salvaged, saved_after, saved_files, saved_last, saved_marks}
-use Rattle.spool_faults.proofs.FilesFirst.{all_left, files_first, files_kept, head_of, none_given_up, starts_first}
+use Rattle.spool_faults.specs.Salvaged.{greatest, is_faulty, is_left, is_orphan, marks_with, name_numbers, salvaged, saved_after, saved_files, saved_last, saved_marks}
+use Rattle.spool_faults.proofs.FilesFirst.{all_left, files_first, files_kept, head_of, no_orphan, none_given_up, starts_first}
 use Rattle.spool_faults.proofs.JournalFirst.{both_empty, journal_first, journal_wider, read_marks, read_of, taken_drawn, taken_numbered}
 use Rattle.spool_faults.proofs.NumbersDrawn.{few_last, marks_small, names_small}
 
@@ -39,18 +39,19 @@ saved_whole last journal files whole none =
     let both : (files_faults last [] (job_files marks files) ≡ []) × (starts_faults marks (files_taken marks files) (taken_of journal) ≡ []) = both_empty _ _ none in
     let drawn = taken_drawn last journal whole.none in
     let all : files_taken marks files ≡ job_files marks files = files_kept last [] (job_files marks files) both.0 in
-    let saved : saved_marks journal files ≡ marks =
-    ap (λ faults. marks_with marks (files_taken marks files) faults) (journal_wider last LAST_NUMBER journal whole.few whole.none)
+    let saved : saved_marks (Ok last) journal files ≡ marks =
+    ap (λ faults. marks_with marks (files_taken marks files) (is_faulty faults || list_any (is_orphan last marks (files_taken marks files)) marks)) (journal_wider last LAST_NUMBER journal whole.few whole.none)
+    ∙ ap (marks_with marks (files_taken marks files)) (no_orphan last marks (files_taken marks files) (taken_of journal) both.1)
     ∙ ap (λ list. marks ++ (list ++ [])) (none_given_up marks (files_taken marks files) (taken_of journal) both.1)
     ∙ append-nil marks in
     let number : saved_last (Ok last) journal files ≡ last =
     ap (λ n. greatest n (name_numbers files)) (marks_small last marks drawn) ∙ names_small last marks [] files drawn both.0 in
-    let left : saved_files journal files ≡ job_files marks files =
+    let left : saved_files (Ok last) journal files ≡ job_files marks files =
     ap (λ list. filter (is_left list) (files_taken marks files)) saved
     ∙ ap (filter (is_left marks)) all
     ∙ all_left marks files in
-    ap (λ n. table_shown n (saved_marks journal files) (saved_files journal files)) number
-    ∙ ap (λ list. table_shown last list (saved_files journal files)) saved
+    ap (λ n. table_shown n (saved_marks (Ok last) journal files) (saved_files (Ok last) journal files)) number
+    ∙ ap (λ list. table_shown last list (saved_files (Ok last) journal files)) saved
     ∙ ap (table_shown last marks) left
 
 -- the files of jobs and the starts, where the sequence file and the journal have no fault

@@ -1,9 +1,9 @@
 -- What is put together by one look is what is to be written.
-use Rattle.std.proofs.Common.{◌≡◌, ◌≤◌, length, arith, ℕ, ℤ, true, false, List, Option, Some, None, [], ◌∷◌, ◌++◌, map, sym, ap, subst, ◌∙◌, refl, append_assoc}
-use Rattle.std.specs.Prelude.{◌==◌, IfErr, IfOk, Result, Ok, Err, option_map}
+use Rattle.std.proofs.Common.{◌≡◌, ◌≤◌, length, arith, ℕ, ℤ, Bool, true, false, List, Option, Some, None, [], ◌∷◌, ◌++◌, map, sym, ap, subst, ◌∙◌, refl, append_assoc}
+use Rattle.std.specs.Prelude.{◌==◌, ◌||◌, IfErr, IfOk, Result, Ok, Err, option_map}
 use Rattle.std.specs.FinMap as finite
 use Rattle.std.specs.FinMap.{entries, find, get-entries}
-use Rattle.std.specs.List.{filter, filter_map}
+use Rattle.std.specs.List.{filter, filter_map, list_any}
 use Rattle.std.proofs.lemmas.Bool.{and_parts, eqb-true}
 use Rattle.std.proofs.lemmas.List.{append-nil, nil_from_length}
 use Rattle.host_calls.specs.declared.damage.Damage.{Damage}
@@ -25,11 +25,11 @@ use Rattle.spool_faults.specs.declared.first_files.FirstFiles.{FirstFiles}
 use Rattle.spool_faults.specs.declared.look.Look.{Look}
 use Rattle.spool_faults.specs.Faults.{bound_by, faults_of, first_files, has_header, jobs_faults, sequence_faults}
 use Rattle.spool_faults.specs.Plan.{IsPlanOf, name_of}
-use Rattle.spool_faults.specs.Salvaged.{given_up, greatest, is_left, is_unnamed, last_told, marks_of_salvage, marks_with, number_named, removal}
+use Rattle.spool_faults.specs.Salvaged.{given_up, greatest, is_faulty, is_left, is_orphan, is_unnamed, last_told, loses_marks, marks_of_salvage, marks_with, number_named, removal}
 use Rattle.spool_faults.specs.inside.Finding.{AreFirst, AreQueues}
 use Rattle.spool_faults.specs.inside.Looking.{IsLook}
-use Rattle.spool_faults.specs.inside.Saving.{is_faulty}
 use Rattle.spool_faults.proofs.CutFiles.{first_of, queue_in}
+use Rattle.spool_faults.proofs.FilesFirst.{no_orphan}
 use Rattle.spool_faults.proofs.JournalFirst.{both_empty, journal_wider}
 use Rattle.spool_faults.proofs.NumbersDrawn.{few_last}
 use Rattle.spool_faults.proofs.SavedMarks.{taken_sound}
@@ -78,15 +78,15 @@ faultless_journal files content is none =
     ∙ journal_wider (bound_by last) LAST_NUMBER (find name_cmp journal_file (entries files)) (few_bound (find name_cmp sequence_file (entries files)) last refl) (both_empty _ _ later).0
 
 -- the marks that are saved, where none may be lost, and where some may be
-pub saved_plain : (marks : List Mark) (taken : List JobFile) (faults : List Damage) (empty first saved : List Mark) → empty ≡ [] → first ≡ empty ++ marks → saved ≡ first ++ filter_map (given_up marks taken) marks → false ≡ is_faulty faults → saved ≡ marks_with marks taken faults
-saved_plain marks taken [] empty first saved none one is whole =
+pub saved_plain : (marks : List Mark) (taken : List JobFile) (lost : Bool) (empty first saved : List Mark) → empty ≡ [] → first ≡ empty ++ marks → saved ≡ first ++ filter_map (given_up marks taken) marks → false ≡ lost → saved ≡ marks_with marks taken lost
+saved_plain marks taken false empty first saved none one is whole =
     is ∙ ap (λ list. list ++ filter_map (given_up marks taken) marks) (one ∙ ap (λ list. list ++ marks) none)
     ∙ ap (λ list. marks ++ list) (sym (append-nil (filter_map (given_up marks taken) marks)))
-saved_plain marks taken (fault ∷ later) empty first saved none one is whole = let impossible : false ≡ true = whole in cc
+saved_plain marks taken true empty first saved none one is whole = let impossible : false ≡ true = whole in cc
 
-pub saved_lost : (marks : List Mark) (taken : List JobFile) (faults : List Damage) (empty first second saved backs : List Mark) → empty ≡ [] → first ≡ empty ++ marks → second ≡ first ++ filter_map (given_up marks taken) marks → true ≡ is_faulty faults → saved ≡ second ++ backs → backs ≡ map removal (filter (is_unnamed marks) taken) → saved ≡ marks_with marks taken faults
-saved_lost marks taken [] empty first second saved backs none one two some is are = let impossible : true ≡ false = some in cc
-saved_lost marks taken (fault ∷ later) empty first second saved backs none one two some is are =
+pub saved_lost : (marks : List Mark) (taken : List JobFile) (lost : Bool) (empty first second saved backs : List Mark) → empty ≡ [] → first ≡ empty ++ marks → second ≡ first ++ filter_map (given_up marks taken) marks → true ≡ lost → saved ≡ second ++ backs → backs ≡ map removal (filter (is_unnamed marks) taken) → saved ≡ marks_with marks taken lost
+saved_lost marks taken false empty first second saved backs none one two some is are = let impossible : true ≡ false = some in cc
+saved_lost marks taken true empty first second saved backs none one two some is are =
     is ∙ ap (λ list. second ++ list) are
     ∙ ap (λ list. list ++ map removal (filter (is_unnamed marks) taken)) (two ∙ ap (λ list. list ++ filter_map (given_up marks taken) marks) (one ∙ ap (λ list. list ++ marks) none))
     ∙ append_assoc marks (filter_map (given_up marks taken) marks) (map removal (filter (is_unnamed marks) taken))
@@ -105,12 +105,37 @@ module _ (files : Files) (look : Look) (is : IsLook files look) where
   of_marks : look.marks.items ≡ marks_taken journal
   of_marks = is.marks ∙ ap marks_taken of_journal
 
-  saved_is : (saved : List Mark) → saved ≡ marks_with look.marks.items (taken_by look.marks.items) (journal_faults LAST_NUMBER look.journal) → saved ≡ marks_of_salvage files
-  saved_is saved so =
-      so ∙ ap (λ list. marks_with list (taken_by list) (journal_faults LAST_NUMBER look.journal)) of_marks
-      ∙ ap (λ content. marks_with (marks_taken journal) (taken_by (marks_taken journal)) (journal_faults LAST_NUMBER content)) of_journal
+  of_number : look.number ≡ last_in (find name_cmp sequence_file (entries files))
+  of_number = is.number ∙ ap last_in (get-entries files sequence_file)
 
-  pub planned : (saved : List Mark) (names : List (List ℕ)) (text sequence : List ℕ) (last : ℕ) → saved ≡ marks_with look.marks.items (taken_by look.marks.items) (journal_faults LAST_NUMBER look.journal)
+  saved_is : (saved : List Mark) → saved ≡ marks_with look.marks.items (taken_by look.marks.items) (loses_marks look.number look.journal (taken_by look.marks.items)) → saved ≡ marks_of_salvage files
+  saved_is saved so =
+      so ∙ ap (λ list. marks_with list (taken_by list) (loses_marks look.number look.journal (taken_by list))) of_marks
+      ∙ ap (λ content. marks_with (marks_taken journal) (taken_by (marks_taken journal)) (loses_marks look.number content (taken_by (marks_taken journal)))) of_journal
+      ∙ ap (λ last. marks_with (marks_taken journal) (taken_by (marks_taken journal)) (loses_marks last journal (taken_by (marks_taken journal)))) of_number
+
+  -- whether a mark may be lost: the journal has a fault, or one of its marks is an orphan
+  pub lost_is : (faulty orphan lost : Bool) → faulty ≡ is_faulty (journal_faults LAST_NUMBER look.journal) → orphan ≡ list_any (is_orphan (last_told look.number) look.marks.items (taken_by look.marks.items)) look.marks.items → lost ≡ (faulty || orphan) → lost ≡ loses_marks look.number look.journal (taken_by look.marks.items)
+  lost_is faulty orphan lost of_faults of_orphans so =
+      so ∙ ap (λ b. b || orphan) of_faults
+      ∙ ap (λ b. is_faulty (journal_faults LAST_NUMBER look.journal) || b)
+      (of_orphans ∙ ap (λ list. list_any (is_orphan (last_told look.number) list (taken_by look.marks.items)) list) is.marks)
+
+  -- none is where the folder has no fault
+  pub none_lost : faults_of files ≡ [] → loses_marks look.number look.journal (taken_by look.marks.items) ≡ false
+  unfolding faults_of
+  none_lost none =
+      let told : Result ℕ Damage = last_in (find name_cmp sequence_file (entries files)) in
+      let later : journal_faults (bound_by told) journal ++ jobs_faults (bound_by told) (marks_taken journal) (taken_of journal) (entries files) ≡ [] = (both_empty (sequence_faults told) _ none).1 in
+      let jobs : jobs_faults (bound_by told) (marks_taken journal) (taken_of journal) (entries files) ≡ [] = (both_empty _ _ later).1 in
+      let no_orphans : list_any (is_orphan (last_told look.number) (marks_taken journal) (taken_by (marks_taken journal))) (marks_taken journal) ≡ false =
+      no_orphan (last_told look.number) (marks_taken journal) (taken_by (marks_taken journal)) (taken_of journal) (both_empty _ _ jobs).1 in
+      ap (λ list. loses_marks look.number look.journal (taken_by list)) of_marks
+      ∙ ap (λ content. loses_marks look.number content (taken_by (marks_taken journal))) of_journal
+      ∙ ap (λ list. is_faulty list || list_any (is_orphan (last_told look.number) (marks_taken journal) (taken_by (marks_taken journal))) (marks_taken journal)) (faultless_journal files journal (sym (get-entries files journal_file)) none)
+      ∙ no_orphans
+
+  pub planned : (saved : List Mark) (names : List (List ℕ)) (text sequence : List ℕ) (last : ℕ) → saved ≡ marks_with look.marks.items (taken_by look.marks.items) (loses_marks look.number look.journal (taken_by look.marks.items))
       → names ≡ map name_of (filter (is_left saved) (taken_by look.marks.items)) → SpellsJournal text saved 256
       → last ≡ greatest (greatest (last_told look.number) (filter_map number_of look.marks.items)) (filter_map number_named look.names.items) → SpellsIn true sequence last → IsPlanOf files names text sequence
   planned saved names text sequence last so named spelled number spells = record {
@@ -121,7 +146,7 @@ module _ (files : Files) (look : Look) (is : IsLook files look) where
     sequence_is =
         subst (SpellsIn true sequence)
         (number
-        ∙ ap (λ told. greatest (greatest (last_told told) (filter_map number_of look.marks.items)) (filter_map number_named look.names.items)) (is.number ∙ ap last_in (get-entries files sequence_file))
+        ∙ ap (λ told. greatest (greatest (last_told told) (filter_map number_of look.marks.items)) (filter_map number_named look.names.items)) of_number
         ∙ ap (λ marks. greatest (greatest (last_told (last_in (find name_cmp sequence_file (entries files)))) (filter_map number_of marks)) (filter_map number_named look.names.items)) of_marks
         ∙ ap (λ list. greatest (greatest (last_told (last_in (find name_cmp sequence_file (entries files)))) (filter_map number_of (marks_taken journal))) (filter_map number_named list)) is.names
         ∙ ap (greatest (greatest (last_told (last_in (find name_cmp sequence_file (entries files)))) (filter_map number_of (marks_taken journal)))) (sym (given_made (λ (e : List ℕ × List ℕ). e.0) number_named (entries files))))

@@ -25,7 +25,7 @@ salvages_show_what_is_taken files salvage is =
     ∙ ap (λ found. shown_after_journal (last_of_salvage files) (journal_in (last_of_salvage files) found) (entries salvage)) (sym (get-entries salvage journal_file))
     ∙ ap (λ read. shown_after_journal (last_of_salvage files) read (entries salvage)) (is.journal (last_of_salvage files) (saved_drawn last journal (entries files)))
     ∙ ap (shown_by_files (last_of_salvage files) (marks_of_salvage files)) (same_files files salvage is)
-    ∙ ap (table_or_damage (last_of_salvage files) (marks_of_salvage files) (files_of_salvage files)) (saved_undamaged journal (entries files) last)
+    ∙ ap (table_or_damage (last_of_salvage files) (marks_of_salvage files) (files_of_salvage files)) (saved_undamaged last journal (entries files))
 
 pub salvages_have_no_fault : SalvagesHaveNoFault
 salvages_have_no_fault files salvage is =

@@ -6,7 +6,6 @@ use Rattle.std.proofs.lemmas.Bool.{and_from}
 use Rattle.std.proofs.lemmas.Bool.Decides.{nat_tests}
 use Rattle.host_calls.specs.declared.damage.Damage.{Damage}
 use Rattle.job_name.specs.JobName.{NamedJob, job_named}
-use Rattle.spool_model.specs.declared.number.TheConstants.{LAST_NUMBER}
 use Rattle.spool_shows.specs.JobFiles.{JobFile, counts, job_file, job_files}
 use Rattle.spool_shows.proofs.FileLemmas.{file_says}
 use Rattle.spool_shows.proofs.Membership.{Has, filtered_has, given_has, has_either, has_given, made_has}
@@ -14,9 +13,9 @@ use Rattle.start_journal.specs.declared.mark.Mark.{Mark}
 use Rattle.start_journal.specs.declared.mark.Mark.TheVariants.{Removed, Started, Ended, Interrupted, Forgotten, Batch}
 use Rattle.start_journal.specs.Journals.{are_drawn, is_drawn}
 use Rattle.start_journal.specs.Marks.{number_of}
-use Rattle.start_journal.specs.Taken.{journal_faults, marks_taken}
+use Rattle.start_journal.specs.Taken.{marks_taken}
 use Rattle.spool_faults.specs.Faults.{files_taken, first_files, has_header}
-use Rattle.spool_faults.specs.Salvaged.{given_up, greatest, is_unnamed, last_told, name_numbers, number_named, removal, saved_last, saved_marks, taken_back}
+use Rattle.spool_faults.specs.Salvaged.{given_up, greatest, is_unnamed, last_told, loses_marks, name_numbers, number_named, removal, saved_last, saved_marks, taken_back}
 use Rattle.spool_faults.proofs.AddedMarks.{IsGivenUp, is_given_up}
 
 -- the greatest is at least the first number, and each of the others
@@ -98,23 +97,23 @@ module _ (last : Result ℕ Damage) (journal : Option (List ℕ)) (files : List 
       ∙ at_most is.number (saved_last last journal files) (taken_at_most from.0 is.number from.1 (ap number_of is.started))
 
   -- one that takes a job back that of its file
-  taken_back_at_most : (mark : Mark) (faults : List Damage) → Has (taken_back (marks_taken journal) (files_taken (marks_taken journal) files) faults) mark → is_drawn (saved_last last journal files) mark ≡ true
-  taken_back_at_most mark [] has = absurd has
-  taken_back_at_most mark (fault ∷ later) has =
+  taken_back_at_most : (mark : Mark) (lost : Bool) → Has (taken_back (marks_taken journal) (files_taken (marks_taken journal) files) lost) mark → is_drawn (saved_last last journal files) mark ≡ true
+  taken_back_at_most mark false has = absurd has
+  taken_back_at_most mark true has =
       let from : (file : JobFile) × Has (filter (is_unnamed (marks_taken journal)) (files_taken (marks_taken journal) files)) file × (removal file ≡ mark) = made_has removal (filter (is_unnamed (marks_taken journal)) (files_taken (marks_taken journal) files)) mark has in
       let stands : Has (files_taken (marks_taken journal) files) from.0 = (filtered_has (is_unnamed (marks_taken journal)) (files_taken (marks_taken journal) files) from.0 from.1).0 in
       ap (is_drawn (saved_last last journal files)) (sym from.2)
       ∙ at_most from.0.job.number (saved_last last journal files) (file_at_most (marks_taken journal) from.0 (taken_has (marks_taken journal) files from.0 stands).0)
 
   -- so each number of the marks that are saved counts as drawn
-  pub saved_drawn : are_drawn (saved_last last journal files) (saved_marks journal files) ≡ true
-  saved_drawn = drawn_all (saved_last last journal files) (saved_marks journal files) (λ mark has. by_first mark (has_either (marks_taken journal) added mark has)) where
+  pub saved_drawn : are_drawn (saved_last last journal files) (saved_marks last journal files) ≡ true
+  saved_drawn = drawn_all (saved_last last journal files) (saved_marks last journal files) (λ mark has. by_first mark (has_either (marks_taken journal) added mark has)) where
     added : List Mark
-    added = filter_map (given_up (marks_taken journal) (files_taken (marks_taken journal) files)) (marks_taken journal) ++ taken_back (marks_taken journal) (files_taken (marks_taken journal) files) (journal_faults LAST_NUMBER journal)
+    added = filter_map (given_up (marks_taken journal) (files_taken (marks_taken journal) files)) (marks_taken journal) ++ taken_back (marks_taken journal) (files_taken (marks_taken journal) files) (loses_marks last journal (files_taken (marks_taken journal) files))
 
     by_first : (mark : Mark) → Has (marks_taken journal) mark ⊎ Has added mark → is_drawn (saved_last last journal files) mark ≡ true
     by_first mark (inl taken) = drawn_at_most (saved_last last journal files) mark (λ number names. taken_at_most mark number taken names)
-    by_first mark (inr more) = elim (has_either (filter_map (given_up (marks_taken journal) (files_taken (marks_taken journal) files)) (marks_taken journal)) (taken_back (marks_taken journal) (files_taken (marks_taken journal) files) (journal_faults LAST_NUMBER journal)) mark more) [
+    by_first mark (inr more) = elim (has_either (filter_map (given_up (marks_taken journal) (files_taken (marks_taken journal) files)) (marks_taken journal)) (taken_back (marks_taken journal) (files_taken (marks_taken journal) files) (loses_marks last journal (files_taken (marks_taken journal) files))) mark more) [
       | inl given ↦ given_up_at_most mark given
-      | inr back ↦ taken_back_at_most mark (journal_faults LAST_NUMBER journal) back
+      | inr back ↦ taken_back_at_most mark (loses_marks last journal (files_taken (marks_taken journal) files)) back
     ]

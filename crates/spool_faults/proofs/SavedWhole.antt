@@ -6,7 +6,6 @@ use Rattle.std.specs.Option.{option_or}
 use Rattle.std.proofs.lemmas.Bool.{eqb-true}
 use Rattle.std.proofs.lemmas.List.Folds.{list_any-append}
 use Rattle.host_calls.specs.declared.damage.Damage.{Damage}
-use Rattle.spool_model.specs.declared.number.TheConstants.{LAST_NUMBER}
 use Rattle.spool_shows.specs.ByName.{IsWhole}
 use Rattle.spool_shows.specs.JobFiles.{JobFile, file_of, job_files}
 use Rattle.spool_shows.specs.Shown.{damage_of_jobs, mark_damage, start_damage, starts_damage}
@@ -16,9 +15,9 @@ use Rattle.spool_shows.proofs.StartLemmas.{whole_starts}
 use Rattle.start_journal.specs.declared.mark.Mark.{Mark}
 use Rattle.start_journal.specs.declared.mark.Mark.TheVariants.{Removed, Started, Ended, Interrupted, Forgotten, Batch}
 use Rattle.start_journal.specs.Marks.{decides, is_decided}
-use Rattle.start_journal.specs.Taken.{journal_faults, marks_taken}
+use Rattle.start_journal.specs.Taken.{marks_taken}
 use Rattle.spool_faults.specs.Faults.{files_taken, first_files, has_header}
-use Rattle.spool_faults.specs.Salvaged.{given_up, is_left, is_unnamed, removal, saved_files, saved_last, saved_marks, taken_back}
+use Rattle.spool_faults.specs.Salvaged.{given_up, is_left, is_unnamed, loses_marks, removal, saved_files, saved_last, saved_marks, taken_back}
 use Rattle.spool_faults.proofs.AddedMarks.{IsGivenUp, is_given_up}
 use Rattle.spool_faults.proofs.FilesFirst.{start_elsewhere}
 use Rattle.spool_faults.proofs.SavedNumbers.{file_at_most}
@@ -74,7 +73,7 @@ found_left number test (file ∷ later) pass = by_number (file.job.number == num
       ∙ ap (λ b. cond b (Some file) (file_of number (filter test later))) is
   by_number false is rest = by_test (test file) rest is
 
-module _ (journal : Option (List ℕ)) (files : List (List ℕ × List ℕ)) where
+module _ (last : Result ℕ Damage) (journal : Option (List ℕ)) (files : List (List ℕ × List ℕ)) where
   abbrev taken : List JobFile
   taken = files_taken (marks_taken journal) files
 
@@ -82,7 +81,7 @@ module _ (journal : Option (List ℕ)) (files : List (List ℕ × List ℕ)) whe
   ups = filter_map (given_up (marks_taken journal) taken) (marks_taken journal)
 
   abbrev backs : List Mark
-  backs = taken_back (marks_taken journal) taken (journal_faults LAST_NUMBER journal)
+  backs = taken_back (marks_taken journal) taken (loses_marks last journal taken)
 
   -- no start is among the marks that are added
   not_given_up : (number queue : ℕ) (second : ℤ) → Has ups (Started number queue second) → ⊥
@@ -92,30 +91,30 @@ module _ (journal : Option (List ℕ)) (files : List (List ℕ × List ℕ)) whe
       let impossible : Started number queue second ≡ Interrupted is.number = is.gives in
       cc
 
-  not_taken_back : (faults : List Damage) (number queue : ℕ) (second : ℤ) → Has (taken_back (marks_taken journal) taken faults) (Started number queue second) → ⊥
-  not_taken_back [] number queue second has = has
-  not_taken_back (fault ∷ later) number queue second has =
+  not_taken_back : (lost : Bool) (number queue : ℕ) (second : ℤ) → Has (taken_back (marks_taken journal) taken lost) (Started number queue second) → ⊥
+  not_taken_back false number queue second has = has
+  not_taken_back true number queue second has =
       let from : (file : JobFile) × Has (filter (is_unnamed (marks_taken journal)) taken) file × (removal file ≡ Started number queue second) = made_has removal (filter (is_unnamed (marks_taken journal)) taken) (Started number queue second) has in
       let impossible : Removed from.0.job.number ≡ Started number queue second = from.2 in
       cc
 
-  start_taken : (number queue : ℕ) (second : ℤ) → Has (saved_marks journal files) (Started number queue second) → Has (marks_taken journal) (Started number queue second)
+  start_taken : (number queue : ℕ) (second : ℤ) → Has (saved_marks last journal files) (Started number queue second) → Has (marks_taken journal) (Started number queue second)
   start_taken number queue second has = elim (has_either (marks_taken journal) (ups ++ backs) (Started number queue second) has) [
     | inl in_taken ↦ in_taken
     | inr added ↦ elim (has_either ups backs (Started number queue second) added) [
       | inl up ↦ absurd (not_given_up number queue second up)
-      | inr back ↦ absurd (not_taken_back (journal_faults LAST_NUMBER journal) number queue second back)
+      | inr back ↦ absurd (not_taken_back (loses_marks last journal taken) number queue second back)
     ]
   ]
 
   -- a number that a saved mark decides
-  decided_by : (number : ℕ) (mark : Mark) → Has (saved_marks journal files) mark → decides number mark ≡ true → is_decided number (saved_marks journal files) ≡ false → ⊥
+  decided_by : (number : ℕ) (mark : Mark) → Has (saved_marks last journal files) mark → decides number mark ≡ true → is_decided number (saved_marks last journal files) ≡ false → ⊥
   decided_by number mark has is undecided =
-      let impossible : true ≡ false = sym (any_passes (decides number) (saved_marks journal files) mark has is) ∙ undecided in
+      let impossible : true ≡ false = sym (any_passes (decides number) (saved_marks last journal files) mark has is) ∙ undecided in
       cc
 
   -- a start whose number no saved mark decides was not given up
-  start_kept : (number queue : ℕ) (second : ℤ) → Has (marks_taken journal) (Started number queue second) → is_decided number (saved_marks journal files) ≡ false → mark_damage (marks_taken journal) taken 0 (Started number queue second) ≡ None
+  start_kept : (number queue : ℕ) (second : ℤ) → Has (marks_taken journal) (Started number queue second) → is_decided number (saved_marks last journal files) ≡ false → mark_damage (marks_taken journal) taken 0 (Started number queue second) ≡ None
   start_kept number queue second has undecided = by_damage (mark_damage (marks_taken journal) taken 0 (Started number queue second)) refl where
     by_damage : (damage : Option Damage) → mark_damage (marks_taken journal) taken 0 (Started number queue second) ≡ damage → mark_damage (marks_taken journal) taken 0 (Started number queue second) ≡ None
     by_damage None none = none
@@ -124,24 +123,24 @@ module _ (journal : Option (List ℕ)) (files : List (List ℕ × List ℕ)) whe
         let in_ups : Has ups (Interrupted number) = has_given (given_up (marks_taken journal) taken) (marks_taken journal) (Started number queue second) (Interrupted number) has gives in
         absurd (decided_by number (Interrupted number) (has_right (marks_taken journal) (ups ++ backs) (Interrupted number) (has_left ups backs (Interrupted number) in_ups)) (eq-eqb number number refl) undecided)
 
-  undecided_before : (number : ℕ) → is_decided number (saved_marks journal files) ≡ false → is_decided number (marks_taken journal) ≡ false
+  undecided_before : (number : ℕ) → is_decided number (saved_marks last journal files) ≡ false → is_decided number (marks_taken journal) ≡ false
   undecided_before number undecided = first_fails (is_decided number (marks_taken journal)) (is_decided number (ups ++ backs)) (sym (list_any-append (decides number) (marks_taken journal) (ups ++ backs)) ∙ undecided) where
     first_fails : (one other : Bool) → (one || other) ≡ false → one ≡ false
     first_fails true other is = let impossible : true ≡ false = is in cc
     first_fails false other is = refl
 
-  start_whole : (at number queue : ℕ) (second : ℤ) (decided : Bool) → Has (saved_marks journal files) (Started number queue second) → is_decided number (saved_marks journal files) ≡ decided → (if decided then None else start_damage at queue (file_of number (saved_files journal files))) ≡ None
+  start_whole : (at number queue : ℕ) (second : ℤ) (decided : Bool) → Has (saved_marks last journal files) (Started number queue second) → is_decided number (saved_marks last journal files) ≡ decided → (if decided then None else start_damage at queue (file_of number (saved_files last journal files))) ≡ None
   start_whole at number queue second true has decided = refl
   start_whole at number queue second false has undecided =
       let whole : mark_damage (marks_taken journal) taken 0 (Started number queue second) ≡ None = start_kept number queue second (start_taken number queue second has) undecided in
       let here : start_damage 0 queue (file_of number taken) ≡ None = sym (ap (λ b. if b then None else start_damage 0 queue (file_of number taken)) (undecided_before number undecided)) ∙ whole in
-      let same : file_of number (saved_files journal files) ≡ file_of number taken =
-      found_left number (is_left (saved_marks journal files)) taken
-      (λ file is. ap (λ n. not (is_decided n (saved_marks journal files))) (eqb-true file.job.number number is) ∙ ap not undecided) in
+      let same : file_of number (saved_files last journal files) ≡ file_of number taken =
+      found_left number (is_left (saved_marks last journal files)) taken
+      (λ file is. ap (λ n. not (is_decided n (saved_marks last journal files))) (eqb-true file.job.number number is) ∙ ap not undecided) in
       ap (start_damage at queue) same ∙ start_elsewhere 0 at queue (file_of number taken) here
 
-  mark_whole : (at : ℕ) (mark : Mark) → Has (saved_marks journal files) mark → mark_damage (saved_marks journal files) (saved_files journal files) at mark ≡ None
-  mark_whole at (Started number queue second) has = start_whole at number queue second (is_decided number (saved_marks journal files)) has refl
+  mark_whole : (at : ℕ) (mark : Mark) → Has (saved_marks last journal files) mark → mark_damage (saved_marks last journal files) (saved_files last journal files) at mark ≡ None
+  mark_whole at (Started number queue second) has = start_whole at number queue second (is_decided number (saved_marks last journal files)) has refl
   mark_whole at (Removed number) has = refl
   mark_whole at (Ended number ending) has = refl
   mark_whole at (Interrupted number) has = refl
@@ -149,15 +148,15 @@ module _ (journal : Option (List ℕ)) (files : List (List ℕ × List ℕ)) whe
   mark_whole at (Batch second) has = refl
 
   -- each file that is saved is whole
-  file_whole : (last : Result ℕ Damage) (file : JobFile) → Has (filter has_header (job_files (marks_taken journal) files)) file → IsWhole (saved_last last journal files) file
-  file_whole last file has =
+  file_whole : (file : JobFile) → Has (filter has_header (job_files (marks_taken journal) files)) file → IsWhole (saved_last last journal files) file
+  file_whole file has =
       let stands : Has (job_files (marks_taken journal) files) file × (has_header file ≡ true) = filtered_has has_header (job_files (marks_taken journal) files) file has in
       record { drawn = file_at_most last journal files (marks_taken journal) file stands.0; header = stands.1 }
 
   -- no file and no start that is saved has damage
-  pub saved_undamaged : (last : Result ℕ Damage) → damage_of_jobs (saved_last last journal files) (saved_marks journal files) (saved_files journal files) ≡ None
-  saved_undamaged last =
-      ap (λ found. option_or found (starts_damage (saved_marks journal files) (saved_files journal files) 0 (saved_marks journal files)))
-      (fine_is_no_damage (saved_last last journal files) [] (saved_files journal files)
-      (first_fine (saved_last last journal files) (is_left (saved_marks journal files)) [] [] (filter has_header (job_files (marks_taken journal) files)) (file_whole last) (λ number none. none)))
-      ∙ whole_starts (saved_marks journal files) (saved_files journal files) 0 (saved_marks journal files) mark_whole
+  pub saved_undamaged : damage_of_jobs (saved_last last journal files) (saved_marks last journal files) (saved_files last journal files) ≡ None
+  saved_undamaged =
+      ap (λ found. option_or found (starts_damage (saved_marks last journal files) (saved_files last journal files) 0 (saved_marks last journal files)))
+      (fine_is_no_damage (saved_last last journal files) [] (saved_files last journal files)
+      (first_fine (saved_last last journal files) (is_left (saved_marks last journal files)) [] [] (filter has_header (job_files (marks_taken journal) files)) file_whole (λ number none. none)))
+      ∙ whole_starts (saved_marks last journal files) (saved_files last journal files) 0 (saved_marks last journal files) mark_whole

@@ -63,6 +63,10 @@ fifth_alone = journal fifth_started ∷ sequence (codes "00001\n") ∷ []
 abbrev pub bad_sequence : List File
 bad_sequence = journal started ∷ sequence (codes "0000g\n") ∷ second_old_form ∷ []
 
+-- the same start, and the file of the first job, which no mark names
+abbrev pub orphan_beside_a_job : List File
+orphan_beside_a_job = journal fifth_started ∷ sequence (codes "00001\n") ∷ first_job ∷ []
+
 -- files of one job in both forms
 abbrev pub both_forms : List File
 both_forms = sequence (codes "00000001\n") ∷ first_job_new_form ∷ first_job ∷ []
@@ -94,5 +98,6 @@ pub record SmallFoldersAreSalvaged : Type 0 where
   pub after_closed : all_saved open_after_closed ≡ with_first (Done Removed)
   pub second_file : all_saved two_files ≡ with_first (live Pending)
   pub above_last : all_saved fifth_alone ≡ table_of 5 (from_entries ((5, Done Interrupted) ∷ [])) None
-  pub no_number : all_saved bad_sequence ≡ table_of 2 (from_entries ((2, live Pending) ∷ (1, Done Interrupted) ∷ [])) None
+  pub orphan : all_saved orphan_beside_a_job ≡ table_of 5 (from_entries ((5, Done Interrupted) ∷ (1, Done Removed) ∷ [])) None
+  pub no_number : all_saved bad_sequence ≡ table_of 2 (from_entries ((1, Done Interrupted) ∷ (2, Done Removed) ∷ [])) None
   pub old_form : all_saved both_forms ≡ with_first (live Pending)

@@ -1,15 +1,16 @@
 -- What holds of every folder.
-use Rattle.std.specs.Prelude.{◌≡◌, [], ◌∷◌, ℕ, ℤ, true, List, Option, Result, Ok, Err, Contains}
+use Rattle.std.specs.Prelude.{◌≡◌, [], ◌∷◌, ℕ, ℤ, true, false, List, Option, Result, Ok, Err, Contains}
 use Rattle.std.specs.FinMap as map
 use Rattle.host_calls.specs.declared.damage.Damage.{Damage}
 use Rattle.host_calls.specs.Folder.{Files}
 use Rattle.spool_faults.specs.Faults.{faults_of}
-use Rattle.spool_faults.specs.Salvaged.{marks_of_salvage, salvaged}
+use Rattle.spool_faults.specs.Salvaged.{loses_marks_of, marks_of_salvage, salvaged}
 use Rattle.spool_faults.specs.Salvages.{IsSalvageOf}
 use Rattle.spool_model.specs.JobTable.{IsPending, JobTable}
 use Rattle.spool_shows.specs.Shown.{Shows, shown_by}
 use Rattle.start_journal.specs.declared.mark.Mark.TheVariants.{Started}
 use Rattle.start_journal.specs.Journals.{are_sound, journal_file}
+use Rattle.start_journal.specs.Marks.{is_named}
 use Rattle.start_journal.specs.Taken.{marks_taken}
 
 -- the value, or the first fault
@@ -25,6 +26,11 @@ DamageIsTheFirstFault = (files : Files) → shown_by files ≡ unless_faulty (fa
 abbrev pub StartsAreNotPending : Type 0
 StartsAreNotPending = (files : Files) (number queue : ℕ) (second : ℤ) →
     Contains (marks_taken (map.get files journal_file)) (Started number queue second) → ¬ (IsPending (salvaged files) number)
+
+-- where a mark may be lost, no job that no mark names is pending in the table that is saved: it may have run
+abbrev pub LostMarksLeaveNoJobPending : Type 0
+LostMarksLeaveNoJobPending = (files : Files) (number : ℕ) →
+    loses_marks_of files ≡ true → is_named number (marks_taken (map.get files journal_file)) ≡ false → ¬ (IsPending (salvaged files) number)
 
 -- The folder has no fault exactly where it shows a table, and that table is then the one that is saved.
 pub record IsSavedWhole (files : Files) : Type 0 where

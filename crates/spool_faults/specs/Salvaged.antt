@@ -1,8 +1,8 @@
 -- What is saved of a spool folder (own): the marks and the files that are taken of it, what is added to the marks, and
 -- the table that these make.
-use Rattle.std.specs.Prelude.{◌++◌, [], ◌∷◌, ℕ, Bool, not, List, Option, None, Result, Ok, Err, map, nat_lt, option_map, if◌then◌else◌}
+use Rattle.std.specs.Prelude.{◌++◌, ◌&&◌, ◌||◌, [], ◌∷◌, ℕ, Bool, true, false, not, List, Option, None, Result, Ok, Err, is_some, map, nat_lt, option_map, if◌then◌else◌}
 use Rattle.std.specs.FinMap.{entries, find}
-use Rattle.std.specs.List.{filter, filter_map}
+use Rattle.std.specs.List.{filter, filter_map, list_any}
 use Rattle.host_calls.specs.declared.damage.Damage.{Damage}
 use Rattle.host_calls.specs.Folder.{Files, name_cmp}
 use Rattle.job_name.specs.JobName.{NamedJob, job_named}
@@ -11,7 +11,7 @@ use Rattle.sequence_file.specs.Sequence.{sequence_file}
 use Rattle.spool_faults.specs.Faults.{files_taken}
 use Rattle.spool_model.specs.declared.number.TheConstants.{LAST_NUMBER}
 use Rattle.spool_model.specs.JobTable.{JobTable}
-use Rattle.spool_shows.specs.JobFiles.{JobFile}
+use Rattle.spool_shows.specs.JobFiles.{JobFile, file_of}
 use Rattle.spool_shows.specs.Shown.{mark_damage, table_shown}
 use Rattle.start_journal.specs.declared.mark.Mark.{Mark}
 use Rattle.start_journal.specs.declared.mark.Mark.TheVariants.{Removed, Started, Ended, Interrupted, Forgotten, Batch}
@@ -37,37 +37,56 @@ is_unnamed marks file = not (is_named file.job.number marks)
 abbrev pub removal : JobFile → Mark
 removal file = Removed file.job.number
 
--- Where the journal has a fault, a mark may be lost: a job that no mark names is taken back, since it may have run.
-abbrev pub taken_back : List Mark → List JobFile → List Damage → List Mark
-taken_back marks files [] = []
-taken_back marks files (fault ∷ later) = map removal (filter (is_unnamed marks) files)
+-- there is a fault
+abbrev pub is_faulty : List Damage → Bool
+is_faulty [] = false
+is_faulty (fault ∷ later) = true
 
--- the marks that are taken, and those that are added to them; no fault for a number above the last one counts here
-abbrev pub marks_with : List Mark → List JobFile → List Damage → List Mark
-marks_with marks files faults = marks ++ (filter_map (given_up marks files) marks ++ taken_back marks files faults)
+-- the last number that the sequence file gives, 0 where it gives none
+abbrev pub last_told : Result ℕ Damage → ℕ
+last_told (Ok last) = last
+last_told (Err damage) = 0
 
--- the marks that are saved, where the journal has this content
-abbrev pub saved_marks : Option (List ℕ) → List (List ℕ × List ℕ) → List Mark
-saved_marks journal files =
-    marks_with (marks_taken journal) (files_taken (marks_taken journal) files) (journal_faults LAST_NUMBER journal)
+-- A start is an orphan where its number is above the last one, no mark decides it, and no file that is taken has it: one
+-- changed digit makes such a mark of the start of another job.
+abbrev pub is_orphan : ℕ → List Mark → List JobFile → Mark → Bool
+is_orphan last marks files (Started number queue second) =
+    nat_lt last number && (not (is_decided number marks) && not (is_some (file_of number files)))
+is_orphan last marks files _ = false
+
+-- A mark may be lost where the journal has a fault, a number above the last one left aside, or an orphan.
+abbrev pub loses_marks : Result ℕ Damage → Option (List ℕ) → List JobFile → Bool
+loses_marks last journal files =
+    is_faulty (journal_faults LAST_NUMBER journal)
+    || list_any (is_orphan (last_told last) (marks_taken journal) files) (marks_taken journal)
+
+-- Where a mark may be lost, a job that no mark names is taken back, since it may have run.
+abbrev pub taken_back : List Mark → List JobFile → Bool → List Mark
+taken_back marks files false = []
+taken_back marks files true = map removal (filter (is_unnamed marks) files)
+
+-- the marks that are taken, and those that are added to them
+abbrev pub marks_with : List Mark → List JobFile → Bool → List Mark
+marks_with marks files lost = marks ++ (filter_map (given_up marks files) marks ++ taken_back marks files lost)
+
+-- the marks that are saved, by what the sequence file gives and by the content of the journal
+abbrev pub saved_marks : Result ℕ Damage → Option (List ℕ) → List (List ℕ × List ℕ) → List Mark
+saved_marks last journal files =
+    marks_with (marks_taken journal) (files_taken (marks_taken journal) files)
+    (loses_marks last journal (files_taken (marks_taken journal) files))
 
 -- the file's number is not decided
 abbrev pub is_left : List Mark → JobFile → Bool
 is_left marks file = not (is_decided file.job.number marks)
 
 -- the files that are saved: those that are taken, of numbers that no saved mark decides
-abbrev pub saved_files : Option (List ℕ) → List (List ℕ × List ℕ) → List JobFile
-saved_files journal files = filter (is_left (saved_marks journal files)) (files_taken (marks_taken journal) files)
+abbrev pub saved_files : Result ℕ Damage → Option (List ℕ) → List (List ℕ × List ℕ) → List JobFile
+saved_files last journal files = filter (is_left (saved_marks last journal files)) (files_taken (marks_taken journal) files)
 
 -- the greatest of a number and of others
 abbrev pub greatest : ℕ → List ℕ → ℕ
 greatest least [] = least
 greatest least (number ∷ later) = greatest (if nat_lt least number then number else least) later
-
--- the last number that the sequence file gives, 0 where it gives none
-abbrev pub last_told : Result ℕ Damage → ℕ
-last_told (Ok last) = last
-last_told (Err damage) = 0
 
 -- the number of a job's name
 abbrev pub number_named : List ℕ → Option ℕ
@@ -84,7 +103,8 @@ saved_last last journal files =
 
 -- the table that is saved
 abbrev pub saved_after : Result ℕ Damage → Option (List ℕ) → List (List ℕ × List ℕ) → JobTable
-saved_after last journal files = table_shown (saved_last last journal files) (saved_marks journal files) (saved_files journal files)
+saved_after last journal files =
+    table_shown (saved_last last journal files) (saved_marks last journal files) (saved_files last journal files)
 
 -- that of files that stand in byte order of their names
 abbrev pub all_saved : List (List ℕ × List ℕ) → JobTable
@@ -100,7 +120,15 @@ last_of_salvage files =
     saved_last (last_in (find name_cmp sequence_file (entries files))) (find name_cmp journal_file (entries files)) (entries files)
 
 abbrev pub marks_of_salvage : Files → List Mark
-marks_of_salvage files = saved_marks (find name_cmp journal_file (entries files)) (entries files)
+marks_of_salvage files =
+    saved_marks (last_in (find name_cmp sequence_file (entries files))) (find name_cmp journal_file (entries files)) (entries files)
 
 abbrev pub files_of_salvage : Files → List JobFile
-files_of_salvage files = saved_files (find name_cmp journal_file (entries files)) (entries files)
+files_of_salvage files =
+    saved_files (last_in (find name_cmp sequence_file (entries files))) (find name_cmp journal_file (entries files)) (entries files)
+
+-- a mark of the folder's journal may be lost
+abbrev pub loses_marks_of : Files → Bool
+loses_marks_of files =
+    loses_marks (last_in (find name_cmp sequence_file (entries files))) (find name_cmp journal_file (entries files))
+    (files_taken (marks_taken (find name_cmp journal_file (entries files))) (entries files))

@@ -1,6 +1,6 @@
 //! What holds of every folder, each law as the contract of a function.
 ghost use Rattle.spool_faults.specs.Examples.{SmallFoldersAreSalvaged, SmallFoldersHaveFaults};
-ghost use Rattle.spool_faults.specs.Laws.{DamageIsTheFirstFault, FaultlessFoldersAreSavedWhole, SalvagedMarksAreSound, SalvagesAreSavedAlike, SalvagesHaveNoFault, SalvagesShowWhatIsTaken, StartsAreNotPending, TakenMarksAreSound};
+ghost use Rattle.spool_faults.specs.Laws.{DamageIsTheFirstFault, FaultlessFoldersAreSavedWhole, LostMarksLeaveNoJobPending, SalvagedMarksAreSound, SalvagesAreSavedAlike, SalvagesHaveNoFault, SalvagesShowWhatIsTaken, StartsAreNotPending, TakenMarksAreSound};
 
 /// The faults of small folders and what is saved of them, computed.
 pub fn small_folders()
@@ -17,6 +17,11 @@ pub fn damage_is_the_first_fault()
 /// A number that a mark of the journal starts is not pending in the table that is saved.
 pub fn starts_are_not_pending()
     ensures { StartsAreNotPending }
+{}
+
+/// Where a mark may be lost, a number that no mark of the journal names is not pending in the table that is saved.
+pub fn lost_marks_leave_no_job_pending()
+    ensures { LostMarksLeaveNoJobPending }
 {}
 
 /// The marks that are taken of a journal are legal and can be written, so they can be placed.

@@ -6,8 +6,9 @@
 //! 3. `Plan` and `Salvages`: what is to be written for them, and a folder that has it
 //! 4. `Examples`: small folders, their faults and what is saved of them
 //! 5. `Listed`: what listing the faults leaves
-//! 6. `Laws`: the first fault is the damage that recovery answers, a folder without one is saved whole, the marks that are
-//!    saved can be placed, and a folder that was written from what is saved shows it
+//! 6. `Laws`: the first fault is the damage that recovery answers, a folder without one is saved whole, where a mark may be
+//!    lost no job that no mark names is left pending, the marks that are saved can be placed, and a folder that was written
+//!    from what is saved shows it
 #![tactic(auto)]
 
 mod fault_list;
@@ -18,13 +19,14 @@ mod job_faults;
 mod laws;
 mod list_faults;
 mod look;
+mod orphans;
 mod plan;
 mod saved_marks;
 mod survey;
 
 pub use fault_list::FaultList;
 pub use laws::{
-    damage_is_the_first_fault, salvaged_marks_are_sound, salvages_show_what_is_taken,
+    damage_is_the_first_fault, lost_marks_leave_no_job_pending, salvaged_marks_are_sound, salvages_show_what_is_taken,
     small_folders, starts_are_not_pending, taken_marks_are_sound,
 };
 pub use list_faults::faults;

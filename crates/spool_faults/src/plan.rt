@@ -4,20 +4,21 @@ ghost use Rattle.std.specs.FinMap as finite;
 ghost use Rattle.std.specs.List.{filter_map};
 ghost use Rattle.host_calls.specs.Folder.{Files};
 ghost use Rattle.sequence_file.specs.Sequence.{SpellsIn};
-ghost use Rattle.spool_faults.specs.Faults.{faults_of};
+ghost use Rattle.spool_faults.specs.Faults.{faults_of, files_taken};
 ghost use Rattle.spool_faults.specs.Plan.{IsPlanOf};
-ghost use Rattle.spool_faults.specs.Salvaged.{greatest, last_told, number_named};
+ghost use Rattle.spool_faults.specs.Salvaged.{greatest, is_faulty, last_told, loses_marks, number_named};
 ghost use Rattle.spool_faults.specs.inside.Finding.{file_first};
 ghost use Rattle.spool_faults.specs.inside.Looking.{IsLook};
-ghost use Rattle.spool_faults.specs.inside.Saving.{is_faulty, name_unless};
+ghost use Rattle.spool_faults.specs.inside.Saving.{name_unless};
 ghost use Rattle.spool_model.specs.declared.number.TheConstants.{LAST_NUMBER};
-ghost use Rattle.start_journal.specs.Journals.{AreWritable, journal_file};
+ghost use Rattle.start_journal.specs.Journals.{AreWritable};
 ghost use Rattle.start_journal.specs.Marks.{number_of};
 ghost use Rattle.start_journal.specs.Taken.{journal_faults};
 
 use crate::find_files::decided;
 use crate::first_files::FirstFile;
 use crate::look::Look;
+use crate::orphans::has_orphan;
 use crate::saved_marks::saved_marks;
 use host_calls::{Bytes, Damage, Name};
 use job_name::JobName;
@@ -45,7 +46,7 @@ pub(crate) fn plan_of(alloc: Global, look: &Look, faults: &[Damage]) -> Result<P
     ensures { (files : Files) → IsLook files look.now → faults.now ≡ faults_of files
         → IfOk result (λ plan. IsPlanOf files plan.names.items plan.journal.items plan.sequence.items) }
 {
-    let lost = loses_marks(alloc, &look.journal, faults)?;
+    let lost = loses_marks(alloc, look, faults)?;
     let marks = saved_marks(
         alloc,
         look.marks.as_slice(),
@@ -65,20 +66,23 @@ pub(crate) fn plan_of(alloc: Global, look: &Look, faults: &[Damage]) -> Result<P
     })
 }
 
-// Whether marks of the journal may be lost: it has a fault, a number above the last one left aside. It has none where the
-// folder has none.
-fn loses_marks(
-    alloc: Global,
-    journal: &Option<Bytes>,
-    faults: &[Damage],
-) -> Result<bool, AllocError>
-    ensures { (files : Files) → journal.now ≡ finite.get files journal_file → faults.now ≡ faults_of files
-        → IfOk result (λ lost. lost ≡ is_faulty (journal_faults LAST_NUMBER journal.now)) }
+// Whether a mark of the journal may be lost. None is where the folder has no fault.
+fn loses_marks(alloc: Global, look: &Look, faults: &[Damage]) -> Result<bool, AllocError>
+    ensures { (files : Files) → IsLook files look.now → faults.now ≡ faults_of files
+        → IfOk result (λ lost. lost ≡ loses_marks look.now.number look.now.journal
+        (files_taken look.now.marks.items (finite.entries files))) }
 {
     if faults.is_empty() {
         return Ok(false);
     }
-    is_faulty(alloc, journal)
+    let faulty = is_faulty(alloc, &look.journal)?;
+    let orphan = has_orphan(
+        last_told(&look.number),
+        look.marks.as_slice(),
+        &look.decided,
+        &look.firsts.queues,
+    );
+    Ok(faulty || orphan)
 }
 
 // Whether the journal has a fault, a number above the last one left aside.

@@ -3,11 +3,10 @@ ghost use Rattle.std.specs.Prelude.{◌≡◌, ◌++◌, ◌||◌, [], ℕ, List
 ghost use Rattle.std.specs.BTreeSet.{contains};
 ghost use Rattle.std.specs.List.{filter_map};
 ghost use Rattle.std.specs.Ordering.{nat_cmp};
-ghost use Rattle.host_calls.specs.declared.damage.Damage.{Damage};
 ghost use Rattle.spool_faults.specs.Faults.{first_files};
 ghost use Rattle.spool_faults.specs.Salvaged.{given_up, marks_with};
 ghost use Rattle.spool_faults.specs.inside.Finding.{AreDecided, AreFirst, AreQueues, file_first};
-ghost use Rattle.spool_faults.specs.inside.Saving.{AreNamed, is_faulty, removal_unless};
+ghost use Rattle.spool_faults.specs.inside.Saving.{AreNamed, removal_unless};
 ghost use Rattle.spool_shows.specs.JobFiles.{JobFile};
 ghost use Rattle.start_journal.specs.declared.mark.Mark.{Mark};
 ghost use Rattle.start_journal.specs.Journals.{AreWritable};
@@ -30,9 +29,8 @@ pub(crate) fn saved_marks(
     lost: bool,
 ) -> Result<Vec<Mark>, AllocError>
     ensures writable { AreWritable marks.now → IfOk result (λ saved. AreWritable saved.items) }
-    ensures saved { (files : List JobFile) (faults : List Damage) → AreDecided marks.now decided.now
-        → AreFirst files firsts.now → lost ≡ is_faulty faults
-        → IfOk result (λ saved. saved.items ≡ marks_with marks.now (first_files [] files) faults) }
+    ensures saved { (files : List JobFile) → AreDecided marks.now decided.now
+        → AreFirst files firsts.now → IfOk result (λ saved. saved.items ≡ marks_with marks.now (first_files [] files) lost) }
 {
     let mut saved = Vec::new(alloc);
     saved.extend_from_slice(marks)?;

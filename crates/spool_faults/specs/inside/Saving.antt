@@ -1,8 +1,7 @@
 -- What is kept while what is saved of a folder is put together (own).
-use Rattle.std.specs.Prelude.{◌≡◌, [], ◌∷◌, ℕ, Bool, true, false, List, Option, Some, None, if◌then◌else◌}
+use Rattle.std.specs.Prelude.{◌≡◌, ℕ, List, Option, Some, None, if◌then◌else◌}
 use Rattle.std.specs.BTreeSet.{BTreeSet, contains}
 use Rattle.std.specs.Ordering.{nat_cmp}
-use Rattle.host_calls.specs.declared.damage.Damage.{Damage}
 use Rattle.spool_faults.specs.Salvaged.{removal}
 use Rattle.spool_shows.specs.JobFiles.{JobFile}
 use Rattle.start_journal.specs.declared.mark.Mark.{Mark}
@@ -11,11 +10,6 @@ use Rattle.start_journal.specs.Marks.{is_named}
 -- the set has the numbers that the marks name
 abbrev pub AreNamed : List Mark → BTreeSet ℕ → Type 0
 AreNamed marks named = (number : ℕ) → contains nat_cmp named number ≡ is_named number marks
-
--- there is a fault
-abbrev pub is_faulty : List Damage → Bool
-is_faulty [] = false
-is_faulty (fault ∷ later) = true
 
 -- the mark that takes the job of a file back, unless the set has its number
 abbrev pub removal_unless : BTreeSet ℕ → JobFile → Option Mark

@@ -31,6 +31,7 @@ returns-clause-salvaged c = record {
   after_closed = refl;
   second_file = refl;
   above_last = refl;
+  orphan = refl;
   no_number = refl;
   old_form = refl;
 }

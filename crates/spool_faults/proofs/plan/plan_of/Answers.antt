@@ -1,11 +1,9 @@
 use Rattle.std.proofs.Common.{◌∙◌, [], sym, ap, subst}
 use Rattle.std.specs.FinMap as finite
 use Rattle.std.specs.List.{filter, filter_map}
-use Rattle.spool_model.specs.declared.number.TheConstants.{LAST_NUMBER}
 use Rattle.spool_shows.specs.JobFiles.{job_files}
 use Rattle.start_journal.specs.Journals.{SpellsJournal}
 use Rattle.start_journal.specs.Marks.{number_of}
-use Rattle.start_journal.specs.Taken.{journal_faults}
 use Rattle.spool_faults.specs.Faults.{first_files, has_header}
 use Rattle.spool_faults.specs.Salvaged.{greatest, last_told, marks_with, number_named}
 use Rattle.spool_faults.specs.inside.Finding.{AreDecided, file_first}
@@ -18,11 +16,11 @@ pub returns : goal.returns
 returns c = λ files is are.
     let look = c.args.look.now in
     let found = filter has_header (job_files look.marks.items (finite.entries files)) in
-    let faults = journal_faults LAST_NUMBER look.journal in
     let decided = c.in_ok-decided.decided in
     planned files look is c.in_ok-marks.marks.items c.in_ok-names.names.items c.in_ok-journal.journal.items c.in_ok-sequence.sequence.items c.saved_last-last.result
-    (c.in_ok-marks.ensures.saved found faults (subst (λ list. AreDecided list look.decided) (sym c.as_slice.ensures.value) is.decided) is.firsts (c.in_ok-lost.ensures files is.journal are)
-    ∙ ap (λ list. marks_with list (first_files [] found) faults) c.as_slice.ensures.value)
+    (c.in_ok-marks.ensures.saved found (subst (λ list. AreDecided list look.decided) (sym c.as_slice.ensures.value) is.decided) is.firsts
+    ∙ ap (λ list. marks_with list (first_files [] found) c.in_ok-lost.lost) c.as_slice.ensures.value
+    ∙ ap (marks_with look.marks.items (first_files [] found)) (c.in_ok-lost.ensures files is are))
     (c.in_ok-names.ensures
     ∙ ap (filter_map (λ file. name_unless decided (file_first file))) c.as_slice-3.ensures.value
     ∙ names_left_are c.in_ok-marks.marks.items decided found look.firsts (subst (λ list. AreDecided list decided) c.as_slice-2.ensures.value c.in_ok-decided.ensures) is.firsts)
