@@ -27,7 +27,7 @@ use Rattle.spool_salvage.specs.declared.fault.SalvageFault.{SalvageFault}
 use Rattle.spool_salvage.specs.declared.fault.SalvageFault.TheVariants as fault
 use Rattle.whole_file.specs.Others.{ChangesFiles}
 use Rattle.whole_file.proofs.OthersLemmas.{changes_none}
-use Rattle.spool_check.specs.Checking.{Checks, Does, FindsBy, IsChecked, IsSalvaged, IsUnrefused, PrintsBy, Writes, WritesBy, WritesWhere}
+use Rattle.spool_check.specs.Checking.{Checks, Does, FindsBy, IsChecked, IsSalvaged, MayEnd, PrintsBy, Writes, WritesBy, WritesWhere}
 use Rattle.spool_check.specs.inside.Looking.{IsOfLooking, IsOfSaving, IsOfTelling, Tells, cause_by, salvage_cause}
 use Rattle.spool_check.specs.Outside.{FolderAt, HasRisen, OutsideAt, StreamAt, Visit, handed}
 use Rattle.spool_check.specs.Telling.{fault_lines, verdict_of}
@@ -230,41 +230,35 @@ told_all (one ∷ later) lines old new verdict is prints = subst (λ (of : Cause
 pub stopped_saving : (faults : List Damage) (lines : List ℕ) (old new : SinkAt) (verdict cause : Cause) → verdict ≡ verdict_of faults → PrintsBy verdict lines old new → IsOfSaving cause → PrintsBy cause lines old new
 stopped_saving faults lines old new verdict cause is prints of = saving_prints lines old new cause of (told_all faults lines old new verdict is prints)
 
--- Nothing is refused without a salvage.
+-- Why it may end.
 
-pub looking_unrefused : (cause : Cause) → IsOfLooking cause → IsUnrefused cause
-looking_unrefused FileFault of = tt
-looking_unrefused Busy of = tt
-looking_unrefused Memory of = tt
-looking_unrefused Done of = absurd of
-looking_unrefused (Refused refusal) of = absurd of
-looking_unrefused InputFault of = absurd of
-looking_unrefused OutputFault of = absurd of
-looking_unrefused (Damaged damage) of = absurd of
-looking_unrefused StillRunning of = absurd of
-looking_unrefused Faulty of = absurd of
+looking_may_end : (salvage : Bool) (cause : Cause) → IsOfLooking cause → MayEnd salvage cause
+looking_may_end salvage FileFault of = tt
+looking_may_end salvage Busy of = tt
+looking_may_end salvage Memory of = tt
+looking_may_end salvage cause of = absurd of
 
-pub telling_unrefused : (cause : Cause) → IsOfTelling cause → IsUnrefused cause
-telling_unrefused OutputFault of = tt
-telling_unrefused Memory of = tt
-telling_unrefused FileFault of = absurd of
-telling_unrefused Busy of = absurd of
-telling_unrefused Done of = absurd of
-telling_unrefused (Refused refusal) of = absurd of
-telling_unrefused InputFault of = absurd of
-telling_unrefused (Damaged damage) of = absurd of
-telling_unrefused StillRunning of = absurd of
-telling_unrefused Faulty of = absurd of
+telling_may_end : (salvage : Bool) (cause : Cause) → IsOfTelling cause → MayEnd salvage cause
+telling_may_end salvage OutputFault of = tt
+telling_may_end salvage Memory of = tt
+telling_may_end salvage cause of = absurd of
 
-pub verdict_unrefused : (faults : List Damage) (cause : Cause) → cause ≡ verdict_of faults → IsUnrefused cause
-verdict_unrefused [] cause is = subst IsUnrefused (sym is) tt
-verdict_unrefused (one ∷ later) cause is = subst IsUnrefused (sym is) tt
+saving_may_end : (cause : Cause) → IsOfSaving cause → MayEnd true cause
+saving_may_end FileFault of = tt
+saving_may_end Busy of = tt
+saving_may_end Memory of = tt
+saving_may_end (Refused TargetNotEmpty) of = refl
+saving_may_end cause of = absurd of
+
+verdict_may_end : (salvage : Bool) (faults : List Damage) (cause : Cause) → cause ≡ verdict_of faults → MayEnd salvage cause
+verdict_may_end salvage [] cause is = subst (MayEnd salvage) (sym is) tt
+verdict_may_end salvage (one ∷ later) cause is = subst (MayEnd salvage) (sym is) tt
 
 -- The parts together.
 
 looking_where : (salvage tells : Bool) (files : Files) (to : FolderAt) (cause : Cause) → IsOfLooking cause → WritesWhere salvage tells files to to cause
 looking_where true tells files to cause of = λ told. stopped_looking files to cause of
-looking_where false tells files to cause of = (refl, looking_unrefused cause of)
+looking_where false tells files to cause of = refl
 
 -- nothing was told
 pub look_stopped : (salvage tells : Bool) (first last : World) (to : FolderAt) (at : StreamAt) (cause : Cause) → (tells ≡ true → LeavesFolder first last) → IsOfLooking cause → Checks salvage tells first last to to at at cause
@@ -272,6 +266,7 @@ look_stopped salvage tells first last to at cause leaves of = record {
   leaves = leaves;
   prints = λ told out. looking_prints (fault_lines (faults_of (reading first))) at.sink cause of;
   finds = λ told. looking_finds (faults_of (reading first)) cause of;
+  may_end = looking_may_end salvage cause of;
   writes = looking_where salvage tells (reading first) to cause of;
 }
 
@@ -291,24 +286,27 @@ entry_stop (Err stopped) fault is = subst (λ (error : CommandError). IsOfLookin
 -- the lines could not be put
 telling_where : (salvage tells : Bool) (files : Files) (to : FolderAt) (cause : Cause) → IsOfTelling cause → WritesWhere salvage tells files to to cause
 telling_where true tells files to cause of = λ told. stopped_telling files to cause of
-telling_where false tells files to cause of = (refl, telling_unrefused cause of)
+telling_where false tells files to cause of = refl
 
 pub tell_stopped : (salvage tells : Bool) (first last : World) (to : FolderAt) (list : List Damage) (was is : StreamAt) (stopped : CommandError) → (tells ≡ true → LeavesFolder first last) → (tells ≡ true → list ≡ faults_of (reading first)) → Tells was.tells list was.sink is.sink (Err stopped) → Checks salvage tells first last to to was is stopped.cause
 tell_stopped salvage tells first last to list was is stopped leaves same told = record {
   leaves = leaves;
   prints = λ known out. subst (λ (faults : List Damage). PrintsBy stopped.cause (fault_lines faults) was.sink is.sink) (same known) (told.prints out);
   finds = λ known. telling_finds (faults_of (reading first)) stopped.cause told.stopped;
+  may_end = telling_may_end salvage stopped.cause told.stopped;
   writes = telling_where salvage tells (reading first) to stopped.cause told.stopped;
 }
 
 -- all faults were told
 pub record Told (tells : Bool) (first : World) (was is : StreamAt) (verdict : Cause) : Type 0 where
   pub verdict_is : tells ≡ true → verdict ≡ verdict_of (faults_of (reading first))
+  pub may_end : (salvage : Bool) → MayEnd salvage verdict
   pub prints : tells ≡ true → was.tells ≡ true → PrintsBy verdict (fault_lines (faults_of (reading first))) was.sink is.sink
 
 pub tell_done : (tells : Bool) (first : World) (list : List Damage) (was is : StreamAt) (verdict : Cause) → (tells ≡ true → list ≡ faults_of (reading first)) → Tells was.tells list was.sink is.sink (Ok verdict) → Told tells first was is verdict
 tell_done tells first list was is verdict same told = record {
   verdict_is = λ known. told.verdict ∙ ap verdict_of (same known);
+  may_end = λ salvage. verdict_may_end salvage list verdict told.verdict;
   prints = λ known out. subst (λ (faults : List Damage). PrintsBy verdict (fault_lines faults) was.sink is.sink) (same known) (told.prints out);
 }
 
@@ -318,6 +316,7 @@ save_stopped tells first last to_old to_new was is verdict cause leaves told of 
   leaves = leaves;
   prints = λ known out. stopped_saving (faults_of (reading first)) (fault_lines (faults_of (reading first))) was.sink is.sink verdict cause (told.verdict_is known) (told.prints known out) of;
   finds = λ known. saving_finds (faults_of (reading first)) cause of;
+  may_end = saving_may_end cause of;
   writes = writes;
 }
 
@@ -327,6 +326,7 @@ save_done tells first last to_old to_new was is verdict leaves told writes = rec
   leaves = leaves;
   prints = told.prints;
   finds = λ known. verdict_finds (faults_of (reading first)) verdict (told.verdict_is known);
+  may_end = told.may_end true;
   writes = λ known. verdict_writes (reading first) to_old to_new (faults_of (reading first)) verdict (told.verdict_is known) (writes known);
 }
 
@@ -338,7 +338,8 @@ listed tells first last to list was is (Ok verdict) leaves same told =
       leaves = leaves;
       prints = all.prints;
       finds = λ known. verdict_finds (faults_of (reading first)) verdict (all.verdict_is known);
-      writes = (refl, verdict_unrefused list verdict told.verdict);
+      may_end = all.may_end false;
+      writes = refl;
     }
 listed tells first last to list was is (Err stopped) leaves same told = tell_stopped false tells first last to list was is stopped leaves same told
 

@@ -13,7 +13,7 @@ use Rattle.listing_text.specs.declared.refusal.Refusal.{Refusal}
 use Rattle.listing_text.specs.declared.refusal.Refusal.TheVariants.{TargetNotEmpty}
 use Rattle.spool_faults.specs.Faults.{faults_of}
 use Rattle.spool_faults.specs.Listed.{LeavesFolder}
-use Rattle.spool_salvage.specs.Salvaging.{EachShowsSalvaged, IsRefused, IsSalvaging, is_spool}
+use Rattle.spool_salvage.specs.Salvaging.{HasSalvage, IsRefused, IsSalvaging, is_spool}
 use Rattle.whole_file.specs.Others.{ChangesFiles}
 use Rattle.spool_check.specs.Outside.{FolderAt, OutsideAt, StreamAt, Visit}
 use Rattle.spool_check.specs.Telling.{fault_lines}
@@ -37,10 +37,10 @@ FindsBy Done faults = faults ≡ []
 FindsBy Faulty faults = faults ≢ []
 FindsBy _ faults = Unit {0}
 
--- The new folder had no file of a spool, and each of its images shows the table that is saved of the files.
+-- The new folder had no file of a spool, and has the salvage of the files.
 pub record IsSalvaged (files : Files) (first last : World) : Type 0 where
   pub empty : is_spool (reading first) ≡ false
-  pub shows : EachShowsSalvaged files last.now.folder
+  pub salvage : HasSalvage files first.now.folder last.now.folder
 
 -- what a refusal leaves: the new folder is a spool, and was left as it is
 abbrev pub RefusedBy : Refusal → World → World → Type 0
@@ -67,14 +67,20 @@ pub record Writes (files : Files) (old new : FolderAt) (cause : Cause) : Type 0 
   pub leaves : old.tells ≡ true → ChangesFiles (IsSalvaging files visit.first.now.folder) visit.first visit.last
   pub by : old.tells ≡ true → WritesBy cause files visit.first visit.last
 
--- nothing was refused
-abbrev pub IsUnrefused : Cause → Type 0
-IsUnrefused (Refused refusal) = ⊥
-IsUnrefused _ = Unit {0}
+-- the causes for which the checker may end; a new folder that is a spool is refused only where it salvages
+abbrev pub MayEnd : Bool → Cause → Type 0
+MayEnd salvage Done = Unit {0}
+MayEnd salvage Faulty = Unit {0}
+MayEnd salvage FileFault = Unit {0}
+MayEnd salvage OutputFault = Unit {0}
+MayEnd salvage Busy = Unit {0}
+MayEnd salvage Memory = Unit {0}
+MayEnd salvage (Refused TargetNotEmpty) = salvage ≡ true
+MayEnd salvage _ = ⊥
 
 -- without a salvage the new folder is left alone
 abbrev pub WritesWhere : Bool → Bool → Files → FolderAt → FolderAt → Cause → Type 0
-WritesWhere false tells files old new cause = (new ≡ old) × IsUnrefused cause
+WritesWhere false tells files old new cause = new ≡ old
 WritesWhere true tells files old new cause = tells ≡ true → Writes files old new cause
 
 -- What was done within a visit of the folder that is checked. It is left as it was, its faults are told, and the new folder is written.
@@ -82,6 +88,7 @@ pub record Checks (salvage tells : Bool) (first last : World) (to_old to_new : F
   pub leaves : tells ≡ true → LeavesFolder first last
   pub prints : tells ≡ true → was.tells ≡ true → PrintsBy cause (fault_lines (faults_of (reading first))) was.sink is.sink
   pub finds : tells ≡ true → FindsBy cause (faults_of (reading first))
+  pub may_end : MayEnd salvage cause
   pub writes : WritesWhere salvage tells (reading first) to_old to_new cause
 
 -- Such a visit, of the folder that is checked.

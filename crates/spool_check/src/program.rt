@@ -1,9 +1,10 @@
 //! The checker as a program.
 ghost use Rattle.std.specs.Prelude.{◌≡◌, false, map, string_bytes};
+ghost use Rattle.cause_output.specs.Sinks.{sink_at};
 ghost use Rattle.host_calls.specs.Session.{IsLeft, IsOutside};
 ghost use Rattle.listing_text.specs.Cause.{status_of};
 ghost use Rattle.spool_check.specs.Checking.{Does, Ends, IsChecked};
-ghost use Rattle.spool_check.specs.inside.Looking.{cause_by};
+ghost use Rattle.spool_check.specs.inside.Looking.{Tells, cause_by};
 ghost use Rattle.spool_check.specs.Outside.{FolderAt, HasRisen, folder_at, handed, outside_at, stream_at};
 ghost use Rattle.spool_check.specs.Words.{check_asked};
 
@@ -12,7 +13,7 @@ use crate::save::check_and_save;
 use crate::tell::tell;
 use crate::words::asks_to_salvage;
 use cause_output::{CommandError, cause_of_words, say_cause};
-use host_calls::{Host, Sink};
+use host_calls::{Damage, Host, Sink};
 use listing_text::{Cause, Status};
 use std::alloc::Global;
 
@@ -118,5 +119,20 @@ fn list<H: Host, O: Sink>(alloc: Global, from: &mut H, out: &mut O) -> Result<Ca
         (handed (folder_at H.Host from.new) to (stream_at O.Sink out.new)) (cause_by result) }
 {
     let found = look(alloc, from)?;
-    tell(alloc, found.faults.as_slice(), out)
+    tell_outside(alloc, from, found.faults.as_slice(), out)
+}
+
+// Tells them outside of a session of the folder.
+fn tell_outside<H: Host, O: Sink>(
+    alloc: Global,
+    from: &H,
+    faults: &[Damage],
+    out: &mut O,
+) -> Result<Cause, CommandError>
+    requires { IsOutside (H.session from.now) }
+    ensures made_as { (O.outlet out.new).made_as ≡ (O.outlet out.old).made_as }
+    ensures tells { Tells O.tells faults.now
+        (sink_at (O.content out.old) (O.outlet out.old)) (sink_at (O.content out.new) (O.outlet out.new)) result }
+{
+    tell(alloc, faults, out)
 }

@@ -2,15 +2,16 @@
 use Rattle.std.proofs.Common.{◌≡◌, ◌⊎◌, ℕ, true, false, List, [], sym, ap, subst, ◌∙◌, refl, inl, inr}
 use Rattle.std.specs.Prelude.{Some, None, Result, Ok, Err, OnOk, is_some}
 use Rattle.std.specs.FinMap as map
-use Rattle.host_calls.specs.Folder.{Files, Folder, IsImage}
+use Rattle.host_calls.specs.Folder.{Files, Folder, IsImage, reading_of}
 use Rattle.host_calls.specs.World.{World, reading}
+use Rattle.host_calls.proofs.FolderLemmas.{reading_is_image}
 use Rattle.job_name.specs.JobName.{job_named}
 use Rattle.sequence_file.specs.Sequence.{sequence_file}
 use Rattle.spool_faults.specs.Listed.{LeavesFolder}
 use Rattle.spool_faults.specs.Plan.{IsPlanOf}
 use Rattle.spool_faults.specs.Salvaged.{salvaged}
 use Rattle.spool_salvage.specs.inside.Copying.{EachHas, EachHasCopies, IsBare, IsCertain, IsCopyName}
-use Rattle.spool_salvage.specs.Salvaging.{EachShowsSalvaged, IsSalvaging, is_of_spool, is_spool}
+use Rattle.spool_salvage.specs.Salvaging.{EachShowsSalvaged, HasSalvage, IsSalvaging, is_of_spool, is_spool}
 use Rattle.spool_salvage.specs.declared.fault.SalvageFault.{SalvageFault}
 use Rattle.spool_shows.specs.Laws.{ShowsNoEntry}
 use Rattle.spool_shows.specs.Shown.{Shows}
@@ -167,15 +168,25 @@ sequence_leaves files names journal sequence target start middle new is plan fil
     filled.before
     (subst (λ (n : List ℕ). ChangesFiles (IsPlacing temporary_file n sequence middle.now.folder) middle new) is changes)
 
+-- files that are not the spool's read as they did in a folder that was settled
+others_read : (files : Files) (start new : World) → IsBare start.now.folder → ChangesFiles (IsSalvaging files start.now.folder) start new → (name : List ℕ) → is_of_spool name ≡ false → map.get (reading_of new.now.folder) name ≡ map.get (reading_of start.now.folder) name
+others_read files start new bare changes name other =
+    let is : IsSalvaging files start.now.folder (reading_of new.now.folder) = changes_end (IsSalvaging files start.now.folder) start new changes (start_salvaging files start.now.folder) (reading_of new.now.folder) (reading_is_image new.now.folder) in
+    is.alone.others name (λ of. let impossible : false ≡ true = sym other ∙ of in cc)
+    ∙ ap (λ image. map.get image name) (bare.certain is.alone.from is.alone.was)
+
 all_show : (files : Files) (names : List (List ℕ)) (journal sequence : List ℕ) (start middle new : World) → IsPlanOf files names journal sequence → IsFilled files names journal start middle → HasPut sequence_file sequence middle new → EachShowsSalvaged files new.now.folder
 all_show files names journal sequence start middle new plan filled put = λ image is.
     filled_shows files names journal sequence middle.now.folder image plan filled.has filled.copies
     (alone_end (IsEither temporary_file sequence_file) middle new (placing_alone temporary_file sequence_file sequence middle new put.changes) image is) (put.placed.placed image is)
 
-pub sequence_stands : {T : Type 0} (files : Files) (names : List (List ℕ)) (journal sequence target : List ℕ) (start middle new : World) (result : Result T SalvageFault) → target ≡ sequence_file → IsPlanOf files names journal sequence → IsFilled files names journal start middle → ChangesFiles (IsPlacing temporary_file target sequence middle.now.folder) middle new → OnOk result (IsPlaced temporary_file target sequence middle.now.folder new.now.folder) → OnOk result (EachShowsSalvaged files new.now.folder)
-sequence_stands files names journal sequence target start middle new (Ok value) is plan filled changes placed =
-    all_show files names journal sequence start middle new plan filled (has_put target sequence_file sequence middle new is changes placed)
-sequence_stands files names journal sequence target start middle new (Err fault) is plan filled changes placed = tt
+pub sequence_stands : {T : Type 0} (files : Files) (names : List (List ℕ)) (journal sequence target : List ℕ) (start middle new : World) (result : Result T SalvageFault) → target ≡ sequence_file → IsBare start.now.folder → IsPlanOf files names journal sequence → IsFilled files names journal start middle → ChangesFiles (IsPlacing temporary_file target sequence middle.now.folder) middle new → OnOk result (IsPlaced temporary_file target sequence middle.now.folder new.now.folder) → OnOk result (HasSalvage files start.now.folder new.now.folder)
+sequence_stands files names journal sequence target start middle new (Ok value) is bare plan filled changes placed = record {
+  shows = all_show files names journal sequence start middle new plan filled (has_put target sequence_file sequence middle new is changes placed);
+  no_temp = placed.no_temp;
+  others = others_read files start new bare (sequence_leaves files names journal sequence target start middle new is plan filled changes);
+}
+sequence_stands files names journal sequence target start middle new (Err fault) is bare plan filled changes placed = tt
 
 -- The folder is settled first.
 
@@ -196,6 +207,15 @@ opened_then files old middle new leaves after =
       ];
     })
     leaves.files after
+
+-- what was filled, since the folder was settled
+pub salvaged_since : {T : Type 0} (result : Result T SalvageFault) (files : Files) (old middle new : World) → LeavesFolder old middle → OnOk result (HasSalvage files middle.now.folder new.now.folder) → OnOk result (HasSalvage files old.now.folder new.now.folder)
+salvaged_since (Ok value) files old middle new leaves has = record {
+  shows = has.shows;
+  no_temp = has.no_temp;
+  others = λ name other. has.others name other ∙ ap (λ image. map.get image name) leaves.same;
+}
+salvaged_since (Err fault) files old middle new leaves has = tt
 
 -- a folder that is settled and has no file of a spool
 pub bare_by : {T : Type 0} (result : Result T SalvageFault) (settled new : World) → new ≡ settled → IsCertain settled.now.folder → OnOk result (is_spool (reading settled) ≡ false) → OnOk result (IsBare new.now.folder)

@@ -112,7 +112,7 @@ is_salvage files names journal sequence image plan has_sequence has_journal copi
   number = ap last_in has_sequence ∙ last_given (Some sequence) (last_of_salvage files) (true, plan.sequence_is);
   free = spare_slots;
   journal = subst (λ content. GivesMarks content (marks_of_salvage files) spare_slots) (sym has_journal)
-      (text_gives journal (record { marks = marks_of_salvage files; free = spare_slots }) plan.journal_is (saved_sound (find name_cmp journal_file (entries files)) (entries files)));
+      (text_gives journal (record { marks = marks_of_salvage files; free = spare_slots }) plan.journal_is (saved_sound (last_in (find name_cmp sequence_file (entries files))) (find name_cmp journal_file (entries files)) (entries files)));
   jobs = λ name job named.
       copies name job named
       ∙ ap (λ (list : List (List ℕ)). copied list files name) plan.names_are

@@ -1,9 +1,9 @@
 -- What a salvage leaves in the new folder (own).
-use Rattle.std.specs.Prelude.{◌≡◌, ◌⊎◌, ◌||◌, ℕ, Bool, true, List, is_some}
+use Rattle.std.specs.Prelude.{◌≡◌, ◌⊎◌, ◌||◌, ℕ, Bool, true, false, List, is_some}
 use Rattle.std.specs.FinMap as map
 use Rattle.std.specs.List.{list_any}
 use Rattle.std.specs.Str.{bytes_eq}
-use Rattle.host_calls.specs.Folder.{Files, Folder, IsImage}
+use Rattle.host_calls.specs.Folder.{Files, Folder, IsImage, IsInNoImage, reading_of}
 use Rattle.host_calls.specs.World.{World, reading}
 use Rattle.job_name.specs.JobName.{job_named}
 use Rattle.sequence_file.specs.Sequence.{sequence_file}
@@ -35,6 +35,13 @@ pub record IsSalvaging (files : Files) (start : Folder) (image : Files) : Type 0
   pub alone : LeavesOthers (λ name. is_of_spool name ≡ true) start image
   pub shows : IsImage start image ⊎ (ShowsNoEntry image ⊎ Shows image (salvaged files))
 
--- each image shows the table that is saved of the files
+-- each image of the folder shows the table that is saved of the files
 abbrev pub EachShowsSalvaged : Files → Folder → Type 0
 EachShowsSalvaged files folder = (image : Files) → IsImage folder image → Shows image (salvaged files)
+
+-- Each image shows the table that is saved of the files, the file that is made on the way is gone, and files that are not
+-- the spool's read as before.
+pub record HasSalvage (files : Files) (old new : Folder) : Type 0 where
+  pub shows : EachShowsSalvaged files new
+  pub no_temp : IsInNoImage new temporary_file
+  pub others : (name : List ℕ) → is_of_spool name ≡ false → map.get (reading_of new) name ≡ map.get (reading_of old) name

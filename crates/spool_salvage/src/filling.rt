@@ -4,7 +4,7 @@ ghost use Rattle.host_calls.specs.Session.{CallsInside, IsInside};
 ghost use Rattle.host_calls.specs.World.{reading};
 ghost use Rattle.spool_faults.specs.Plan.{IsPlanOf};
 ghost use Rattle.spool_salvage.specs.inside.Copying.{IsBare};
-ghost use Rattle.spool_salvage.specs.Salvaging.{EachShowsSalvaged, IsRefused, IsSalvaging, is_spool};
+ghost use Rattle.spool_salvage.specs.Salvaging.{HasSalvage, IsRefused, IsSalvaging, is_spool};
 ghost use Rattle.whole_file.specs.Others.{ChangesFiles};
 
 use crate::SalvageFault;
@@ -38,7 +38,7 @@ pub fn fill<H: Host, G: Host>(
         → ChangesFiles (IsSalvaging (reading (H.world from.old)) (G.world to.old).now.folder)
         (G.world to.old) (G.world to.new) }
     ensures salvaged { IsTrue H.tells → IsTrue G.tells
-        → OnOk result (EachShowsSalvaged (reading (H.world from.old)) (G.world to.new).now.folder) }
+        → OnOk result (HasSalvage (reading (H.world from.old)) (G.world to.old).now.folder (G.world to.new).now.folder) }
 {
     open(alloc, to)?;
     write(
@@ -71,7 +71,7 @@ fn write<H: Host, G: Host>(
         → ChangesFiles (IsSalvaging (reading (H.world from.old)) (G.world to.old).now.folder)
         (G.world to.old) (G.world to.new) }
     ensures salvaged { IsTrue H.tells → IsTrue G.tells
-        → OnOk result (EachShowsSalvaged (reading (H.world from.old)) (G.world to.new).now.folder) }
+        → OnOk result (HasSalvage (reading (H.world from.old)) (G.world to.old).now.folder (G.world to.new).now.folder) }
 {
     put(alloc, to, &journal_name(), journal)?;
     copy_all(alloc, from, to, names)?;

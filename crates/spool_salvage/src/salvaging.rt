@@ -3,7 +3,7 @@ ghost use Rattle.std.specs.Prelude.{◌≡◌, false, Err, IsTrue, OnOk};
 ghost use Rattle.host_calls.specs.Session.{CallsInside, IsInside};
 ghost use Rattle.host_calls.specs.World.{reading};
 ghost use Rattle.spool_faults.specs.Listed.{LeavesFolder};
-ghost use Rattle.spool_salvage.specs.Salvaging.{EachShowsSalvaged, IsRefused, IsSalvaging, is_spool};
+ghost use Rattle.spool_salvage.specs.Salvaging.{HasSalvage, IsRefused, IsSalvaging, is_spool};
 ghost use Rattle.whole_file.specs.Others.{ChangesFiles};
 
 use crate::SalvageFault;
@@ -31,7 +31,7 @@ pub fn salvage<H: Host, G: Host>(
         → ChangesFiles (IsSalvaging (reading (H.world from.old)) (G.world to.old).now.folder)
         (G.world to.old) (G.world to.new) }
     ensures salvaged { IsTrue H.tells → IsTrue G.tells
-        → OnOk result (EachShowsSalvaged (reading (H.world from.old)) (G.world to.new).now.folder) }
+        → OnOk result (HasSalvage (reading (H.world from.old)) (G.world to.old).now.folder (G.world to.new).now.folder) }
 {
     let survey = survey_of(alloc, from)?;
     fill(alloc, from, to, &survey.plan)

@@ -19,14 +19,14 @@ returns-in_err-found-clause-checked g c = λ to. record {
 
 pub returns-clause-risen : goal.returns-clause-risen
 returns-clause-risen g c = λ to. record {
-  file_fault = λ is. absurd (tells_no_file g.O.Sink.tells c.as_slice.result.now (stream_at g.O.Sink c.args.out.now).sink (stream_at g.O.Sink c.tell.new.out).sink c.tell.result c.tell.ensures.tells is);
-  busy = λ is. absurd (tells_no_lock g.O.Sink.tells c.as_slice.result.now (stream_at g.O.Sink c.args.out.now).sink (stream_at g.O.Sink c.tell.new.out).sink c.tell.result c.tell.ensures.tells is);
-  output_fault = c.tell.ensures.tells.failed;
+  file_fault = λ is. absurd (tells_no_file g.O.Sink.tells c.as_slice.result.now (stream_at g.O.Sink c.args.out.now).sink (stream_at g.O.Sink c.tell_outside.new.out).sink c.tell_outside.result c.tell_outside.ensures.tells is);
+  busy = λ is. absurd (tells_no_lock g.O.Sink.tells c.as_slice.result.now (stream_at g.O.Sink c.args.out.now).sink (stream_at g.O.Sink c.tell_outside.new.out).sink c.tell_outside.result c.tell_outside.ensures.tells is);
+  output_fault = c.tell_outside.ensures.tells.failed;
 }
 
 pub returns-clause-checked : goal.returns-clause-checked
 returns-clause-checked g c = λ to. record {
   visit = c.in_ok-found.ensures.looks.visit;
-  checks = listed g.H.Host.tells c.in_ok-found.ensures.looks.visit.first c.in_ok-found.ensures.looks.visit.last to c.as_slice.result.now (stream_at g.O.Sink c.args.out.now) (stream_at g.O.Sink c.tell.new.out) c.tell.result
-      c.in_ok-found.ensures.looks.leaves (λ tells. c.as_slice.ensures ∙ c.in_ok-found.ensures.looks.found tells) c.tell.ensures.tells;
+  checks = listed g.H.Host.tells c.in_ok-found.ensures.looks.visit.first c.in_ok-found.ensures.looks.visit.last to c.as_slice.result.now (stream_at g.O.Sink c.args.out.now) (stream_at g.O.Sink c.tell_outside.new.out) c.tell_outside.result
+      c.in_ok-found.ensures.looks.leaves (λ tells. c.as_slice.ensures ∙ c.in_ok-found.ensures.looks.found tells) c.tell_outside.ensures.tells;
 }

@@ -16,7 +16,7 @@ returns-in-Ok-clause-saves g c = λ tells.
     filled_writes (reading (g.H.Host.world c.args.from.now)) old new
     (visit_made old new (g.G.Host.world c.enter.new.self) (g.G.Host.world c.fill-filled.new.to) c.enter.ensures.goes_on c.enter.ensures.alone c.leave.ensures.goes_on c.leave.ensures.alone)
     (λ told. c.fill-filled.ensures.files tells told)
-    (λ told. record { empty = c.in-Ok.ensures.empty told; shows = c.in-Ok.ensures.salvaged tells told })
+    (λ told. record { empty = c.in-Ok.ensures.empty told; salvage = c.in-Ok.ensures.salvaged tells told })
 
 pub returns-in-Err-clause-saves : goal.returns-in-Err-clause-saves
 returns-in-Err-clause-saves g c = λ tells.

@@ -3,7 +3,7 @@ use Rattle.std.specs.Prelude.{Err}
 use Rattle.host_calls.specs.World.{reading}
 use Rattle.spool_salvage.specs.declared.fault.SalvageFault.TheVariants.{FromFailed}
 use Rattle.spool_salvage.proofs.FaultLemmas.{no_other, unmoved}
-use Rattle.spool_salvage.proofs.FillLemmas.{opened_leaves, opened_then}
+use Rattle.spool_salvage.proofs.FillLemmas.{opened_leaves, opened_then, salvaged_since}
 use Rattle.spool_salvage.proofs.filling.fill.Goals as goal
 
 pub returns-in_err-open-clause-from : goal.returns-in_err-open-clause-from
@@ -18,3 +18,7 @@ returns-in_err-open-clause-files g c = λ tells told.
 pub returns-clause-files : goal.returns-clause-files
 returns-clause-files g c = λ tells told.
     opened_then (reading (g.H.Host.world c.args.from.now)) (g.G.Host.world c.args.to.now) (g.G.Host.world c.open.new.to) (g.G.Host.world c.write.new.to) (c.in_ok-open.ensures.leaves told) (c.write.ensures.files tells told)
+
+pub returns-clause-salvaged : goal.returns-clause-salvaged
+returns-clause-salvaged g c = λ tells told.
+    salvaged_since c.write.result (reading (g.H.Host.world c.args.from.now)) (g.G.Host.world c.args.to.now) (g.G.Host.world c.open.new.to) (g.G.Host.world c.write.new.to) (c.in_ok-open.ensures.leaves told) (c.write.ensures.salvaged tells told)

@@ -58,7 +58,7 @@ returns-clause-salvaged g c = λ tells told.
     let start = g.G.Host.world c.args.to.now in
     let first = g.G.Host.world c.put.new.to in
     let second = g.G.Host.world c.copy_all.new.to in
-    sequence_stands files c.args.names.now c.args.journal.now c.args.sequence.now c.sequence_name.result start second (g.G.Host.world c.put-2.new.to) c.put-2.result c.sequence_name.ensures (c.requires.plan tells)
+    sequence_stands files c.args.names.now c.args.journal.now c.args.sequence.now c.sequence_name.result start second (g.G.Host.world c.put-2.new.to) c.put-2.result c.sequence_name.ensures (c.requires.bare told) (c.requires.plan tells)
     (is_filled files c.args.names.now c.args.journal.now start first second (c.requires.bare told)
     (has_put c.journal_name.result journal_file c.args.journal.now start first c.journal_name.ensures (c.in_ok-put.ensures.files told) (c.in_ok-put.ensures.placed told))
     (c.in_ok-copy_all.ensures.files told) (c.in_ok-copy_all.ensures.copies tells told))

@@ -5,7 +5,7 @@ use Rattle.host_calls.specs.World.{World, reading}
 use Rattle.spool_faults.specs.Listed.{LeavesFolder}
 use Rattle.spool_faults.specs.Plan.{IsPlanOf}
 use Rattle.spool_salvage.specs.declared.fault.SalvageFault.TheVariants.{NotEmpty, ToFailed}
-use Rattle.spool_salvage.specs.Salvaging.{EachShowsSalvaged, IsSalvaging}
+use Rattle.spool_salvage.specs.Salvaging.{HasSalvage, IsSalvaging}
 use Rattle.whole_file.specs.Others.{ChangesFiles}
 use Rattle.whole_file.proofs.OthersLemmas.{changes_none}
 use Rattle.spool_salvage.proofs.FaultLemmas.{no_other, source_not_empty, source_not_target, unmoved}
@@ -40,5 +40,5 @@ returns-clause-files g c = λ tells told.
 
 pub returns-clause-salvaged : goal.returns-clause-salvaged
 returns-clause-salvaged g c = λ tells told.
-    subst (λ (files : Files). OnOk c.fill.result (EachShowsSalvaged files (g.G.Host.world c.fill.new.to).now.folder))
+    subst (λ (files : Files). OnOk c.fill.result (HasSalvage files (g.G.Host.world c.args.to.now).now.folder (g.G.Host.world c.fill.new.to).now.folder))
     (c.in_ok-survey.ensures.leaves tells).same (c.fill.ensures.salvaged tells told)
