@@ -29,7 +29,7 @@ use Rattle.at_account.specs.Counting.{AreCounted, GivesRecords, IsAccountDamage}
 use Rattle.at_account.specs.Names.{account_file, account_temp}
 use Rattle.at_account.specs.Showing.{IsShown}
 use Rattle.at_account.specs.inside.Filing as file
-use Rattle.at_account.specs.inside.Filing.{EachGives, IsWriting}
+use Rattle.at_account.specs.inside.Filing.{IsWriting, IsWritten}
 use Rattle.at_account.specs.inside.Inside.{IsCounted, StopsCounting, StopsInside}
 use Rattle.at_account.proofs.NameLemmas.{both_beside, file_beside, temp_beside}
 
@@ -123,6 +123,7 @@ module _ (old middle : World) (kept : Kept) (recovery : ChangesFiles (ShowsAsBef
       gives = subst (λ content. GivesRecords content counts.read) reads_on counts.gives;
       are = news_with_scripts counts.read counts.news kept.table recovered.table recovered.current.without_scripts_is counts.are;
       all = counts.all;
+      few = counts.few;
     }
 
     module _ (new : World) (writes : ChangesFiles (IsWriting records middle.now.folder) middle new) where
@@ -147,8 +148,8 @@ module _ (old middle : World) (kept : Kept) (recovery : ChangesFiles (ShowsAsBef
           (recovery_is_accounting old.now.folder) since_start recovery writes
 
       -- all was done
-      pub accounted : (show : Bool) (text : List ℕ) → IsShown show records text → EachGives records new.now.folder → IsAccounted show old new text
-      accounted show text shown gives = record {
+      pub accounted : (show : Bool) (text : List ℕ) → IsShown show records text → IsWritten records middle.now.folder new.now.folder → IsAccounted show old new text
+      accounted show text shown written = record {
         table = recovered.table;
         records = records;
         counted = counted;
@@ -156,9 +157,11 @@ module _ (old middle : World) (kept : Kept) (recovery : ChangesFiles (ShowsAsBef
             let writing = changes_end (IsWriting records middle.now.folder) middle new writes
             (λ files was. record { alone = left_alone (IsEither account_temp account_file) middle.now.folder files was; account = inl refl }) image is in (
               shows_the_same (IsEither account_temp account_file) both_beside middle.now.folder image writing.alone ∙ recovered.current.shows writing.alone.from writing.alone.was,
-              gives image is,
+              written.gives image is,
             );
         shown = shown;
+        no_temp = written.no_temp;
+        others = λ name beside other. written.others name other ∙ recovered.others name beside;
       }
 
 -- what changes only files goes on

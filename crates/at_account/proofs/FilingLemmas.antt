@@ -1,6 +1,6 @@
 -- How the file of accounts is replaced.
 use Rattle.std.proofs.Common.{◌≡◌, ℕ, List, [], inl, inr, sym, subst}
-use Rattle.std.specs.Prelude.{Option, Some, OnOk, Result, Ok, Err}
+use Rattle.std.specs.Prelude.{Option, Some}
 use Rattle.std.specs.FinMap as finite
 use Rattle.host_calls.specs.Folder.{Folder}
 use Rattle.host_calls.specs.World.{World}
@@ -13,13 +13,7 @@ use Rattle.whole_file.specs.Placing.{IsPlaced, IsPlacing}
 use Rattle.whole_file.proofs.ChangesJoined.{changes_weaker}
 use Rattle.at_account.specs.Counting.{GivesRecords}
 use Rattle.at_account.specs.Names.{account_file, account_temp}
-use Rattle.at_account.specs.inside.Filing.{EachGives, IsPlacedAt, IsWriting}
-
--- where it was placed under its names, it has the bytes
-pub placed_under : {T E : Type 0} (result : Result T E) (temp target bytes : List ℕ) (old new : Folder) → target ≡ account_file → OnOk result (IsPlaced temp target bytes old new)
-    → OnOk result (IsPlacedAt account_file bytes new)
-placed_under (Ok done) temp target bytes old new is placed = subst (λ (name : List ℕ). IsPlacedAt name bytes new) is placed.placed
-placed_under (Err fault) temp target bytes old new is placed = tt
+use Rattle.at_account.specs.inside.Filing.{IsWriting, IsWritten}
 
 -- what is placed is a file of records
 module _ (bytes : List ℕ) (records : List AccountRecord) (spelled : AreSpelled SpellsRecord bytes records) (in_turn : AreLegalAfter MayCome [] records) where
@@ -34,5 +28,9 @@ module _ (bytes : List ℕ) (records : List AccountRecord) (spelled : AreSpelled
         account = elim is.placed [ inl same ↦ inl same | inr put ↦ inr (gives (finite.get image account_file) put) ];
       }) changes
 
-  pub written : (folder : Folder) → IsPlacedAt account_file bytes folder → EachGives records folder
-  written folder placed image is = gives (finite.get image account_file) (placed image is)
+  pub written : (old new : Folder) → IsPlaced account_temp account_file bytes old new → IsWritten records old new
+  written old new placed = record {
+    gives = λ image is. gives (finite.get image account_file) (placed.placed image is);
+    no_temp = placed.no_temp;
+    others = placed.others;
+  }

@@ -8,7 +8,7 @@ use Rattle.host_calls.specs.Causes.{Rose}
 use Rattle.host_calls.specs.declared.damage.Damage.{Damage}
 use Rattle.host_calls.specs.declared.host.Host as host
 use Rattle.host_calls.specs.declared.sink.Sink as sink
-use Rattle.host_calls.specs.Folder.{Files, Folder, IsImage, reading_of}
+use Rattle.host_calls.specs.Folder.{Files, Folder, IsImage, IsInNoImage, reading_of}
 use Rattle.host_calls.specs.Session.{IsLeft, Session}
 use Rattle.host_calls.specs.Sink.{Outlet}
 use Rattle.host_calls.specs.World.{GoesOn, World, reading}
@@ -49,13 +49,17 @@ abbrev pub EachHas : Folder → JobTable → List AccountRecord → Type 0
 EachHas folder table records =
     (image : Files) → IsImage folder image → Shows image table × GivesRecords (finite.get image account_file) records
 
--- The records were counted over the reading of the start, each image has them, and the text is what is shown of them.
+-- The records were counted over the reading of the start, each image has them, and the text is what is shown of them. The
+-- file that was made before is gone, and files that are not the spool's read as before.
 pub record IsAccounted (show : Bool) (old new : World) (text : List ℕ) : Type 0 where
   pub table : JobTable
   pub records : List AccountRecord
   pub counted : AreCounted (reading old) table records
   pub stands : EachHas new.now.folder table records
   pub shown : IsShown show records text
+  pub no_temp : IsInNoImage new.now.folder account_temp
+  pub others : (name : List ℕ) → ¬ (IsSpoolName name) → ¬ (IsEither account_temp account_file name)
+      → finite.get (reading new) name ≡ finite.get (reading old) name
 
 -- nothing was changed but what a recovery changes: each image has the file of accounts of the one that it comes of
 abbrev pub IsLeftAlone : World → World → Type 0

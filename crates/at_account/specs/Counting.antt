@@ -1,5 +1,5 @@
 -- The records of the file of accounts, and those with what is new (own).
-use Rattle.std.specs.Prelude.{◌≡◌, ◌++◌, [], ℕ, List, Option, Some, None, Ok}
+use Rattle.std.specs.Prelude.{◌≡◌, ◌≤◌, ◌++◌, [], ℕ, List, Option, Some, None, Ok, length}
 use Rattle.std.specs.FinMap as finite
 use Rattle.host_calls.specs.Damages.{damage_at}
 use Rattle.host_calls.specs.declared.damage.Damage.{Damage}
@@ -8,6 +8,7 @@ use Rattle.record_lines.specs.Lines.{AreLines, IsFirstBadLine}
 use Rattle.account_records.specs.declared.record.AccountRecord.{AccountRecord}
 use Rattle.account_records.specs.Lines.{SpellsRecord}
 use Rattle.account_records.specs.Records.{MayCome}
+use Rattle.account_totals.specs.declared.account.TheConstants.{MAX_RECORDS}
 use Rattle.account_totals.specs.Observing.{AreNews, WouldPass}
 use Rattle.spool_model.specs.JobTable.{JobTable}
 use Rattle.spool_shows.specs.Shown.{shown_by}
@@ -26,7 +27,7 @@ pub record IsAccountDamage (content : Option (List ℕ)) (damage : Damage) : Typ
   pub first : IsFirstBadLine SpellsRecord MayCome bytes offset
   pub damage_is : damage ≡ damage_at account_file bytes offset
 
--- The files show the table, and the records are those of the file of accounts with what is new of that table.
+-- The files show the table, and the records are those of the file of accounts with what is new of that table, not too many.
 pub record AreCounted (files : Files) (table : JobTable) (records : List AccountRecord) : Type 0 where
   pub read : List AccountRecord
   pub news : List AccountRecord
@@ -34,6 +35,7 @@ pub record AreCounted (files : Files) (table : JobTable) (records : List Account
   pub gives : GivesRecords (finite.get files account_file) read
   pub are : AreNews read table news
   pub all : records ≡ read ++ news
+  pub few : length records ≤ MAX_RECORDS
 
 -- the files show a table, with whose new records there would be too many
 pub record AreTooMany (files : Files) : Type 0 where

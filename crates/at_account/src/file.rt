@@ -8,10 +8,10 @@ ghost use Rattle.host_calls.specs.World.{reading};
 ghost use Rattle.listing_text.specs.declared.cause.Cause.TheVariants as cause;
 ghost use Rattle.record_lines.specs.Lines.{CanBeSpelled};
 ghost use Rattle.whole_file.specs.Others.{ChangesFiles};
-ghost use Rattle.whole_file.specs.Placing.{IsPlacing};
+ghost use Rattle.whole_file.specs.Placing.{IsPlaced, IsPlacing};
 ghost use Rattle.whole_file.specs.Replacing.{IsCertainAt};
 ghost use Rattle.at_account.specs.Names.{account_file, account_temp};
-ghost use Rattle.at_account.specs.inside.Filing.{EachGives, IsOfHost, IsOfReading, IsPlacedAt, IsWriting, ReadsAccount};
+ghost use Rattle.at_account.specs.inside.Filing.{IsOfHost, IsOfReading, IsWriting, IsWritten, ReadsAccount};
 
 use crate::{account_name, account_temporary_name};
 use account_totals::Account;
@@ -68,7 +68,8 @@ pub(crate) fn write_account<H: Host>(
     ensures comes { IfErr result (λ stopped. IsOfHost stopped.cause) }
     ensures files { IsTrue H.tells
         → ChangesFiles (IsWriting account.now (H.world host.old).now.folder) (H.world host.old) (H.world host.new) }
-    ensures written { IsTrue H.tells → OnOk result (EachGives account.now (H.world host.new).now.folder) }
+    ensures written { IsTrue H.tells
+        → OnOk result (IsWritten account.now (H.world host.old).now.folder (H.world host.new).now.folder) }
 {
     let text = text_of(alloc, account.records())?;
     replace_text(alloc, host, text.as_slice())?;
@@ -83,7 +84,8 @@ fn replace_text<H: Host>(alloc: Global, host: &mut H, bytes: &[u8]) -> Result<()
     ensures files { IsTrue H.tells
         → ChangesFiles (IsPlacing account_temp account_file bytes.now (H.world host.old).now.folder)
         (H.world host.old) (H.world host.new) }
-    ensures placed { IsTrue H.tells → OnOk result (IsPlacedAt account_file bytes.now (H.world host.new).now.folder) }
+    ensures placed { IsTrue H.tells → OnOk result (IsPlaced account_temp account_file bytes.now
+        (H.world host.old).now.folder (H.world host.new).now.folder) }
 {
     replace(
         alloc,

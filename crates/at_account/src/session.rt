@@ -45,13 +45,15 @@ pub(crate) fn account<H: Host, O: Sink>(
 {
     // The session is left before the text is put, so that a slow reader does not hold the lock.
     match in_session(alloc, host, &mut |host| account_inside(alloc, show, host)) {
-        Ok(text) => put_text(alloc, text.as_slice(), out),
+        Ok(text) => put_text(alloc, host, text.as_slice(), out),
         Err(stopped) => stopped.cause,
     }
 }
 
-// Puts the text, at once; nothing where it is empty, so that a sink that fails is not asked for nothing.
-fn put_text<O: Sink>(alloc: Global, text: &[u8], out: &mut O) -> Cause
+// Puts the text, at once, outside of a session; nothing where it is empty, so that a sink that fails is not asked for
+// nothing.
+fn put_text<H: Host, O: Sink>(alloc: Global, host: &H, text: &[u8], out: &mut O) -> Cause
+    requires { IsOutside (H.session host.now) }
     ensures made_as { (O.outlet out.new).made_as ≡ (O.outlet out.old).made_as }
     ensures output_fault { result ≡ Cause.OutputFault
         → Rose (O.outlet out.old).sink_faults (O.outlet out.new).sink_faults }

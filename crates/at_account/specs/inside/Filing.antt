@@ -3,7 +3,7 @@ use Rattle.std.specs.Prelude.{◌≡◌, ◌⊎◌, ℕ, List, Option, Some, Res
 use Rattle.std.specs.FinMap as finite
 use Rattle.account_records.specs.declared.record.AccountRecord.{AccountRecord}
 use Rattle.cause_output.specs.declared.command_error.CommandError.{CommandError}
-use Rattle.host_calls.specs.Folder.{Files, Folder, IsImage}
+use Rattle.host_calls.specs.Folder.{Files, Folder, IsImage, IsInNoImage, reading_of}
 use Rattle.listing_text.specs.declared.cause.Cause.{Cause}
 use Rattle.listing_text.specs.declared.cause.Cause.TheVariants.{Done, Refused, FileFault, InputFault, OutputFault, Busy, Memory, Damaged, StillRunning, Faulty}
 use Rattle.whole_file.specs.Others.{IsEither, LeavesOthers}
@@ -54,13 +54,16 @@ abbrev pub ReadsAccount : Option (List ℕ) → Result (List AccountRecord) Comm
 ReadsAccount content (Ok records) = GivesRecords content records
 ReadsAccount content (Err stopped) = IsUnread content stopped.cause
 
--- each image has the bytes under the name
-abbrev pub IsPlacedAt : List ℕ → List ℕ → Folder → Type 0
-IsPlacedAt name bytes folder = (image : Files) → IsImage folder image → finite.get image name ≡ Some bytes
-
 -- the file of accounts has the records in each image
 abbrev pub EachGives : List AccountRecord → Folder → Type 0
 EachGives records folder = (image : Files) → IsImage folder image → GivesRecords (finite.get image account_file) records
+
+-- It has them, the one that is being made is gone, and all other files read as before.
+pub record IsWritten (records : List AccountRecord) (old new : Folder) : Type 0 where
+  pub gives : EachGives records new
+  pub no_temp : IsInNoImage new account_temp
+  pub others : (name : List ℕ) → ¬ (IsEither account_temp account_file name)
+      → finite.get (reading_of new) name ≡ finite.get (reading_of old) name
 
 -- The image is one of the start but for the file of accounts and the one that is being made, and its file of accounts is
 -- that one's, or has the records.

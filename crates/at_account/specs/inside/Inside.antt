@@ -1,6 +1,7 @@
 -- What is done within the session, and what is put after it (own).
-use Rattle.std.specs.Prelude.{◌≡◌, ◌++◌, ℕ, Bool, true, List, Option, Result, Ok, Err}
+use Rattle.std.specs.Prelude.{◌≡◌, ◌≤◌, ◌++◌, ℕ, Bool, true, List, Option, Result, Ok, Err, length}
 use Rattle.account_records.specs.declared.record.AccountRecord.{AccountRecord}
+use Rattle.account_totals.specs.declared.account.TheConstants.{MAX_RECORDS}
 use Rattle.account_totals.specs.Observing.{AreNews, WouldPass}
 use Rattle.cause_output.specs.declared.command_error.CommandError.{CommandError}
 use Rattle.cause_output.specs.Sinks.{IsCut, IsPut, IsSilent, SinkAt}
@@ -27,13 +28,14 @@ IsOfWork Busy = ⊥
 IsOfWork StillRunning = ⊥
 IsOfWork Faulty = ⊥
 
--- the records are those of the content with what is new of the table
+-- the records are those of the content with what is new of the table, not too many
 pub record IsCounted (table : JobTable) (content : Option (List ℕ)) (records : List AccountRecord) : Type 0 where
   pub read : List AccountRecord
   pub news : List AccountRecord
   pub gives : GivesRecords content read
   pub are : AreNews read table news
   pub all : records ≡ read ++ news
+  pub few : length records ≤ MAX_RECORDS
 
 -- there would be too many
 pub record WouldBeTooMany (table : JobTable) (content : Option (List ℕ)) : Type 0 where

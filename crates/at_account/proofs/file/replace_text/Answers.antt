@@ -1,10 +1,9 @@
 use Rattle.std.proofs.Common.{sym, subst, ◌∙◌}
-use Rattle.std.specs.Prelude.{ℕ, List}
+use Rattle.std.specs.Prelude.{ℕ, List, OnOk}
 use Rattle.whole_file.specs.Others.{ChangesFiles}
-use Rattle.whole_file.specs.Placing.{IsPlacing}
+use Rattle.whole_file.specs.Placing.{IsPlaced, IsPlacing}
 use Rattle.whole_file.specs.Replacing.{IsCertainAt}
 use Rattle.at_account.specs.Names.{account_file}
-use Rattle.at_account.proofs.FilingLemmas.{placed_under}
 use Rattle.at_account.proofs.NameLemmas.{temp_apart}
 use Rattle.at_account.proofs.file.replace_text.Goals as goal
 
@@ -25,5 +24,8 @@ returns-clause-files g c = λ known.
 
 pub returns-clause-placed : goal.returns-clause-placed
 returns-clause-placed g c = λ known.
-    placed_under c.replace.result c.account_temporary_name.result c.account_name.result c.args.bytes.now (g.H.Host.world c.args.host.now).now.folder
-    (g.H.Host.world c.replace.new.host).now.folder c.account_name.ensures (c.replace.ensures.placed known)
+    let old = (g.H.Host.world c.args.host.now).now.folder in
+    let new = (g.H.Host.world c.replace.new.host).now.folder in
+    subst (λ temp. OnOk c.replace.result (IsPlaced temp account_file c.args.bytes.now old new)) c.account_temporary_name.ensures
+    (subst (λ target. OnOk c.replace.result (IsPlaced c.account_temporary_name.result target c.args.bytes.now old new)) c.account_name.ensures
+    (c.replace.ensures.placed known))

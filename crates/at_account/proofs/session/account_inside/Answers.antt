@@ -4,7 +4,7 @@ use Rattle.host_calls.specs.World.{GoesOn, World}
 use Rattle.step_runs.specs.Calls.{ShowsAsBefore}
 use Rattle.whole_file.specs.Others.{ChangesFiles}
 use Rattle.at_account.specs.Accounting.{IsAccounting}
-use Rattle.at_account.specs.inside.Filing.{IsWriting}
+use Rattle.at_account.specs.inside.Filing.{IsWriting, IsWritten}
 use Rattle.at_account.specs.inside.Inside.{StopsInside}
 use Rattle.at_account.proofs.CountingLemmas.{accounted, accounting_alone, accounting_since, goes_on_by, host_stops, stops}
 use Rattle.at_account.proofs.session.account_inside.Goals as goal
@@ -87,4 +87,6 @@ returns-clause-ends g c = λ known.
     c.in_ok-account.account (c.in_ok-account.ensures.counts known) (g.H.Host.world c.write_account.new.host)
     (subst (λ (from : World). ChangesFiles (IsWriting c.in_ok-account.account from.now.folder) from (g.H.Host.world c.write_account.new.host)) (c.in_ok-account.ensures.looks known)
     (c.in_ok-write_account.ensures.files known))
-    c.args.show c.in_ok-text.text c.in_ok-text.ensures (c.in_ok-write_account.ensures.written known)
+    c.args.show c.in_ok-text.text c.in_ok-text.ensures
+    (subst (λ (from : World). IsWritten c.in_ok-account.account from.now.folder (g.H.Host.world c.write_account.new.host).now.folder) (c.in_ok-account.ensures.looks known)
+    (c.in_ok-write_account.ensures.written known))

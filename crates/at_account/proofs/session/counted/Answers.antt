@@ -14,4 +14,5 @@ returns-in-Ok-clause-counts g c = λ known.
       gives = c.in_ok-account.ensures.reads known;
       are = observed.are;
       all = observed.added;
+      few = c.in-Ok.ensures.few;
     }
