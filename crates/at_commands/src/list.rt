@@ -86,7 +86,7 @@ fn list_for<H: Host, O: Sink>(
         host,
         &mut |host| list_inside(alloc, user, which, zone, host),
     ) {
-        Ok(text) => put_whole(alloc, text.as_slice(), out),
+        Ok(text) => put_whole(alloc, host, text.as_slice(), out),
         Err(stopped) => stopped.cause,
     }
 }
@@ -97,8 +97,10 @@ fn is_unreadable(zone: &Zone) -> bool
     matches!(zone, Zone::Unreadable)
 }
 
-// Puts the text, at once; nothing where it is empty, so that a sink that fails is not asked for nothing.
-fn put_whole<O: Sink>(alloc: Global, text: &[u8], out: &mut O) -> Cause
+// Puts the text, at once, outside of a session; nothing where it is empty, so that a sink that fails is not asked for
+// nothing.
+fn put_whole<H: Host, O: Sink>(alloc: Global, host: &H, text: &[u8], out: &mut O) -> Cause
+    requires { IsOutside (H.session host.now) }
     ensures made_as { (O.outlet out.new).made_as ≡ (O.outlet out.old).made_as }
     ensures output_fault { result ≡ Cause.OutputFault
         → Rose (O.outlet out.old).sink_faults (O.outlet out.new).sink_faults }
