@@ -9,6 +9,8 @@ mod crontabs;
 #[cfg(test)]
 mod fuses;
 #[cfg(test)]
+mod many;
+#[cfg(test)]
 mod marks;
 #[cfg(test)]
 mod minutes;

@@ -1,4 +1,5 @@
-//! Two batch jobs of one day: the second starts a minute after the first, by Debian's atd(8), `-b`.
+//! Two batch jobs of one day: the second starts a minute after the first, and none at the limit of load, by Debian's atd(8),
+//! `-b` and `-l`.
 ghost use Rattle.std.specs.Prelude.{IfOk};
 ghost use Rattle.host_calls.specs.Session.{IsOutside};
 ghost use Rattle.memory_host.specs.Host.{memory_session};
@@ -31,15 +32,18 @@ fn spool(alloc: Global) -> Result<MemoryHost, AllocError>
     MemoryHost::make(alloc, files, Plan::quiet(alloc))
 }
 
-// A turn at this second, without load.
-fn turn(now: i64) -> Event {
-    Event::Turn { now, load: Some(0) }
+// A turn at this second, at this load in hundredths.
+fn turn(now: i64, load: u32) -> Event {
+    Event::Turn {
+        now,
+        load: Some(load),
+    }
 }
 
-// How many jobs were handed over by two turns of a machine without load: one at `NOW`, and one so many seconds later.
-fn handed_over(rt: &impl Abort, alloc: Global, seconds: i64) -> Result<usize, AllocError> {
+// How many jobs were handed over by two turns of a machine at this load: one at `NOW`, and one so many seconds later.
+fn handed_over(rt: &impl Abort, alloc: Global, load: u32, seconds: i64) -> Result<usize, AllocError> {
     let mut host = spool(alloc)?;
-    let turns = [turn(NOW), turn(NOW.saturating_add(seconds))];
+    let turns = [turn(NOW, load), turn(NOW.saturating_add(seconds), load)];
     day_on(rt, alloc, &turns, &mut host)?;
     let handed = host.handed().len();
     drop(host);
@@ -47,8 +51,11 @@ fn handed_over(rt: &impl Abort, alloc: Global, seconds: i64) -> Result<usize, Al
 }
 
 #[test]
-fn batch_jobs_of_a_day_start_a_minute_apart(rt: HostRuntime) -> Result<(), Fail> {
-    assert_eq!(rt; handed_over(&rt, rt.alloc(), 59)?, 1);
-    assert_eq!(rt; handed_over(&rt, rt.alloc(), 60)?, 2);
+fn batch_jobs_of_a_day_start_a_minute_apart_below_a_load_of_one_and_a_half(
+    rt: HostRuntime,
+) -> Result<(), Fail> {
+    for (load, seconds, handed) in [(0, 59, 1), (0, 60, 2), (149, 60, 2), (150, 60, 0)] {
+        assert_eq!(rt; handed_over(&rt, rt.alloc(), load, seconds)?, handed);
+    }
     Ok(())
 }

@@ -8,6 +8,8 @@ mod folders;
 #[cfg(test)]
 mod lines;
 #[cfg(test)]
+mod many;
+#[cfg(test)]
 mod notices;
 #[cfg(test)]
 mod program;
