@@ -52,9 +52,10 @@ case_account_refused() {
 case_account_to_a_closed_pipe() {
   opened
   with 'true' at now; took 1
-  status=0; { bare "$bin/ataccount" "$spool" --show 2>err; echo $? >code; } | true
-  sleep 0.1
-  grep -qxE '0|4' code || fail "status $(cat code): $(cat err)"
+  mkfifo pipe
+  (exec 3<pipe; exec 3<&-) &
+  { wait $!; sleep 0.2; status=0; (trap '' PIPE; bare "$bin/ataccount" "$spool" --show 2>err </dev/null) || status=$?; echo "$status" >code; } >pipe
+  [ "$(cat code) $(cat err)" = '4 ataccount: output fault' ] || fail "a closed pipe: $(cat code), $(cat err)"
   [ "$(cat "$spool/.ACC")" = 'A 00000001 a ann' ] || fail "the account is $(cat "$spool/.ACC")"
   status=0; bare "$bin/ataccount" "$spool" --show >/dev/full 2>err || status=$?
   [ "$status" = 4 ] && [ "$(cat err)" = 'ataccount: output fault' ] || fail "a full device: status $status: $(cat err)"
@@ -64,8 +65,9 @@ case_account_to_a_closed_pipe() {
 # After each kill the account is as it was or as it is to be, and no count falls.
 case_account_that_is_killed() {
   opened; measured
-  : >before
-  for round in $(seq 20); do
+  round=0
+  while [ $round -lt 20 ] || { [ $cut -lt 5 ] && [ $round -lt 400 ]; }; do
+    round=$((round + 1))
     with 'true' at -t 203001010000
     # (the job of the round before was seen)
     [ $((round % 3)) != 0 ] || call atrm $((round - 1)) </dev/null
@@ -77,4 +79,5 @@ case_account_that_is_killed() {
     [ "$1 $2 $3" = "ann a $round" ] || fail "round $round: $(cat out)"
     [ "$8" = $((round / 3)) ] || fail "round $round: $(cat out)"
   done
+  [ $cut -ge 5 ] || fail "$cut of $round looks were cut off in the midst"
 }

@@ -4,6 +4,16 @@
 faulty() { call atcheck "$@" </dev/null; ended 9 "$lines" $'atcheck: spool has faults\n'; }
 # The folder, byte by byte.
 bytes_of() { (cd "$1" && find . -type f | sort | while read -r file; do printf '%s ' "$file"; md5sum <"$file"; done); }
+# The salvaged folder has this last number, these marks, and these files of jobs, each as the checked folder has it.
+saved() { # folder, number, marks, names
+  local file
+  [ "$(cat "$1/.SEQ")" = "$2" ] || fail "$1: the last number is $(cat "$1/.SEQ"), not $2"
+  [ "$(marks_of "$1")" = "$3" ] || fail "$1: the marks are $(marks_of "$1"), not $3"
+  [ "$(ls "$1" | paste -sd ' ')" = "$4" ] || fail "$1: the files are $(ls "$1" | paste -sd ' '), not $4"
+  for file in $4; do cmp "$1/$file" "$spool/$file" || fail "$1: $file is another"; done
+}
+# The marks of its journal, in order, without what they carry.
+marks_of() { LC_ALL=C grep -aoE '^\+[A-Z][0-9a-f]{8}' "$1/.JRN" | tr -d + | paste -sd ' '; }
 # Three jobs, two of which wait and one of which has run, and a fourth that was taken back.
 day_of_jobs() {
   needs_atd; opened
@@ -52,14 +62,16 @@ case_check_damages() {
   second=$(basename "$(file_of 2)") third=$(basename "$(file_of 3)")
   for damage in sequence journal header twice all; do
     rm -rf "$spool" new; cp -a whole "$spool"
-    lines=''
+    lines='' number=00000004 marks='S00000001 E00000001 R00000004' names="$second $third"
     case $damage in sequence | all) printf 0000000 >"$spool/.SEQ"; lines+=$'.SEQ damaged at 7\n' ;; esac
     case $damage in
       journal | all)
+        # (the removal of job 4 is lost, so no job that no mark names waits)
         head -c 70 "$spool/.JRN" >torn && mv torn "$spool/.JRN"
-        lines+=$'.JRN damaged at 64\n' ;;
+        lines+=$'.JRN damaged at 64\n' marks='S00000001 E00000001 R00000002 R00000003' names='' ;;
     esac
     case $damage in header | all) printf '#!/bin/sh\nexit\n' >"$spool/$second"; lines+="$second damaged at 10"$'\n' ;; esac
+    case $damage in header) names=$third ;; all) number=00000003 marks='S00000001 E00000001 R00000003' ;; esac
     case $damage in twice | all) cp "$spool/$third" "$spool/b${third#?}"; lines+="b${third#?} damaged at 0"$'\n' ;; esac
     bytes_of "$spool" >before
     faulty "$spool"
@@ -67,22 +79,34 @@ case_check_damages() {
     faulty "$spool" "$PWD/new" --salvage
     bytes_of "$spool" | cmp -s - before || fail "$damage: the checked folder is changed"
     call atcheck "$PWD/new" </dev/null; ended 0 '' ''
+    saved new "$number" "$marks" "$names"
   done
 }
 
-# A salvage that is killed leaves a folder with damage or without jobs, and the next one goes into a folder of its own.
+# A salvage that is killed leaves a folder without its last number, which shows no job, or the whole salvage; the next one
+# goes into a folder of its own.
 case_check_salvage_that_is_killed() {
   day_of_jobs
   printf 0 >"$spool/.SEQ"; measured; span=$((span + 8))
-  for round in $(seq 20); do
+  names="$(basename "$(file_of 2)") $(basename "$(file_of 3)")" marks='S00000001 E00000001 R00000004'
+  round=0 parts=0
+  # (a part of a salvage is one that has a file and no last number)
+  while [ $round -lt 20 ] || { [ $parts -lt 5 ] && [ $round -lt 300 ]; }; do
+    round=$((round + 1))
     killed /dev/null said atcheck "$spool" "$PWD/new_$round" --salvage
     if [ -e "new_$round/.SEQ" ]; then
       call atcheck "$PWD/new_$round" </dev/null; ended 0 '' ''
+      saved "new_$round" 00000004 "$marks" "$names"
+    elif [ -n "$(ls -A "new_$round" 2>/dev/null)" ]; then
+      parts=$((parts + 1))
+      spool=$PWD/new_$round user=root with '' atq; [ -z "$(cat out)" ] || fail "a part of a salvage lists $(cat out)"
     fi
   done
+  [ $parts -ge 5 ] || fail "$parts of $round salvages were cut off in the midst"
   lines=$'.SEQ damaged at 1\n'
   faulty "$spool" "$PWD/last" --salvage
   call atcheck "$PWD/last" </dev/null; ended 0 '' ''
+  saved last 00000004 "$marks" "$names"
 }
 
 # The walk, by the script, and an atd that goes on after it.

@@ -20,7 +20,7 @@ case_cron_of_a_minute() {
   crons_in_a_minute; ended 0 '' ''
   [ "$(cat "$spool/.CRON")" = "$(printf '%08x' "$minute")" ] || fail "the mark is $(cat "$spool/.CRON"), not of $minute"
   names=$(cd "$spool" && ls)
-  [ "$names" = "at.deny"$'\n'"$(printf 'a%08x%08x\n' 1 "$minute" 2 "$minute" | sort)" ] || [ "$(ls "$spool" | grep -c '^a0')" = 2 ] || fail "the files are $names"
+  [ "$names" = "$(printf 'a%08x%08x\n' 1 "$minute" 2 "$minute")"$'\nat.deny' ] || fail "the files are $names"
   [ "$(tail -n 1 "$(file_of 1)")" = 'echo first' ] || fail "job 1 is $(cat "$(file_of 1)")"
   [ "$(sh "$(file_of 2)")" = $'a\nb' ] || fail "job 2 prints $(sh "$(file_of 2)")"
   [ "$(sed -n 2p "$(file_of 1)")" = '# at user=ann mail=0' ] || fail "the header is $(sed -n 2p "$(file_of 1)")"
@@ -92,9 +92,9 @@ case_long_cron_of_three_minutes() {
   : >ended; kill -9 "$(cat child)" "$daemon" 2>/dev/null; wait "$keeper" "$daemon" 2>/dev/null
   [ "$kills" -ge 20 ] || fail "it was killed $kills times"
   # (the minutes of the jobs, not those in which they ran)
-  twice=$(ls "$spool.out" "$spool" | sed -n 's/^a[0-9a-f]\{8\}\([0-9a-f]\{8\}\)$/\1/p' | sort | uniq -d)
+  twice=$(ls "$spool.out" "$spool" | grep -E '^a[0-9a-f]{16}$' | sort -u | cut -c 10- | sort | uniq -d)
   jobs=$(ls "$spool.out" | grep -c '^a')
-  [ -z "$(ls "$spool.out" | sed -n 's/^a[0-9a-f]\{8\}\([0-9a-f]\{8\}\)$/\1/p' | sort | uniq -d)" ] || fail "minutes with two jobs: $twice"
+  [ -z "$twice" ] || fail "minutes with two jobs: $twice"
   [ "$jobs" -ge 2 ] || fail "only $jobs minutes came: $(sort said | uniq -c)"
 }
 

@@ -4,7 +4,7 @@ case_submitters_at_once() {
   opened
   for submitter in $(seq 8); do
     (
-      for job in $(seq 25); do
+      for job in $(seq 38); do
         until status=0; printf 'echo %s of %s\n' "$job" "$submitter" | bare "$bin/at" -t 203001010000 2>"said_$submitter" >/dev/null || status=$?; [ "$status" = 0 ]; do
           [ "$status $(cat "said_$submitter")" = '5 at: spool busy' ] || { cp "said_$submitter" "failed_$submitter"; exit; }
         done
@@ -14,9 +14,9 @@ case_submitters_at_once() {
   wait
   for said in failed_*; do [ ! -e "$said" ] || fail "a submission failed: $(cat "$said")"; done
   user=root with '' atq
-  [ "$(cut -f1 out | sort -n | tr '\n' ' ')" = "$(seq 200 | tr '\n' ' ')" ] || fail "the numbers are $(cut -f1 out | tr '\n' ' ')"
+  [ "$(cut -f1 out | sort -n | tr '\n' ' ')" = "$(seq 304 | tr '\n' ' ')" ] || fail "the numbers are $(cut -f1 out | tr '\n' ' ')"
   tail -qn 1 spool/a* | sort >jobs
-  for submitter in $(seq 8); do for job in $(seq 25); do echo "echo $job of $submitter"; done; done | sort | cmp -s - jobs || fail 'a job is lost'
+  for submitter in $(seq 8); do for job in $(seq 38); do echo "echo $job of $submitter"; done; done | sort | cmp -s - jobs || fail 'a job is lost'
 }
 
 # How many milliseconds a call takes here, told by one list; kills come within twice as many.
@@ -24,18 +24,20 @@ measured() {
   local from
   from=$(date +%s%3N)
   user=root with '' atq
-  span=$(((($(date +%s%3N) - from) * 2) + 4))
+  span=$(((($(date +%s%3N) - from) * 2) + 4)) cut=0
 }
 
 # Makes a call, and kills it at a random moment. What it says is of this call alone, also where it was killed before it
-# said anything.
+# said anything. $ended_as is its status, and $cut counts the sessions that were cut off in the midst: the byte of the lock
+# says that not all of what they changed is on the disk.
 killed() { # input, what it says, word..
   : >"$2"
   (becomes "$bin/$3" "${@:4}" <"$1" >>served 2>"$2") &
   local child=$! wait=$((RANDOM % span))
   sleep "$((wait / 1000)).$(printf %03d $((wait % 1000)))"
   kill -9 "$child" 2>/dev/null
-  wait "$child" 2>/dev/null
+  ended_as=0; wait "$child" 2>/dev/null || ended_as=$?
+  [ "$ended_as" != 137 ] || [ ! -s "$spool.lock" ] || [ "$(head -c 1 "$spool.lock")" = c ] || cut=$((cut + 1))
 }
 
 # Each job that was acknowledged before is there, with its whole text. The others may be there, whole too.
@@ -67,12 +69,18 @@ case_submitters_that_are_killed() {
 case_removals_that_are_killed() {
   opened; measured
   for _ in $(seq 40); do with 'true' at -t 203001010000; done
-  for number in $(seq 40); do
+  number=0
+  while [ $number -lt 40 ] || { [ $cut -lt 5 ] && [ $number -lt 400 ]; }; do
+    number=$((number + 1))
+    [ $number -le 40 ] || with 'true' at -t 203001010000
     killed /dev/null said atrm "$number"
     user=root with '' atq
     [ "$status" = 0 ] || fail "after a kill: $(cat err)"
-    [ "$(cut -f1 out | sort -n | awk -v from=$((number + 1)) '$1 >= from' | wc -l)" = $((40 - number)) ] || fail 'another job is gone'
+    [ "$ended_as" != 0 ] || ! grep -q "^$number"$'\t' out || fail "job $number was removed and is there"
+    last=$((number > 40 ? number : 40))
+    [ "$(cut -f1 out | sort -n | awk -v from=$((number + 1)) '$1 >= from' | wc -l)" = $((last - number)) ] || fail 'another job is gone'
   done
+  [ $cut -ge 5 ] || fail "$cut of $number removals were cut off in the midst"
 }
 
 case_daemons_that_are_killed() {

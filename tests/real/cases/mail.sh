@@ -56,12 +56,12 @@ case_mail_of_each_end() {
   needs_atd; delivering
   user=ben with 'exit 3' at -m now; took 1
   with 'echo so far; kill -9 $$' at now; took 2
-  with 'exec sleep 60' at -m now; took 3
+  with "echo \$\$ >'$PWD/sleeper'; exec sleep 60" at -m now; took 3
   posts
   # (the one that sleeps is given up by the next atd)
   (becomes "$bin/atd" --turns 1 >/dev/null 2>&1) & wait $!
   sleep 0.3; turns
-  pkill -f "exec sleep 6[0]" 2>/dev/null
+  kill "$(cat sleeper)" 2>/dev/null
   posts
   grep -qx 'job 1 exit 3\|job 1 interrupted' messages/ben.1.* || fail "of an end: $(cat messages/ben.1.*)"
   grep -qx 'so far' messages/ann.2.* || fail "of a signal: $(cat messages/ann.2.*)"
@@ -114,8 +114,9 @@ case_mail_refused() {
 # Twenty kills of sessions that have notices to send: no job has two messages, and each that came is whole.
 case_mail_of_sessions_that_are_killed() {
   needs_atd; delivering
-  span=80
-  for batch in $(seq 0 4); do
+  span=80 cut=0 batch=-1
+  while [ $batch -lt 4 ] || { [ $cut -lt 5 ] && [ $batch -lt 40 ]; }; do
+    batch=$((batch + 1))
     for _ in $(seq 4); do with 'echo hi' at now; done
     posts; turns
     for _ in $(seq 4); do killed /dev/null said atpost "$spool" --send "$PWD/deliver" --turns 1; done
@@ -123,6 +124,7 @@ case_mail_of_sessions_that_are_killed() {
     [ ! -e "$spool/.MTMP" ] || fail 'a temporary file stays'
     [ "$(grep -c '^S ' "$spool/.MAIL")" = $(((batch + 1) * 4)) ] || fail "the notes are $(cat "$spool/.MAIL")"
   done
+  [ $cut -ge 5 ] || fail "$cut sessions were cut off in the midst"
   twice=$(ls messages | cut -d . -f 2 | sort | uniq -d)
   [ -z "$twice" ] || fail "jobs with two messages: $twice"
   for message in messages/*; do [ "$(tail -n 1 "$message")" = hi ] || fail "$message is not whole"; done
