@@ -1,11 +1,16 @@
 #!/bin/sh
 # Makes a Debian package of the proved program: packaging/build-deb.sh FOLDER puts coefhird_VERSION_amd64.deb into FOLDER.
-# BINARY, BINARIES, and --cpu NAME after FOLDER, are as for install.sh. It needs dpkg-deb and no other tool of packages.
+# BINARY, BINARIES, UNPROVED, and --cpu NAME after FOLDER, are as for install.sh. It needs dpkg-deb and no other tool of
+# packages. Two builds of one commit are equal to the byte: where SOURCE_DATE_EPOCH is not set, files have the time of the
+# first entry of debian/changelog.
 set -eu
 here=$(cd "$(dirname "$0")/.." && pwd)
 into=${1:?a folder for the package}
 shift
 version=${VERSION:-$(cat "$here/VERSION")}
+export VERSION="$version"
+[ -n "${SOURCE_DATE_EPOCH:-}" ] || SOURCE_DATE_EPOCH=$(date -d "$(sed -n '/^ -- /{s/^ -- [^>]*>  //p;q}' "$here/packaging/debian/changelog")" +%s)
+export SOURCE_DATE_EPOCH
 work=$(mktemp -d)
 trap 'rm -rf "$work"' EXIT
 root=$work/root
@@ -48,6 +53,7 @@ sed -e "s/@VERSION@/$version/" -e "s/@SIZE@/$size/" "$here/packaging/debian/cont
 (cd "$root" && find . -type f ! -path './DEBIAN/*' -printf '%P\0' | sort -z | xargs -0 md5sum) >"$root/DEBIAN/md5sums"
 find "$root" -type d -exec chmod 755 {} +
 chmod 644 "$doc"/* "$root/etc/default/coefhird" "$root/DEBIAN/control" "$root/DEBIAN/conffiles" "$root/DEBIAN/md5sums"
+find "$root" -exec touch -h -d "@$SOURCE_DATE_EPOCH" {} +
 
 mkdir -p "$into"
 dpkg-deb --root-owner-group --build "$root" "$into/coefhird_${version}_amd64.deb" >/dev/null

@@ -9,10 +9,12 @@
 # DESTDIR      a folder in the place of the root, for whoever makes a package
 # BINARY       a program that at_tool of these sources was built to before
 # BINARIES     a folder of such programs, by the names of their crates
+# UNPROVED     yes: install programs without a record, as not proved
 # --cpu NAME   x86-64 for each processor of that kind; without it those since 2009 or so, which x86-64-v2 means
 #
-# Without these it installs the programs that the toolchain left here, where no source is newer and no --cpu is given, and
-# else the toolchain proves and builds them. So only proved programs are installed.
+# Beside each program PROGRAM stands the record of what proved it, PROGRAM.record: its checksum, the commit and the toolchain.
+# The gate (.ci/run) writes it, and so does this script where the toolchain proves and builds the program here, which it
+# does where none is built or a source is newer. A program whose record is absent, or of another program, is refused.
 set -eu
 here=$(cd "$(dirname "$0")/.." && pwd)
 PREFIX=${PREFIX:-/usr/local}
@@ -48,31 +50,89 @@ binary_of() { # crate, and --cpu NAME
     elif [ $# = 2 ] || is_stale "$binary"; then
         command -v rt >/dev/null || stops 'the toolchain is not here: give a BINARY'
         [ -w "$here/crates/$crate" ] || stops "you may not write in $here: clone it, or give a BINARY"
-        echo 'install.sh: proving and building the tools: about an hour, and few words, where nothing is proved yet' >&2
-        # (at_tool makes a day in memory, and the others say their usage)
-        case $crate in at_tool) set -- "$@" -- atday --make 8 ;; *) set -- "$@" -- "$crate" ;; esac
-        (cd "$here/crates/$crate" && rt run "$@" >/dev/null 2>&1) || [ "$crate" != at_tool ] || stops "$crate could not be built"
+        build "$@"
+        # (a program that is built anew is another one, whatever its record says)
+        printf 'sha256 %s\ncommit %s\ntoolchain %s\n' "$(sha256sum <"$binary" | cut -c 1-64)" "$(commit_here)" "$(rt version)" >"$binary.record"
     fi
     [ -x "$binary" ] || stops "$binary is no program"
+}
+# The commit of these sources, where git knows it, and whether they are changed since.
+commit_here() {
+    commit=$(git -C "$here" rev-parse HEAD 2>/dev/null) || commit=unknown
+    [ "$commit" = unknown ] || [ -z "$(git -C "$here" status --porcelain 2>/dev/null)" ] || commit="$commit, changed"
+    printf '%s' "$commit"
+}
+# The toolchain proves $crate and what is below it, and builds $binary. What it says goes into a log.
+build() {
+    log=$(mktemp "${TMPDIR:-/tmp}/coefhird_$crate.XXXXXX")
+    echo "install.sh: proving and building $crate: about an hour where nothing is proved yet; the log is $log" >&2
+    rm -f "$binary"
+    # (at_tool makes a day in memory, and the others say their usage)
+    case $crate in at_tool) set -- "$@" -- atday --make 8 ;; *) set -- "$@" -- "$crate" ;; esac
+    (cd "$here/crates/$crate" && rt run "$@" >"$log" 2>&1) &
+    building=$!
+    [ ! -t 2 ] || tell_progress
+    wait "$building" || [ -x "$binary" ] || failed=yes
+    [ ! -t 2 ] || printf '\r\033[K' >&2
+    if [ -n "${failed:-}" ]; then
+        tail -n 20 "$log" >&2
+        stops "$crate could not be proved and built: the log is $log"
+    fi
+    rm -f "$log"
+}
+# On a terminal: how many crates are done, which one it is at, and since when, each second, and how long the others will take
+# if each takes as long as those before it.
+tell_progress() {
+    # (the crates below, by the list of crates, and this one)
+    of=$(awk -v root="$crate" '!/^#/ && /:/ { split($0, part, ":"); split(part[1], name, " "); needs[name[1]] = part[2] }
+        function visit(one, i, many, list) {
+            if ((one in seen) || !(one in needs)) return
+            seen[one] = 1; count++
+            many = split(needs[one], list, " ")
+            for (i = 1; i <= many; i++) visit(list[i])
+        }
+        END { visit(root); print count + 0 }' "$here/crates.txt")
+    from=$(date +%s) before=
+    while kill -0 "$building" 2>/dev/null; do
+        at=$(sed -n 's/^crate \([a-z_]*\): .*$/\1/p' "$log" | tail -n 1)
+        [ "$at" = "$before" ] || { before=$at begun=$(date +%H:%M); }
+        done_now=$(grep -c '^logic=proved' "$log")
+        left=
+        [ "$done_now" = 0 ] || left="; $(((of - done_now) * ($(date +%s) - from) / done_now / 60 + 1)) minutes left"
+        printf '\r\033[K%s of %s crates: %s, begun %s%s' "$done_now" "$of" "${at:-reading}" "${begun:-$(date +%H:%M)}" "$left" >&2
+        sleep 1
+    done
+}
+# What the record of $binary says, where it fits: proof becomes its commit and toolchain. All programs are to have one proof.
+compare_record() {
+    said=$(sed -n 's/^sha256 //p' "$binary.record" 2>/dev/null) || said=
+    if [ -n "$said" ] && [ "$said" = "$(sha256sum <"$binary" | cut -c 1-64)" ]; then
+        this="commit $(sed -n 's/^commit \([0-9a-f]\{12\}\)[0-9a-f]*/\1/p' "$binary.record"), proved with $(sed -n 's/^toolchain //p' "$binary.record")"
+    elif [ "${UNPROVED:-}" = yes ]; then
+        this='not proved'
+    else
+        stops "$binary has no record of its proof: .ci/run writes one, and UNPROVED=yes installs it as not proved"
+    fi
+    case ${proof:-$this} in
+        "$this" | 'not proved') proof=${proof:-$this} ;;
+        *) [ "$this" = 'not proved' ] || stops "the programs are of two proofs: $proof; $this"; proof=$this ;;
+    esac
 }
 
 file() { install -D -m 644 "$1" "$2"; }
 
 # The program, and the doorstep before it, each by the names of the tools.
 libexec=$PREFIX/libexec/coefhird
-version=$(cat "$here/VERSION")
-commit=$(git -C "$here" rev-parse --short=12 HEAD 2>/dev/null) || commit=unknown
-[ "$commit" = unknown ] || [ -z "$(git -C "$here" status --porcelain 2>/dev/null)" ] || commit="$commit, changed"
-toolchain=$(sed -n 's/^.*this is proved with `\([^`]*\)`.*$/\1/p' "$here/README.md")
+version=${VERSION:-$(cat "$here/VERSION")}
 filled() { # mode, file, where
     mkdir -p "$(dirname "$3")"
-    sed -e "s|@LIBEXEC@|$libexec|; s|@BINDIR@|$PREFIX/bin|; s|@VERSION@|$version|; s|@COMMIT@|$commit|" \
-        -e "s|@TOOLCHAIN@|$toolchain|" "$2" >"$3.new"
+    sed -e "s|@LIBEXEC@|$libexec|; s|@BINDIR@|$PREFIX/bin|; s|@VERSION@|$version|; s|@PROOF@|$proof|" "$2" >"$3.new"
     chmod "$1" "$3.new"
     mv -f "$3.new" "$3"
 }
 for crate in $crates; do
     binary_of "$crate" "$@"
+    compare_record
     # (at_tool is many commands by one name)
     case $crate in at_tool) program=program ;; *) program=$crate ;; esac
     install -D -m 755 "$binary" "$to/libexec/coefhird/$program"
