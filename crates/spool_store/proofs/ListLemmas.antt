@@ -1,8 +1,10 @@
 -- The lists of rows and decided numbers: their numbers, and what they are.
 use Rattle.std.proofs.Common.{◌≡◌, ℕ, ◌≤◌, Bool, true, false, cond, List, Option, Some, None, [], ◌∷◌, map, sym, ap, subst, ◌∙◌, refl, arith, inl, inr}
 use Rattle.std.specs.Prelude.{Contains, is_some, nat_le, option_map, unwrap_or, ◌==◌, ◌&&◌}
-use Rattle.std.specs.BTreeMap.{IsOrdered, get, values}
+use Rattle.std.specs.BTreeMap.{IsOrdered, values}
 use Rattle.std.specs.List.{filter_map, list_all}
+use Rattle.std.specs.List.Sorted.{IsStrictlySortedBy}
+use Rattle.std.specs.Map.{keys_of}
 use Rattle.std.specs.Ordering.{nat_cmp}
 use Rattle.std.proofs.lemmas.Bool.Decides.{nat_tests}
 use Rattle.std.proofs.lemmas.List.Elements.{All-contains}
@@ -23,7 +25,7 @@ use Rattle.std.proofs.lemmas.Bool.{eqb-true}
 use Rattle.start_journal.specs.declared.lifecycles.Lifecycle.{Lifecycle}
 use Rattle.start_journal.specs.declared.lifecycles.Lifecycles.{Lifecycles}
 use Rattle.spool_store.specs.declared.surveyed_job.SurveyedJob.{SurveyedJob}
-use Rattle.start_journal.specs.Lifecycles.{TellLifecycles, decided_of, remembered_fate, unknown}
+use Rattle.start_journal.specs.Lifecycles.{TellLifecycles, decided_of, life_under, remembered_fate, unknown}
 use Rattle.spool_store.specs.inside.JobRows.{AreRowsOf, RowMap, row_of}
 use Rattle.spool_store.specs.Rows.{listed_table}
 use Rattle.spool_store.specs.inside.SurveyedJobs.{file_surveyed, files_surveyed}
@@ -57,7 +59,7 @@ has_fate life f is = by_test life.forgotten is where
   by_test true none = cc
   by_test false fated = ap is_some fated
 
-remembered_decided : (marks : List Mark) (lives : Lifecycles) → TellLifecycles marks lives → (number : ℕ) (life : Lifecycle) (f : Fate) → get nat_cmp lives.by_number number ≡ Some life → remembered_fate life ≡ Some f → is_decided number marks ≡ true
+remembered_decided : (marks : List Mark) (lives : Lifecycles) → TellLifecycles marks lives → (number : ℕ) (life : Lifecycle) (f : Fate) → life_under lives.by_number number ≡ Some life → remembered_fate life ≡ Some f → is_decided number marks ≡ true
 remembered_decided marks lives tells number life f kept fated =
     decided_has_fate number marks ∙ ap (λ (l : Lifecycle). is_some l.fate) (sym (tells.1 number) ∙ ap (λ o. unwrap_or o unknown) kept) ∙ has_fate life f fated
 
@@ -65,12 +67,12 @@ made_decided : (entry : ℕ × Lifecycle) (one : Decided) (given : Option Fate) 
 made_decided entry one None is made = cc
 made_decided entry one (Some f) is made = (f, is, ap (λ (d : Decided). d.number) (some_same made))
 
-decided_is_decided : (marks : List Mark) (lives : Lifecycles) → TellLifecycles marks lives → IsOrdered nat_cmp lives.by_number → (one : Decided) → Has (filter_map decided_of lives.by_number.entries) one → is_decided one.number marks ≡ true
+decided_is_decided : (marks : List Mark) (lives : Lifecycles) → TellLifecycles marks lives → IsStrictlySortedBy nat_cmp (keys_of lives.by_number) → (one : Decided) → Has (filter_map decided_of lives.by_number) one → is_decided one.number marks ≡ true
 decided_is_decided marks lives tells ordered one has =
-    let entry = given_has decided_of lives.by_number.entries one has in
+    let entry = given_has decided_of lives.by_number one has in
     let fated = made_decided entry.0 one (remembered_fate entry.0.1) refl entry.2 in
     ap (λ n. is_decided n marks) (sym fated.2)
-    ∙ remembered_decided marks lives tells entry.0.0 entry.0.1 fated.0 (entry_found lives.by_number.entries entry.0.0 entry.0.1 ordered entry.1) fated.1
+    ∙ remembered_decided marks lives tells entry.0.0 entry.0.1 fated.0 (entry_found lives.by_number entry.0.0 entry.0.1 ordered entry.1) fated.1
 
 all_pass : (test : Mark → Bool) (marks : List Mark) (mark : Mark) → list_all test marks ≡ true → Has marks mark → test mark ≡ true
 all_pass test (first ∷ later) mark all (inl same) = ap test (sym same) ∙ first_holds (test first) (list_all test later) all where
@@ -108,18 +110,18 @@ surveyed_number surveyed file has =
     subst (λ (f : JobFile). 1 ≤ f.job.number) of.2 one
 
 -- lists that are those of the rows and of the lives are those of the table
-pub lists_table : (last : ℕ) (marks : List Mark) (files : List JobFile) (rows : RowMap) (lives : Lifecycles) (row_list : List Row) (decided : List Decided) → TellLifecycles marks lives → AreRowsOf marks files rows → IsOrdered nat_cmp rows → IsOrdered nat_cmp lives.by_number
-    → row_list ≡ values rows → decided ≡ filter_map decided_of lives.by_number.entries → damage_of_jobs last marks files ≡ None → ListsTable last marks files row_list decided
+pub lists_table : (last : ℕ) (marks : List Mark) (files : List JobFile) (rows : RowMap) (lives : Lifecycles) (row_list : List Row) (decided : List Decided) → TellLifecycles marks lives → AreRowsOf marks files rows → IsOrdered nat_cmp rows → IsStrictlySortedBy nat_cmp (keys_of lives.by_number)
+    → row_list ≡ values rows → decided ≡ filter_map decided_of lives.by_number → damage_of_jobs last marks files ≡ None → ListsTable last marks files row_list decided
 lists_table last marks files rows lives row_list decided tells are ordered orders rows_is decided_is whole = record {
   whole = whole;
   table = ap (λ list. listed_table last list decided (last_batch marks)) rows_is ∙ ap (λ list. listed_table last (values rows) list (last_batch marks)) decided_is ∙ table_same last marks files rows lives tells are ordered orders;
   rows_rise = subst (λ list. Rise (map (λ (row : Row). row.number) list)) (sym rows_is) (rows_rise marks files rows are ordered);
-  decided_rise = subst (λ list. Rise (map (λ (one : Decided). one.number) list)) (sym decided_is) (decided_rise lives.by_number.entries orders);
+  decided_rise = subst (λ list. Rise (map (λ (one : Decided). one.number) list)) (sym decided_is) (decided_rise lives.by_number orders);
 }
 
 -- and their numbers were drawn
-pub lists_drawn : (last : ℕ) (marks : List Mark) (files : List JobFile) (rows : RowMap) (lives : Lifecycles) (row_list : List Row) (decided : List Decided) → TellLifecycles marks lives → AreRowsOf marks files rows → IsOrdered nat_cmp rows → IsOrdered nat_cmp lives.by_number
-    → row_list ≡ values rows → decided ≡ filter_map decided_of lives.by_number.entries → files_damage last [] files ≡ None → AreUndecided marks files → AreWritable marks → are_drawn last marks ≡ true → ((file : JobFile) → Has files file → 1 ≤ file.job.number) → ListsDrawn last row_list decided
+pub lists_drawn : (last : ℕ) (marks : List Mark) (files : List JobFile) (rows : RowMap) (lives : Lifecycles) (row_list : List Row) (decided : List Decided) → TellLifecycles marks lives → AreRowsOf marks files rows → IsOrdered nat_cmp rows → IsStrictlySortedBy nat_cmp (keys_of lives.by_number)
+    → row_list ≡ values rows → decided ≡ filter_map decided_of lives.by_number → files_damage last [] files ≡ None → AreUndecided marks files → AreWritable marks → are_drawn last marks ≡ true → ((file : JobFile) → Has files file → 1 ≤ file.job.number) → ListsDrawn last row_list decided
 lists_drawn last marks files rows lives row_list decided tells are ordered orders rows_is decided_is whole undecided writable drawn named = record {
   rows_drawn = λ row has.
       let of = row_file marks files rows are ordered row (in_list row_list (values rows) row rows_is has) in

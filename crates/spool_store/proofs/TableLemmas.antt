@@ -2,12 +2,12 @@
 use Rattle.std.proofs.Common.{◌≡◌, ℕ, Bool, true, false, cond, List, Option, Some, None, [], ◌∷◌, ◌++◌, map, sym, ap, subst, ◌∙◌, refl, inl, inr}
 use Rattle.std.specs.Prelude.{◌==◌, option_map, unwrap_or}
 use Rattle.std.specs.declared.cmp.Ordering.TheVariants.{Less}
-use Rattle.std.specs.BTreeMap.{IsOrdered, get, is_at, values}
+use Rattle.std.specs.BTreeMap.{IsOrdered, is_at, values}
 use Rattle.std.specs.Cmp.{nat_cmp_total}
 use Rattle.std.specs.FinMap.{entries, from_entries, find as find_entry, get-entries, get-from_entries, nat_cmp-IsAntisymmetric, same_map}
 use Rattle.std.specs.List.{AllByRecursion, cons_option, filter_map}
 use Rattle.std.specs.List.Sorted.{IsStrictlySortedBy}
-use Rattle.std.specs.Map.{lookup}
+use Rattle.std.specs.Map.{keys_of, lookup}
 use Rattle.std.specs.Option.{option_and_then, option_or}
 use Rattle.std.specs.Ordering.{eq_by_cmp, is_eq, nat_cmp}
 use Rattle.std.proofs.lemmas.Map.Keys.{sorted_head, sorted_tail}
@@ -29,7 +29,7 @@ use Rattle.std.proofs.lemmas.Bool.{eqb-true}
 use Rattle.step_runs.specs.WithoutScripts.{without_scripts, entries_without_scripts, entry_without_script}
 use Rattle.start_journal.specs.declared.lifecycles.Lifecycle.{Lifecycle}
 use Rattle.start_journal.specs.declared.lifecycles.Lifecycles.{Lifecycles}
-use Rattle.start_journal.specs.Lifecycles.{TellLifecycles, decided_of, fate_at, remembered_at, remembered_fate, unknown}
+use Rattle.start_journal.specs.Lifecycles.{TellLifecycles, decided_of, fate_at, life_under, remembered_at, remembered_fate, unknown}
 use Rattle.spool_store.specs.inside.Tables.{Rise}
 use Rattle.spool_store.specs.inside.JobRows.{AreRowsOf, RowMap, row_of}
 use Rattle.spool_store.specs.Rows.{decided_entry, listed_entries, listed_table, row_entry}
@@ -178,11 +178,11 @@ remembered : (kept : Option Lifecycle) → option_and_then remembered_fate kept 
 remembered None = refl
 remembered (Some life) = refl
 
-lives_decided : (marks : List Mark) (lives : Lifecycles) → TellLifecycles marks lives → IsOrdered nat_cmp lives.by_number → (number : ℕ)
-    → find_entry nat_cmp number (map decided_entry (filter_map decided_of lives.by_number.entries)) ≡ option_map Done (remembered_at number marks)
+lives_decided : (marks : List Mark) (lives : Lifecycles) → TellLifecycles marks lives → IsStrictlySortedBy nat_cmp (keys_of lives.by_number) → (number : ℕ)
+    → find_entry nat_cmp number (map decided_entry (filter_map decided_of lives.by_number)) ≡ option_map Done (remembered_at number marks)
 lives_decided marks lives tells ordered number =
-    find_decided number lives.by_number.entries ordered
-    ∙ ap (option_map Done) (remembered (get nat_cmp lives.by_number number) ∙ ap remembered_fate (tells.1 number))
+    find_decided number lives.by_number ordered
+    ∙ ap (option_map Done) (remembered (life_under lives.by_number number) ∙ ap remembered_fate (tells.1 number))
 
 -- what the shown entries have under a number: the job of its file, or else its fate
 pub found_shown : (number : ℕ) (marks : List Mark) (files : List JobFile) → find_entry nat_cmp number (entries_shown marks files) ≡ option_or (option_map (λ file. (live_entry marks file).1) (file_of number files)) (option_map Done (remembered_at number marks))
@@ -191,23 +191,23 @@ found_shown number marks files =
     ∙ ap (λ o. option_or o (find_entry nat_cmp number (filter_map (done_entry marks) marks))) (find_live number marks files)
     ∙ ap (option_or (option_map (λ file. (live_entry marks file).1) (file_of number files))) (find_done number marks marks)
 
-found_same : (marks : List Mark) (files : List JobFile) (rows : RowMap) (lives : Lifecycles) → TellLifecycles marks lives → AreRowsOf marks files rows → IsOrdered nat_cmp rows → IsOrdered nat_cmp lives.by_number → (number : ℕ)
-    → find_entry nat_cmp number (listed_entries (values rows) (filter_map decided_of lives.by_number.entries)) ≡ option_map entry_without_script (find_entry nat_cmp number (entries_shown marks files))
+found_same : (marks : List Mark) (files : List JobFile) (rows : RowMap) (lives : Lifecycles) → TellLifecycles marks lives → AreRowsOf marks files rows → IsOrdered nat_cmp rows → IsStrictlySortedBy nat_cmp (keys_of lives.by_number) → (number : ℕ)
+    → find_entry nat_cmp number (listed_entries (values rows) (filter_map decided_of lives.by_number)) ≡ option_map entry_without_script (find_entry nat_cmp number (entries_shown marks files))
 found_same marks files rows lives tells are ordered orders number =
-    find_in_two number (map row_entry (values rows)) (map decided_entry (filter_map decided_of lives.by_number.entries))
-    ∙ ap (λ o. option_or o (find_entry nat_cmp number (map decided_entry (filter_map decided_of lives.by_number.entries))))
+    find_in_two number (map row_entry (values rows)) (map decided_entry (filter_map decided_of lives.by_number))
+    ∙ ap (λ o. option_or o (find_entry nat_cmp number (map decided_entry (filter_map decided_of lives.by_number))))
     (find_rows number rows.entries (rows_keyed marks files rows are ordered) ∙ ap (option_map (λ row. (row_entry row).1)) (are number))
     ∙ ap (option_or (option_map (λ row. (row_entry row).1) (option_map (row_of marks) (file_of number files)))) (lives_decided marks lives tells orders number)
     ∙ joined marks (file_of number files) (remembered_at number marks)
     ∙ ap (option_map entry_without_script) (sym (found_shown number marks files))
 
-pub table_same : (last : ℕ) (marks : List Mark) (files : List JobFile) (rows : RowMap) (lives : Lifecycles) → TellLifecycles marks lives → AreRowsOf marks files rows → IsOrdered nat_cmp rows → IsOrdered nat_cmp lives.by_number
-    → listed_table last (values rows) (filter_map decided_of lives.by_number.entries) (last_batch marks) ≡ without_scripts (table_shown last marks files)
+pub table_same : (last : ℕ) (marks : List Mark) (files : List JobFile) (rows : RowMap) (lives : Lifecycles) → TellLifecycles marks lives → AreRowsOf marks files rows → IsOrdered nat_cmp rows → IsStrictlySortedBy nat_cmp (keys_of lives.by_number)
+    → listed_table last (values rows) (filter_map decided_of lives.by_number) (last_batch marks) ≡ without_scripts (table_shown last marks files)
 unfolding without_scripts
 table_same last marks files rows lives tells are ordered orders =
     ap (λ es. table_of last es (last_batch marks))
     (same_map nat_cmp_total nat_cmp-IsAntisymmetric _ _
-    (λ number. get-from_entries nat_cmp_total (listed_entries (values rows) (filter_map decided_of lives.by_number.entries)) number
+    (λ number. get-from_entries nat_cmp_total (listed_entries (values rows) (filter_map decided_of lives.by_number)) number
     ∙ found_same marks files rows lives tells are ordered orders number
     ∙ sym (get-from_entries nat_cmp_total (entries_without_scripts (entries (from_entries {R = nat_cmp} (entries_shown marks files)))) number
     ∙ find_without_scripts number (entries (from_entries {R = nat_cmp} (entries_shown marks files)))

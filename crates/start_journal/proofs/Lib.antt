@@ -18,6 +18,7 @@ pub mod RightLemmas
 pub mod SlotLemmas
 pub mod SlotChanges
 pub mod SlotWrites
+mod LifeMapLemmas
 pub mod LifecycleLemmas
 pub mod StandLemmas
 pub mod TakenLemmas

@@ -1,6 +1,7 @@
 -- What marks tell of each number (own): its start, its fate, and whether it was forgotten.
 use Rattle.std.specs.Prelude.{◌≡◌, ◌==◌, ◌||◌, [], ◌∷◌, ℕ, false, List, Option, Some, None, is_some, option_map, unwrap_or, if◌then◌else◌}
-use Rattle.std.specs.BTreeMap.{get}
+use Rattle.std.specs.BTreeMap.{is_at}
+use Rattle.std.specs.Map.{lookup}
 use Rattle.std.specs.Option.{option_or}
 use Rattle.std.specs.Ordering.{nat_cmp}
 use Rattle.spool_model.specs.declared.decided.Decided.{Decided}
@@ -52,9 +53,13 @@ unknown = record { started = None; fate = None; forgotten = false }
 abbrev pub stage_of : Lifecycle → Stage
 stage_of life = stage_by life.forgotten (is_some life.fate) (is_some life.started)
 
+-- the life that stands under the number, if one does
+abbrev pub life_under : List (ℕ × Lifecycle) → ℕ → Option Lifecycle
+life_under lives number = lookup (is_at (nat_cmp number)) lives
+
 -- what is kept of the number
 abbrev pub lifecycle_in : Lifecycles → ℕ → Lifecycle
-lifecycle_in lives number = unwrap_or (get nat_cmp lives.by_number number) unknown
+lifecycle_in lives number = unwrap_or (life_under lives.by_number number) unknown
 
 -- the marks are legal, and for each number what is kept is what they tell
 abbrev pub TellLifecycles : List Mark → Lifecycles → Type 0

@@ -1,2 +1,4 @@
+pub mod LifeMaps
 pub mod Keeping
 pub mod Overwriting
+pub mod Told

@@ -10,6 +10,7 @@ mod fields;
 mod journal;
 mod kept_marks;
 mod laws;
+mod life_map;
 mod lifecycles;
 mod mark;
 mod names;

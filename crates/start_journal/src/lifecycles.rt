@@ -1,17 +1,18 @@
 //! What marks tell of each number.
 ghost use Rattle.std.specs.Prelude.{◌≡◌, [], ℕ, List, Some, IfOk, OnOk};
-ghost use Rattle.std.specs.BTreeMap.{IsOrdered};
 ghost use Rattle.std.specs.List.{filter_map};
+ghost use Rattle.std.specs.List.Sorted.{IsStrictlySortedBy};
+ghost use Rattle.std.specs.Map.{keys_of};
 ghost use Rattle.std.specs.Ordering.{nat_cmp};
 ghost use Rattle.start_journal.specs.declared.mark.Mark.{Mark};
 ghost use Rattle.start_journal.specs.Journals.{is_legal_after};
 ghost use Rattle.start_journal.specs.Lifecycles.{TellLifecycles, decided_of, lifecycle_in, lifecycle_with, remembered_fate, stage_of};
 ghost use Rattle.start_journal.specs.Marks.{number_of};
 
+use crate::life_map::LifeMap;
 use crate::{Mark, Stage};
 use spool_model::{Decided, Fate};
 use std::alloc::{AllocError, Global};
-use std::collections::BTreeMap;
 
 /// What marks tell of one number.
 #[derive(Clone, Copy)]
@@ -22,13 +23,14 @@ pub struct Lifecycle {
     pub forgotten: bool,
 }
 
-const UNTOLD: Lifecycle = Lifecycle {
-    started: None,
-    fate: None,
-    forgotten: false,
-};
-
 impl Lifecycle {
+    /// Nothing is told.
+    pub(crate) const UNTOLD: Lifecycle = Lifecycle {
+        started: None,
+        fate: None,
+        forgotten: false,
+    };
+
     // The life with what a mark of its number tells.
     fn with(self, mark: Mark) -> Lifecycle
         ensures { (number : ℕ) → number_of mark ≡ Some number → result ≡ lifecycle_with number mark self }
@@ -68,7 +70,7 @@ impl Lifecycle {
 /// What marks tell, by the numbers that they name.
 #[derive(Drop)]
 pub struct Lifecycles {
-    pub(crate) by_number: BTreeMap<u32, Lifecycle>,
+    pub(crate) by_number: LifeMap,
 }
 
 impl Lifecycles {
@@ -76,8 +78,15 @@ impl Lifecycles {
     pub(crate) fn new(alloc: Global) -> Lifecycles
         ensures { TellLifecycles [] result }
     {
+        Lifecycles::with_row(alloc, u32::MAX)
+    }
+
+    // The same, where most marks name this number or later ones, and none a much later one.
+    pub(crate) fn with_row(alloc: Global, first: u32) -> Lifecycles
+        ensures { TellLifecycles [] result }
+    {
         Lifecycles {
-            by_number: BTreeMap::new(alloc),
+            by_number: LifeMap::new(alloc, first),
         }
     }
 
@@ -85,18 +94,18 @@ impl Lifecycles {
     pub fn get(&self, number: u32) -> Lifecycle
         ensures { result ≡ lifecycle_in self.now number }
     {
-        self.by_number.get(&number).copied().unwrap_or(UNTOLD)
+        self.by_number
+            .get(number)
+            .copied()
+            .unwrap_or(Lifecycle::UNTOLD)
     }
 
     /// The numbers whose fate is remembered, in their order.
     pub fn decided(&self, alloc: Global) -> Result<Vec<Decided>, AllocError>
-        ensures items { IfOk result (λ list. list.items ≡ filter_map decided_of self.now.by_number.entries) }
-        ensures ordered { IsOrdered nat_cmp self.now.by_number }
+        ensures items { IfOk result (λ list. list.items ≡ filter_map decided_of self.now.by_number) }
+        ensures ordered { IsStrictlySortedBy nat_cmp (keys_of self.now.by_number) }
     {
-        let lives = self.by_number.iter();
-        lives
-            .filter_map(|(number, life)| decided_of(*number, *life))
-            .collect(alloc)
+        self.by_number.decided(alloc)
     }
 
     // Whether the mark may stand after those that tell this.
@@ -104,8 +113,18 @@ impl Lifecycles {
         ensures { (marks : List Mark) → TellLifecycles marks self.now → result ≡ is_legal_after marks mark }
     {
         match mark.number() {
-            Some(number) => self.get(number).stage().allows(mark),
+            Some(number) => self.stage_at(number).allows(mark),
             None => true,
+        }
+    }
+
+    // How far the number has come.
+    fn stage_at(&self, number: u32) -> Stage
+        ensures { result ≡ stage_of (lifecycle_in self.now number) }
+    {
+        match self.by_number.get(number) {
+            Some(life) => life.stage(),
+            None => Stage::Fresh,
         }
     }
 
@@ -116,13 +135,13 @@ impl Lifecycles {
     {
         if let Some(number) = mark.number() {
             let life = self.get(number).with(mark);
-            self.by_number.insert(number, life)?;
+            self.by_number.put(number, life)?;
         }
         Ok(())
     }
 }
 
-fn decided_of(number: u32, life: Lifecycle) -> Option<Decided>
+pub(crate) fn decided_of(number: u32, life: Lifecycle) -> Option<Decided>
     ensures { result ≡ decided_of (number, life) }
 {
     let fate = life.remembered()?;
