@@ -1,4 +1,5 @@
 pub mod DigitLemmas
+pub mod DigitTable
 pub mod EightDigits
 pub mod TestLemmas
 pub mod ValueLemmas
