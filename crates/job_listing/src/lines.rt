@@ -1,15 +1,16 @@
 //! The lines of a listing.
-ghost use Rattle.std.specs.Prelude.{All, IfOk};
+ghost use Rattle.std.specs.Prelude.{All, IfOk, OnOk};
 ghost use Rattle.civil_minute.specs.Zone.{IsReadable};
 ghost use Rattle.clock_range.specs.ClockRange.{IsClockMinute};
-ghost use Rattle.job_listing.specs.inside.Lines.{ShowsRows};
-ghost use Rattle.listing_text.specs.Listing.{ShowsRow};
+ghost use Rattle.job_listing.specs.inside.Lines.{IsLinePut, ShowsRows};
 
 use civil_minute::{Zone, civil_of};
-use host_calls::Bytes;
-use listing_text::{date_text, queue_line};
+use listing_text::{date_text, put_queue_line};
 use spool_model::Row;
 use std::alloc::{AllocError, Global};
+
+// About as many bytes as a line has.
+const LINE: usize = 48;
 
 // The lines of the rows, dated in the zone.
 pub(crate) fn lines(alloc: Global, rows: &[Row], zone: &Zone) -> Result<Vec<u8>, AllocError>
@@ -17,20 +18,19 @@ pub(crate) fn lines(alloc: Global, rows: &[Row], zone: &Zone) -> Result<Vec<u8>,
     requires minutes { All (λ row. IsClockMinute row.minute) rows.now }
     ensures { IfOk result (λ text. ShowsRows zone.now rows.now text.items) }
 {
-    let mut text = Vec::new(alloc);
+    let mut text = Vec::with_capacity(alloc, rows.len().saturating_mul(LINE))?;
     for row in rows {
-        let line = line(alloc, row, zone)?;
-        text.extend_from_slice(line.as_slice())?;
+        put_line(alloc, &mut text, row, zone)?;
     }
     Ok(text)
 }
 
-// The line of a row.
-fn line(alloc: Global, row: &Row, zone: &Zone) -> Result<Bytes, AllocError>
+// Puts the line of one row more after the text.
+fn put_line(alloc: Global, text: &mut Vec<u8>, row: &Row, zone: &Zone) -> Result<(), AllocError>
     requires zone { IsReadable zone.now }
     requires minute { IsClockMinute row.now.minute }
-    ensures { IfOk result (ShowsRow zone.now row.now) }
+    ensures { OnOk result (IsLinePut zone.now row.now text.old.items text.new.items) }
 {
     let civil = civil_of(alloc, row.minute, zone)?;
-    queue_line(alloc, row, &date_text(&civil))
+    put_queue_line(text, row, &date_text(&civil))
 }

@@ -11,7 +11,7 @@ mod turn_step;
 
 pub use cause::{Cause, cause_line, fault_line};
 pub use date::date_text;
-pub use lines::{accepted_line, queue_line};
+pub use lines::{accepted_line, put_queue_line, queue_line};
 pub use refusal::Refusal;
 pub use status::Status;
 pub use turn_step::{TurnStepText, turn_line};

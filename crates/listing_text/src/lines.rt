@@ -1,8 +1,9 @@
 //! The lines of jobs.
-ghost use Rattle.std.specs.Prelude.{◌≡◌, IfOk};
+ghost use Rattle.std.specs.Prelude.{◌≡◌, ◌++◌, IfOk, OnOk};
 ghost use Rattle.listing_text.specs.Lines.{accepted_line_of, letter_of, queue_line_of};
 
 use host_calls::Bytes;
+use itoa::Buffer;
 use spool_model::{Row, State};
 use std::alloc::{AllocError, Global};
 
@@ -20,14 +21,23 @@ pub fn accepted_line(alloc: Global, number: u32, date: &[u8; 24]) -> Result<Byte
 pub fn queue_line(alloc: Global, row: &Row, date: &[u8; 24]) -> Result<Bytes, AllocError>
     ensures { IfOk result (λ line. line ≡ queue_line_of row.now date.now) }
 {
-    let mut line = format!(in alloc; "{}\t", row.number)?.into_bytes();
-    line.extend_from_slice(date)?;
-    line.push(b' ')?;
-    line.push(letter(row))?;
-    line.push(b' ')?;
-    line.extend_from_slice(row.user.as_bytes())?;
-    line.push(b'\n')?;
+    let mut line = Vec::new(alloc);
+    put_queue_line(&mut line, row, date)?;
     Ok(Bytes::from(line))
+}
+
+/// Puts the line of a live job after the text of a listing.
+pub fn put_queue_line(text: &mut Vec<u8>, row: &Row, date: &[u8; 24]) -> Result<(), AllocError>
+    ensures { OnOk result (text.new.items ≡ text.old.items ++ queue_line_of row.now date.now) }
+{
+    let mut digits = Buffer::new();
+    text.extend_from_slice(digits.format(row.number).as_bytes())?;
+    text.push(b'\t')?;
+    text.extend_from_slice(date)?;
+    text.extend_from_slice(&[b' ', letter(row), b' '])?;
+    text.extend_from_slice(row.user.as_bytes())?;
+    text.push(b'\n')?;
+    Ok(())
 }
 
 fn letter(row: &Row) -> u8
