@@ -23,6 +23,7 @@ pub mod RecoveryEntries
 pub mod RecoveryForms
 pub mod RecoveryLemmas
 pub mod RecoveryNames
+mod RisingLemmas
 pub mod RoomLemmas
 pub mod RowRanges
 pub mod ScriptLemmas

@@ -1,7 +1,6 @@
 -- The lists of rows and decided numbers: their numbers, and what they are.
 use Rattle.std.proofs.Common.{◌≡◌, ℕ, ◌≤◌, Bool, true, false, cond, List, Option, Some, None, [], ◌∷◌, map, sym, ap, subst, ◌∙◌, refl, arith, inl, inr}
 use Rattle.std.specs.Prelude.{Contains, is_some, nat_le, option_map, unwrap_or, ◌==◌, ◌&&◌}
-use Rattle.std.specs.BTreeMap.{IsOrdered, values}
 use Rattle.std.specs.List.{filter_map, list_all}
 use Rattle.std.specs.List.Sorted.{IsStrictlySortedBy}
 use Rattle.std.specs.Map.{keys_of}
@@ -26,7 +25,7 @@ use Rattle.start_journal.specs.declared.lifecycles.Lifecycle.{Lifecycle}
 use Rattle.start_journal.specs.declared.lifecycles.Lifecycles.{Lifecycles}
 use Rattle.spool_store.specs.declared.surveyed_job.SurveyedJob.{SurveyedJob}
 use Rattle.start_journal.specs.Lifecycles.{TellLifecycles, decided_of, life_under, remembered_fate, unknown}
-use Rattle.spool_store.specs.inside.JobRows.{AreRowsOf, RowMap, row_of}
+use Rattle.spool_store.specs.inside.JobRows.{AreRowsOf, IsInOrder, RowMap, row_of}
 use Rattle.spool_store.specs.Rows.{listed_table}
 use Rattle.spool_store.specs.inside.SurveyedJobs.{file_surveyed, files_surveyed}
 use Rattle.spool_store.specs.inside.Tables.{AreUndecided, IsDrawn, ListsDrawn, ListsTable, Rise}
@@ -44,11 +43,11 @@ of_file marks files key row None is made = cc
 of_file marks files key row (Some file) is made =
     (file, (found_has (λ (f : JobFile). f.job.number == key) files file is).0, ap (λ (r : Row). r.number) (some_same made))
 
-row_file : (marks : List Mark) (files : List JobFile) (rows : RowMap) → AreRowsOf marks files rows → IsOrdered nat_cmp rows → (row : Row) → Has (values rows) row → (file : JobFile) × Has files file × (file.job.number ≡ row.number)
+row_file : (marks : List Mark) (files : List JobFile) (rows : RowMap) → AreRowsOf marks files rows → IsInOrder rows → (row : Row) → Has (map (λ (e : ℕ × Row). e.1) rows) row → (file : JobFile) × Has files file × (file.job.number ≡ row.number)
 row_file marks files rows are ordered row has =
-    let entry = made_has (λ (e : ℕ × Row). e.1) rows.entries row has in
+    let entry = made_has (λ (e : ℕ × Row). e.1) rows row has in
     of_file marks files entry.0.0 row (file_of entry.0.0 files) refl
-    (sym (are entry.0.0) ∙ entry_found rows.entries entry.0.0 entry.0.1 ordered entry.1 ∙ ap Some entry.2)
+    (sym (are entry.0.0) ∙ entry_found rows entry.0.0 entry.0.1 ordered entry.1 ∙ ap Some entry.2)
 
 -- Decided numbers.
 
@@ -110,25 +109,25 @@ surveyed_number surveyed file has =
     subst (λ (f : JobFile). 1 ≤ f.job.number) of.2 one
 
 -- lists that are those of the rows and of the lives are those of the table
-pub lists_table : (last : ℕ) (marks : List Mark) (files : List JobFile) (rows : RowMap) (lives : Lifecycles) (row_list : List Row) (decided : List Decided) → TellLifecycles marks lives → AreRowsOf marks files rows → IsOrdered nat_cmp rows → IsStrictlySortedBy nat_cmp (keys_of lives.by_number)
-    → row_list ≡ values rows → decided ≡ filter_map decided_of lives.by_number → damage_of_jobs last marks files ≡ None → ListsTable last marks files row_list decided
+pub lists_table : (last : ℕ) (marks : List Mark) (files : List JobFile) (rows : RowMap) (lives : Lifecycles) (row_list : List Row) (decided : List Decided) → TellLifecycles marks lives → AreRowsOf marks files rows → IsInOrder rows → IsStrictlySortedBy nat_cmp (keys_of lives.by_number)
+    → row_list ≡ map (λ (e : ℕ × Row). e.1) rows → decided ≡ filter_map decided_of lives.by_number → damage_of_jobs last marks files ≡ None → ListsTable last marks files row_list decided
 lists_table last marks files rows lives row_list decided tells are ordered orders rows_is decided_is whole = record {
   whole = whole;
-  table = ap (λ list. listed_table last list decided (last_batch marks)) rows_is ∙ ap (λ list. listed_table last (values rows) list (last_batch marks)) decided_is ∙ table_same last marks files rows lives tells are ordered orders;
+  table = ap (λ list. listed_table last list decided (last_batch marks)) rows_is ∙ ap (λ list. listed_table last (map (λ (e : ℕ × Row). e.1) rows) list (last_batch marks)) decided_is ∙ table_same last marks files rows lives tells are ordered orders;
   rows_rise = subst (λ list. Rise (map (λ (row : Row). row.number) list)) (sym rows_is) (rows_rise marks files rows are ordered);
   decided_rise = subst (λ list. Rise (map (λ (one : Decided). one.number) list)) (sym decided_is) (decided_rise lives.by_number orders);
 }
 
 -- and their numbers were drawn
-pub lists_drawn : (last : ℕ) (marks : List Mark) (files : List JobFile) (rows : RowMap) (lives : Lifecycles) (row_list : List Row) (decided : List Decided) → TellLifecycles marks lives → AreRowsOf marks files rows → IsOrdered nat_cmp rows → IsStrictlySortedBy nat_cmp (keys_of lives.by_number)
-    → row_list ≡ values rows → decided ≡ filter_map decided_of lives.by_number → files_damage last [] files ≡ None → AreUndecided marks files → AreWritable marks → are_drawn last marks ≡ true → ((file : JobFile) → Has files file → 1 ≤ file.job.number) → ListsDrawn last row_list decided
+pub lists_drawn : (last : ℕ) (marks : List Mark) (files : List JobFile) (rows : RowMap) (lives : Lifecycles) (row_list : List Row) (decided : List Decided) → TellLifecycles marks lives → AreRowsOf marks files rows → IsInOrder rows → IsStrictlySortedBy nat_cmp (keys_of lives.by_number)
+    → row_list ≡ map (λ (e : ℕ × Row). e.1) rows → decided ≡ filter_map decided_of lives.by_number → files_damage last [] files ≡ None → AreUndecided marks files → AreWritable marks → are_drawn last marks ≡ true → ((file : JobFile) → Has files file → 1 ≤ file.job.number) → ListsDrawn last row_list decided
 lists_drawn last marks files rows lives row_list decided tells are ordered orders rows_is decided_is whole undecided writable drawn named = record {
   rows_drawn = λ row has.
-      let of = row_file marks files rows are ordered row (in_list row_list (values rows) row rows_is has) in
+      let of = row_file marks files rows are ordered row (in_list row_list (map (λ (e : ℕ × Row). e.1) rows) row rows_is has) in
       subst (IsDrawn last) of.2 (named of.0 of.1, (fine_is_whole last [] files of.0 (no_damage_is_fine last [] files whole) of.1).drawn);
   decided_drawn = λ one has. number_drawn last marks one.number writable drawn (decided_is_decided marks lives tells orders one (in_list decided _ one decided_is has));
   apart = λ row one has also same.
-      let of = row_file marks files rows are ordered row (in_list row_list (values rows) row rows_is has) in
+      let of = row_file marks files rows are ordered row (in_list row_list (map (λ (e : ℕ × Row). e.1) rows) row rows_is has) in
       let impossible : true ≡ false =
       sym (decided_is_decided marks lives tells orders one (in_list decided _ one decided_is also)) ∙ ap (λ n. is_decided n marks) (sym (of.2 ∙ same)) ∙ undecided of.0 (contained files of.0 of.1) in
       cc;

@@ -16,7 +16,8 @@ use Rattle.std.proofs.lemmas.Bool.{and_from}
 use Rattle.spool_shows.specs.JobFiles.{JobFile}
 use Rattle.spool_shows.proofs.EntryLists.{key_has}
 use Rattle.spool_shows.proofs.Membership.{Has, contained, made_has}
-use Rattle.spool_store.specs.Listed.{AreListed, entry_in}
+use Rattle.spool_store.specs.Listed.{AreListed, Rises, entry_in}
+use Rattle.spool_store.specs.inside.JobRows.{IsInOrder, numbered}
 use Rattle.spool_store.specs.Rows.{decided_entry, row_entry}
 use Rattle.spool_store.specs.inside.Tables.{IsDrawn, ListsDrawn, ListsTable}
 use Rattle.spool_store.proofs.Listing.{found_in_both, or_else}
@@ -33,6 +34,14 @@ rises_from (entry ∷ later) sorted =
 row_keys : (rows : List Row) → map (λ (row : Row). row.number) rows ≡ map (λ (e : ℕ × JobEntry). e.0) (map row_entry rows)
 row_keys [] = refl
 row_keys (row ∷ later) = ap (λ keys. row.number ∷ keys) (row_keys later)
+
+numbered_keys : (rows : List Row) → map (λ (e : ℕ × Row). e.0) (numbered rows) ≡ map (λ (e : ℕ × JobEntry). e.0) (map row_entry rows)
+numbered_keys [] = refl
+numbered_keys (row ∷ later) = ap (λ keys. row.number ∷ keys) (numbered_keys later)
+
+-- the entries of rows in order rise
+pub rows_in_order : (rows : List Row) → IsInOrder (numbered rows) → Rises (map row_entry rows)
+rows_in_order rows rise = rises_from (map row_entry rows) (subst (IsStrictlySortedBy nat_cmp) (numbered_keys rows) rise)
 
 decided_keys : (decided : List Decided) → map (λ (one : Decided). one.number) decided ≡ map (λ (e : ℕ × JobEntry). e.0) (map decided_entry decided)
 decided_keys [] = refl

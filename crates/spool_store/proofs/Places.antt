@@ -55,3 +55,8 @@ module _ {X V : Type 0} (entry : X → ℕ × V) where
 pub if_none : {X : Type 0} → (given : Option X) (P : Type 0) → P → IfNone given P
 if_none None P holds = holds
 if_none (Some x) P holds = tt
+
+-- what is not there is none
+pub not_found : {X : Type 0} → (found : Option X) → (IsSome found → ⊥) → found ≡ None
+not_found None absent = refl
+not_found (Some x) absent = absurd (absent refl)

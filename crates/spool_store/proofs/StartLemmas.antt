@@ -1,5 +1,5 @@
 -- The check of starts, mark by mark.
-use Rattle.std.proofs.Common.{◌≡◌, ℕ, ℤ, ◌+◌, ◌*◌, ◌<◌, Bool, true, false, cond, List, Option, Some, None, length, get_or, drop, sym, ap, ◌∙◌, refl}
+use Rattle.std.proofs.Common.{◌≡◌, ℕ, ℤ, ◌+◌, ◌*◌, ◌<◌, Bool, true, false, cond, List, Option, Some, None, length, get_or, drop, map, sym, ap, ◌∙◌, refl}
 use Rattle.std.specs.Prelude.{◌==◌, is_some, option_map}
 use Rattle.std.specs.Option.{option_or}
 use Rattle.std.proofs.lemmas.List.{drop_more}
@@ -16,7 +16,13 @@ use Rattle.start_journal.proofs.LifecycleLemmas.{decided_has_fate}
 use Rattle.spool_shows.specs.JobFiles.{JobFile, file_of}
 use Rattle.spool_shows.specs.Shown.{mark_damage, start_damage, starts_damage}
 use Rattle.spool_shows.proofs.ShownEntries.{fails_other, some_same}
-use Rattle.spool_store.specs.inside.JobRows.{row_of}
+use Rattle.spool_shows.proofs.StartLemmas.{number_passes}
+use Rattle.spool_model.specs.declared.entry.Entry.TheVariants.{Live, Done}
+use Rattle.spool_model.specs.JobTable.{JobEntry}
+use Rattle.spool_store.specs.Listed.{entry_in}
+use Rattle.spool_store.specs.Rows.{row_entry}
+use Rattle.spool_store.specs.inside.JobRows.{ListsRows, numbered, row_of}
+use Rattle.spool_store.proofs.TableLemmas.{find_rows, rows_keyed, unnumbered}
 
 -- what is kept of a number tells whether it is decided
 pub life_decides : (marks : List Mark) (lives : Lifecycles) (number : ℕ) (life : Lifecycle) (test : Bool) → TellLifecycles marks lives → life ≡ lifecycle_in lives number → is_some life.fate ≡ test → is_decided number marks ≡ test
@@ -29,16 +35,38 @@ start_decided marks files place number queue second is = sym (ap (λ b. cond b N
 pub start_open : (marks : List Mark) (files : List JobFile) (place number queue : ℕ) (second : ℤ) → is_decided number marks ≡ false → start_damage place queue (file_of number files) ≡ mark_damage marks files place (Started number queue second)
 start_open marks files place number queue second is = sym (ap (λ b. cond b None (start_damage place queue (file_of number files))) is)
 
+-- the entry of a file, without its script
+abbrev file_entry : List Mark → Option JobFile → Option JobEntry
+file_entry marks found = option_map (λ (row : Row). (row_entry row).1) (option_map (row_of marks) found)
+
+-- rows tell the entries of their files
+pub rows_tell : (marks : List Mark) (files : List JobFile) (rows : List Row) (number : ℕ) → ListsRows marks files rows → entry_in (map row_entry rows) number ≡ file_entry marks (file_of number files)
+rows_tell marks files rows number lists =
+    ap (λ list. entry_in (map row_entry list) number) (sym (unnumbered rows))
+    ∙ find_rows number (numbered rows) (rows_keyed marks files (numbered rows) lists.are lists.rise)
+    ∙ ap (option_map (λ (row : Row). (row_entry row).1)) (lists.are number)
+
+abbrev queue_in : JobEntry → ℕ
+queue_in (Live job state) = job.queue
+queue_in (Done fate) = 0
+
 -- no row, no file
-pub start_lost : (marks : List Mark) (place queue : ℕ) (found : Option JobFile) → None ≡ option_map (row_of marks) found → ◌≡◌ {A = Option Damage} (Some (record { name = journal_file; offset = 32 * place; byte = Some 43 })) (start_damage place queue found)
+pub start_lost : (marks : List Mark) (place queue : ℕ) (found : Option JobFile) → None ≡ file_entry marks found → ◌≡◌ {A = Option Damage} (Some (record { name = journal_file; offset = 32 * place; byte = Some 43 })) (start_damage place queue found)
 start_lost marks place queue None is = refl
 start_lost marks place queue (Some file) is = cc
 
+-- a row of this queue
+pub start_here : (marks : List Mark) (place queue : ℕ) (found : Option JobFile) (row : Row) → Some (row_entry row).1 ≡ file_entry marks found → row.queue ≡ queue → None ≡ start_damage place queue found
+start_here marks place queue None row is same = cc
+start_here marks place queue (Some file) row is same =
+    let here : (file.job.queue == queue) ≡ true = number_passes file.job.queue queue (sym (ap queue_in (some_same is)) ∙ same) in
+    sym (ap (λ b. cond {A = Option Damage} b None (Some (record { name = journal_file; offset = 32 * place + 10; byte = Some queue }))) here)
+
 -- a row of another queue
-pub start_elsewhere : (marks : List Mark) (place queue : ℕ) (found : Option JobFile) (row : Row) → Some row ≡ option_map (row_of marks) found → ¬ (row.queue ≡ queue) → ◌≡◌ {A = Option Damage} (Some (record { name = journal_file; offset = 32 * place + 10; byte = Some queue })) (start_damage place queue found)
+pub start_elsewhere : (marks : List Mark) (place queue : ℕ) (found : Option JobFile) (row : Row) → Some (row_entry row).1 ≡ file_entry marks found → ¬ (row.queue ≡ queue) → ◌≡◌ {A = Option Damage} (Some (record { name = journal_file; offset = 32 * place + 10; byte = Some queue })) (start_damage place queue found)
 start_elsewhere marks place queue None row is differ = cc
 start_elsewhere marks place queue (Some file) row is differ =
-    let other : (file.job.queue == queue) ≡ false = fails_other file.job.queue queue (λ same. differ (ap (λ (r : Row). r.queue) (some_same is) ∙ same)) in
+    let other : (file.job.queue == queue) ≡ false = fails_other file.job.queue queue (λ same. differ (ap queue_in (some_same is) ∙ same)) in
     sym (ap (λ b. cond {A = Option Damage} b None (Some (record { name = journal_file; offset = 32 * place + 10; byte = Some queue }))) other)
 
 -- the damage of starts, with the next mark first

@@ -3,7 +3,7 @@ use Rattle.std.proofs.Common.{◌≡◌, ℕ, ◌+◌, ◌<◌, ◌≤◌, Bool,
 use Rattle.std.specs.Prelude.{◌==◌, ◌||◌, MatchResult, Result, Ok, Err, IsErrAnd, is_some, nat_lt, option_map}
 use Rattle.std.specs.declared.cmp.Ordering.{Ordering}
 use Rattle.std.specs.declared.cmp.Ordering.TheVariants.{Less, Equal, Greater}
-use Rattle.std.specs.BTreeMap.{Updates, get, is_at}
+use Rattle.std.specs.BTreeMap.{is_at}
 use Rattle.std.specs.Cmp.{nat_cmp_total, tied_itself}
 use Rattle.std.specs.List.{find, list_any}
 use Rattle.std.specs.Option.{option_or}
@@ -24,7 +24,7 @@ use Rattle.host_calls.specs.declared.store_fault.StoreFault.TheVariants.{Damaged
 use Rattle.spool_store.specs.declared.surveyed_job.SurveyedJob.{SurveyedJob}
 use Rattle.host_calls.specs.StoreFaults.{IsFound}
 use Rattle.spool_store.specs.inside.SurveyedJobs.{file_surveyed, files_surveyed}
-use Rattle.spool_store.specs.inside.JobRows.{AreRowsOf, IsSurveyedSoFar, HaveNumbers, IsRowOrDamage, RowMap, numbers_after, row_of}
+use Rattle.spool_store.specs.inside.JobRows.{AreRowsOf, IsSurveyedSoFar, IsPut, IsRowOrDamage, IsTaken, RowMap, numbers_after, row_at, row_of}
 use Rattle.start_journal.proofs.LifecycleLemmas.{or_nothing}
 
 -- Keys.
@@ -74,8 +74,8 @@ some_row : (marks : List Mark) (found : Option JobFile) → is_some (option_map 
 some_row marks None = refl
 some_row marks (Some file) = refl
 
--- the rows have the numbers of their files
-pub rows_have : (marks : List Mark) (files : List JobFile) (rows : RowMap) → AreRowsOf marks files rows → HaveNumbers (numbers_after [] files) rows
+-- a number is that of one of the files where there is a row under it
+pub rows_have : (marks : List Mark) (files : List JobFile) (rows : RowMap) → AreRowsOf marks files rows → (number : ℕ) → IsTaken (numbers_after [] files) number (is_some (row_at rows number))
 rows_have marks files rows are number =
     ap is_some (are number) ∙ some_row marks (file_of number files)
     ∙ sym (any_after number [] files ∙ or_false (is_some (file_of number files)))
@@ -92,21 +92,21 @@ new_number last before file is = by_test (nat_lt last file.job.number || list_an
   by_test false fault none = (neither _ _ fault).1
 
 -- the row that is put stands under the number of its file
-rows_more : (marks : List Mark) (files : List JobFile) (file : JobFile) (rows new : RowMap) (row : Row) → AreRowsOf marks files rows → row ≡ row_of marks file → file_of file.job.number files ≡ None → Updates nat_cmp rows new row.number (Some row) → AreRowsOf marks (files ++ file ∷ []) new
+rows_more : (marks : List Mark) (files : List JobFile) (file : JobFile) (rows new : RowMap) (row : Row) → AreRowsOf marks files rows → row ≡ row_of marks file → file_of file.job.number files ≡ None → IsPut rows new row → AreRowsOf marks (files ++ file ∷ []) new
 rows_more marks files file rows new row are is none updates number =
     by_test (is_at (nat_cmp row.number) number) refl ∙ ap (option_map (row_of marks)) (sym (find_last (λ (f : JobFile). f.job.number == number) files file)) where
       number_same : row.number ≡ file.job.number
       number_same = ap (λ (r : Row). r.number) is
 
-      by_test : (at : Bool) → is_at (nat_cmp row.number) number ≡ at → get nat_cmp new number ≡ option_map (row_of marks) (option_or (file_of number files) (cond (file.job.number == number) (Some file) None))
+      by_test : (at : Bool) → is_at (nat_cmp row.number) number ≡ at → row_at new number ≡ option_map (row_of marks) (option_or (file_of number files) (cond (file.job.number == number) (Some file) None))
       by_test true at =
           let same : file.job.number ≡ number = sym number_same ∙ key_is row.number number at in
-          updates.0 number ∙ ap (λ b. cond b (Some row) (get nat_cmp rows number)) at ∙ ap Some is
+          updates number ∙ ap (λ b. cond b (Some row) (row_at rows number)) at ∙ ap Some is
           ∙ sym (ap (λ o. option_map (row_of marks) (option_or o (cond (file.job.number == number) (Some file) None))) (ap (λ n. file_of n files) (sym same) ∙ none)
           ∙ ap (λ b. option_map (row_of marks) (cond b (Some file) None)) (number_passes file.job.number number same))
       by_test false at =
           let differ : (file.job.number == number) ≡ false = ap (λ n. n == number) (sym number_same) ∙ key_differs row.number number at in
-          updates.2 number at ∙ are number
+          updates number ∙ ap (λ b. cond b (Some row) (row_at rows number)) at ∙ are number
           ∙ sym (ap (λ b. option_map (row_of marks) (option_or (file_of number files) (cond b (Some file) None))) differ
           ∙ ap (option_map (row_of marks)) (or_nothing (file_of number files)))
 
@@ -119,7 +119,7 @@ next_damage last marks files place rows file inside at so_far =
     so_far.damage ∙ ap (files_damage last (numbers_after [] (take place files))) (drop_more files place file inside ∙ ap (λ f. f ∷ drop (place + 1) files) at)
 
 pub so_far_more : (last : ℕ) (marks : List Mark) (files : List JobFile) (place : ℕ) (rows new : RowMap) (file : JobFile) (row : Row) → place < length files → get_or files place file ≡ file → IsSurveyedSoFar last marks files place rows
-    → IsRowOrDamage last (numbers_after [] (take place files)) marks file (Ok row) → Updates nat_cmp rows new row.number (Some row) → IsSurveyedSoFar last marks files (place + 1) new
+    → IsRowOrDamage last (numbers_after [] (take place files)) marks file (Ok row) → IsPut rows new row → IsSurveyedSoFar last marks files (place + 1) new
 so_far_more last marks files place rows new file row inside at so_far whole updates =
     let more : take (place + 1) files ≡ take place files ++ file ∷ [] = take_more files place file inside ∙ ap (λ f. take place files ++ f ∷ []) at in
     let none : file_of file.job.number (take place files) ≡ None =

@@ -1,11 +1,10 @@
 -- What is seen of one file more.
-use Rattle.std.proofs.Common.{◌≡◌, ℕ, zero, suc, ◌+◌, ◌<◌, ◌≤◌, Bool, true, false, cond, not, arith, List, Option, Some, [], ◌∷◌, ◌++◌, length, get_or, map, take, drop, sym, ap, subst, ◌∙◌, refl, inl, inr}
-use Rattle.std.specs.Prelude.{IsSome, option_map}
+use Rattle.std.proofs.Common.{◌≡◌, ℕ, ◌+◌, ◌<◌, ◌≤◌, Bool, true, false, cond, not, arith, List, Some, [], ◌∷◌, ◌++◌, length, get_or, map, take, sym, ap, subst, ◌∙◌, refl, inl, inr}
 use Rattle.std.specs.List.{cons_option, filter, filter_map}
 use Rattle.std.specs.FinMap as finite
 use Rattle.std.specs.FinMap.{entries}
-use Rattle.std.proofs.lemmas.List.{append-nil, get_or-map, length-map, map-append, take_all, take_more}
-use Rattle.std.proofs.lemmas.List.Elements.{filter-append, filter_map-append}
+use Rattle.std.proofs.lemmas.List.{append-nil, length-map, map-append, take_all, take_more}
+use Rattle.std.proofs.lemmas.List.Elements.{filter-append}
 use Rattle.host_calls.specs.Folder.{Files}
 use Rattle.job_name.specs.declared.job.JobName.{JobName}
 use Rattle.start_journal.specs.declared.mark.Mark.{Mark}
@@ -17,7 +16,7 @@ use Rattle.spool_shows.proofs.FilesSoFar.{IsEntry, entry_at_place, found_more}
 use Rattle.spool_store.specs.declared.surveyed_files.SurveyedFiles.{SurveyedFiles}
 use Rattle.spool_store.specs.declared.surveyed_files.Kind.TheVariants.{Counts}
 use Rattle.spool_store.specs.declared.surveyed_job.SurveyedJob.{SurveyedJob}
-use Rattle.spool_store.specs.inside.Survey.{AreSurveyedFiles, IsKind, prefix_of, is_left_over}
+use Rattle.spool_store.specs.inside.Survey.{AreSurveyedFiles, IsKind, is_left_over}
 use Rattle.spool_store.specs.inside.SurveyedJobs.{file_surveyed, files_surveyed, job_of_name}
 use Rattle.spool_store.specs.inside.Tables.{AreUndecided}
 

@@ -2,7 +2,7 @@
 use Rattle.std.proofs.Common.{◌≡◌, ℕ, Bool, true, false, cond, List, Option, Some, None, [], ◌∷◌, ◌++◌, map, sym, ap, subst, ◌∙◌, refl, inl, inr}
 use Rattle.std.specs.Prelude.{◌==◌, option_map, unwrap_or}
 use Rattle.std.specs.declared.cmp.Ordering.TheVariants.{Less}
-use Rattle.std.specs.BTreeMap.{IsOrdered, is_at, values}
+use Rattle.std.specs.BTreeMap.{get, is_at}
 use Rattle.std.specs.Cmp.{nat_cmp_total}
 use Rattle.std.specs.FinMap.{entries, from_entries, find as find_entry, get-entries, get-from_entries, nat_cmp-IsAntisymmetric, same_map}
 use Rattle.std.specs.List.{AllByRecursion, cons_option, filter_map}
@@ -31,7 +31,7 @@ use Rattle.start_journal.specs.declared.lifecycles.Lifecycle.{Lifecycle}
 use Rattle.start_journal.specs.declared.lifecycles.Lifecycles.{Lifecycles}
 use Rattle.start_journal.specs.Lifecycles.{TellLifecycles, decided_of, fate_at, life_under, remembered_at, remembered_fate, unknown}
 use Rattle.spool_store.specs.inside.Tables.{Rise}
-use Rattle.spool_store.specs.inside.JobRows.{AreRowsOf, RowMap, row_of}
+use Rattle.spool_store.specs.inside.JobRows.{AreRowsOf, IsInOrder, ListsRows, RowMap, numbered, row_of}
 use Rattle.spool_store.specs.Rows.{decided_entry, listed_entries, listed_table, row_entry}
 use Rattle.spool_store.proofs.SurveyLemmas.{equal_self, key_is}
 
@@ -144,7 +144,7 @@ find_decided number [] sorted = refl
 find_decided number (entry ∷ list) sorted =
     decided_found number entry list (filter_map decided_of list) (find_decided number list (sorted_tail nat_cmp _ _ sorted)) (sorted_head nat_cmp _ _ sorted)
 
-find_rows : (number : ℕ) (list : List (ℕ × Row)) → ((key : ℕ) (row : Row) → Has list (key, row) → row.number ≡ key)
+pub find_rows : (number : ℕ) (list : List (ℕ × Row)) → ((key : ℕ) (row : Row) → Has list (key, row) → row.number ≡ key)
     → find_entry nat_cmp number (map row_entry (map (λ (e : ℕ × Row). e.1) list)) ≡ option_map (λ row. (row_entry row).1) (lookup (is_at (nat_cmp number)) list)
 find_rows number [] keyed = refl
 find_rows number (entry ∷ list) keyed =
@@ -161,9 +161,24 @@ row_keyed marks files key row None is made = cc
 row_keyed marks files key row (Some file) is made =
     ap (λ (r : Row). r.number) (sym (some_same made)) ∙ eqb-true file.job.number key (found_has (λ (f : JobFile). f.job.number == key) files file is).1
 
-pub rows_keyed : (marks : List Mark) (files : List JobFile) (rows : RowMap) → AreRowsOf marks files rows → IsOrdered nat_cmp rows → (key : ℕ) (row : Row) → Has rows.entries (key, row) → row.number ≡ key
+pub rows_keyed : (marks : List Mark) (files : List JobFile) (rows : RowMap) → AreRowsOf marks files rows → IsInOrder rows → (key : ℕ) (row : Row) → Has rows (key, row) → row.number ≡ key
 rows_keyed marks files rows are ordered key row has =
-    row_keyed marks files key row (file_of key files) refl (sym (are key) ∙ entry_found rows.entries key row ordered has)
+    row_keyed marks files key row (file_of key files) refl (sym (are key) ∙ entry_found rows key row ordered has)
+
+-- rows, from under their numbers
+pub unnumbered : (rows : List Row) → map (λ (e : ℕ × Row). e.1) (numbered rows) ≡ rows
+unnumbered [] = refl
+unnumbered (row ∷ rows) = ap (λ list. row ∷ list) (unnumbered rows)
+
+renumbered : (rows : RowMap) → ((key : ℕ) (row : Row) → Has rows (key, row) → row.number ≡ key) → numbered (map (λ (e : ℕ × Row). e.1) rows) ≡ rows
+renumbered [] keyed = refl
+renumbered (entry ∷ rows) keyed = λ i. (keyed entry.0 entry.1 (inl refl) i, entry.1) ∷ renumbered rows (λ key row has. keyed key row (inr has)) i
+
+-- rows under their numbers, in order, are listed
+pub lists_rows : (marks : List Mark) (files : List JobFile) (rows : RowMap) (list : List Row) → AreRowsOf marks files rows → IsInOrder rows → list ≡ map (λ (e : ℕ × Row). e.1) rows → ListsRows marks files list
+lists_rows marks files rows list are rise is =
+    let same : numbered list ≡ rows = ap numbered is ∙ renumbered rows (rows_keyed marks files rows are rise) in
+    record { are = subst (AreRowsOf marks files) (sym same) are; rise = subst IsInOrder (sym same) rise }
 
 -- The table.
 
@@ -191,23 +206,23 @@ found_shown number marks files =
     ∙ ap (λ o. option_or o (find_entry nat_cmp number (filter_map (done_entry marks) marks))) (find_live number marks files)
     ∙ ap (option_or (option_map (λ file. (live_entry marks file).1) (file_of number files))) (find_done number marks marks)
 
-found_same : (marks : List Mark) (files : List JobFile) (rows : RowMap) (lives : Lifecycles) → TellLifecycles marks lives → AreRowsOf marks files rows → IsOrdered nat_cmp rows → IsStrictlySortedBy nat_cmp (keys_of lives.by_number) → (number : ℕ)
-    → find_entry nat_cmp number (listed_entries (values rows) (filter_map decided_of lives.by_number)) ≡ option_map entry_without_script (find_entry nat_cmp number (entries_shown marks files))
+found_same : (marks : List Mark) (files : List JobFile) (rows : RowMap) (lives : Lifecycles) → TellLifecycles marks lives → AreRowsOf marks files rows → IsInOrder rows → IsStrictlySortedBy nat_cmp (keys_of lives.by_number) → (number : ℕ)
+    → find_entry nat_cmp number (listed_entries (map (λ (e : ℕ × Row). e.1) rows) (filter_map decided_of lives.by_number)) ≡ option_map entry_without_script (find_entry nat_cmp number (entries_shown marks files))
 found_same marks files rows lives tells are ordered orders number =
-    find_in_two number (map row_entry (values rows)) (map decided_entry (filter_map decided_of lives.by_number))
+    find_in_two number (map row_entry (map (λ (e : ℕ × Row). e.1) rows)) (map decided_entry (filter_map decided_of lives.by_number))
     ∙ ap (λ o. option_or o (find_entry nat_cmp number (map decided_entry (filter_map decided_of lives.by_number))))
-    (find_rows number rows.entries (rows_keyed marks files rows are ordered) ∙ ap (option_map (λ row. (row_entry row).1)) (are number))
+    (find_rows number rows (rows_keyed marks files rows are ordered) ∙ ap (option_map (λ row. (row_entry row).1)) (are number))
     ∙ ap (option_or (option_map (λ row. (row_entry row).1) (option_map (row_of marks) (file_of number files)))) (lives_decided marks lives tells orders number)
     ∙ joined marks (file_of number files) (remembered_at number marks)
     ∙ ap (option_map entry_without_script) (sym (found_shown number marks files))
 
-pub table_same : (last : ℕ) (marks : List Mark) (files : List JobFile) (rows : RowMap) (lives : Lifecycles) → TellLifecycles marks lives → AreRowsOf marks files rows → IsOrdered nat_cmp rows → IsStrictlySortedBy nat_cmp (keys_of lives.by_number)
-    → listed_table last (values rows) (filter_map decided_of lives.by_number) (last_batch marks) ≡ without_scripts (table_shown last marks files)
+pub table_same : (last : ℕ) (marks : List Mark) (files : List JobFile) (rows : RowMap) (lives : Lifecycles) → TellLifecycles marks lives → AreRowsOf marks files rows → IsInOrder rows → IsStrictlySortedBy nat_cmp (keys_of lives.by_number)
+    → listed_table last (map (λ (e : ℕ × Row). e.1) rows) (filter_map decided_of lives.by_number) (last_batch marks) ≡ without_scripts (table_shown last marks files)
 unfolding without_scripts
 table_same last marks files rows lives tells are ordered orders =
     ap (λ es. table_of last es (last_batch marks))
     (same_map nat_cmp_total nat_cmp-IsAntisymmetric _ _
-    (λ number. get-from_entries nat_cmp_total (listed_entries (values rows) (filter_map decided_of lives.by_number)) number
+    (λ number. get-from_entries nat_cmp_total (listed_entries (map (λ (e : ℕ × Row). e.1) rows) (filter_map decided_of lives.by_number)) number
     ∙ found_same marks files rows lives tells are ordered orders number
     ∙ sym (get-from_entries nat_cmp_total (entries_without_scripts (entries (from_entries {R = nat_cmp} (entries_shown marks files)))) number
     ∙ find_without_scripts number (entries (from_entries {R = nat_cmp} (entries_shown marks files)))
@@ -215,11 +230,11 @@ table_same last marks files rows lives tells are ordered orders =
 
 -- Orders.
 
-rise_with : (number : ℕ) (later : List ℕ) → AllByRecursion (λ other. nat_cmp number other ≡ Less) later → IsStrictlySortedBy nat_cmp later → IsStrictlySortedBy nat_cmp (number ∷ later)
+pub rise_with : (number : ℕ) (later : List ℕ) → AllByRecursion (λ other. nat_cmp number other ≡ Less) later → IsStrictlySortedBy nat_cmp later → IsStrictlySortedBy nat_cmp (number ∷ later)
 unfolding IsStrictlySortedBy
 rise_with number later below sorted = (below, sorted)
 
-rise_none : IsStrictlySortedBy nat_cmp []
+pub rise_none : IsStrictlySortedBy nat_cmp []
 unfolding IsStrictlySortedBy
 rise_none = tt
 
@@ -229,8 +244,8 @@ numbers_are_keys (entry ∷ list) keyed =
     ap (λ n. n ∷ map (λ (row : Row). row.number) (map (λ (e : ℕ × Row). e.1) list)) (keyed entry.0 entry.1 (inl refl))
     ∙ ap (λ ns. entry.0 ∷ ns) (numbers_are_keys list (λ key row has. keyed key row (inr has)))
 
-pub rows_rise : (marks : List Mark) (files : List JobFile) (rows : RowMap) → AreRowsOf marks files rows → IsOrdered nat_cmp rows → Rise (map (λ (row : Row). row.number) (values rows))
-rows_rise marks files rows are ordered = subst (IsStrictlySortedBy nat_cmp) (sym (numbers_are_keys rows.entries (rows_keyed marks files rows are ordered))) ordered
+pub rows_rise : (marks : List Mark) (files : List JobFile) (rows : RowMap) → AreRowsOf marks files rows → IsInOrder rows → Rise (map (λ (row : Row). row.number) (map (λ (e : ℕ × Row). e.1) rows))
+rows_rise marks files rows are ordered = subst (IsStrictlySortedBy nat_cmp) (sym (numbers_are_keys rows (rows_keyed marks files rows are ordered))) ordered
 
 -- what holds of all keys holds of the decided numbers
 kept_all : (P : ℕ → Type 0) (list : List (ℕ × Lifecycle)) → AllByRecursion P (map (λ (e : ℕ × Lifecycle). e.0) list) → AllByRecursion P (map (λ (one : Decided). one.number) (filter_map decided_of list))

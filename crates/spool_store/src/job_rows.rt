@@ -1,6 +1,6 @@
 //! The survey of the files of jobs, file by file.
-ghost use Rattle.std.specs.Prelude.{◌≡◌, ℕ, [], Some, None, List, IfOk, OnOk, MatchResult};
-ghost use Rattle.std.specs.BTreeMap.{Updates};
+ghost use Rattle.std.specs.Prelude.{◌≡◌, ◌++◌, ◌∷◌, ℕ, [], Some, None, List, IfOk, IfSome, OnOk, MatchResult};
+ghost use Rattle.std.specs.BTreeMap.{IsOrdered, Updates, values};
 ghost use Rattle.std.specs.Ordering.{nat_cmp};
 ghost use Rattle.spool_model.specs.declared.row.Row.{Row};
 ghost use Rattle.spool_shows.specs.JobFiles.{files_damage};
@@ -8,7 +8,7 @@ ghost use Rattle.spool_shows.specs.Shown.{state_since};
 ghost use Rattle.start_journal.specs.declared.mark.Mark.{Mark};
 ghost use Rattle.host_calls.specs.StoreFaults.{IsFound};
 ghost use Rattle.start_journal.specs.Lifecycles.{TellLifecycles};
-ghost use Rattle.spool_store.specs.inside.JobRows.{AreRowsOf, HaveNumbers, IsRowOrDamage};
+ghost use Rattle.spool_store.specs.inside.JobRows.{AreRowsOf, HaveRows, IsRowOrDamage, IsTaken};
 ghost use Rattle.spool_store.specs.inside.SurveyedJobs.{file_surveyed, files_surveyed};
 
 use crate::StoreFault;
@@ -19,37 +19,104 @@ use start_journal::Lifecycles;
 use std::alloc::{AllocError, Global};
 use std::collections::BTreeMap;
 
+// The rows of the files, in the order of their numbers, or the first damage of the files.
+pub(crate) fn rows_in_order(
+    alloc: Global,
+    last: u32,
+    lives: &Lifecycles,
+    surveyed: &[SurveyedJob],
+) -> Result<Vec<Row>, StoreFault>
+    ensures { (marks : List Mark) → TellLifecycles marks lives.now → MatchResult result
+        (λ rows. HaveRows last marks (files_surveyed surveyed.now) rows.items)
+        (IsFound (files_damage last [] (files_surveyed surveyed.now))) }
+{
+    match rising_rows(alloc, last, lives, surveyed)? {
+        Some(rows) => Ok(rows),
+        None => sorted_rows(alloc, last, lives, surveyed),
+    }
+}
+
+// The same where the numbers rise from file to file, as those of one queue do. None where they don't.
+fn rising_rows(
+    alloc: Global,
+    last: u32,
+    lives: &Lifecycles,
+    surveyed: &[SurveyedJob],
+) -> Result<Option<Vec<Row>>, StoreFault>
+    ensures { (marks : List Mark) → TellLifecycles marks lives.now → MatchResult result
+        (λ found. IfSome found (λ rows. HaveRows last marks (files_surveyed surveyed.now) rows.items))
+        (IsFound (files_damage last [] (files_surveyed surveyed.now))) }
+{
+    let mut rows = Vec::with_capacity(alloc, surveyed.len())?;
+    let mut above = 0;
+    for file in surveyed {
+        if file.job.number <= above {
+            return Ok(None);
+        }
+        let row = row_of(last, false, lives, file)?;
+        above = row.number;
+        add(&mut rows, row)?;
+    }
+    Ok(Some(rows))
+}
+
+fn add(rows: &mut Vec<Row>, row: Row) -> Result<(), AllocError>
+    ensures { OnOk result (rows.new.items ≡ rows.old.items ++ row ∷ []) }
+{
+    rows.push(row)?;
+    Ok(())
+}
+
+// The same in whatever order the numbers stand.
+fn sorted_rows(
+    alloc: Global,
+    last: u32,
+    lives: &Lifecycles,
+    surveyed: &[SurveyedJob],
+) -> Result<Vec<Row>, StoreFault>
+    ensures { (marks : List Mark) → TellLifecycles marks lives.now → MatchResult result
+        (λ rows. HaveRows last marks (files_surveyed surveyed.now) rows.items)
+        (IsFound (files_damage last [] (files_surveyed surveyed.now))) }
+{
+    let by_number = rows_of_files(alloc, last, lives, surveyed)?;
+    let rows = values_of(alloc, &by_number)?;
+    Ok(rows)
+}
+
+fn values_of(alloc: Global, rows: &BTreeMap<u32, Row>) -> Result<Vec<Row>, AllocError>
+    ensures items { IfOk result (λ list. list.items ≡ values rows.now) }
+    ensures ordered { IsOrdered nat_cmp rows.now }
+{
+    rows.values().copied().collect(alloc)
+}
+
 // The rows of the files, by their numbers, or the first damage of the files.
-pub(crate) fn rows_of_files(
+fn rows_of_files(
     alloc: Global,
     last: u32,
     lives: &Lifecycles,
     surveyed: &[SurveyedJob],
 ) -> Result<BTreeMap<u32, Row>, StoreFault>
     ensures { (marks : List Mark) → TellLifecycles marks lives.now → MatchResult result
-        (λ rows. (files_damage last [] (files_surveyed surveyed.now) ≡ None) × AreRowsOf marks (files_surveyed surveyed.now) rows)
+        (λ rows. (files_damage last [] (files_surveyed surveyed.now) ≡ None)
+        × AreRowsOf marks (files_surveyed surveyed.now) rows.entries)
         (IsFound (files_damage last [] (files_surveyed surveyed.now))) }
 {
     let mut rows = BTreeMap::new(alloc);
     for file in surveyed {
-        let row = row_of(last, &rows, lives, file)?;
+        let row = row_of(last, rows.contains_key(&file.job.number), lives, file)?;
         put(&mut rows, row)?;
     }
     Ok(rows)
 }
 
-// The row of a file, or its damage after these rows.
-fn row_of(
-    last: u32,
-    rows: &BTreeMap<u32, Row>,
-    lives: &Lifecycles,
-    file: &SurveyedJob,
-) -> Result<Row, Damage>
-    ensures { (before : List ℕ) (marks : List Mark) → HaveNumbers before rows.now → TellLifecycles marks lives.now
-        → IsRowOrDamage last before marks (file_surveyed file.now) result }
+// The row of a file, or its damage. Whether a file before it has its number is told.
+fn row_of(last: u32, is_taken: bool, lives: &Lifecycles, file: &SurveyedJob) -> Result<Row, Damage>
+    ensures { (before : List ℕ) (marks : List Mark) → IsTaken before file.now.job.number is_taken
+        → TellLifecycles marks lives.now → IsRowOrDamage last before marks (file_surveyed file.now) result }
 {
     let job = file.job;
-    if job.number > last || rows.contains_key(&job.number) {
+    if job.number > last || is_taken {
         return Err(file.damage_at(0));
     }
     match file.user() {

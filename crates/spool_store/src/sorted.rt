@@ -1,5 +1,5 @@
 //! Rows and decided numbers in vectors, in the order of their numbers.
-ghost use Rattle.std.specs.Prelude.{◌∷◌, [], ◌≡◌, ◌≤◌, ◌<◌, OnOk, OnErr, IsSome, Some, None, length, map};
+ghost use Rattle.std.specs.Prelude.{◌∷◌, [], ◌≡◌, ◌≤◌, ◌<◌, IfNone, IfSome, OnOk, OnErr, IsSome, Some, None, length, map};
 ghost use Rattle.std.specs.List.Sorted.{IsPartitionPoint};
 ghost use Rattle.spool_model.specs.declared.entry.Entry.TheVariants.{Live, Done};
 ghost use Rattle.spool_model.specs.declared.state.State.TheVariants.{Running};
@@ -17,6 +17,20 @@ pub(crate) fn row_place(rows: &[Row], number: u32) -> usize
     ensures place { IsPartitionPoint (λ row. row.number < number) (λ row. number ≤ row.number) rows.now result }
 {
     rows.partition_point(|row| row.number < number)
+}
+
+// The row of this number.
+pub(crate) fn row_of_number(rows: &[Row], number: u32) -> Option<&Row>
+    requires { Rises (map row_entry rows.now) }
+    ensures found { IfSome result (λ row. entry_in (map row_entry rows.now) number ≡ Some (row_entry row.now).1) }
+    ensures absent { IfNone result (entry_in (map row_entry rows.now) number ≡ None) }
+{
+    let row = rows.get(row_place(rows, number))?;
+    if row.number == number {
+        Some(row)
+    } else {
+        None
+    }
 }
 
 // How many decided numbers are smaller: the place of this number.

@@ -1,7 +1,8 @@
 -- What a survey of the files of jobs finds, file by file, and the rows that it makes (own).
-use Rattle.std.specs.Prelude.{◌≡◌, ◌==◌, [], ◌∷◌, ℕ, List, Some, None, Result, Ok, Err, drop, is_some, option_map, take}
-use Rattle.std.specs.BTreeMap.{BTreeMap, get}
-use Rattle.std.specs.List.{list_any}
+use Rattle.std.specs.Prelude.{◌≡◌, ◌≤◌, ◌==◌, if◌then◌else◌, [], ◌∷◌, ℕ, Bool, List, Some, None, Option, Result, Ok, Err, drop, map, option_map, take}
+use Rattle.std.specs.BTreeMap.{is_at}
+use Rattle.std.specs.List.{AllByRecursion, list_any}
+use Rattle.std.specs.Map.{lookup}
 use Rattle.std.specs.Ordering.{nat_cmp}
 use Rattle.host_calls.specs.declared.damage.Damage.{Damage}
 use Rattle.job_script.specs.HeaderIn.{header_in}
@@ -10,6 +11,7 @@ use Rattle.start_journal.specs.declared.mark.Mark.{Mark}
 use Rattle.start_journal.specs.Marks.{started_at}
 use Rattle.spool_shows.specs.JobFiles.{JobFile, damage_of, file_of, file_place, files_damage}
 use Rattle.spool_shows.specs.Shown.{state_since, user_of}
+use Rattle.spool_store.specs.inside.Tables.{Rise}
 
 -- the row of a file
 abbrev pub row_of : List Mark → JobFile → Row
@@ -21,22 +23,47 @@ row_of marks file = record {
   state = state_since (started_at file.job.number marks);
 }
 
--- rows by their numbers
+-- rows under numbers
 abbrev pub RowMap : Type 0
-RowMap = BTreeMap ℕ Row
+RowMap = List (ℕ × Row)
+
+-- the row under the number
+abbrev pub row_at : RowMap → ℕ → Option Row
+row_at rows number = lookup (is_at (nat_cmp number)) rows
+
+-- the numbers rise
+abbrev pub IsInOrder : RowMap → Type 0
+IsInOrder rows = Rise (map (λ under. under.0) rows)
+
+-- each row under its own number
+abbrev pub numbered : List Row → RowMap
+numbered rows = map (λ row. (row.number, row)) rows
 
 -- under each number stands the row of its file
 abbrev pub AreRowsOf : List Mark → List JobFile → RowMap → Type 0
-AreRowsOf marks files rows = (number : ℕ) → get nat_cmp rows number ≡ option_map (row_of marks) (file_of number files)
+AreRowsOf marks files rows = (number : ℕ) → row_at rows number ≡ option_map (row_of marks) (file_of number files)
+
+-- the rows are those of the files, in the order of their numbers
+pub record ListsRows (marks : List Mark) (files : List JobFile) (rows : List Row) : Type 0 where
+  pub are : AreRowsOf marks files (numbered rows)
+  pub rise : IsInOrder (numbered rows)
+
+-- the files have no damage, and these are their rows
+abbrev pub HaveRows : ℕ → List Mark → List JobFile → List Row → Type 0
+HaveRows last marks files rows = (files_damage last [] files ≡ None) × ListsRows marks files rows
 
 -- the numbers of files that were surveyed, the last one first, before these
 abbrev pub numbers_after : List ℕ → List JobFile → List ℕ
 numbers_after before [] = before
 numbers_after before (file ∷ later) = numbers_after (file.job.number ∷ before) later
 
--- the rows have these numbers
-abbrev pub HaveNumbers : List ℕ → RowMap → Type 0
-HaveNumbers numbers rows = (number : ℕ) → is_some (get nat_cmp rows number) ≡ list_any (λ other. other == number) numbers
+-- whether the number is one of these
+abbrev pub IsTaken : List ℕ → ℕ → Bool → Type 0
+IsTaken numbers number taken = taken ≡ list_any (λ other. other == number) numbers
+
+-- the new rows are these and one row under its number
+abbrev pub IsPut : RowMap → RowMap → Row → Type 0
+IsPut old new row = (number : ℕ) → row_at new number ≡ (if is_at (nat_cmp row.number) number then Some row else row_at old number)
 
 -- the row of a file that has no fault, or its damage
 abbrev pub IsRowOrDamage : ℕ → List ℕ → List Mark → JobFile → Result Row Damage → Type 0
@@ -48,3 +75,10 @@ IsRowOrDamage last before marks file (Err damage) = damage_of file (file_place l
 pub record IsSurveyedSoFar (last : ℕ) (marks : List Mark) (files : List JobFile) (place : ℕ) (rows : RowMap) : Type 0 where
   pub damage : files_damage last [] files ≡ files_damage last (numbers_after [] (take place files)) (drop place files)
   pub rows_are : AreRowsOf marks (take place files) rows
+
+-- Of these files so many have rising numbers and rows without a fault; these are the rows, and none has a number above
+-- this one.
+pub record IsRisingSoFar (last : ℕ) (marks : List Mark) (files : List JobFile) (place above : ℕ) (rows : List Row) : Type 0 where
+  pub so_far : IsSurveyedSoFar last marks files place (numbered rows)
+  pub rise : IsInOrder (numbered rows)
+  pub below : AllByRecursion (λ number. number ≤ above) (map (λ under. under.0) (numbered rows))
