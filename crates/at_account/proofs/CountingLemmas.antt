@@ -10,7 +10,7 @@ use Rattle.account_records.specs.declared.record.AccountRecord.{AccountRecord}
 use Rattle.account_records.specs.News.{known_of, news_of}
 use Rattle.account_totals.specs.Observing.{AreNews, known_in}
 use Rattle.listing_text.specs.declared.cause.Cause.{Cause}
-use Rattle.listing_text.specs.declared.cause.Cause.TheVariants.{Done, Refused, FileFault, InputFault, OutputFault, Busy, Memory, Damaged, StillRunning, Faulty}
+use Rattle.listing_text.specs.declared.cause.Cause.TheVariants.{Refused, FileFault, Memory, Damaged}
 use Rattle.listing_text.specs.declared.refusal.Refusal.TheVariants as refusal
 use Rattle.spool_model.specs.declared.entry.Entry.TheVariants.{Live, Done as DoneEntry}
 use Rattle.spool_model.specs.JobTable.{JobEntry, JobTable, entry_at}
@@ -104,15 +104,9 @@ module _ (old middle : World) (kept : Kept) (recovery : ChangesFiles (ShowsAsBef
     },
     recovery,
   )
-  stops (Refused other) stopped = absurd stopped
   stops FileFault stopped = tt
   stops Memory stopped = tt
-  stops Done stopped = absurd stopped
-  stops InputFault stopped = absurd stopped
-  stops OutputFault stopped = absurd stopped
-  stops Busy stopped = absurd stopped
-  stops StillRunning stopped = absurd stopped
-  stops Faulty stopped = absurd stopped
+  stops _ stopped = absurd stopped
 
   module _ (records : List AccountRecord) (counts : IsCounted kept.table (finite.get (reading middle) account_file) records) where
     counted : AreCounted (reading old) recovered.table records

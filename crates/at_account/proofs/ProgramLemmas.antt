@@ -80,10 +80,8 @@ no_memory_leaves show output old new was now FileFault undone is = λ tells. inl
 no_memory_leaves show output old new was now (Refused refusal) undone is = λ tells. inl (is.1 tells)
 no_memory_leaves show output old new was now (Damaged damage) undone is = λ tells. inl (is.2 tells)
 no_memory_leaves show output old new was now Busy undone is = λ tells. inl (is.1 tells)
-no_memory_leaves show output old new was now InputFault undone is = absurd is
-no_memory_leaves show output old new was now StillRunning undone is = absurd is
-no_memory_leaves show output old new was now Faulty undone is = absurd is
 no_memory_leaves show output old new was now Done undone is = absurd undone
+no_memory_leaves show output old new was now _ undone is = absurd is
 
 module _ (asked : Result Bool WordsFault) (old new : OutsideAt) (cause : Cause) (ends : Accounting asked old new cause) where
   no_memory_ends : IsUndone cause → Accounting asked old new Memory

@@ -14,7 +14,7 @@ use Rattle.host_calls.specs.declared.host.Host.{Ghosts}
 use Rattle.host_calls.specs.World.{World}
 use Rattle.host_session.specs.Work.{Calls}
 use Rattle.listing_text.specs.declared.cause.Cause.{Cause}
-use Rattle.listing_text.specs.declared.cause.Cause.TheVariants.{Done, Refused, FileFault, InputFault, OutputFault, Busy, Memory, Damaged, StillRunning, Faulty}
+use Rattle.listing_text.specs.declared.cause.Cause.TheVariants.{Done, Refused, FileFault, OutputFault, Busy, Memory, Damaged}
 use Rattle.listing_text.specs.declared.refusal.Refusal.TheVariants as refusal
 use Rattle.spool_session.specs.Sessions.{EndsSession, IsOfSession}
 use Rattle.whole_file.specs.Others.{ChangesFiles}
@@ -115,11 +115,7 @@ stopped_leaves show output old new at Memory may is = λ tells. inl (same_silent
 stopped_leaves show output old new at Busy may is = (is, λ tells. same_silent at)
 stopped_leaves show output old new at (Damaged damage) may is = (is.0, is.1, λ tells. same_silent at)
 stopped_leaves show output old new at (Refused refusal) may is = (is, λ tells. same_silent at)
-stopped_leaves show output old new at Done may is = absurd is
-stopped_leaves show output old new at InputFault may is = absurd is
-stopped_leaves show output old new at OutputFault may is = absurd is
-stopped_leaves show output old new at StillRunning may is = absurd is
-stopped_leaves show output old new at Faulty may is = absurd is
+stopped_leaves show output old new at _ may is = absurd is
 
 -- the text was put, or not
 pub put_leaves : (show output : Bool) (old new : World) (was now : SinkAt) (text : List ℕ) (cause : Cause) → PutsText output text was now cause

@@ -13,7 +13,7 @@ use Rattle.host_calls.specs.Session.{IsLeft, Session}
 use Rattle.host_calls.specs.Sink.{Outlet}
 use Rattle.host_calls.specs.World.{GoesOn, World, reading}
 use Rattle.listing_text.specs.declared.cause.Cause.{Cause}
-use Rattle.listing_text.specs.declared.cause.Cause.TheVariants.{Done, Refused, FileFault, InputFault, OutputFault, Busy, Memory, Damaged, StillRunning, Faulty}
+use Rattle.listing_text.specs.declared.cause.Cause.TheVariants.{Done, Refused, FileFault, OutputFault, Busy, Memory, Damaged}
 use Rattle.listing_text.specs.declared.refusal.Refusal.{Refusal}
 use Rattle.listing_text.specs.declared.refusal.Refusal.TheVariants.{AccountsFull}
 use Rattle.account_records.specs.declared.record.AccountRecord.{AccountRecord}
@@ -87,23 +87,18 @@ Leaves show tells old new was now FileFault = tells ≡ true → IsSilent was no
 Leaves show tells old new was now (Refused refusal) = RefusalLeaves refusal old new × (tells ≡ true → IsSilent was now)
 Leaves show tells old new was now (Damaged damage) = IsDamage (reading old) damage × IsLeftAlone old new × (tells ≡ true → IsSilent was now)
 Leaves show tells old new was now Busy = (new ≡ old) × (tells ≡ true → IsSilent was now)
-Leaves show tells old new was now InputFault = ⊥
-Leaves show tells old new was now StillRunning = ⊥
-Leaves show tells old new was now Faulty = ⊥
+Leaves show tells old new was now _ = ⊥
 
 -- the causes for which the program may end, where its words ask for something
 abbrev pub MayEnd : Cause → Type 0
 MayEnd Done = Unit {0}
 MayEnd (Refused AccountsFull) = Unit {0}
-MayEnd (Refused _) = ⊥
 MayEnd FileFault = Unit {0}
 MayEnd OutputFault = Unit {0}
 MayEnd Busy = Unit {0}
 MayEnd Memory = Unit {0}
 MayEnd (Damaged damage) = Unit {0}
-MayEnd InputFault = ⊥
-MayEnd StillRunning = ⊥
-MayEnd Faulty = ⊥
+MayEnd _ = ⊥
 
 -- The host and the output at a moment: whether they tell what they hold, what they hold, and what each tells always.
 pub record OutsideAt : Type 0 where

@@ -57,28 +57,20 @@ none_put at = record { content = sym (append-nil at.content); later = omega arit
 
 -- where the spool stopped the session
 spool_prints : (cause : Cause) (IsText : List ℕ → Type 0) (at : SinkAt) → IsOfSpool cause → PrintsBy cause IsText at at
-spool_prints Done IsText at is = absurd is
 spool_prints (Refused refusal) IsText at is = silent at
 spool_prints FileFault IsText at is = inl (silent at)
-spool_prints InputFault IsText at is = absurd is
-spool_prints OutputFault IsText at is = absurd is
 spool_prints Busy IsText at is = silent at
 spool_prints Memory IsText at is = inl (silent at)
 spool_prints (Damaged damage) IsText at is = silent at
-spool_prints StillRunning IsText at is = absurd is
-spool_prints Faulty IsText at is = absurd is
+spool_prints _ IsText at is = absurd is
 
 pub spool_notes : (cause : Cause) (IsLine : List ℕ → Type 0) (at : SinkAt) → IsOfSpool cause → NotesBy cause IsLine at at
-spool_notes Done IsLine at is = absurd is
 spool_notes (Refused refusal) IsLine at is = silent at
 spool_notes FileFault IsLine at is = silent at
-spool_notes InputFault IsLine at is = absurd is
-spool_notes OutputFault IsLine at is = absurd is
 spool_notes Busy IsLine at is = silent at
 spool_notes Memory IsLine at is = inl (silent at)
 spool_notes (Damaged damage) IsLine at is = silent at
-spool_notes StillRunning IsLine at is = absurd is
-spool_notes Faulty IsLine at is = absurd is
+spool_notes _ IsLine at is = absurd is
 
 -- by requests that print nothing, and by those that say nothing
 module _ (tells alone : Bool) (asked : ToolRequest) (caller : Caller) (finding : Finding) (old new : World) where
@@ -102,8 +94,7 @@ module _ (tells alone : Bool) (asked : ToolRequest) (caller : Caller) (finding :
   prints_nothing Busy carries none at known is_alone = silent at
   prints_nothing Memory carries none at known is_alone = inl (silent at)
   prints_nothing (Damaged damage) carries none at known is_alone = silent at
-  prints_nothing StillRunning carries none at known is_alone = absurd carries.reach
-  prints_nothing Faulty carries none at known is_alone = absurd carries.reach
+  prints_nothing _ carries none at known is_alone = absurd carries.reach
 
   notes_nothing : (cause : Cause) (carries : Carries tells alone asked caller finding old new cause) → ((zone : Zone) (found : Found) (number : ℕ) → Says asked zone found number []) →
       (at : SinkAt) → NotesBy cause (IsSessionLine asked caller (finding carries.allow carries.deny) carries.shown) at at
@@ -122,8 +113,7 @@ module _ (tells alone : Bool) (asked : ToolRequest) (caller : Caller) (finding :
   notes_nothing Busy carries none at = silent at
   notes_nothing Memory carries none at = inl (silent at)
   notes_nothing (Damaged damage) carries none at = silent at
-  notes_nothing StillRunning carries none at = absurd carries.reach
-  notes_nothing Faulty carries none at = absurd carries.reach
+  notes_nothing _ carries none at = absurd carries.reach
 
 -- Sessions of requests that were not opened.
 
@@ -323,10 +313,4 @@ module _ (files alone output : Bool) (which : Filter) (caller : Caller) (old new
       listing_by Memory (carries_no_memory files alone (request.List which) caller lists_alone old new lists.carries) was is
       (λ known is_alone tells_output. inl (puts tells_output))
       (λ known is_alone same. (cc))
-  listing_put (Refused refusal) text was is lists puts = absurd puts
-  listing_put FileFault text was is lists puts = absurd puts
-  listing_put InputFault text was is lists puts = absurd puts
-  listing_put Busy text was is lists puts = absurd puts
-  listing_put (Damaged damage) text was is lists puts = absurd puts
-  listing_put StillRunning text was is lists puts = absurd puts
-  listing_put Faulty text was is lists puts = absurd puts
+  listing_put _ text was is lists puts = absurd puts

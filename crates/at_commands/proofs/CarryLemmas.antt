@@ -101,13 +101,7 @@ module _ (tells alone : Bool) (asked : ToolRequest) (caller : Caller) (finding :
   not_entered Memory entry same =
       untouched tells alone asked caller finding old new Memory tt (any_memory _) in_folder same
       (λ known is_alone. inl (unbegun_same old new (same known is_alone)))
-  not_entered Done entry same = absurd entry
-  not_entered (Refused refusal) entry same = absurd entry
-  not_entered InputFault entry same = absurd entry
-  not_entered OutputFault entry same = absurd entry
-  not_entered (Damaged damage) entry same = absurd entry
-  not_entered StillRunning entry same = absurd entry
-  not_entered Faulty entry same = absurd entry
+  not_entered _ entry same = absurd entry
 
   -- the lists could not be read: a file fault or want of memory
   stopped_at_lists : (cause : Cause) → Reaches cause of_lists →

@@ -10,7 +10,7 @@ use Rattle.host_calls.specs.Causes.{Rose}
 use Rattle.host_calls.specs.Session.{IsLeft, IsOutside, Session}
 use Rattle.host_calls.specs.Sink.{Outlet}
 use Rattle.listing_text.specs.declared.cause.Cause.{Cause}
-use Rattle.listing_text.specs.declared.cause.Cause.TheVariants.{Done, Refused, FileFault, InputFault, OutputFault, Busy, Memory, Damaged, StillRunning, Faulty}
+use Rattle.listing_text.specs.declared.cause.Cause.TheVariants.{Refused, FileFault, InputFault, OutputFault, Busy, Memory, StillRunning}
 use Rattle.listing_text.specs.declared.refusal.Refusal.TheVariants.{BadQueue, Usage}
 use Rattle.cause_output.specs.declared.caller.Caller.{Caller}
 use Rattle.command_rules.specs.Ends.{Ends, FailsToPrint, Holding, KeepsOrder, Reaches, Telling, StopsBeforeLock}
@@ -26,16 +26,9 @@ use Rattle.host_calls.specs.Inputs.{AreReadAtMostOnce, Sources}
 
 -- words are refused, or there is no memory to read them
 abbrev pub IsOfWords : Cause → Type 0
-IsOfWords Done = ⊥
 IsOfWords (Refused refusal) = Unit {0}
-IsOfWords FileFault = ⊥
-IsOfWords InputFault = ⊥
-IsOfWords OutputFault = ⊥
-IsOfWords Busy = ⊥
 IsOfWords Memory = Unit {0}
-IsOfWords (Damaged damage) = ⊥
-IsOfWords StillRunning = ⊥
-IsOfWords Faulty = ⊥
+IsOfWords _ = ⊥
 
 pub words_come : (fault : WordsFault) → IsOfWords (words_cause fault)
 words_come words.Usage = tt

@@ -116,13 +116,7 @@ abbrev pub IsEarly : Cause → Type 0
 IsEarly (Refused refusal) = Unit {0}
 IsEarly InputFault = Unit {0}
 IsEarly Memory = Unit {0}
-IsEarly Done = ⊥
-IsEarly FileFault = ⊥
-IsEarly OutputFault = ⊥
-IsEarly Busy = ⊥
-IsEarly (Damaged damage) = ⊥
-IsEarly StillRunning = ⊥
-IsEarly Faulty = ⊥
+IsEarly _ = ⊥
 
 -- a cause that keeps the order of the early checks keeps that of all
 keeps_early : (early : Option Refusal) (asked : ToolRequest) (caller : Caller) (found : Found) (shown : Result JobTable Damage) (cause : Cause) →
@@ -165,38 +159,20 @@ untouched AreSteps old new (Refused refusal) reached early reach before same =
     (sym (before_folder (place_of (check_of refusal)) (subst (λ (of : Check). is_before of of_lock ≡ true) reach before))) same
 untouched AreSteps old new InputFault reached early reach before same = same
 untouched AreSteps old new Memory reached early reach before same = inl (unbegun_same old new same)
-untouched AreSteps old new Done reached early reach before same = absurd early
-untouched AreSteps old new FileFault reached early reach before same = absurd early
-untouched AreSteps old new OutputFault reached early reach before same = absurd early
-untouched AreSteps old new Busy reached early reach before same = absurd early
-untouched AreSteps old new (Damaged damage) reached early reach before same = absurd early
-untouched AreSteps old new StillRunning reached early reach before same = absurd early
-untouched AreSteps old new Faulty reached early reach before same = absurd early
+untouched AreSteps old new _ reached early reach before same = absurd early
 
 -- nothing was put where nothing changed
 pub silent_prints : (cause : Cause) (IsText : List ℕ → Type 0) (old new : SinkAt) → IsEarly cause → IsSilent old new → PrintsBy cause IsText old new
 silent_prints (Refused refusal) IsText old new early silent = silent
 silent_prints InputFault IsText old new early silent = silent
 silent_prints Memory IsText old new early silent = inl silent
-silent_prints Done IsText old new early silent = absurd early
-silent_prints FileFault IsText old new early silent = absurd early
-silent_prints OutputFault IsText old new early silent = absurd early
-silent_prints Busy IsText old new early silent = absurd early
-silent_prints (Damaged damage) IsText old new early silent = absurd early
-silent_prints StillRunning IsText old new early silent = absurd early
-silent_prints Faulty IsText old new early silent = absurd early
+silent_prints _ IsText old new early silent = absurd early
 
 pub silent_notes : (cause : Cause) (IsLine : List ℕ → Type 0) (old new : SinkAt) → IsEarly cause → IsSilent old new → NotesBy cause IsLine old new
 silent_notes (Refused refusal) IsLine old new early silent = silent
 silent_notes InputFault IsLine old new early silent = silent
 silent_notes Memory IsLine old new early silent = inl silent
-silent_notes Done IsLine old new early silent = absurd early
-silent_notes FileFault IsLine old new early silent = absurd early
-silent_notes OutputFault IsLine old new early silent = absurd early
-silent_notes Busy IsLine old new early silent = absurd early
-silent_notes (Damaged damage) IsLine old new early silent = absurd early
-silent_notes StillRunning IsLine old new early silent = absurd early
-silent_notes Faulty IsLine old new early silent = absurd early
+silent_notes _ IsLine old new early silent = absurd early
 
 -- a command that stopped before the spool was entered, its words read
 pub ends_early : (asked : ToolRequest) (caller : Caller) (tells : Telling) (before after : Holding) (finding : Finding) (keeps : KeepsLists finding)
@@ -264,9 +240,8 @@ module _ (tool : List ℕ) (IsLine : List ℕ → Type 0) (old between new : Sin
   notes_no_memory InputFault undone notes = inl notes
   notes_no_memory Busy undone notes = inl notes
   notes_no_memory (Damaged damage) undone notes = inl notes
-  notes_no_memory StillRunning undone notes = absurd notes
-  notes_no_memory Faulty undone notes = absurd notes
   notes_no_memory Done undone notes = absurd undone
+  notes_no_memory _ undone notes = absurd notes
 
   says_line : (cause : Cause) → NotesBy cause IsLine old between → SaysLine tool cause between new → SaysBy tool cause IsLine old new
   says_line cause notes says = record { between = between; notice = notes; line = line_said cause says }
@@ -284,9 +259,8 @@ prints_no_memory (Refused refusal) IsText old new undone prints = inl prints
 prints_no_memory InputFault IsText old new undone prints = inl prints
 prints_no_memory Busy IsText old new undone prints = inl prints
 prints_no_memory (Damaged damage) IsText old new undone prints = inl prints
-prints_no_memory StillRunning IsText old new undone prints = absurd prints
-prints_no_memory Faulty IsText old new undone prints = absurd prints
 prints_no_memory Done IsText old new undone prints = absurd undone
+prints_no_memory _ IsText old new undone prints = absurd prints
 
 -- the holding with another sink for errors
 abbrev pub with_errors : Holding → SinkAt → Holding

@@ -3,7 +3,7 @@ use Rattle.std.proofs.Common.{◌≢◌}
 use Rattle.host_calls.specs.declared.fault.EnterFault.{EnterFault}
 use Rattle.host_calls.specs.declared.fault.EnterFault.TheVariants as entry
 use Rattle.listing_text.specs.declared.cause.Cause.{Cause}
-use Rattle.listing_text.specs.declared.cause.Cause.TheVariants.{Done, Refused, FileFault, InputFault, OutputFault, Busy, Memory, Damaged, StillRunning, Faulty}
+use Rattle.listing_text.specs.declared.cause.Cause.TheVariants.{FileFault, InputFault, OutputFault, Busy, Memory}
 use Rattle.cause_output.specs.Causes.{cause_of_entry}
 
 -- a fault of a file, a lock that is taken, or want of memory
@@ -11,13 +11,7 @@ abbrev pub IsOfEntry : Cause → Type 0
 IsOfEntry FileFault = Unit {0}
 IsOfEntry Busy = Unit {0}
 IsOfEntry Memory = Unit {0}
-IsOfEntry Done = ⊥
-IsOfEntry (Refused refusal) = ⊥
-IsOfEntry InputFault = ⊥
-IsOfEntry OutputFault = ⊥
-IsOfEntry (Damaged damage) = ⊥
-IsOfEntry StillRunning = ⊥
-IsOfEntry Faulty = ⊥
+IsOfEntry _ = ⊥
 
 pub entry_comes : (fault : EnterFault) → IsOfEntry (cause_of_entry fault)
 entry_comes entry.Taken = tt

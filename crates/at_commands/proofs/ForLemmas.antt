@@ -131,13 +131,7 @@ abbrev pub IsOfRemoval : Cause → Type 0
 IsOfRemoval Done = Unit {0}
 IsOfRemoval FileFault = Unit {0}
 IsOfRemoval Memory = Unit {0}
-IsOfRemoval (Refused refusal) = ⊥
-IsOfRemoval InputFault = ⊥
-IsOfRemoval OutputFault = ⊥
-IsOfRemoval Busy = ⊥
-IsOfRemoval (Damaged damage) = ⊥
-IsOfRemoval StillRunning = ⊥
-IsOfRemoval Faulty = ⊥
+IsOfRemoval _ = ⊥
 
 module _ (tells alone : Bool) (numbers : List ℕ) (caller : Caller) (user : List ℕ) (same : caller.context.user ≡ user) (old middle new : World) (kept : Kept)
     (is_open : IsOpened tells user old middle kept) where
@@ -171,13 +165,7 @@ module _ (tells alone : Bool) (numbers : List ℕ) (caller : Caller) (user : Lis
   removal_by Done none of_work works =
       work_done tells alone (request.Remove numbers) caller lists_alone keeps_lists old middle new kept
       (as_opened tells user caller.context.user old middle kept same is_open) (removal_decides None none) (removal_works none Done works)
-  removal_by (Refused refusal) none of_work works = absurd of_work
-  removal_by InputFault none of_work works = absurd of_work
-  removal_by OutputFault none of_work works = absurd of_work
-  removal_by Busy none of_work works = absurd of_work
-  removal_by (Damaged damage) none of_work works = absurd of_work
-  removal_by StillRunning none of_work works = absurd of_work
-  removal_by Faulty none of_work works = absurd of_work
+  removal_by _ none of_work works = absurd of_work
 
 -- a removal is done, or stopped by a fault of a file or want of memory
 pub removal_comes : (result : Result (Unit {0}) CommandError) → IfErr result ComesOfRemoving → IsOfRemoval (cause_in result)
@@ -316,13 +304,7 @@ module _ (tells output : Bool) (numbers : List ℕ) (caller : Caller) (user : Li
       carries = carries_lacking_at tells true (request.Show numbers) caller user same old middle new kept is_open still;
       prints = λ known is_alone tells_output. showing_part puts known tells_output;
     }
-    showing_stopped Done of_showing puts = absurd of_showing
-    showing_stopped (Refused refusal) of_showing puts = absurd of_showing
-    showing_stopped InputFault of_showing puts = absurd of_showing
-    showing_stopped Busy of_showing puts = absurd of_showing
-    showing_stopped (Damaged damage) of_showing puts = absurd of_showing
-    showing_stopped StillRunning of_showing puts = absurd of_showing
-    showing_stopped Faulty of_showing puts = absurd of_showing
+    showing_stopped _ of_showing puts = absurd of_showing
 
 -- what a session showed stands after it
 pub shows_within : (tells alone output : Bool) (asked : ToolRequest) (caller : Caller) (before entered left after : World) (was is : SinkAt) (result : Result (Unit {0}) CommandError) →

@@ -10,7 +10,7 @@ use Rattle.host_calls.specs.Clock.{with_now}
 use Rattle.host_calls.specs.World.{World}
 use Rattle.job_script.specs.HeaderIn.{header_in}
 use Rattle.listing_text.specs.declared.cause.Cause.{Cause}
-use Rattle.listing_text.specs.declared.cause.Cause.TheVariants.{Done, Refused, FileFault, InputFault, OutputFault, Busy, Memory, Damaged, StillRunning, Faulty}
+use Rattle.listing_text.specs.declared.cause.Cause.TheVariants.{Done, Refused, InputFault, OutputFault, Memory}
 use Rattle.listing_text.specs.declared.refusal.Refusal.{Refusal}
 use Rattle.spool_model.specs.Users.{IsUserName}
 use Rattle.cause_output.specs.declared.caller.Caller.{Caller}
@@ -75,25 +75,13 @@ module _ (tells alone errors : Bool) (caller : Caller) (queue minute : ℕ) (scr
       carries = carries_no_memory tells alone asked caller finding old new stores.carries;
       notes = λ known. inl (says known);
     }
-    stored_and_said (Refused refusal) was is says = absurd says
-    stored_and_said FileFault was is says = absurd says
-    stored_and_said InputFault was is says = absurd says
-    stored_and_said Busy was is says = absurd says
-    stored_and_said (Damaged damage) was is says = absurd says
-    stored_and_said StillRunning was is says = absurd says
-    stored_and_said Faulty was is says = absurd says
+    stored_and_said _ was is says = absurd says
 
 early_of : (cause : Cause) → IsOfPreparing cause → IsEarly cause
-early_of Done is = absurd is
 early_of (Refused refusal) is = tt
-early_of FileFault is = absurd is
 early_of InputFault is = tt
-early_of OutputFault is = absurd is
-early_of Busy is = absurd is
 early_of Memory is = tt
-early_of (Damaged damage) is = absurd is
-early_of StillRunning is = absurd is
-early_of Faulty is = absurd is
+early_of _ is = absurd is
 
 -- what stands after the lock stands after the clock
 late_place : (place : ℕ) → nat_lt place 11 ≡ false → nat_lt 4 place ≡ true

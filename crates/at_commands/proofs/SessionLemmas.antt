@@ -5,7 +5,7 @@ use Rattle.host_calls.specs.declared.host.Host.{Ghosts}
 use Rattle.host_calls.specs.Session.{IsOutside}
 use Rattle.host_calls.specs.World.{World}
 use Rattle.listing_text.specs.declared.cause.Cause.{Cause}
-use Rattle.listing_text.specs.declared.cause.Cause.TheVariants.{Done, Refused, FileFault, InputFault, OutputFault, Busy, Memory, Damaged, StillRunning, Faulty}
+use Rattle.listing_text.specs.declared.cause.Cause.TheVariants.{Done, Refused, FileFault, InputFault, OutputFault, Busy, Memory}
 use Rattle.host_calls.specs.declared.store_fault.StoreFault.{StoreFault}
 use Rattle.host_calls.specs.declared.store_fault.StoreFault.TheVariants as store
 use Rattle.cause_output.specs.declared.command_error.CommandError.{CommandError}
@@ -59,52 +59,26 @@ store_of_spool store.NumbersUsedUp = tt
 store_of_spool store.Memory = tt
 
 pub entry_of_spool : (cause : Cause) → IsOfEntry cause → IsOfSpool cause
-entry_of_spool Done is = absurd is
-entry_of_spool (Refused refusal) is = absurd is
 entry_of_spool FileFault is = tt
-entry_of_spool InputFault is = absurd is
-entry_of_spool OutputFault is = absurd is
 entry_of_spool Busy is = tt
 entry_of_spool Memory is = tt
-entry_of_spool (Damaged damage) is = absurd is
-entry_of_spool StillRunning is = absurd is
-entry_of_spool Faulty is = absurd is
+entry_of_spool _ is = absurd is
 
 pub work_of_spool : (cause : Cause) → IsOfWork cause → IsOfSpool cause
-work_of_spool Done is = absurd is
-work_of_spool (Refused refusal) is = absurd is
 work_of_spool FileFault is = tt
-work_of_spool InputFault is = absurd is
-work_of_spool OutputFault is = absurd is
-work_of_spool Busy is = absurd is
 work_of_spool Memory is = tt
-work_of_spool (Damaged damage) is = absurd is
-work_of_spool StillRunning is = absurd is
-work_of_spool Faulty is = absurd is
+work_of_spool _ is = absurd is
 
 pub work_of_session : (cause : Cause) → IsOfWork cause → IsOfSession cause
-work_of_session Done is = absurd is
-work_of_session (Refused refusal) is = absurd is
 work_of_session FileFault is = tt
-work_of_session InputFault is = absurd is
-work_of_session OutputFault is = absurd is
-work_of_session Busy is = absurd is
 work_of_session Memory is = tt
-work_of_session (Damaged damage) is = absurd is
-work_of_session StillRunning is = absurd is
-work_of_session Faulty is = absurd is
+work_of_session _ is = absurd is
 
 pub showing_of_session : (cause : Cause) → IsOfShowing cause → IsOfSession cause
-showing_of_session Done is = absurd is
-showing_of_session (Refused refusal) is = absurd is
 showing_of_session FileFault is = tt
-showing_of_session InputFault is = absurd is
 showing_of_session OutputFault is = tt
-showing_of_session Busy is = absurd is
 showing_of_session Memory is = tt
-showing_of_session (Damaged damage) is = absurd is
-showing_of_session StillRunning is = absurd is
-showing_of_session Faulty is = absurd is
+showing_of_session _ is = absurd is
 
 -- so neither the inputs nor the output
 pub no_input_of_spool : (stopped : CommandError) → IsNoOutput stopped → stopped.cause ≢ InputFault

@@ -17,7 +17,7 @@ use Rattle.host_calls.specs.World.{World}
 use Rattle.step_runs.specs.Attempts.{Attempts, IsBegun}
 use Rattle.listing_text.specs.Cause.{is_done}
 use Rattle.listing_text.specs.declared.cause.Cause.{Cause}
-use Rattle.listing_text.specs.declared.cause.Cause.TheVariants.{Done, Refused, FileFault, InputFault, OutputFault, Busy, Memory, Damaged, StillRunning, Faulty}
+use Rattle.listing_text.specs.declared.cause.Cause.TheVariants.{Done, Refused, FileFault, InputFault, OutputFault, Busy, Memory, Damaged}
 use Rattle.memory_host.specs.Inputs.{given_contents}
 use Rattle.spool_model.specs.declared.step.Step.{Step}
 use Rattle.spool_model.specs.JobTable.{JobTable}
@@ -157,5 +157,4 @@ module _ (words : List (List ℕ)) (caller : Caller) (input : List ℕ) (now : �
   ]
   effect_by InputFault reaches no_fault ends = unbegun_effect false refl ends
   effect_by Busy reaches no_fault ends = unbegun_effect false refl ends
-  effect_by StillRunning reaches no_fault ends = absurd ends
-  effect_by Faulty reaches no_fault ends = absurd ends
+  effect_by _ reaches no_fault ends = absurd ends

@@ -36,8 +36,7 @@ counts_within first old new last before later world (Err fault.FileFault) (inr r
     inr (rose_within first.taken old.taken new.taken last.taken before.taken later.taken rose)
 counts_within first old new last before later world (Err (fault.Damaged damage)) counted = counted
 counts_within first old new last before later world (Err fault.Memory) counted = tt
-counts_within first old new last before later world (Err fault.QueueFull) counted = absurd counted
-counts_within first old new last before later world (Err fault.NumbersUsedUp) counted = absurd counted
+counts_within first old new last before later world _ counted = absurd counted
 
 -- these counts
 abbrev counts_of : (last pending running removed finished not_started interrupted : ℕ) → Counts

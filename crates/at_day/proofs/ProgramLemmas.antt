@@ -71,13 +71,7 @@ ends_asked tells asked made count old new cause is made_is ends =
 unread : (tells : Bool) (asked : Asked) (at : SinkAt) → IsDayAsked asked → EndsDay tells asked at at Memory
 unread tells (Ok (request.Make count)) at is = inl (λ known. silent at)
 unread tells (Err words.Usage) at is = record { refused = inr refl; nothing = λ known. silent at }
-unread tells (Err words.BadQueue) at is = absurd is
-unread tells (Err words.Memory) at is = absurd is
-unread tells (Ok (request.Submit queue mail file when)) at is = absurd is
-unread tells (Ok (request.List filter)) at is = absurd is
-unread tells (Ok (request.Remove numbers)) at is = absurd is
-unread tells (Ok (request.Show numbers)) at is = absurd is
-unread tells (Ok (request.Daemon limit interval once turns)) at is = absurd is
+unread tells _ at is = absurd is
 
 pub ends_unasked : (tells : Bool) (asked : Asked) (fault : WordsFault) (at : SinkAt) → IsDayAsked asked →
     Answers {T = ToolRequest} asked (Err fault) → EndsDay tells asked at at (words_cause fault)
@@ -98,25 +92,13 @@ module _ (tells : Bool) (count : ℕ) (old new : SinkAt) where
   })
   made_without_line OutputFault ends = inr ends.1
   made_without_line Memory ends = ends
-  made_without_line (Refused refusal) ends = absurd ends
-  made_without_line FileFault ends = absurd ends
-  made_without_line InputFault ends = absurd ends
-  made_without_line Busy ends = absurd ends
-  made_without_line (Damaged damage) ends = absurd ends
-  made_without_line StillRunning ends = absurd ends
-  made_without_line Faulty ends = absurd ends
+  made_without_line _ ends = absurd ends
 
 module _ (tells : Bool) (old new : SinkAt) (cause : Cause) where
   without_line : (asked : Asked) → EndsDay tells asked old new cause → EndsDay tells asked old new Memory
   without_line (Ok (request.Make count)) ends = made_without_line tells count old new cause ends
   without_line (Err words.Usage) ends = record { refused = inr refl; nothing = ends.nothing }
-  without_line (Err words.BadQueue) ends = absurd ends
-  without_line (Err words.Memory) ends = absurd ends
-  without_line (Ok (request.Submit queue mail file when)) ends = absurd ends
-  without_line (Ok (request.List filter)) ends = absurd ends
-  without_line (Ok (request.Remove numbers)) ends = absurd ends
-  without_line (Ok (request.Show numbers)) ends = absurd ends
-  without_line (Ok (request.Daemon limit interval once turns)) ends = absurd ends
+  without_line _ ends = absurd ends
 
   pub day_said : (asked : Asked) (final : Cause) → (final ≡ cause) ⊎ (final ≡ Memory) → EndsDay tells asked old new cause →
       EndsDay tells asked old new final
@@ -153,12 +135,7 @@ IsDayCause Done = Unit {0}
 IsDayCause (Refused refusal) = Unit {0}
 IsDayCause OutputFault = Unit {0}
 IsDayCause Memory = Unit {0}
-IsDayCause FileFault = ⊥
-IsDayCause InputFault = ⊥
-IsDayCause Busy = ⊥
-IsDayCause (Damaged damage) = ⊥
-IsDayCause StillRunning = ⊥
-IsDayCause Faulty = ⊥
+IsDayCause _ = ⊥
 
 module _ (tells : Bool) (old new : SinkAt) where
   made_cause : (count : ℕ) (cause : Cause) → EndsMade tells count old new cause → IsDayCause cause
@@ -166,12 +143,7 @@ module _ (tells : Bool) (old new : SinkAt) where
   made_cause count OutputFault ends = tt
   made_cause count Memory ends = tt
   made_cause count (Refused refusal) ends = tt
-  made_cause count FileFault ends = absurd ends
-  made_cause count InputFault ends = absurd ends
-  made_cause count Busy ends = absurd ends
-  made_cause count (Damaged damage) ends = absurd ends
-  made_cause count StillRunning ends = absurd ends
-  made_cause count Faulty ends = absurd ends
+  made_cause count _ ends = absurd ends
 
   refused_cause : (cause : Cause) → EndsRefused tells old new cause → IsDayCause cause
   refused_cause cause ends = elim ends.refused [
@@ -182,13 +154,7 @@ module _ (tells : Bool) (old new : SinkAt) where
   pub day_cause : (asked : Asked) (cause : Cause) → EndsDay tells asked old new cause → IsDayCause cause
   day_cause (Ok (request.Make count)) cause ends = made_cause count cause ends
   day_cause (Err words.Usage) cause ends = refused_cause cause ends
-  day_cause (Err words.BadQueue) cause ends = absurd ends
-  day_cause (Err words.Memory) cause ends = absurd ends
-  day_cause (Ok (request.Submit queue mail file when)) cause ends = absurd ends
-  day_cause (Ok (request.List filter)) cause ends = absurd ends
-  day_cause (Ok (request.Remove numbers)) cause ends = absurd ends
-  day_cause (Ok (request.Show numbers)) cause ends = absurd ends
-  day_cause (Ok (request.Daemon limit interval once turns)) cause ends = absurd ends
+  day_cause _ cause ends = absurd ends
 
   pub no_such_cause : (asked : Asked) (cause other : Cause) → EndsDay tells asked old new cause → (IsDayCause other → ⊥) →
       cause ≡ other → ⊥
@@ -202,13 +168,7 @@ fails : (tells : Bool) (out_old out_new err_old err_new : Outlet) (old new : Lis
 fails tells out_old out_new err_old err_new old new (Ok (request.Make count)) ends = ends.0
 fails tells out_old out_new err_old err_new old new (Err words.Usage) ends =
     absurd (refused_fails tells (sink_at old out_old) (sink_at new out_new) ends)
-fails tells out_old out_new err_old err_new old new (Err words.BadQueue) ends = absurd ends
-fails tells out_old out_new err_old err_new old new (Err words.Memory) ends = absurd ends
-fails tells out_old out_new err_old err_new old new (Ok (request.Submit queue mail file when)) ends = absurd ends
-fails tells out_old out_new err_old err_new old new (Ok (request.List filter)) ends = absurd ends
-fails tells out_old out_new err_old err_new old new (Ok (request.Remove numbers)) ends = absurd ends
-fails tells out_old out_new err_old err_new old new (Ok (request.Show numbers)) ends = absurd ends
-fails tells out_old out_new err_old err_new old new (Ok (request.Daemon limit interval once turns)) ends = absurd ends
+fails tells out_old out_new err_old err_new old new _ ends = absurd ends
 
 pub day_fails : (tells : Bool) (out_old out_new err_old err_new : Outlet) (old new : List ℕ) (asked : Asked) (cause : Cause) →
     EndsDay tells asked (sink_at old out_old) (sink_at new out_new) cause → cause ≡ OutputFault →
@@ -223,10 +183,4 @@ pub made_days_are_reported : MadeDaysAreReported
 made_days_are_reported tells count old new Done ends none = inl refl
 made_days_are_reported tells count old new Memory ends none = inr refl
 made_days_are_reported tells count old new OutputFault ends none = absurd (none ends.0)
-made_days_are_reported tells count old new (Refused refusal) ends none = absurd ends
-made_days_are_reported tells count old new FileFault ends none = absurd ends
-made_days_are_reported tells count old new InputFault ends none = absurd ends
-made_days_are_reported tells count old new Busy ends none = absurd ends
-made_days_are_reported tells count old new (Damaged damage) ends none = absurd ends
-made_days_are_reported tells count old new StillRunning ends none = absurd ends
-made_days_are_reported tells count old new Faulty ends none = absurd ends
+made_days_are_reported tells count old new _ ends none = absurd ends

@@ -26,8 +26,7 @@ use Rattle.at_day.specs.inside.Making.{IsDayRequest}
 abbrev pub IsDayAsked : Asked → Type 0
 IsDayAsked (Ok asked) = IsDayRequest asked
 IsDayAsked (Err words.Usage) = Unit {0}
-IsDayAsked (Err words.BadQueue) = ⊥
-IsDayAsked (Err words.Memory) = ⊥
+IsDayAsked _ = ⊥
 
 abbrev AreFew : Option ℕ → Type 0
 AreFew None = Unit {0}
@@ -79,8 +78,4 @@ day_asked texts is = day_by (tool_of_words texts) texts is
 pub no_day_served : (asked : Asked) (IsSo : ℕ → ℕ → Bool → ℕ → Type 0) → IsDayAsked asked → WhereServed asked IsSo
 no_day_served (Ok (request.Make count)) IsSo is = tt
 no_day_served (Err fault) IsSo is = tt
-no_day_served (Ok (request.Submit queue mail file when)) IsSo is = absurd is
-no_day_served (Ok (request.List filter)) IsSo is = absurd is
-no_day_served (Ok (request.Remove numbers)) IsSo is = absurd is
-no_day_served (Ok (request.Show numbers)) IsSo is = absurd is
-no_day_served (Ok (request.Daemon limit interval once turns)) IsSo is = absurd is
+no_day_served _ IsSo is = absurd is

@@ -126,8 +126,7 @@ sound_of between last (Err fault.FileFault) quiet table shows (inl rose) =
 sound_of between last (Err fault.FileFault) quiet table shows (inr rose) =
     absurd (no_rise (memory_session between).taken (memory_session last).taken quiet.taken rose)
 sound_of between last (Err (fault.Damaged damage)) quiet table shows by = absurd (let both = sym shows ∙ by in cc)
-sound_of between last (Err fault.QueueFull) quiet table shows by = absurd by
-sound_of between last (Err fault.NumbersUsedUp) quiet table shows by = absurd by
+sound_of between last _ quiet table shows by = absurd by
 
 pub counts_are_sound : (count : ℕ) (first last : MemoryHost) (report : DayReport) → IsNew deny_alone (made_plan count) first →
     IsDay (made_events count) first last report → IsSound report.counts

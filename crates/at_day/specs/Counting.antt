@@ -82,8 +82,7 @@ CountsBy old new world (Ok counts) = (table : JobTable) × Shows (reading world)
 CountsBy old new world (Err fault.FileFault) = Rose old.file_faults new.file_faults ⊎ Rose old.taken new.taken
 CountsBy old new world (Err (fault.Damaged damage)) = shown_by (reading world) ≡ Err damage
 CountsBy old new world (Err fault.Memory) = Unit {0}
-CountsBy old new world (Err fault.QueueFull) = ⊥
-CountsBy old new world (Err fault.NumbersUsedUp) = ⊥
+CountsBy old new world _ = ⊥
 
 -- A session in which the folder was recovered and counted, and nothing else was done.
 pub record IsCounted (old new : MemoryHost) (result : Result Counts StoreFault) : Type 0 where

@@ -68,16 +68,12 @@ AreEventSteps (Command words caller input now) answer old table steps =
     AreCommandStepsBy (is_acknowledged answer) words caller input now table steps
 AreEventSteps (Turn now load) (known.Turn turned) old table steps =
     AreStepsOfTurn (turn_of old.daemon (full_turn now load)) (is_done_turn turned.end) turned.steps table steps
-AreEventSteps (Turn now load) (known.Command status out err) old table steps = ⊥
-AreEventSteps (Turn now load) known.Rebooted old table steps = ⊥
-AreEventSteps (Reboot pick fuse) answer old table steps = ⊥
+AreEventSteps _ _ old table steps = ⊥
 
 -- the move is that of a crash
 abbrev pub IsCrash : Effect → Type 0
-IsCrash Untouched = ⊥
-IsCrash (Partial table steps) = ⊥
-IsCrash (Whole table steps) = ⊥
 IsCrash (Crashed image) = Unit {0}
+IsCrash _ = ⊥
 
 -- the move of an event is one of its steps, or the crash that it is
 abbrev pub IsEventEffect : Event → EventReport → Machine → Effect → Type 0

@@ -61,8 +61,7 @@ pub record IsGiven (words : List (List ℕ)) (caller : Caller) (input : List ℕ
 -- the report of the command is of what was given
 abbrev pub GivesReport : List (List ℕ) → Caller → List ℕ → ℤ → EventReport → MemoryHost → MemoryHost → Type 0
 GivesReport words caller input now (known.Command status out err) old new = IsGiven words caller input now status out err old new
-GivesReport words caller input now (known.Turn turned) old new = ⊥
-GivesReport words caller input now known.Rebooted old new = ⊥
+GivesReport words caller input now _ old new = ⊥
 
 -- no memory was found for the command or its report: the host is as it was, or as the command left it
 abbrev pub IsGivenUnreported : List (List ℕ) → Caller → List ℕ → ℤ → MemoryHost → MemoryHost → Type 0

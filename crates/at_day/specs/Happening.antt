@@ -41,12 +41,7 @@ Happens (Command words caller input now) (known.Command status out err) old new 
     IsCommanded words caller input now status out err old new
 Happens (Turn now load) (known.Turn turned) old new = IsTurned now load turned old new
 Happens (Reboot pick fuse) known.Rebooted old new = IsUpAgain pick fuse old new
-Happens (Command words caller input now) (known.Turn turned) old new = ⊥
-Happens (Command words caller input now) known.Rebooted old new = ⊥
-Happens (Turn now load) (known.Command status out err) old new = ⊥
-Happens (Turn now load) known.Rebooted old new = ⊥
-Happens (Reboot pick fuse) (known.Command status out err) old new = ⊥
-Happens (Reboot pick fuse) (known.Turn turned) old new = ⊥
+Happens _ _ old new = ⊥
 
 -- nothing of the machine has changed
 pub record IsAsItWas (old new : Machine) : Type 0 where

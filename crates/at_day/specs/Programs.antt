@@ -18,7 +18,7 @@ use Rattle.host_calls.specs.Causes.{Rose}
 use Rattle.host_calls.specs.Session.{IsLeft}
 use Rattle.host_calls.specs.World.{GoesOn}
 use Rattle.listing_text.specs.declared.cause.Cause.{Cause}
-use Rattle.listing_text.specs.declared.cause.Cause.TheVariants.{Done, Refused, FileFault, InputFault, OutputFault, Busy, Memory, Damaged, StillRunning, Faulty}
+use Rattle.listing_text.specs.declared.cause.Cause.TheVariants.{Done, Refused, OutputFault, Memory, StillRunning}
 use Rattle.listing_text.specs.declared.refusal.Refusal.TheVariants.{Usage}
 use Rattle.at_day.specs.declared.counts.Counts.{Counts}
 use Rattle.at_day.specs.Lines.{day_lines}
@@ -58,13 +58,7 @@ abbrev pub EndsMade : Bool → ℕ → SinkAt → SinkAt → Cause → Type 0
 EndsMade tells count old new Done = TellsDay IsPut tells count old new
 EndsMade tells count old new OutputFault = Rose old.faults new.faults × TellsDay IsPutInPart tells count old new
 EndsMade tells count old new Memory = TellsNothing tells old new ⊎ TellsDay IsPutInPart tells count old new
-EndsMade tells count old new (Refused refusal) = ⊥
-EndsMade tells count old new FileFault = ⊥
-EndsMade tells count old new InputFault = ⊥
-EndsMade tells count old new Busy = ⊥
-EndsMade tells count old new (Damaged damage) = ⊥
-EndsMade tells count old new StillRunning = ⊥
-EndsMade tells count old new Faulty = ⊥
+EndsMade tells count old new _ = ⊥
 
 -- The words are refused, unless no memory was found to read them or to say so. Nothing is put.
 pub record EndsRefused (tells : Bool) (old new : SinkAt) (cause : Cause) : Type 0 where
@@ -75,13 +69,7 @@ pub record EndsRefused (tells : Bool) (old new : SinkAt) (cause : Cause) : Type 
 abbrev pub EndsDay : Bool → Asked → SinkAt → SinkAt → Cause → Type 0
 EndsDay tells (Ok (request.Make count)) old new cause = EndsMade tells count old new cause
 EndsDay tells (Err words.Usage) old new cause = EndsRefused tells old new cause
-EndsDay tells (Err words.BadQueue) old new cause = ⊥
-EndsDay tells (Err words.Memory) old new cause = ⊥
-EndsDay tells (Ok (request.Submit queue mail file when)) old new cause = ⊥
-EndsDay tells (Ok (request.List filter)) old new cause = ⊥
-EndsDay tells (Ok (request.Remove numbers)) old new cause = ⊥
-EndsDay tells (Ok (request.Show numbers)) old new cause = ⊥
-EndsDay tells (Ok (request.Daemon limit interval once turns)) old new cause = ⊥
+EndsDay tells _ old new cause = ⊥
 
 -- How the program ends where no daemon is asked for: it starts no child, hands nothing over, reads no load, and does not end
 -- while jobs still run. Unless a day is asked for it ends as the commands do: its verdict and order, what each crash on the

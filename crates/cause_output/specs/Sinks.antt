@@ -68,8 +68,7 @@ PrintsBy (Refused refusal) IsText old new = IsSilent old new
 PrintsBy InputFault IsText old new = IsSilent old new
 PrintsBy Busy IsText old new = IsSilent old new
 PrintsBy (Damaged damage) IsText old new = IsSilent old new
-PrintsBy StillRunning IsText old new = ⊥
-PrintsBy Faulty IsText old new = ⊥
+PrintsBy _ IsText old new = ⊥
 
 -- What is said to the caller before the line of the cause: all of the notice where the command is done, and perhaps a
 -- prefix of it where its put failed.
@@ -82,8 +81,7 @@ NotesBy (Refused refusal) IsLine old new = IsSilent old new
 NotesBy InputFault IsLine old new = IsSilent old new
 NotesBy Busy IsLine old new = IsSilent old new
 NotesBy (Damaged damage) IsLine old new = IsSilent old new
-NotesBy StillRunning IsLine old new = ⊥
-NotesBy Faulty IsLine old new = ⊥
+NotesBy _ IsLine old new = ⊥
 
 -- the line of the cause after what was said before it: whole unless the sink failed, or no memory was found for it
 abbrev pub EndsLine : List ℕ → Cause → SinkAt → SinkAt → Type 0

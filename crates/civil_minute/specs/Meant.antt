@@ -18,7 +18,7 @@ use Rattle.clock_range.specs.ClockRange.{IsClockSecond, minute_at}
 use Rattle.civil_minute.specs.Zone.{offset_in, rules_of}
 use Rattle.civil_minute.specs.declared.civil.TheConstants.{LAST_YEAR, SECONDS_A_DAY, SECONDS_AN_HOUR}
 use Rattle.civil_minute.specs.declared.fault.DateFault.{DateFault}
-use Rattle.civil_minute.specs.declared.fault.DateFault.TheVariants.{NoSuchDay, OutOfRange, Past, Memory}
+use Rattle.civil_minute.specs.declared.fault.DateFault.TheVariants.{NoSuchDay, OutOfRange, Past}
 use Rattle.civil_minute.specs.declared.zone.Zone.{Zone}
 use Rattle.civil_minute.specs.declared.zone.Zone.TheVariants.{Utc}
 
@@ -80,10 +80,7 @@ IsPicked Tomorrow given today time date = epoch_day date ≡ epoch_day today +�
 abbrev pub NamesNoDay : DatePart → Date → Type 0
 NamesNoDay (MonthDay month day year) today =
     ¬ (IsCivilDate (year_of_month year month today) month day)
-NamesNoDay Absent today = ⊥
-NamesNoDay (Weekday weekday) today = ⊥
-NamesNoDay Today today = ⊥
-NamesNoDay Tomorrow today = ⊥
+NamesNoDay _ today = ⊥
 
 -- the day number so many periods after a date; a month that lacks the day gives its last one
 abbrev pub day_after : Period → ℕ → Date → ℤ
@@ -152,8 +149,7 @@ IsAnswer now start end (Ok minute) =
 IsAnswer now start end (Err Past) =
     IsClockSecond start × IsClockSecond end × (minute_at end < minute_at now)
 IsAnswer now start end (Err OutOfRange) = ¬ (IsClockSecond start × IsClockSecond end)
-IsAnswer now start end (Err NoSuchDay) = ⊥
-IsAnswer now start end (Err Memory) = ⊥
+IsAnswer now start end _ = ⊥
 
 -- the answer for a date and a time of day: out of range where the date leaves the calendar, which
 -- is from the year -9999 to 9999, or an instant leaves the clock's range

@@ -5,7 +5,7 @@ use Rattle.host_calls.specs.declared.damage.Damage.{Damage}
 use Rattle.host_calls.specs.World.{World, reading}
 use Rattle.step_runs.specs.Attempts.{Achieves, IsBegun}
 use Rattle.listing_text.specs.declared.cause.Cause.{Cause}
-use Rattle.listing_text.specs.declared.cause.Cause.TheVariants.{Done, Refused, FileFault, InputFault, OutputFault, Busy, Memory, Damaged, StillRunning, Faulty}
+use Rattle.listing_text.specs.declared.cause.Cause.TheVariants.{Done, FileFault, InputFault, OutputFault, Busy, Memory, Damaged}
 use Rattle.listing_text.specs.declared.refusal.Refusal.{Refusal}
 use Rattle.spool_model.specs.declared.step.Step.{Step}
 use Rattle.spool_model.specs.JobTable.{JobTable}
@@ -34,11 +34,9 @@ done_or_memory AreSteps old new table FileFault shown none ends files input outp
 done_or_memory AreSteps old new table InputFault shown none ends files input output busy = absurd (input refl)
 done_or_memory AreSteps old new table OutputFault shown none ends files input output busy = absurd (output refl)
 done_or_memory AreSteps old new table Busy shown none ends files input output busy = absurd (busy refl)
-done_or_memory AreSteps old new table (Refused refusal) shown none ends files input output busy = absurd none
 done_or_memory AreSteps old new table (Damaged damage) shown none ends files input output busy =
     absurd (no_damage (shown_by (reading old)) table damage shown ends.shown)
-done_or_memory AreSteps old new table StillRunning shown none ends files input output busy = absurd none
-done_or_memory AreSteps old new table Faulty shown none ends files input output busy = absurd none
+done_or_memory AreSteps old new table _ shown none ends files input output busy = absurd none
 
 module _ (Notes : Cause → (List ℕ → Type 0) → SinkAt → SinkAt → Type 0) where
   pub allowed_is_done : WhatIsAllowedIsDone Notes

@@ -7,7 +7,7 @@ use Rattle.step_runs.specs.Current.{Kept}
 use Rattle.step_runs.proofs.AttemptLemmas.{runs_after_recoveries}
 use Rattle.step_runs.proofs.MadeLemmas.{made_steps_are_achieved, no_steps_are_made}
 use Rattle.listing_text.specs.declared.cause.Cause.{Cause}
-use Rattle.listing_text.specs.declared.cause.Cause.TheVariants.{Done, Refused, FileFault, InputFault, OutputFault, Busy, Memory, Damaged, StillRunning, Faulty}
+use Rattle.listing_text.specs.declared.cause.Cause.TheVariants.{Done, Refused, FileFault, OutputFault, Memory}
 use Rattle.spool_model.specs.declared.step.Step.{Step}
 use Rattle.spool_model.specs.JobTable.{JobTable}
 use Rattle.command_rules.specs.Requested.{AreNoSteps, OrNone}
@@ -48,8 +48,4 @@ module _ (AreSteps : JobTable → List Step → Type 0) (old middle new : World)
   works_end Memory works = worked_on works
   works_end (Refused refusal) works =
       subst (λ (after : Bool). MatchBool after (Achieves AreNoSteps old new) (new ≡ old)) (sym works.0) (stands_still works.1)
-  works_end InputFault works = absurd works
-  works_end Busy works = absurd works
-  works_end (Damaged damage) works = absurd works
-  works_end StillRunning works = absurd works
-  works_end Faulty works = absurd works
+  works_end _ works = absurd works

@@ -11,7 +11,7 @@ use Rattle.step_runs.specs.Attempts.{Achieves, Attempts, IsAchieved, IsUnbegun}
 use Rattle.step_runs.specs.Calls.{ShowsAsBefore}
 use Rattle.step_runs.proofs.AttemptLemmas.{recoveries_begin_nothing}
 use Rattle.listing_text.specs.declared.cause.Cause.{Cause}
-use Rattle.listing_text.specs.declared.cause.Cause.TheVariants.{Done, Refused, FileFault, InputFault, OutputFault, Busy, Memory, Damaged, StillRunning, Faulty}
+use Rattle.listing_text.specs.declared.cause.Cause.TheVariants.{Done, Refused, FileFault, InputFault, OutputFault, Busy, Memory, Damaged}
 use Rattle.listing_text.specs.declared.refusal.Refusal.{Refusal}
 use Rattle.command_rules.specs.Checks.{check_of, is_before, of_folder}
 use Rattle.command_rules.specs.Requested.{AreNoSteps, OrNone}
@@ -63,5 +63,4 @@ attempt_of AreSteps old new (Refused refusal) ends = attempt_refused AreSteps re
 attempt_of AreSteps old new (Damaged damage) ends = inl ends.unbegun
 attempt_of AreSteps old new InputFault ends = inl (unbegun_same old new ends)
 attempt_of AreSteps old new Busy ends = inl (unbegun_same old new ends)
-attempt_of AreSteps old new StillRunning ends = absurd ends
-attempt_of AreSteps old new Faulty ends = absurd ends
+attempt_of AreSteps old new _ ends = absurd ends

@@ -8,7 +8,7 @@ use Rattle.host_calls.specs.Inputs.{Contents}
 use Rattle.host_calls.specs.Sink.{Outlet}
 use Rattle.host_calls.specs.World.{World, reading}
 use Rattle.listing_text.specs.declared.cause.Cause.{Cause}
-use Rattle.listing_text.specs.declared.cause.Cause.TheVariants.{Done, Refused, FileFault, InputFault, OutputFault, Busy, Memory, Damaged, StillRunning, Faulty}
+use Rattle.listing_text.specs.declared.cause.Cause.TheVariants.{Done, Refused, FileFault, InputFault, OutputFault, Busy, Memory, Damaged}
 use Rattle.listing_text.specs.declared.refusal.Refusal.{Refusal}
 use Rattle.spool_model.specs.JobTable.{JobTable}
 use Rattle.cause_output.specs.declared.caller.Caller.{Caller}
@@ -25,18 +25,10 @@ ComesBefore InputFault check = is_before of_input check ≡ true
 ComesBefore Busy check = is_before of_lock check ≡ true
 ComesBefore FileFault check = is_before of_lock check ≡ true
 ComesBefore (Damaged damage) check = is_before of_folder check ≡ true
-ComesBefore OutputFault check = ⊥
-ComesBefore Done check = ⊥
-ComesBefore (Refused refusal) check = ⊥
-ComesBefore Memory check = ⊥
-ComesBefore StillRunning check = ⊥
-ComesBefore Faulty check = ⊥
+ComesBefore _ check = ⊥
 
 -- the cause is no refusal
 abbrev pub IsNoRefusal : Cause → Type 0
-IsNoRefusal (Refused refusal) = ⊥
-IsNoRefusal StillRunning = ⊥
-IsNoRefusal Faulty = ⊥
 IsNoRefusal Done = Unit {0}
 IsNoRefusal FileFault = Unit {0}
 IsNoRefusal InputFault = Unit {0}
@@ -44,6 +36,7 @@ IsNoRefusal OutputFault = Unit {0}
 IsNoRefusal Busy = Unit {0}
 IsNoRefusal Memory = Unit {0}
 IsNoRefusal (Damaged damage) = Unit {0}
+IsNoRefusal _ = ⊥
 
 -- The cause keeps to the order of checks: it is the verdict's refusal, or none where the verdict is none.
 -- Want of memory may stand in its place, or a fault of the outside that comes before its check.
@@ -55,14 +48,7 @@ KeepsOrder (Some refusal) cause = (cause ≡ Refused refusal) ⊎ ((cause ≡ Me
 abbrev pub StopsBeforeLock : Cause → Type 0
 StopsBeforeLock (Refused refusal) = is_before (check_of refusal) of_lock ≡ true
 StopsBeforeLock InputFault = Unit {0}
-StopsBeforeLock Done = ⊥
-StopsBeforeLock FileFault = ⊥
-StopsBeforeLock OutputFault = ⊥
-StopsBeforeLock Busy = ⊥
-StopsBeforeLock Memory = ⊥
-StopsBeforeLock (Damaged damage) = ⊥
-StopsBeforeLock StillRunning = ⊥
-StopsBeforeLock Faulty = ⊥
+StopsBeforeLock _ = ⊥
 
 -- a fault of the spool comes at the lock, at the lists, at the folder, or at the steps
 abbrev pub IsOfSpool : Check → Type 0
@@ -78,8 +64,7 @@ Reaches Busy check = check ≡ of_lock
 Reaches FileFault check = IsOfSpool check
 Reaches (Damaged damage) check = check ≡ of_folder
 Reaches Memory check = Unit {0}
-Reaches StillRunning check = ⊥
-Reaches Faulty check = ⊥
+Reaches _ check = ⊥
 
 -- which of the objects that a command is handed tell what they hold
 pub record Telling : Type 0 where

@@ -12,7 +12,7 @@ use Rattle.step_runs.specs.Current.{IsCurrent, Kept}
 use Rattle.step_runs.specs.Made.{AreMade}
 use Rattle.step_runs.specs.Runs.{Runs}
 use Rattle.listing_text.specs.declared.cause.Cause.{Cause}
-use Rattle.listing_text.specs.declared.cause.Cause.TheVariants.{Done, Refused, FileFault, InputFault, OutputFault, Busy, Memory, Damaged, StillRunning, Faulty}
+use Rattle.listing_text.specs.declared.cause.Cause.TheVariants.{Done, Refused, FileFault, OutputFault, Memory, Damaged}
 use Rattle.listing_text.specs.declared.refusal.Refusal.TheVariants.{NotAllowed}
 use Rattle.spool_model.specs.declared.step.Step.{Step}
 use Rattle.spool_model.specs.JobTable.{JobTable}
@@ -88,8 +88,4 @@ Works AreSteps table old new OutputFault = IsWorkedOut AreSteps table old new
 Works AreSteps table old new FileFault = (new ≡ old) ⊎ IsWorkedOn AreSteps table old new
 Works AreSteps table old new Memory = (new ≡ old) ⊎ IsWorkedOn AreSteps table old new
 Works AreSteps table old new (Refused refusal) = (is_before of_folder (check_of refusal) ≡ true) × (new ≡ old)
-Works AreSteps table old new InputFault = ⊥
-Works AreSteps table old new Busy = ⊥
-Works AreSteps table old new (Damaged damage) = ⊥
-Works AreSteps table old new StillRunning = ⊥
-Works AreSteps table old new Faulty = ⊥
+Works AreSteps table old new _ = ⊥

@@ -4,7 +4,7 @@ use Rattle.host_calls.specs.declared.damage.Damage.{Damage}
 use Rattle.host_calls.specs.World.{World, reading}
 use Rattle.step_runs.specs.Attempts.{Achieves, Attempts, IsUnbegun}
 use Rattle.listing_text.specs.declared.cause.Cause.{Cause}
-use Rattle.listing_text.specs.declared.cause.Cause.TheVariants.{Done, Refused, FileFault, InputFault, OutputFault, Busy, Memory, Damaged, StillRunning, Faulty}
+use Rattle.listing_text.specs.declared.cause.Cause.TheVariants.{Done, Refused, FileFault, InputFault, OutputFault, Busy, Memory, Damaged}
 use Rattle.listing_text.specs.declared.refusal.Refusal.{Refusal}
 use Rattle.spool_model.specs.declared.step.Step.{Step}
 use Rattle.spool_model.specs.JobTable.{JobTable}
@@ -33,5 +33,4 @@ SpoolEnds AreSteps old new (Damaged damage) = IsDamage old new damage
 SpoolEnds AreSteps old new (Refused refusal) = RefusalLeaves refusal old new
 SpoolEnds AreSteps old new InputFault = new ≡ old
 SpoolEnds AreSteps old new Busy = new ≡ old
-SpoolEnds AreSteps old new StillRunning = ⊥
-SpoolEnds AreSteps old new Faulty = ⊥
+SpoolEnds AreSteps old new _ = ⊥

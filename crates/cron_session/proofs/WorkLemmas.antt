@@ -64,8 +64,7 @@ room_on kept table count fault.NumbersUsedUp is used = record {
   few = subst (λ (last : ℕ). LAST_NUMBER < last + count) (same_last kept table is) used.few;
 }
 room_on kept table count fault.Memory is because = tt
-room_on kept table count fault.FileFault is because = absurd because
-room_on kept table count (fault.Damaged damage) is because = absurd because
+room_on kept table count _ is because = absurd because
 
 -- What is due.
 
@@ -147,8 +146,7 @@ module _ (tells : Bool) (session : Session) (old : World) (kept : Kept) (cron : 
       leaves = λ known table current certain. refused_on fault.NumbersUsedUp because table current.without_scripts_is;
     }
     room_refused fault.Memory because = due_wants
-    room_refused fault.FileFault because = absurd because
-    room_refused (fault.Damaged damage) because = absurd because
+    room_refused _ because = absurd because
 
 -- The minute was marked, or that was tried.
 module _ (tells : Bool) (before after : Session) (old new : World) (kept : Kept) (cron : Cron) (due : List (List ℕ)) (are : AreDueAt cron.entries (minute_of cron) cron.zone due)
@@ -184,9 +182,7 @@ module _ (tells : Bool) (before after : Session) (old new : World) (kept : Kept)
       record { inside = marks.inside; unread = tt; distinct = numbers_distinct (Err fault.FileFault) marks; leaves = begun (Err fault.FileFault) marks }
   due_submitted (Err fault.Memory) marks =
       record { inside = marks.inside; unread = tt; distinct = numbers_distinct (Err fault.Memory) marks; leaves = λ known table current certain. inr (begun (Err fault.Memory) marks known table current certain) }
-  due_submitted (Err fault.QueueFull) marks = absurd marks.faults
-  due_submitted (Err fault.NumbersUsedUp) marks = absurd marks.faults
-  due_submitted (Err (fault.Damaged damage)) marks = absurd marks.faults
+  due_submitted _ marks = absurd marks.faults
 
 -- Since the start.
 

@@ -86,8 +86,7 @@ module _ (tells : Bool) (cron : Cron) (before between : Session) (old middle : W
       record { inside = inside; unread = tt; distinct = none_distinct numbers none; leaves = λ known. inl (idle_after old middle numbers none (recovery known)) }
   by_fault after (fault.Damaged damage) reads inside recovery damaged =
       record { inside = inside; unread = none; distinct = none_distinct numbers none; leaves = damaged damage refl }
-  by_fault after fault.QueueFull reads inside recovery damaged = absurd reads
-  by_fault after fault.NumbersUsedUp reads inside recovery damaged = absurd reads
+  by_fault after _ reads inside recovery damaged = absurd reads
 
   -- The recovery failed.
   pub not_recovered : (of : StoreFault) → IsOfReading of → CallsInside {T = Kept} fault.FileFault before between (Err of) →

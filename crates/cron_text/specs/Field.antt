@@ -38,10 +38,9 @@ elements_of text = slice_split (λ byte. byte == 44) text
 -- each of the elements spells the range at its place
 abbrev pub SpellElements : ℕ → ℕ → List (List ℕ) → List (ℕ × ℕ) → Type 0
 SpellElements low high [] [] = Unit {0}
-SpellElements low high [] (_ ∷ _) = ⊥
-SpellElements low high (_ ∷ _) [] = ⊥
 SpellElements low high (element ∷ elements) (span ∷ spans) =
     SpellsElement low high element span × SpellElements low high elements spans
+SpellElements low high _ _ = ⊥
 
 -- one of the ranges holds the value
 abbrev pub is_held : List (ℕ × ℕ) → ℕ → Bool

@@ -3,7 +3,7 @@ use Rattle.std.proofs.Common.{ℕ, Bool, List, Err, inl, inr}
 use Rattle.listing_text.specs.declared.cause.Cause.{Cause}
 use Rattle.listing_text.specs.declared.cause.Cause.TheVariants as cause
 use Rattle.listing_text.specs.declared.refusal.Refusal.{Refusal}
-use Rattle.listing_text.specs.declared.refusal.Refusal.TheVariants.{Usage, NotAllowed, Timespec, NoSuchDay, OutOfRange, Past, BadTimeArg, BadZone, BadQueue, BadDirectory, BadUser, TooLong, EnvironmentTooLarge, QueueFull, NumbersUsedUp, NoSuchJob, NotYours, RunningJob, BadClock, BadCrontab, AccountsFull, TargetNotEmpty}
+use Rattle.listing_text.specs.declared.refusal.Refusal.TheVariants.{TooLong, BadCrontab}
 use Rattle.cause_output.specs.declared.command_error.CommandError.{CommandError}
 use Rattle.cron_turn.specs.Outside.{InputAt, RunAt, Telling}
 use Rattle.cron_turn.specs.Sessions.{AsksFile, ReadsFile, StopsAtFile, StopsBefore}
@@ -13,14 +13,7 @@ use Rattle.cron_turn.specs.inside.Turning.{IsUnread, ReadsEntries, StopsText}
 asked_unread : (old new : InputAt) (cause : Cause) → IsUnread old new cause → AsksFile old new
 asked_unread old new cause.InputFault unread = unread.0
 asked_unread old new cause.Memory unread = unread
-asked_unread old new cause.Done unread = absurd unread
-asked_unread old new (cause.Refused refusal) unread = absurd unread
-asked_unread old new cause.FileFault unread = absurd unread
-asked_unread old new cause.OutputFault unread = absurd unread
-asked_unread old new cause.Busy unread = absurd unread
-asked_unread old new (cause.Damaged damage) unread = absurd unread
-asked_unread old new cause.StillRunning unread = absurd unread
-asked_unread old new cause.Faulty unread = absurd unread
+asked_unread old new _ unread = absurd unread
 
 pub asked : (tells : Bool) (path : List ℕ) (old new : InputAt) (stopped : CommandError) → ReadsEntries tells path old new (Err stopped) → AsksFile old new
 asked tells path old new stopped (inl gave_text) = gave_text.reads.asks
@@ -31,51 +24,18 @@ module _ (tells : Telling) (path : List ℕ) (old new : RunAt) (at : StopsAtFile
   stops_refused : (refusal : Refusal) (bytes : List ℕ) → ReadsFile tells.input path bytes old.input new.input → StopsText bytes (cause.Refused refusal) → StopsBefore tells path old new (cause.Refused refusal)
   stops_refused TooLong bytes reads text = record { at_file = at; bytes = bytes; given = reads.given; so = text }
   stops_refused (BadCrontab line) bytes reads text = record { at_file = at; bytes = bytes; given = reads.given; so = text }
-  stops_refused Usage bytes reads text = absurd text
-  stops_refused NotAllowed bytes reads text = absurd text
-  stops_refused (Timespec place) bytes reads text = absurd text
-  stops_refused NoSuchDay bytes reads text = absurd text
-  stops_refused OutOfRange bytes reads text = absurd text
-  stops_refused Past bytes reads text = absurd text
-  stops_refused BadTimeArg bytes reads text = absurd text
-  stops_refused BadZone bytes reads text = absurd text
-  stops_refused BadQueue bytes reads text = absurd text
-  stops_refused BadDirectory bytes reads text = absurd text
-  stops_refused BadUser bytes reads text = absurd text
-  stops_refused EnvironmentTooLarge bytes reads text = absurd text
-  stops_refused QueueFull bytes reads text = absurd text
-  stops_refused NumbersUsedUp bytes reads text = absurd text
-  stops_refused (NoSuchJob number) bytes reads text = absurd text
-  stops_refused (NotYours number) bytes reads text = absurd text
-  stops_refused (RunningJob number) bytes reads text = absurd text
-  stops_refused BadClock bytes reads text = absurd text
-  stops_refused AccountsFull bytes reads text = absurd text
-  stops_refused TargetNotEmpty bytes reads text = absurd text
+  stops_refused _ bytes reads text = absurd text
 
   stops_text : (why : Cause) (bytes : List ℕ) → ReadsFile tells.input path bytes old.input new.input → StopsText bytes why → StopsBefore tells path old new why
   stops_text (cause.Refused refusal) bytes reads text = stops_refused refusal bytes reads text
   stops_text cause.Memory bytes reads text = at
-  stops_text cause.Done bytes reads text = absurd text
-  stops_text cause.FileFault bytes reads text = absurd text
-  stops_text cause.InputFault bytes reads text = absurd text
-  stops_text cause.OutputFault bytes reads text = absurd text
-  stops_text cause.Busy bytes reads text = absurd text
-  stops_text (cause.Damaged damage) bytes reads text = absurd text
-  stops_text cause.StillRunning bytes reads text = absurd text
-  stops_text cause.Faulty bytes reads text = absurd text
+  stops_text _ bytes reads text = absurd text
 
   -- there was no text
   stops_unread : (why : Cause) → IsUnread old.input new.input why → StopsBefore tells path old new why
   stops_unread cause.InputFault unread = (at, unread.1)
   stops_unread cause.Memory unread = at
-  stops_unread cause.Done unread = absurd unread
-  stops_unread (cause.Refused refusal) unread = absurd unread
-  stops_unread cause.FileFault unread = absurd unread
-  stops_unread cause.OutputFault unread = absurd unread
-  stops_unread cause.Busy unread = absurd unread
-  stops_unread (cause.Damaged damage) unread = absurd unread
-  stops_unread cause.StillRunning unread = absurd unread
-  stops_unread cause.Faulty unread = absurd unread
+  stops_unread _ unread = absurd unread
 
   pub stops_reading : (stopped : CommandError) → ReadsEntries tells.input path old.input new.input (Err stopped) → StopsBefore tells path old new stopped.cause
   stops_reading stopped (inl gave_text) = stops_text stopped.cause gave_text.bytes gave_text.reads gave_text.of_text

@@ -90,10 +90,4 @@ abbrev pub EndsSaying : Bool → CronEnd → SinkAt → SinkAt → Cause → Typ
 EndsSaying tells end old new (cause.Damaged damage) = (end ≡ Damaged damage) × (new ≡ old)
 EndsSaying tells end old new cause.OutputFault = IsCutOff tells end old new
 EndsSaying tells end old new cause.Memory = IsUnsaid tells end old new
-EndsSaying tells end old new cause.Done = ⊥
-EndsSaying tells end old new (cause.Refused refused) = ⊥
-EndsSaying tells end old new cause.FileFault = ⊥
-EndsSaying tells end old new cause.InputFault = ⊥
-EndsSaying tells end old new cause.Busy = ⊥
-EndsSaying tells end old new cause.StillRunning = ⊥
-EndsSaying tells end old new cause.Faulty = ⊥
+EndsSaying tells end old new _ = ⊥

@@ -6,7 +6,7 @@ use Rattle.host_calls.specs.Causes.{Rose}
 use Rattle.host_calls.specs.Clock.{with_now, with_rest}
 use Rattle.host_calls.specs.Inputs.{AreReadOnce, IsPrefixOf}
 use Rattle.listing_text.specs.declared.cause.Cause.{Cause}
-use Rattle.listing_text.specs.declared.cause.Cause.TheVariants.{Done, Refused, FileFault, InputFault, OutputFault, Busy, Memory, Damaged, StillRunning, Faulty}
+use Rattle.listing_text.specs.declared.cause.Cause.TheVariants.{Refused, InputFault, Memory}
 use Rattle.listing_text.specs.declared.refusal.Refusal.TheVariants.{BadClock, BadCrontab, TooLong}
 use Rattle.cause_output.specs.declared.caller.Caller.{Caller}
 use Rattle.cron_text.specs.declared.crontab.TheConstants.{MAX_CRONTAB}
@@ -100,17 +100,10 @@ abbrev pub StopsBefore : Telling → List ℕ → RunAt → RunAt → Cause → 
 StopsBefore tells path old new (Refused BadClock) = StopsAtClock tells old new
 StopsBefore tells path old new (Refused TooLong) = StopsAtText tells path (λ bytes. MAX_CRONTAB < length bytes) old new
 StopsBefore tells path old new (Refused (BadCrontab line)) = StopsAtText tells path (IsBadAt line) old new
-StopsBefore tells path old new (Refused _) = ⊥
 StopsBefore tells path old new InputFault =
     StopsAtFile tells old new × Rose old.input.sources.input_faults new.input.sources.input_faults
 StopsBefore tells path old new Memory = StopsAtFile tells old new
-StopsBefore tells path old new Done = ⊥
-StopsBefore tells path old new FileFault = ⊥
-StopsBefore tells path old new OutputFault = ⊥
-StopsBefore tells path old new Busy = ⊥
-StopsBefore tells path old new (Damaged damage) = ⊥
-StopsBefore tells path old new StillRunning = ⊥
-StopsBefore tells path old new Faulty = ⊥
+StopsBefore tells path old new _ = ⊥
 
 -- a session was made, and is the last one for this cause
 pub record StopsAfter (tells : Telling) (caller : Caller) (path : List ℕ) (old new : RunAt) (cause : Cause) : Type 0 where

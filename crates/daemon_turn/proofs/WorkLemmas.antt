@@ -146,8 +146,7 @@ module _ (tells : Bool) (turn : Turn) (before after : Session) (old new : World)
   leaves_by fault.Memory reads recovered untouched known = inl (idle known (recovered known))
   leaves_by (fault.Damaged damage) reads recovered untouched known =
       (idle known (ap shown_by (untouched known damage refl)), recovered known, untouched known damage refl)
-  leaves_by fault.QueueFull reads recovered untouched known = absurd reads
-  leaves_by fault.NumbersUsedUp reads recovered untouched known = absurd reads
+  leaves_by _ reads recovered untouched known = absurd reads
 
   pub unrecovered : (of : StoreFault) (result : Result (Unit {0}) StoreFault) → IsErrAnd result (λ other. other ≡ of) → CallsInside {T = Kept} fault.FileFault before after (Err of) → IsOfReading of →
       (tells ≡ true → Recovered old.now.folder new.now.folder (Err of)) → (tells ≡ true → IfDamaged {T = Kept} fault.Damaged (λ damage. reading new ≡ reading old) (Err of)) →
@@ -174,9 +173,7 @@ module _ (tells : Bool) (turn : Turn) (before after : Session) (old new : World)
 step_reads : (of : StoreFault) → IsOfStep of → IsOfReading of
 step_reads fault.FileFault is = tt
 step_reads fault.Memory is = tt
-step_reads (fault.Damaged damage) is = absurd is
-step_reads fault.QueueFull is = absurd is
-step_reads fault.NumbersUsedUp is = absurd is
+step_reads _ is = absurd is
 
 module _ (tells : Bool) (turn : Turn) (before between after : Session) (old middle new : World) (kept : Kept) (left : List Kid) (limit interval : ℕ) (report : List TurnStep) (stays : CallsInside {T = Kept} fault.FileFault before between (Ok kept))
     (changes : tells ≡ true → ChangesFiles (ShowsAsBefore old.now.folder) old middle) (recovered : tells ≡ true → IsRecovered old.now.folder middle.now.folder kept) where

@@ -8,7 +8,7 @@ use Rattle.spool_shows.specs.Shown.{shown_by}
 use Rattle.step_runs.specs.Good.{IsGood}
 use Rattle.daemon_turn.specs.declared.turn_input.TurnInput.{TurnInput}
 use Rattle.host_session.specs.declared.turn_end.TurnEnd.{TurnEnd}
-use Rattle.host_session.specs.declared.turn_end.TurnEnd.TheVariants.{Done, Busy, FileFault, Damaged, Memory}
+use Rattle.host_session.specs.declared.turn_end.TurnEnd.TheVariants.{Done, Memory}
 use Rattle.spool_model.specs.declared.turn_step.TurnStep.{TurnStep}
 use Rattle.daemon_turn.specs.Leaving.{DaemonAt, TurnsTo}
 
@@ -16,9 +16,7 @@ use Rattle.daemon_turn.specs.Leaving.{DaemonAt, TurnsTo}
 abbrev pub IsDoneOrMemory : TurnEnd → Type 0
 IsDoneOrMemory Done = Unit {0}
 IsDoneOrMemory Memory = Unit {0}
-IsDoneOrMemory Busy = ⊥
-IsDoneOrMemory FileFault = ⊥
-IsDoneOrMemory (Damaged damage) = ⊥
+IsDoneOrMemory _ = ⊥
 
 -- where the reading shows a table, and no count of files or of taken locks rose, the turn is done or wants memory
 abbrev pub TurnsAreDone : Type 0

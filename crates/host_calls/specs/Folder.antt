@@ -74,9 +74,8 @@ MayHold body bytes = MatchBool body.is_synced (IsSameElsewhere body bytes) (leng
 -- what a crash may leave at a name that holds this body, or none
 abbrev pub MayStand : (ℕ → Body) → Option ℕ → Option (List ℕ) → Type 0
 MayStand body None None = Unit {0}
-MayStand body None (Some bytes) = ⊥
-MayStand body (Some number) None = ⊥
 MayStand body (Some number) (Some bytes) = MayHold (body number) bytes
+MayStand body _ _ = ⊥
 
 -- The files are an image of the folder: a crash may leave them.
 pub record IsImage (folder : Folder) (image : Files) : Type 0 where

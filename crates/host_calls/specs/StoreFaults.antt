@@ -4,7 +4,7 @@ use Rattle.host_calls.specs.declared.damage.Damage.{Damage}
 use Rattle.host_calls.specs.declared.fault.HostFault.{HostFault}
 use Rattle.host_calls.specs.declared.fault.HostFault.TheVariants.{Failed as HostFailed, Memory as HostMemory}
 use Rattle.host_calls.specs.declared.store_fault.StoreFault.{StoreFault}
-use Rattle.host_calls.specs.declared.store_fault.StoreFault.TheVariants.{Damaged, FileFault, Memory, NumbersUsedUp, QueueFull}
+use Rattle.host_calls.specs.declared.store_fault.StoreFault.TheVariants.{Damaged, FileFault, Memory}
 
 -- a fault of the host, as this one
 abbrev pub fault_of : HostFault → StoreFault
@@ -16,21 +16,16 @@ abbrev pub IsOfReading : StoreFault → Type 0
 IsOfReading (Damaged damage) = Unit {0}
 IsOfReading Memory = Unit {0}
 IsOfReading FileFault = Unit {0}
-IsOfReading QueueFull = ⊥
-IsOfReading NumbersUsedUp = ⊥
+IsOfReading _ = ⊥
 
 -- the fault is this damage, which was found, or want of memory
 abbrev pub IsFound : Option Damage → StoreFault → Type 0
 IsFound found (Damaged damage) = found ≡ Some damage
 IsFound found Memory = Unit {0}
-IsFound found FileFault = ⊥
-IsFound found QueueFull = ⊥
-IsFound found NumbersUsedUp = ⊥
+IsFound found _ = ⊥
 
 -- the fault is one of a call that makes one step: of a file, or want of memory
 abbrev pub IsOfStep : StoreFault → Type 0
 IsOfStep FileFault = Unit {0}
 IsOfStep Memory = Unit {0}
-IsOfStep (Damaged damage) = ⊥
-IsOfStep QueueFull = ⊥
-IsOfStep NumbersUsedUp = ⊥
+IsOfStep _ = ⊥

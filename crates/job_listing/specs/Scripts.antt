@@ -4,7 +4,7 @@ use Rattle.host_calls.specs.Causes.{Rose}
 use Rattle.host_calls.specs.World.{World}
 use Rattle.step_runs.specs.Current.{IsCurrent, Kept}
 use Rattle.listing_text.specs.declared.cause.Cause.{Cause}
-use Rattle.listing_text.specs.declared.cause.Cause.TheVariants.{Done, Refused, FileFault, InputFault, OutputFault, Busy, Memory, Damaged, StillRunning, Faulty}
+use Rattle.listing_text.specs.declared.cause.Cause.TheVariants.{FileFault, OutputFault, Memory}
 use Rattle.spool_model.specs.JobTable.{JobTable}
 use Rattle.cause_output.specs.declared.command_error.CommandError.{CommandError}
 use Rattle.cause_output.specs.Causes.{error_of}
@@ -16,13 +16,7 @@ abbrev pub IsOfShowing : Cause → Type 0
 IsOfShowing FileFault = Unit {0}
 IsOfShowing OutputFault = Unit {0}
 IsOfShowing Memory = Unit {0}
-IsOfShowing Done = ⊥
-IsOfShowing (Refused refusal) = ⊥
-IsOfShowing InputFault = ⊥
-IsOfShowing Busy = ⊥
-IsOfShowing (Damaged damage) = ⊥
-IsOfShowing StillRunning = ⊥
-IsOfShowing Faulty = ⊥
+IsOfShowing _ = ⊥
 
 -- the call was stopped by one of these
 abbrev pub ComesOfShowing : CommandError → Type 0

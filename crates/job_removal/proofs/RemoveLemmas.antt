@@ -52,9 +52,7 @@ module _ {tells : Bool} (known : tells ≡ true) (table : JobTable) (numbers : L
   stopped : (new : World) (fault : StoreFault) → IsOfStep fault → Runs table (removal table numbers) old new → Works (AreRemoval numbers) table old new (cause_of fault)
   stopped new store.FileFault of_step run = inr (record { steps = removal table numbers; are = refl; legal = legal; run = run })
   stopped new store.Memory of_step run = inr (record { steps = removal table numbers; are = refl; legal = legal; run = run })
-  stopped new (store.Damaged damage) of_step run = absurd of_step
-  stopped new store.QueueFull of_step run = absurd of_step
-  stopped new store.NumbersUsedUp of_step run = absurd of_step
+  stopped new _ of_step run = absurd of_step
 
   module _ {before between : Session} {middle : World} {made : ℕ} {steps : List Step} (are : steps ≡ removes numbers) where
     -- at a removal

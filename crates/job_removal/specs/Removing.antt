@@ -1,7 +1,7 @@
 -- The steps of a removal, and why it may stop (own).
 use Rattle.std.specs.Prelude.{◌≡◌, ℕ, List}
 use Rattle.listing_text.specs.declared.cause.Cause.{Cause}
-use Rattle.listing_text.specs.declared.cause.Cause.TheVariants.{Done, Refused, FileFault, InputFault, OutputFault, Busy, Memory, Damaged, StillRunning, Faulty}
+use Rattle.listing_text.specs.declared.cause.Cause.TheVariants.{FileFault, Memory}
 use Rattle.spool_model.specs.declared.step.Step.{Step}
 use Rattle.spool_model.specs.JobTable.{JobTable}
 use Rattle.cause_output.specs.declared.command_error.CommandError.{CommandError}
@@ -15,14 +15,7 @@ AreRemoval numbers table steps = steps ≡ removal table numbers
 abbrev pub IsOfWork : Cause → Type 0
 IsOfWork FileFault = Unit {0}
 IsOfWork Memory = Unit {0}
-IsOfWork Done = ⊥
-IsOfWork (Refused refusal) = ⊥
-IsOfWork InputFault = ⊥
-IsOfWork OutputFault = ⊥
-IsOfWork Busy = ⊥
-IsOfWork (Damaged damage) = ⊥
-IsOfWork StillRunning = ⊥
-IsOfWork Faulty = ⊥
+IsOfWork _ = ⊥
 
 -- the command was stopped by one of these
 abbrev pub ComesOfRemoving : CommandError → Type 0

@@ -56,8 +56,7 @@ Checked context (Err BadDirectory) = IsUserName context.user × ¬ IsDirectory c
 Checked context (Err EnvironmentTooLarge) =
     IsUserName context.user × IsDirectory context.directory
     × (MAX_ENVIRONMENT < lines_length context.environment)
-Checked context (Err TooLong) = ⊥
-Checked context (Err Memory) = ⊥
+Checked context _ = ⊥
 
 -- the first fault of the context, and then that of the commands; want of memory alone is free
 abbrev pub Written : {T : Type 0} → Context → List ℕ → Result T ScriptFault → Type 0

@@ -91,10 +91,8 @@ effect_does_one_thing acknowledged AreSteps (Whole table steps) each is = each t
 effect_does_one_thing acknowledged AreSteps (Crashed image) each is = absurd is
 
 crash_does_one_thing : (effect : Effect) → IsCrash effect → DoOneThing (steps_begun effect)
-crash_does_one_thing Untouched is = absurd is
-crash_does_one_thing (Partial table steps) is = absurd is
-crash_does_one_thing (Whole table steps) is = absurd is
 crash_does_one_thing (Crashed image) is = inl tt
+crash_does_one_thing _ is = absurd is
 
 outcome_does_one_thing : (event : Event) (report : EventReport) (old : Machine) (effect : Effect) →
     IsEventEffect event report old effect → DoOneThing (steps_begun effect)

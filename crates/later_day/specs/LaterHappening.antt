@@ -71,9 +71,4 @@ LaterHappens (Day event) (known.Day report) old new = HappensOnDay event report 
 LaterHappens Post (known.Post report) old new = IsSessionOfMail report old new
 LaterHappens (Cron context zone entries now) (known.Cron report) old new =
     IsSessionOfCron (cron_of context zone entries now) report old new
-LaterHappens (Day event) (known.Post report) old new = ⊥
-LaterHappens (Day event) (known.Cron report) old new = ⊥
-LaterHappens Post (known.Day report) old new = ⊥
-LaterHappens Post (known.Cron report) old new = ⊥
-LaterHappens (Cron context zone entries now) (known.Day report) old new = ⊥
-LaterHappens (Cron context zone entries now) (known.Post report) old new = ⊥
+LaterHappens _ _ old new = ⊥

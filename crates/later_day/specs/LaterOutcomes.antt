@@ -25,12 +25,7 @@ IsLaterEffect (Day event) (known.Day report) old effect = IsOfTable (IsEventEffe
 IsLaterEffect Post (known.Post report) old effect = effect ≡ Beside
 IsLaterEffect (Cron context zone entries now) (known.Cron report) old effect =
     IsOfTable (IsCronEffect (cron_of context zone entries now) report.end report.numbers (reading (later_spool old))) effect
-IsLaterEffect (Day event) (known.Post report) old effect = ⊥
-IsLaterEffect (Day event) (known.Cron report) old effect = ⊥
-IsLaterEffect Post (known.Day report) old effect = ⊥
-IsLaterEffect Post (known.Cron report) old effect = ⊥
-IsLaterEffect (Cron context zone entries now) (known.Day report) old effect = ⊥
-IsLaterEffect (Cron context zone entries now) (known.Post report) old effect = ⊥
+IsLaterEffect _ _ old effect = ⊥
 
 -- an event, its entry, what it did to the spool, and the machine that it left
 pub record LaterOutcome : Type 0 where

@@ -11,17 +11,14 @@ use Rattle.step_runs.specs.Current.{EachShows}
 use Rattle.later_day.specs.declared.entry.LaterEntry.{LaterEntry}
 use Rattle.later_day.specs.declared.entry.LaterEntry.TheVariants as known
 use Rattle.later_day.specs.declared.later.Later.{Later}
-use Rattle.later_day.specs.declared.later.Later.TheVariants.{Day, Post, Cron}
+use Rattle.later_day.specs.declared.later.Later.TheVariants.{Cron}
 use Rattle.later_day.specs.LaterMachines.{LaterMachine, later_spool}
 use Rattle.later_day.specs.LaterOutcomes.{LaterOutcome, later_machine_after, later_passed_of}
 
 -- a session of a crontab at the minute accepted a job
 abbrev pub HasAcceptedAt : ℕ → Later → LaterEntry → Type 0
 HasAcceptedAt minute (Cron context zone entries now) (known.Cron report) = (minute_at now ≡ minute) × (report.numbers ≢ [])
-HasAcceptedAt minute (Cron context zone entries now) (known.Day report) = ⊥
-HasAcceptedAt minute (Cron context zone entries now) (known.Post report) = ⊥
-HasAcceptedAt minute (Day event) entry = ⊥
-HasAcceptedAt minute Post entry = ⊥
+HasAcceptedAt minute _ _ = ⊥
 
 -- there is no minute at which both are such sessions
 abbrev pub HaveAcceptedApart : LaterOutcome → LaterOutcome → Type 0

@@ -81,8 +81,7 @@ shown_by_fault : (of : StoreFault) (old new : World) → ((damage : Damage) → 
 shown_by_fault FileFault old new untouched reads recovered = recovered
 shown_by_fault Memory old new untouched reads recovered = recovered
 shown_by_fault (Damaged damage) old new untouched reads recovered = ap shown_by (untouched damage refl)
-shown_by_fault QueueFull old new untouched reads recovered = absurd reads
-shown_by_fault NumbersUsedUp old new untouched reads recovered = absurd reads
+shown_by_fault _ old new untouched reads recovered = absurd reads
 
 damage_by_fault : (of : StoreFault) (old new : World) → Recovered old.now.folder new.now.folder (Err of) → IfDamageOf old of
 damage_by_fault FileFault old new recovered = tt

@@ -89,8 +89,7 @@ module _ (tells : Bool) (before after : Session) (old new : World) (program : Li
   leaves_idle fault.FileFault reads is = inl (idle fault.FileFault is)
   leaves_idle fault.Memory reads is = inl (idle fault.Memory is)
   leaves_idle (fault.Damaged damage) reads is = (idle (fault.Damaged damage) is, recoveries_begin_nothing old new is.changes, is.damaged)
-  leaves_idle fault.QueueFull reads is = absurd reads
-  leaves_idle fault.NumbersUsedUp reads is = absurd reads
+  leaves_idle _ reads is = absurd reads
 
   pub works_idle : (of : StoreFault) (result : Result (Unit {0}) StoreFault) → IsErrAnd result (λ other. other ≡ of) → CallsInside {T = MailPlan} fault.FileFault before after (Err of) → IsOfReading of →
       (tells ≡ true → IsUnplanned old new of) → Works tells (stand before old program kids) (stand after new program kids) sent result

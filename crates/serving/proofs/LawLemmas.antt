@@ -7,7 +7,7 @@ use Rattle.listing_text.specs.declared.cause.Cause.{Cause}
 use Rattle.cause_output.specs.Sinks.{SinkAt}
 use Rattle.daemon_turn.specs.declared.kid.Kid.{Kid}
 use Rattle.host_session.specs.declared.turn_end.TurnEnd.{TurnEnd}
-use Rattle.host_session.specs.declared.turn_end.TurnEnd.TheVariants.{Done, Busy, FileFault, Damaged, Memory}
+use Rattle.host_session.specs.declared.turn_end.TurnEnd.TheVariants.{Done, Memory}
 use Rattle.daemon_turn.specs.Laws.{IsDoneOrMemory}
 use Rattle.step_runs.specs.Good.{IsGood}
 use Rattle.daemon_turn.specs.Leaving.{DaemonAt}
@@ -87,9 +87,7 @@ kids_well (kid ∷ kids) output_failed unfailed = tt
 end_well : (end : TurnEnd) (other : Outcome) → IsDoneOrMemory end → IsWellFor other → IsWellFor (end_outcome end other)
 end_well Done other well rest = rest
 end_well Memory other well rest = tt
-end_well Busy other well rest = absurd well
-end_well FileFault other well rest = absurd well
-end_well (Damaged damage) other well rest = absurd well
+end_well _ other well rest = absurd well
 
 turns_well : (once : Bool) (items : List Item) (kids : List Kid) (output_failed : Bool) → AreWell items → ¬ (output_failed ≡ true) → IsWellFor (turns_outcome once (first_end items) kids output_failed)
 turns_well true [] kids output_failed well unfailed = kids_well kids output_failed unfailed
@@ -99,9 +97,7 @@ turns_well false items kids output_failed well unfailed = kids_well [] output_fa
 damage_well : (end : TurnEnd) (other : Outcome) → IsDoneOrMemory end → IsWellFor other → IsWellFor (damage_outcome end other)
 damage_well Done other well rest = rest
 damage_well Memory other well rest = rest
-damage_well Busy other well rest = absurd well
-damage_well FileFault other well rest = absurd well
-damage_well (Damaged damage) other well rest = absurd well
+damage_well _ other well rest = absurd well
 
 last_well : (items : List Item) (other : Outcome) → AreWell items → IsWellFor other → IsWellFor (last_outcome (last_item items) other)
 last_well [] other well rest = rest

@@ -6,7 +6,7 @@ use Rattle.host_calls.specs.Causes.{Rose}
 use Rattle.host_calls.specs.Clock.{Answers, with_now}
 use Rattle.host_calls.specs.World.{reading}
 use Rattle.listing_text.specs.declared.cause.Cause.{Cause}
-use Rattle.listing_text.specs.declared.cause.Cause.TheVariants.{Done, Refused, FileFault, InputFault, OutputFault, Busy, Memory, Damaged, StillRunning, Faulty}
+use Rattle.listing_text.specs.declared.cause.Cause.TheVariants.{Done, Memory, StillRunning}
 use Rattle.cause_output.specs.Sinks.{SinkAt}
 use Rattle.step_runs.specs.Good.{IsGood}
 use Rattle.serving.specs.Serves.{ServeAt, ServeTelling}
@@ -16,14 +16,8 @@ use Rattle.serving.specs.Serving.{Serving}
 abbrev pub IsServedWell : Cause → Type 0
 IsServedWell Done = Unit {0}
 IsServedWell StillRunning = Unit {0}
-IsServedWell Faulty = ⊥
 IsServedWell Memory = Unit {0}
-IsServedWell (Refused refusal) = ⊥
-IsServedWell FileFault = ⊥
-IsServedWell InputFault = ⊥
-IsServedWell OutputFault = ⊥
-IsServedWell Busy = ⊥
-IsServedWell (Damaged damage) = ⊥
+IsServedWell _ = ⊥
 
 -- the last answer of the clock is in its range
 abbrev pub IsLastInRange : Answers → Type 0

@@ -18,7 +18,7 @@ use Rattle.host_calls.specs.declared.fault.HostFault.TheVariants as host
 use Rattle.host_calls.specs.Folder.{Files, IsImage}
 use Rattle.host_calls.specs.World.{GoesOn, World, reading}
 use Rattle.listing_text.specs.declared.cause.Cause.{Cause}
-use Rattle.listing_text.specs.declared.cause.Cause.TheVariants.{Done, Refused, FileFault, InputFault, OutputFault, Busy, Memory, Damaged, StillRunning, Faulty}
+use Rattle.listing_text.specs.declared.cause.Cause.TheVariants.{Done, Refused, FileFault, OutputFault, Busy, Memory}
 use Rattle.listing_text.specs.declared.refusal.Refusal.TheVariants.{TargetNotEmpty}
 use Rattle.spool_faults.specs.Faults.{faults_of}
 use Rattle.spool_faults.specs.Listed.{LeavesFolder}
@@ -90,25 +90,12 @@ looking_writes : (files : Files) (world : World) (cause : Cause) → IsOfLooking
 looking_writes files world FileFault of = tt
 looking_writes files world Busy of = refl
 looking_writes files world Memory of = tt
-looking_writes files world Done of = absurd of
-looking_writes files world (Refused refusal) of = absurd of
-looking_writes files world InputFault of = absurd of
-looking_writes files world OutputFault of = absurd of
-looking_writes files world (Damaged damage) of = absurd of
-looking_writes files world StillRunning of = absurd of
-looking_writes files world Faulty of = absurd of
+looking_writes files world _ of = absurd of
 
 telling_writes : (files : Files) (world : World) (cause : Cause) → IsOfTelling cause → WritesBy cause files world world
 telling_writes files world OutputFault of = refl
 telling_writes files world Memory of = tt
-telling_writes files world FileFault of = absurd of
-telling_writes files world Busy of = absurd of
-telling_writes files world Done of = absurd of
-telling_writes files world (Refused refusal) of = absurd of
-telling_writes files world InputFault of = absurd of
-telling_writes files world (Damaged damage) of = absurd of
-telling_writes files world StillRunning of = absurd of
-telling_writes files world Faulty of = absurd of
+telling_writes files world _ of = absurd of
 
 pub stopped_looking : (files : Files) (to : FolderAt) (cause : Cause) → IsOfLooking cause → Writes files to to cause
 stopped_looking files to cause of = writes_none files to cause (looking_writes files to.world cause of)
@@ -162,37 +149,19 @@ pub looking_finds : (faults : List Damage) (cause : Cause) → IsOfLooking cause
 looking_finds faults FileFault of = tt
 looking_finds faults Busy of = tt
 looking_finds faults Memory of = tt
-looking_finds faults Done of = absurd of
-looking_finds faults (Refused refusal) of = absurd of
-looking_finds faults InputFault of = absurd of
-looking_finds faults OutputFault of = absurd of
-looking_finds faults (Damaged damage) of = absurd of
-looking_finds faults StillRunning of = absurd of
-looking_finds faults Faulty of = absurd of
+looking_finds faults _ of = absurd of
 
 pub telling_finds : (faults : List Damage) (cause : Cause) → IsOfTelling cause → FindsBy cause faults
 telling_finds faults OutputFault of = tt
 telling_finds faults Memory of = tt
-telling_finds faults FileFault of = absurd of
-telling_finds faults Busy of = absurd of
-telling_finds faults Done of = absurd of
-telling_finds faults (Refused refusal) of = absurd of
-telling_finds faults InputFault of = absurd of
-telling_finds faults (Damaged damage) of = absurd of
-telling_finds faults StillRunning of = absurd of
-telling_finds faults Faulty of = absurd of
+telling_finds faults _ of = absurd of
 
 pub saving_finds : (faults : List Damage) (cause : Cause) → IsOfSaving cause → FindsBy cause faults
 saving_finds faults FileFault of = tt
 saving_finds faults Busy of = tt
 saving_finds faults Memory of = tt
 saving_finds faults (Refused refusal) of = tt
-saving_finds faults Done of = absurd of
-saving_finds faults InputFault of = absurd of
-saving_finds faults OutputFault of = absurd of
-saving_finds faults (Damaged damage) of = absurd of
-saving_finds faults StillRunning of = absurd of
-saving_finds faults Faulty of = absurd of
+saving_finds faults _ of = absurd of
 
 -- What is put.
 
@@ -203,25 +172,14 @@ pub looking_prints : (lines : List ℕ) (at : SinkAt) (cause : Cause) → IsOfLo
 looking_prints lines at FileFault of = silent_part lines at
 looking_prints lines at Busy of = silent_part lines at
 looking_prints lines at Memory of = silent_part lines at
-looking_prints lines at Done of = absurd of
-looking_prints lines at (Refused refusal) of = absurd of
-looking_prints lines at InputFault of = absurd of
-looking_prints lines at OutputFault of = absurd of
-looking_prints lines at (Damaged damage) of = absurd of
-looking_prints lines at StillRunning of = absurd of
-looking_prints lines at Faulty of = absurd of
+looking_prints lines at _ of = absurd of
 
 saving_prints : (lines : List ℕ) (old new : SinkAt) (cause : Cause) → IsOfSaving cause → IsPut lines old new → PrintsBy cause lines old new
 saving_prints lines old new FileFault of put = part_of_put lines old new put
 saving_prints lines old new Busy of put = part_of_put lines old new put
 saving_prints lines old new Memory of put = part_of_put lines old new put
 saving_prints lines old new (Refused refusal) of put = put
-saving_prints lines old new Done of put = absurd of
-saving_prints lines old new InputFault of put = absurd of
-saving_prints lines old new OutputFault of put = absurd of
-saving_prints lines old new (Damaged damage) of put = absurd of
-saving_prints lines old new StillRunning of put = absurd of
-saving_prints lines old new Faulty of put = absurd of
+saving_prints lines old new _ of put = absurd of
 
 told_all : (faults : List Damage) (lines : List ℕ) (old new : SinkAt) (verdict : Cause) → verdict ≡ verdict_of faults → PrintsBy verdict lines old new → IsPut lines old new
 told_all [] lines old new verdict is prints = subst (λ (of : Cause). PrintsBy of lines old new) is prints
@@ -347,26 +305,12 @@ listed tells first last to list was is (Err stopped) leaves same told = tell_sto
 telling_no_file : (cause : Cause) → IsOfTelling cause → ¬ (cause ≡ FileFault)
 telling_no_file OutputFault of = λ is. cc
 telling_no_file Memory of = λ is. cc
-telling_no_file FileFault of = absurd of
-telling_no_file Busy of = absurd of
-telling_no_file Done of = absurd of
-telling_no_file (Refused refusal) of = absurd of
-telling_no_file InputFault of = absurd of
-telling_no_file (Damaged damage) of = absurd of
-telling_no_file StillRunning of = absurd of
-telling_no_file Faulty of = absurd of
+telling_no_file _ of = absurd of
 
 telling_no_lock : (cause : Cause) → IsOfTelling cause → ¬ (cause ≡ Busy)
 telling_no_lock OutputFault of = λ is. cc
 telling_no_lock Memory of = λ is. cc
-telling_no_lock FileFault of = absurd of
-telling_no_lock Busy of = absurd of
-telling_no_lock Done of = absurd of
-telling_no_lock (Refused refusal) of = absurd of
-telling_no_lock InputFault of = absurd of
-telling_no_lock (Damaged damage) of = absurd of
-telling_no_lock StillRunning of = absurd of
-telling_no_lock Faulty of = absurd of
+telling_no_lock _ of = absurd of
 
 verdict_no_fault : (faults : List Damage) → ¬ (verdict_of faults ≡ FileFault) × ¬ (verdict_of faults ≡ Busy)
 verdict_no_fault [] = (λ is. cc, λ is. cc)

@@ -8,7 +8,7 @@ use Rattle.host_calls.specs.declared.damage.Damage.{Damage}
 use Rattle.host_calls.specs.Folder.{Files}
 use Rattle.host_calls.specs.World.{World, reading}
 use Rattle.listing_text.specs.declared.cause.Cause.{Cause}
-use Rattle.listing_text.specs.declared.cause.Cause.TheVariants.{Done, Refused, FileFault, InputFault, OutputFault, Busy, Memory, Damaged, StillRunning, Faulty}
+use Rattle.listing_text.specs.declared.cause.Cause.TheVariants.{Done, Refused, FileFault, OutputFault, Busy, Memory, Faulty}
 use Rattle.listing_text.specs.declared.refusal.Refusal.{Refusal}
 use Rattle.listing_text.specs.declared.refusal.Refusal.TheVariants.{TargetNotEmpty}
 use Rattle.spool_faults.specs.Faults.{faults_of}
@@ -27,9 +27,7 @@ PrintsBy OutputFault lines old new = IsCut lines old new
 PrintsBy FileFault lines old new = IsPutInPart lines old new
 PrintsBy Busy lines old new = IsPutInPart lines old new
 PrintsBy Memory lines old new = IsPutInPart lines old new
-PrintsBy InputFault lines old new = ⊥
-PrintsBy (Damaged damage) lines old new = ⊥
-PrintsBy StillRunning lines old new = ⊥
+PrintsBy _ lines old new = ⊥
 
 -- where all was done there is a fault, or there is none
 abbrev pub FindsBy : Cause → List Damage → Type 0
@@ -56,9 +54,7 @@ WritesBy OutputFault files first last = last ≡ first
 WritesBy Busy files first last = last ≡ first
 WritesBy FileFault files first last = Unit {0}
 WritesBy Memory files first last = Unit {0}
-WritesBy InputFault files first last = ⊥
-WritesBy (Damaged damage) files first last = ⊥
-WritesBy StillRunning files first last = ⊥
+WritesBy _ files first last = ⊥
 
 -- The new folder was visited. At each moment an image is one of the visit's start, or shows no job, or the table that is
 -- saved of the files.

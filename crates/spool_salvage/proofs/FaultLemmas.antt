@@ -9,26 +9,22 @@ use Rattle.spool_salvage.specs.declared.fault.SalvageFault.TheVariants.{FromFail
 pub source_not_target : (fault : SalvageFault) → IsOfSource fault → ¬ (fault ≡ ToFailed)
 source_not_target FromFailed of = λ is. cc
 source_not_target Memory of = λ is. cc
-source_not_target ToFailed of = absurd of
-source_not_target NotEmpty of = absurd of
+source_not_target _ of = absurd of
 
 pub source_not_empty : (fault : SalvageFault) → IsOfSource fault → ¬ (fault ≡ NotEmpty)
 source_not_empty FromFailed of = λ is. cc
 source_not_empty Memory of = λ is. cc
-source_not_empty ToFailed of = absurd of
-source_not_empty NotEmpty of = absurd of
+source_not_empty _ of = absurd of
 
 pub target_not_source : (fault : SalvageFault) → IsOfTarget fault → ¬ (fault ≡ FromFailed)
 target_not_source ToFailed of = λ is. cc
 target_not_source Memory of = λ is. cc
-target_not_source FromFailed of = absurd of
-target_not_source NotEmpty of = absurd of
+target_not_source _ of = absurd of
 
 pub target_not_empty : (fault : SalvageFault) → IsOfTarget fault → ¬ (fault ≡ NotEmpty)
 target_not_empty ToFailed of = λ is. cc
 target_not_empty Memory of = λ is. cc
-target_not_empty FromFailed of = absurd of
-target_not_empty NotEmpty of = absurd of
+target_not_empty _ of = absurd of
 
 module _ {T : Type 0} where
   -- an answer that is a fault is no other fault

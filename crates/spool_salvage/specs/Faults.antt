@@ -2,7 +2,7 @@
 use Rattle.host_calls.specs.declared.fault.HostFault.{HostFault}
 use Rattle.host_calls.specs.declared.fault.HostFault.TheVariants.{Failed, Memory as NoMemory}
 use Rattle.spool_salvage.specs.declared.fault.SalvageFault.{SalvageFault}
-use Rattle.spool_salvage.specs.declared.fault.SalvageFault.TheVariants.{FromFailed, ToFailed, NotEmpty, Memory}
+use Rattle.spool_salvage.specs.declared.fault.SalvageFault.TheVariants.{FromFailed, ToFailed, Memory}
 
 -- a fault of the folder that is salvaged
 abbrev pub of_source : HostFault → SalvageFault
@@ -18,12 +18,10 @@ of_target NoMemory = Memory
 abbrev pub IsOfSource : SalvageFault → Type 0
 IsOfSource FromFailed = Unit {0}
 IsOfSource Memory = Unit {0}
-IsOfSource ToFailed = ⊥
-IsOfSource NotEmpty = ⊥
+IsOfSource _ = ⊥
 
 -- a fault that a call on the new folder may have
 abbrev pub IsOfTarget : SalvageFault → Type 0
 IsOfTarget ToFailed = Unit {0}
 IsOfTarget Memory = Unit {0}
-IsOfTarget FromFailed = ⊥
-IsOfTarget NotEmpty = ⊥
+IsOfTarget _ = ⊥

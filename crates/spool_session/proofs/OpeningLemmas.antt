@@ -43,8 +43,7 @@ module _ (tells : Bool) (user : List ℕ) (allow deny : Option (List ℕ)) (old 
         unbegun = recoveries_begin_nothing old new (changed known);
         same = untouched known damage refl ∙ ap reading (looks known);
       })
-  unrecovered store.QueueFull of_reading recovered untouched = absurd of_reading
-  unrecovered store.NumbersUsedUp of_reading recovered untouched = absurd of_reading
+  unrecovered _ of_reading recovered untouched = absurd of_reading
 
 -- the store was recovered: its table is the one that the reading showed, or, where no files are told, the one that is kept
 pub store_opened : (tells : Bool) (user : List ℕ) (allow deny : Option (List ℕ)) (old middle new : World) (kept : Kept) →

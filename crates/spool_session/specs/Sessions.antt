@@ -9,7 +9,7 @@ use Rattle.host_calls.specs.Session.{CallsInside, IsInside, IsLeft}
 use Rattle.host_calls.specs.World.{GoesOn}
 use Rattle.host_session.specs.Work.{Calls, IsDoneInside, IsUndone}
 use Rattle.listing_text.specs.declared.cause.Cause.{Cause}
-use Rattle.listing_text.specs.declared.cause.Cause.TheVariants.{Done, Refused, FileFault, InputFault, OutputFault, Busy, Memory, Damaged, StillRunning, Faulty}
+use Rattle.listing_text.specs.declared.cause.Cause.TheVariants.{Refused, FileFault, OutputFault, Busy, Memory, Damaged}
 use Rattle.cause_output.specs.Causes.{cause_of_entry, error_of}
 use Rattle.command_rules.specs.Checks.{check_of, is_before, of_lock}
 use Rattle.command_rules.specs.Ends.{StopsBeforeLock}
@@ -22,11 +22,7 @@ IsOfSession OutputFault = Unit {0}
 IsOfSession Memory = Unit {0}
 IsOfSession (Refused refusal) = is_before of_lock (check_of refusal) ≡ true
 IsOfSession (Damaged damage) = Unit {0}
-IsOfSession Done = ⊥
-IsOfSession InputFault = ⊥
-IsOfSession Busy = ⊥
-IsOfSession StillRunning = ⊥
-IsOfSession Faulty = ⊥
+IsOfSession _ = ⊥
 
 -- the command was stopped by one of these
 abbrev pub ComesOfSession : CommandError → Type 0

@@ -5,7 +5,7 @@ use Rattle.spool_model.specs.JobTable.{JobEntry}
 use Rattle.start_journal.specs.declared.mark.Mark.{Mark}
 use Rattle.start_journal.specs.declared.mark.Mark.TheVariants.{Removed, Started, Ended, Interrupted, Forgotten, Batch}
 use Rattle.start_journal.specs.declared.stage.Stage.{Stage}
-use Rattle.start_journal.specs.declared.stage.Stage.TheVariants.{Fresh, Open, Closed, Gone}
+use Rattle.start_journal.specs.declared.stage.Stage.TheVariants.{Fresh, Closed, Gone}
 use Rattle.start_journal.specs.Marks.{AreLegal, decides, marks_of, names}
 use Rattle.start_journal.specs.Stages.{GoThrough, allows, stage_after}
 use Rattle.start_journal.proofs.LifeLemmas.{numbers_live_once}
@@ -16,10 +16,9 @@ use Rattle.spool_shows.proofs.Membership.{Has, has_filtered}
 
 -- the number is decided at this stage
 abbrev IsOver : Stage → Type 0
-IsOver Fresh = ⊥
-IsOver Open = ⊥
 IsOver Closed = Unit {0}
 IsOver Gone = Unit {0}
+IsOver _ = ⊥
 
 -- a mark that decides brings its number there
 brings : (number : ℕ) (stage : Stage) (mark : Mark) → decides number mark ≡ true → IsOver (stage_after stage mark)
@@ -36,8 +35,6 @@ record Goes (number : ℕ) (stage : Stage) (mark : Mark) : Type 0 where
   over : IsOver (stage_after stage mark)
 
 goes_on : (number : ℕ) (stage : Stage) (mark : Mark) → IsOver stage → IsTrue (allows stage mark) → Goes number stage mark
-goes_on number Fresh mark over may = absurd over
-goes_on number Open mark over may = absurd over
 goes_on number Closed (Forgotten of) over may = record { silent = refl; over = tt }
 goes_on number Closed (Batch second) over may = record { silent = refl; over = tt }
 goes_on number Closed (Removed of) over may = let impossible : false ≡ true = may in cc
@@ -50,6 +47,7 @@ goes_on number Gone (Removed of) over may = let impossible : false ≡ true = ma
 goes_on number Gone (Started of queue second) over may = let impossible : false ≡ true = may in cc
 goes_on number Gone (Ended of ending) over may = let impossible : false ≡ true = may in cc
 goes_on number Gone (Interrupted of) over may = let impossible : false ≡ true = may in cc
+goes_on number _ mark over may = absurd over
 
 none_decides : (number : ℕ) (stage : Stage) (list : List Mark) (mark : Mark) → IsOver stage → GoThrough stage list → Has list mark → decides number mark ≡ true → ⊥
 none_decides number stage [] mark over through has is = has

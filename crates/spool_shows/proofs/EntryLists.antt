@@ -25,8 +25,7 @@ right false b is = absurd is
 
 less : (order : Ordering) → T (is_lt order) → order ≡ Less
 less Less is = refl
-less Equal is = absurd is
-less Greater is = absurd is
+less _ is = absurd is
 
 equal : (order : Ordering) → is_eq order ≡ true → order ≡ Equal
 equal Less is = let impossible : false ≡ true = is in cc

@@ -4,7 +4,7 @@ use Rattle.std.specs.Prelude.{◌||◌, is_some}
 use Rattle.host_calls.specs.Folder.{Files}
 use Rattle.spool_model.specs.declared.state.State.TheVariants.{Pending, Running}
 use Rattle.spool_model.specs.declared.step.Step.{Step}
-use Rattle.spool_model.specs.declared.step.Step.TheVariants.{Draw, Accept, Remove, Start, End, Interrupt, Forget}
+use Rattle.spool_model.specs.declared.step.Step.TheVariants.{Remove, Start, End, Interrupt, Forget}
 use Rattle.spool_model.specs.JobTable.{IsDone, IsPending, IsRunning, JobTable}
 use Rattle.spool_model.specs.Steps.{IsLegal}
 use Rattle.start_journal.specs.declared.mark.Mark.{Mark}
@@ -50,13 +50,12 @@ done_decided files table number shows (fate, is) =
     (done.decided, done.remembered)
 
 legal_here : (files : Files) (table : JobTable) (step : Step) (added : Mark) (shows : ShowsByName files table) → IsLegal table step → AddsMark table step added → IsLegalAfter shows.read.marks added
-legal_here files table Draw added shows legal adds = absurd adds
-legal_here files table (Accept number job) added shows legal adds = absurd adds
 legal_here files table (Remove number) added shows legal adds = subst (IsLegalAfter shows.read.marks) (sym adds) (pending_unnamed files table number shows legal)
 legal_here files table (Start number second) added shows legal (job, is, adds) = subst (IsLegalAfter shows.read.marks) (sym adds) (pending_unnamed files table number shows legal)
 legal_here files table (End number ending) added shows legal adds = subst (IsLegalAfter shows.read.marks) (sym adds) (running_started files table number shows legal)
 legal_here files table (Interrupt number) added shows legal adds = subst (IsLegalAfter shows.read.marks) (sym adds) (running_started files table number shows legal)
 legal_here files table (Forget number) added shows legal adds = subst (IsLegalAfter shows.read.marks) (sym adds) (done_decided files table number shows legal)
+legal_here files table _ added shows legal adds = absurd adds
 
 pub legal_marks_by_name : (files : Files) (table : JobTable) (step : Step) (added : Mark) (marks : List Mark) → ShowsByName files table → HasMarks files marks → IsLegal table step → AddsMark table step added → IsLegalAfter marks added
 legal_marks_by_name files table step added marks shows had legal adds =

@@ -11,7 +11,7 @@ use Rattle.spool_model.specs.declared.fate.Fate.TheVariants as fate
 use Rattle.spool_model.specs.declared.job.Job.{Job}
 use Rattle.spool_model.specs.declared.state.State.TheVariants.{Pending, Running}
 use Rattle.spool_model.specs.declared.step.Step.{Step}
-use Rattle.spool_model.specs.declared.step.Step.TheVariants.{Draw, Accept, Remove, Start, End, Interrupt, Forget}
+use Rattle.spool_model.specs.declared.step.Step.TheVariants.{Remove, Start, End, Interrupt, Forget}
 use Rattle.spool_model.specs.JobTable.{IsDone, JobEntries, JobState, JobTable, entry_at, is_batch_queue, table_of}
 use Rattle.spool_model.specs.Steps.{IsLegal, after_step, is_batch_entry, with_state}
 use Rattle.spool_model.proofs.TableLemmas.{get-put_other, get-put_same, get-taken_other, get-taken_same}
@@ -147,8 +147,6 @@ start_shown before after table number second job shows is marked =
 -- All five.
 
 pub marked_by_name : (before after : Files) (table : JobTable) (step : Step) (added : Mark) → ShowsByName before table → IsLegal table step → AddsMark table step added → HasMarked table added before after → ShowsByName after (after_step table step)
-marked_by_name before after table Draw added shows legal adds marked = absurd adds
-marked_by_name before after table (Accept number job) added shows legal adds marked = absurd adds
 marked_by_name before after table (Remove number) added shows (job, is) adds marked =
     decided_step before after table number fate.Removed (mark.Removed number) job Pending shows is (decides_by number fate.Removed) (subst (λ one. HasMarked table one before after) adds marked)
 marked_by_name before after table (Start number second) added shows legal (job, is, adds) marked =
@@ -159,3 +157,4 @@ marked_by_name before after table (Interrupt number) added shows (job, second, i
     decided_step before after table number fate.Interrupted (mark.Interrupted number) job (Running second) shows is (decides_by number fate.Interrupted) (subst (λ one. HasMarked table one before after) adds marked)
 marked_by_name before after table (Forget number) added shows legal adds marked =
     forget_shown before after table number shows legal (subst (λ one. HasMarked table one before after) adds marked)
+marked_by_name before after table _ added shows legal adds marked = absurd adds

@@ -106,14 +106,13 @@ AcceptsAreShown = (before after : Files) (table : JobTable) (job : Job) → Show
 
 -- the mark that a step on a table adds to the journal
 abbrev pub AddsMark : JobTable → Step → Mark → Type 0
-AddsMark table Draw added = ⊥
-AddsMark table (Accept number job) added = ⊥
 AddsMark table (Remove number) added = added ≡ mark.Removed number
 AddsMark table (Start number second) added =
     (job : Job) × (entry_at table number ≡ Some (Live job Pending)) × (added ≡ mark.Started number job.queue second)
 AddsMark table (End number ending) added = added ≡ mark.Ended number ending
 AddsMark table (Interrupt number) added = added ≡ mark.Interrupted number
 AddsMark table (Forget number) added = added ≡ mark.Forgotten number
+AddsMark table _ added = ⊥
 
 -- one mark was added to the journal
 pub record HasMarked (table : JobTable) (added : Mark) (before after : Files) : Type 0 where

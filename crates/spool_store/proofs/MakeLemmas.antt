@@ -7,7 +7,7 @@ use Rattle.host_calls.specs.Session.{CallsInside, IsInside, Session, StaysInside
 use Rattle.host_calls.specs.World.{GoesOn, World}
 use Rattle.host_calls.proofs.WorldLemmas.{leaves_none, leaves_then, leaves_weaker}
 use Rattle.spool_model.specs.declared.step.Step.{Step}
-use Rattle.spool_model.specs.declared.step.Step.TheVariants.{Draw, Accept, Remove, Start, End, Interrupt, Forget}
+use Rattle.spool_model.specs.declared.step.Step.TheVariants.{Remove, End, Interrupt, Forget}
 use Rattle.spool_model.specs.JobTable.{JobTable}
 use Rattle.spool_model.specs.Steps.{AreLegal, IsLegal, after_step, after_steps}
 use Rattle.step_runs.specs.WithoutScripts.{step_without_script}
@@ -26,13 +26,11 @@ use Rattle.spool_store.specs.Stepping.{MakesStep, MayStep}
 
 -- such a step has no script, and starts nothing
 plain : (step : Step) → IsChange step → (step_without_script step ≡ step) × StartNothing (step ∷ [])
-plain Draw change = absurd change
-plain (Accept number job) change = absurd change
 plain (Remove number) change = (refl, tt)
-plain (Start number second) change = absurd change
 plain (End number ending) change = (refl, tt)
 plain (Interrupt number) change = (refl, tt)
 plain (Forget number) change = (refl, tt)
+plain _ change = absurd change
 
 -- steps that are made of a list, each such a one
 pub changes_made : {X : Type 0} (make : X → Step) (xs : List X) → ((x : X) → IsChange (make x)) → AreChanges (map make xs)

@@ -10,7 +10,7 @@ use Rattle.spool_model.specs.declared.entry.Entry.TheVariants.{Live, Done}
 use Rattle.spool_model.specs.declared.fate.Fate.{Fate}
 use Rattle.spool_model.specs.declared.job.Job.{Job}
 use Rattle.spool_model.specs.declared.step.Step.{Step}
-use Rattle.spool_model.specs.declared.step.Step.TheVariants.{Draw, Accept, Remove, Start, End, Interrupt, Forget}
+use Rattle.spool_model.specs.declared.step.Step.TheVariants.{Remove, Start, End, Interrupt, Forget}
 use Rattle.spool_model.specs.declared.state.State.TheVariants.{Pending, Running}
 use Rattle.spool_model.specs.JobTable.{JobState, JobTable, entry_at}
 use Rattle.spool_model.specs.Steps.{IsLegal, after_step}
@@ -148,13 +148,12 @@ done_drawn files table number fate shows is =
 
 -- and that of each step that adds a mark
 step_drawn : (files : Files) (table : JobTable) (step : Step) (mark : Mark) → ShowsByName files table → IsLegal table step → AddsMark table step mark → is_drawn table.last mark ≡ true
-step_drawn files table Draw mark shows legal adds = absurd adds
-step_drawn files table (Accept number job) mark shows legal adds = absurd adds
 step_drawn files table (Remove number) mark shows (job, is) adds = ap (is_drawn table.last) adds ∙ live_drawn files table number job Pending shows is
 step_drawn files table (Start number second) mark shows (job, is) adds = ap (is_drawn table.last) adds.2 ∙ live_drawn files table number job Pending shows is
 step_drawn files table (End number ending) mark shows (job, second, is) adds = ap (is_drawn table.last) adds ∙ live_drawn files table number job (Running second) shows is
 step_drawn files table (Interrupt number) mark shows (job, second, is) adds = ap (is_drawn table.last) adds ∙ live_drawn files table number job (Running second) shows is
 step_drawn files table (Forget number) mark shows (fate, is) adds = ap (is_drawn table.last) adds ∙ done_drawn files table number fate shows is
+step_drawn files table _ mark shows legal adds = absurd adds
 
 -- What a change of the journal shows, where all else is the same.
 

@@ -29,7 +29,7 @@ use Rattle.spool_shows.proofs.StepLaws.{by_name}
 use Rattle.step_runs.specs.Calls.{ShowsAsBefore}
 use Rattle.step_runs.specs.Current.{HaveForms, IsCurrent, IsSpoolName, Kept}
 use Rattle.host_calls.specs.declared.store_fault.StoreFault.{StoreFault}
-use Rattle.host_calls.specs.declared.store_fault.StoreFault.TheVariants.{Damaged, FileFault, Memory, NumbersUsedUp, QueueFull}
+use Rattle.host_calls.specs.declared.store_fault.StoreFault.TheVariants.{Damaged, FileFault, Memory}
 use Rattle.spool_store.specs.declared.survey.Survey.{Survey}
 use Rattle.host_calls.specs.Damages.{IfDamaged}
 use Rattle.host_calls.specs.StoreFaults.{IsOfReading, fault_of}
@@ -119,8 +119,7 @@ settled_damage old settled new value fault (Err other) call same is of_reading d
   by_fault (Damaged damage) of shows = ap shown_by (sym (settled_reading old settled call.outcome)) ∙ shows damage refl
   by_fault Memory of shows = shows_still
   by_fault FileFault of shows = shows_still
-  by_fault QueueFull of shows = absurd of
-  by_fault NumbersUsedUp of shows = absurd of
+  by_fault _ of shows = absurd of
 
 -- where a damage is answered, all reads as before
 pub settled_untouched : {T : Type 0} (old settled new : World) (value : T) (result : Result Kept StoreFault) → FileCall IsSettled IsSyncedInPart old settled (Ok value) → new ≡ settled → IfDamaged Damaged (λ damage. reading new ≡ reading old) result

@@ -9,7 +9,7 @@ use Rattle.spool_model.specs.declared.fate.Fate.TheVariants as fate
 use Rattle.spool_model.specs.declared.job.Job.{Job}
 use Rattle.spool_model.specs.declared.state.State.TheVariants.{Pending, Running}
 use Rattle.spool_model.specs.declared.step.Step.{Step}
-use Rattle.spool_model.specs.declared.step.Step.TheVariants.{Draw, Accept, Remove, Start, End, Interrupt, Forget}
+use Rattle.spool_model.specs.declared.step.Step.TheVariants.{Remove, Start, End, Interrupt, Forget}
 use Rattle.spool_model.specs.JobTable.{JobEntry, JobState, JobTable, entry_at, table_of}
 use Rattle.spool_model.specs.Steps.{IsLegal, after_step, is_batch_entry, with_state}
 use Rattle.spool_model.proofs.StepLemmas.{step_keeps_sound}
@@ -186,8 +186,6 @@ module _ (kept : Kept) (is : IsStored kept) where
 
   -- each of the five steps that add a mark is so
   step_at : (step : Step) (added : Mark) → AreLegal marks → IsLegal table step → AddsMark table step added → IsStartInRange step → StepsAtNumber step added
-  step_at Draw added legal may adds range = absurd adds
-  step_at (Accept number job) added legal may adds range = absurd adds
   step_at (Remove number) added legal may adds range =
       subst (StepsAtNumber (Remove number)) (sym adds) (number, decided_at legal number fate.Removed may)
   step_at (Start number second) added legal may (job, held, adds) range =
@@ -198,6 +196,7 @@ module _ (kept : Kept) (is : IsStored kept) where
       subst (StepsAtNumber (Interrupt number)) (sym adds) (number, decided_at legal number fate.Interrupted may)
   step_at (Forget number) added legal (of, held) adds range =
       subst (StepsAtNumber (Forget number)) (sym adds) (number, forgotten_at number of held)
+  step_at _ added legal may adds range = absurd adds
 
   -- what is kept with one mark more is as it should be
   stored_more : (new : JournalRead) (step : Step) (mark : Mark) → new.marks ≡ marks ++ mark ∷ [] → AreLegal marks → IsLegal table step → AddsMark table step mark → IsStartInRange step → IsStored (kept_then kept (after_step table step) new)

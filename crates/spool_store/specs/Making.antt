@@ -3,7 +3,7 @@ use Rattle.std.specs.Prelude.{◌≡◌, ◌≤◌, [], ◌∷◌, ℕ, Bool, tr
 use Rattle.host_calls.specs.Session.{CallsInside, IsInside, Session}
 use Rattle.host_calls.specs.World.{GoesOn, World}
 use Rattle.spool_model.specs.declared.step.Step.{Step}
-use Rattle.spool_model.specs.declared.step.Step.TheVariants.{Draw, Accept, Remove, Start, End, Interrupt, Forget}
+use Rattle.spool_model.specs.declared.step.Step.TheVariants.{Remove, End, Interrupt, Forget}
 use Rattle.spool_model.specs.JobTable.{JobTable}
 use Rattle.spool_model.specs.Steps.{AreLegal, after_steps}
 use Rattle.step_runs.specs.Current.{IsCurrent, Kept}
@@ -14,13 +14,11 @@ use Rattle.host_calls.specs.StoreFaults.{IsOfStep}
 
 -- the step draws no number, needs no script and hands nothing over
 abbrev pub IsChange : Step → Type 0
-IsChange Draw = ⊥
-IsChange (Accept number job) = ⊥
 IsChange (Remove number) = Unit {0}
-IsChange (Start number second) = ⊥
 IsChange (End number ending) = Unit {0}
 IsChange (Interrupt number) = Unit {0}
 IsChange (Forget number) = Unit {0}
+IsChange _ = ⊥
 
 -- each of the steps is such a one
 abbrev pub AreChanges : List Step → Type 0

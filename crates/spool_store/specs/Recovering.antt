@@ -8,7 +8,7 @@ use Rattle.spool_shows.specs.Shown.{shown_by}
 use Rattle.step_runs.specs.Calls.{KeepsOthers}
 use Rattle.step_runs.specs.Current.{IsCurrent, IsSpoolName, Kept}
 use Rattle.host_calls.specs.declared.store_fault.StoreFault.{StoreFault}
-use Rattle.host_calls.specs.declared.store_fault.StoreFault.TheVariants.{Damaged, FileFault, Memory, NumbersUsedUp, QueueFull}
+use Rattle.host_calls.specs.declared.store_fault.StoreFault.TheVariants.{Damaged, FileFault, Memory}
 
 -- The reading showed a table, and what is kept is current with it. Other files read as before, and are certain: each
 -- image has them so.
@@ -37,5 +37,4 @@ Recovered old new (Ok kept) = IsRecovered old new kept
 Recovered old new (Err (Damaged damage)) = shown_by (reading_of old) ≡ Err damage
 Recovered old new (Err FileFault) = ShowsTheSame old new
 Recovered old new (Err Memory) = ShowsTheSame old new
-Recovered old new (Err QueueFull) = ⊥
-Recovered old new (Err NumbersUsedUp) = ⊥
+Recovered old new _ = ⊥

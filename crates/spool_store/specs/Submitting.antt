@@ -35,9 +35,7 @@ pub record HasRoom (table : JobTable) : Type 0 where
 abbrev pub IsRefusal : JobTable → StoreFault → Type 0
 IsRefusal table QueueFull = IsFull table
 IsRefusal table NumbersUsedUp = IsUsedUp table
-IsRefusal table FileFault = ⊥
-IsRefusal table Memory = ⊥
-IsRefusal table (Damaged damage) = ⊥
+IsRefusal table _ = ⊥
 
 -- there is room, and this is the next number
 pub record IsNextNumber (table : JobTable) (number : ℕ) : Type 0 where

@@ -15,7 +15,7 @@ use Rattle.job_script.specs.Variables.{lines_length}
 use Rattle.job_script.specs.declared.fault.ScriptFault.{ScriptFault}
 use Rattle.job_script.specs.declared.fault.ScriptFault.TheVariants as script
 use Rattle.listing_text.specs.declared.cause.Cause.{Cause}
-use Rattle.listing_text.specs.declared.cause.Cause.TheVariants.{Done, Refused, FileFault, InputFault, OutputFault, Busy, Memory, Damaged, StillRunning, Faulty}
+use Rattle.listing_text.specs.declared.cause.Cause.TheVariants.{Refused, InputFault, Memory}
 use Rattle.listing_text.specs.declared.refusal.Refusal.{Refusal}
 use Rattle.listing_text.specs.declared.refusal.Refusal.TheVariants.{BadClock, BadZone, TooLong}
 use Rattle.cause_output.specs.declared.caller.Caller.{Caller}
@@ -198,14 +198,7 @@ module _ (readings_tell inputs_tell : Bool) (caller : Caller) (mail : Bool) (fil
           | inl is ↦ time_stops refusal none.time (ap (λ check. is_before of_variables check) is) (ap (λ check. is_before of_input check) is) (ap (λ check. is_before check of_lock) is)
           | inr is ↦ time_stops refusal none.time (ap (λ check. is_before of_variables check) is) (ap (λ check. is_before of_input check) is) (ap (λ check. is_before check of_lock) is)
         ]
-        meant_stops Done none = absurd none
-        meant_stops FileFault none = absurd none
-        meant_stops InputFault none = absurd none
-        meant_stops OutputFault none = absurd none
-        meant_stops Busy none = absurd none
-        meant_stops (Damaged damage) none = absurd none
-        meant_stops StillRunning none = absurd none
-        meant_stops Faulty none = absurd none
+        meant_stops _ none = absurd none
 
         -- at the second now as the call had it
         pub meant_stops_at : (given : ℤ) (cause : Cause) → given ≡ now → MeansNone (IsTimeOf when given caller.zone) cause →
@@ -238,14 +231,7 @@ module _ (readings_tell inputs_tell : Bool) (caller : Caller) (mail : Bool) (fil
                 };
               }
           input_stops Memory of_input_fault = memory_stops
-          input_stops Done of_input_fault = absurd of_input_fault
-          input_stops (Refused refusal) of_input_fault = absurd of_input_fault
-          input_stops FileFault of_input_fault = absurd of_input_fault
-          input_stops OutputFault of_input_fault = absurd of_input_fault
-          input_stops Busy of_input_fault = absurd of_input_fault
-          input_stops (Damaged damage) of_input_fault = absurd of_input_fault
-          input_stops StillRunning of_input_fault = absurd of_input_fault
-          input_stops Faulty of_input_fault = absurd of_input_fault
+          input_stops _ of_input_fault = absurd of_input_fault
 
           module _ (commands : List ℕ) (read : inputs_tell ≡ true → AreRead file contents commands) where
             -- there are too many bytes of commands

@@ -5,7 +5,7 @@ use Rattle.host_calls.specs.Clock.{Answers, with_now}
 use Rattle.host_calls.specs.Inputs.{Contents}
 use Rattle.job_script.specs.JobText.{text_for}
 use Rattle.listing_text.specs.declared.cause.Cause.{Cause}
-use Rattle.listing_text.specs.declared.cause.Cause.TheVariants.{Done, Refused, FileFault, InputFault, OutputFault, Busy, Memory, Damaged, StillRunning, Faulty}
+use Rattle.listing_text.specs.declared.cause.Cause.TheVariants.{Refused, InputFault, Memory}
 use Rattle.listing_text.specs.declared.refusal.Refusal.{Refusal}
 use Rattle.cause_output.specs.declared.caller.Caller.{Caller}
 use Rattle.cause_output.specs.declared.command_error.CommandError.{CommandError}
@@ -21,13 +21,7 @@ abbrev pub IsOfPreparing : Cause → Type 0
 IsOfPreparing (Refused refusal) = Unit {0}
 IsOfPreparing InputFault = Unit {0}
 IsOfPreparing Memory = Unit {0}
-IsOfPreparing Done = ⊥
-IsOfPreparing FileFault = ⊥
-IsOfPreparing OutputFault = ⊥
-IsOfPreparing Busy = ⊥
-IsOfPreparing (Damaged damage) = ⊥
-IsOfPreparing StillRunning = ⊥
-IsOfPreparing Faulty = ⊥
+IsOfPreparing _ = ⊥
 
 -- no check refuses, and the submission is that of the minute that the time means and of the commands that were read
 pub record IsPrepared (caller : Caller) (mail : Bool) (found : Found) (reached : Check) (submission : Submission) : Type 0 where

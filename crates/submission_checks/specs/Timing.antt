@@ -3,7 +3,7 @@ use Rattle.std.specs.Prelude.{◌≡◌, ◌⊎◌, ℕ, Result, Ok, Err}
 use Rattle.civil_minute.specs.declared.fault.DateFault.{DateFault}
 use Rattle.civil_minute.specs.declared.fault.DateFault.TheVariants as date
 use Rattle.listing_text.specs.declared.cause.Cause.{Cause}
-use Rattle.listing_text.specs.declared.cause.Cause.TheVariants.{Done, Refused, FileFault, InputFault, OutputFault, Busy, Memory, Damaged, StillRunning, Faulty}
+use Rattle.listing_text.specs.declared.cause.Cause.TheVariants.{Refused, Memory}
 use Rattle.listing_text.specs.declared.refusal.Refusal.{Refusal}
 use Rattle.listing_text.specs.declared.refusal.Refusal.TheVariants.{NoSuchDay, OutOfRange, Past}
 use Rattle.cause_output.specs.declared.command_error.CommandError.{CommandError}
@@ -20,14 +20,7 @@ pub record IsRefusedTime (IsTime : Result ℕ Refusal → Type 0) (refusal : Ref
 abbrev pub MeansNone : (Result ℕ Refusal → Type 0) → Cause → Type 0
 MeansNone IsTime (Refused refusal) = IsRefusedTime IsTime refusal
 MeansNone IsTime Memory = Unit {0}
-MeansNone IsTime Done = ⊥
-MeansNone IsTime FileFault = ⊥
-MeansNone IsTime InputFault = ⊥
-MeansNone IsTime OutputFault = ⊥
-MeansNone IsTime Busy = ⊥
-MeansNone IsTime (Damaged damage) = ⊥
-MeansNone IsTime StillRunning = ⊥
-MeansNone IsTime Faulty = ⊥
+MeansNone IsTime _ = ⊥
 
 -- the answer is the one time
 abbrev pub Means : (Result ℕ Refusal → Type 0) → Result ℕ CommandError → Type 0

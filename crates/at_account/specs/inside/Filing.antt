@@ -5,7 +5,7 @@ use Rattle.account_records.specs.declared.record.AccountRecord.{AccountRecord}
 use Rattle.cause_output.specs.declared.command_error.CommandError.{CommandError}
 use Rattle.host_calls.specs.Folder.{Files, Folder, IsImage, IsInNoImage, reading_of}
 use Rattle.listing_text.specs.declared.cause.Cause.{Cause}
-use Rattle.listing_text.specs.declared.cause.Cause.TheVariants.{Done, Refused, FileFault, InputFault, OutputFault, Busy, Memory, Damaged, StillRunning, Faulty}
+use Rattle.listing_text.specs.declared.cause.Cause.TheVariants.{FileFault, Memory, Damaged}
 use Rattle.whole_file.specs.Others.{IsEither, LeavesOthers}
 use Rattle.at_account.specs.Counting.{GivesRecords, IsAccountDamage}
 use Rattle.at_account.specs.Names.{account_file, account_temp}
@@ -15,39 +15,20 @@ abbrev pub IsOfReading : Cause → Type 0
 IsOfReading FileFault = Unit {0}
 IsOfReading Memory = Unit {0}
 IsOfReading (Damaged damage) = Unit {0}
-IsOfReading Done = ⊥
-IsOfReading (Refused refusal) = ⊥
-IsOfReading InputFault = ⊥
-IsOfReading OutputFault = ⊥
-IsOfReading Busy = ⊥
-IsOfReading StillRunning = ⊥
-IsOfReading Faulty = ⊥
+IsOfReading _ = ⊥
 
 -- a fault of a file, or want of memory
 abbrev pub IsOfHost : Cause → Type 0
 IsOfHost FileFault = Unit {0}
 IsOfHost Memory = Unit {0}
-IsOfHost (Damaged damage) = ⊥
-IsOfHost Done = ⊥
-IsOfHost (Refused refusal) = ⊥
-IsOfHost InputFault = ⊥
-IsOfHost OutputFault = ⊥
-IsOfHost Busy = ⊥
-IsOfHost StillRunning = ⊥
-IsOfHost Faulty = ⊥
+IsOfHost _ = ⊥
 
 -- damage is answered where the content has it
 abbrev pub IsUnread : Option (List ℕ) → Cause → Type 0
 IsUnread content (Damaged damage) = IsAccountDamage content damage
 IsUnread content FileFault = Unit {0}
 IsUnread content Memory = Unit {0}
-IsUnread content Done = ⊥
-IsUnread content (Refused refusal) = ⊥
-IsUnread content InputFault = ⊥
-IsUnread content OutputFault = ⊥
-IsUnread content Busy = ⊥
-IsUnread content StillRunning = ⊥
-IsUnread content Faulty = ⊥
+IsUnread content _ = ⊥
 
 -- what a reading of the content answers
 abbrev pub ReadsAccount : Option (List ℕ) → Result (List AccountRecord) CommandError → Type 0

@@ -7,7 +7,7 @@ use Rattle.cause_output.specs.declared.command_error.CommandError.{CommandError}
 use Rattle.cause_output.specs.Sinks.{IsCut, IsPut, IsSilent, SinkAt}
 use Rattle.host_calls.specs.World.{World, reading}
 use Rattle.listing_text.specs.declared.cause.Cause.{Cause}
-use Rattle.listing_text.specs.declared.cause.Cause.TheVariants.{Done, Refused, FileFault, InputFault, OutputFault, Busy, Memory, Damaged, StillRunning, Faulty}
+use Rattle.listing_text.specs.declared.cause.Cause.TheVariants.{Done, Refused, FileFault, OutputFault, Memory, Damaged}
 use Rattle.listing_text.specs.declared.refusal.Refusal.TheVariants.{AccountsFull}
 use Rattle.spool_model.specs.JobTable.{JobTable}
 use Rattle.whole_file.specs.Others.{ChangesFiles}
@@ -20,13 +20,7 @@ IsOfWork FileFault = Unit {0}
 IsOfWork Memory = Unit {0}
 IsOfWork (Damaged damage) = Unit {0}
 IsOfWork (Refused AccountsFull) = Unit {0}
-IsOfWork (Refused _) = ⊥
-IsOfWork Done = ⊥
-IsOfWork InputFault = ⊥
-IsOfWork OutputFault = ⊥
-IsOfWork Busy = ⊥
-IsOfWork StillRunning = ⊥
-IsOfWork Faulty = ⊥
+IsOfWork _ = ⊥
 
 -- the records are those of the content with what is new of the table, not too many
 pub record IsCounted (table : JobTable) (content : Option (List ℕ)) (records : List AccountRecord) : Type 0 where
@@ -47,15 +41,9 @@ pub record WouldBeTooMany (table : JobTable) (content : Option (List ℕ)) : Typ
 abbrev pub StopsCounting : JobTable → Option (List ℕ) → Cause → Type 0
 StopsCounting table content (Damaged damage) = IsAccountDamage content damage
 StopsCounting table content (Refused AccountsFull) = WouldBeTooMany table content
-StopsCounting table content (Refused _) = ⊥
 StopsCounting table content FileFault = Unit {0}
 StopsCounting table content Memory = Unit {0}
-StopsCounting table content Done = ⊥
-StopsCounting table content InputFault = ⊥
-StopsCounting table content OutputFault = ⊥
-StopsCounting table content Busy = ⊥
-StopsCounting table content StillRunning = ⊥
-StopsCounting table content Faulty = ⊥
+StopsCounting table content _ = ⊥
 
 abbrev pub Counts : JobTable → Option (List ℕ) → Result (List AccountRecord) CommandError → Type 0
 Counts table content (Ok records) = IsCounted table content records
@@ -67,12 +55,7 @@ StopsInside old new (Damaged damage) = IsDamage (reading old) damage × IsLeftAl
 StopsInside old new (Refused refusal) = RefusalLeaves refusal old new
 StopsInside old new FileFault = Unit {0}
 StopsInside old new Memory = Unit {0}
-StopsInside old new Done = ⊥
-StopsInside old new InputFault = ⊥
-StopsInside old new OutputFault = ⊥
-StopsInside old new Busy = ⊥
-StopsInside old new StillRunning = ⊥
-StopsInside old new Faulty = ⊥
+StopsInside old new _ = ⊥
 
 -- what is left by the answer: the text that is to be shown of what was counted
 abbrev pub EndsInside : Bool → World → World → Result (List ℕ) CommandError → Type 0
@@ -84,13 +67,7 @@ abbrev pub PutsText : Bool → List ℕ → SinkAt → SinkAt → Cause → Type
 PutsText tells text old new Done = tells ≡ true → IsPut text old new
 PutsText tells text old new OutputFault = tells ≡ true → IsCut text old new
 PutsText tells text old new Memory = tells ≡ true → IsSilent old new
-PutsText tells text old new (Refused refusal) = ⊥
-PutsText tells text old new FileFault = ⊥
-PutsText tells text old new InputFault = ⊥
-PutsText tells text old new Busy = ⊥
-PutsText tells text old new (Damaged damage) = ⊥
-PutsText tells text old new StillRunning = ⊥
-PutsText tells text old new Faulty = ⊥
+PutsText tells text old new _ = ⊥
 
 -- what each image has and what is left, where the host tells its files and nobody else changes them
 pub record Accounts (files alone output show : Bool) (old new : World) (was now : SinkAt) (cause : Cause) : Type 0 where

@@ -3,7 +3,7 @@ use Rattle.std.specs.Prelude.{◌≡◌, ℕ, Bool, true, List, Result, Ok, Err}
 use Rattle.host_calls.specs.declared.fault.SinkFault.{SinkFault}
 use Rattle.host_calls.specs.declared.fault.SinkFault.TheVariants.{Failed, Memory as NoMemory}
 use Rattle.listing_text.specs.declared.cause.Cause.{Cause}
-use Rattle.listing_text.specs.declared.cause.Cause.TheVariants.{Done, Refused, FileFault, InputFault, OutputFault, Busy, Memory, Damaged, StillRunning, Faulty}
+use Rattle.listing_text.specs.declared.cause.Cause.TheVariants.{Done, OutputFault, Memory}
 use Rattle.cause_output.specs.Sinks.{IsCut, IsSilent, PutsSome, SinkAt}
 
 -- the accepted line was put, by the answer of its put
@@ -17,10 +17,4 @@ abbrev pub Accepts : Bool → (List ℕ → Type 0) → SinkAt → SinkAt → Ca
 Accepts tells IsLine old new Done = tells ≡ true → PutsSome IsLine old new
 Accepts tells IsLine old new OutputFault = tells ≡ true → (line : List ℕ) × IsLine line × IsCut line old new
 Accepts tells IsLine old new Memory = tells ≡ true → IsSilent old new
-Accepts tells IsLine old new (Refused refusal) = ⊥
-Accepts tells IsLine old new FileFault = ⊥
-Accepts tells IsLine old new InputFault = ⊥
-Accepts tells IsLine old new Busy = ⊥
-Accepts tells IsLine old new (Damaged damage) = ⊥
-Accepts tells IsLine old new StillRunning = ⊥
-Accepts tells IsLine old new Faulty = ⊥
+Accepts tells IsLine old new _ = ⊥

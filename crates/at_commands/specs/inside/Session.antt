@@ -1,6 +1,6 @@
 -- Why the session of a command ended without being done (own).
 use Rattle.listing_text.specs.declared.cause.Cause.{Cause}
-use Rattle.listing_text.specs.declared.cause.Cause.TheVariants.{Done, Refused, FileFault, InputFault, OutputFault, Busy, Memory, Damaged, StillRunning, Faulty}
+use Rattle.listing_text.specs.declared.cause.Cause.TheVariants.{Refused, FileFault, Busy, Memory, Damaged}
 use Rattle.cause_output.specs.declared.command_error.CommandError.{CommandError}
 
 -- the output did not fail, nor did the inputs
@@ -10,11 +10,7 @@ IsOfSpool Memory = Unit {0}
 IsOfSpool Busy = Unit {0}
 IsOfSpool (Refused refusal) = Unit {0}
 IsOfSpool (Damaged damage) = Unit {0}
-IsOfSpool OutputFault = ⊥
-IsOfSpool Done = ⊥
-IsOfSpool InputFault = ⊥
-IsOfSpool StillRunning = ⊥
-IsOfSpool Faulty = ⊥
+IsOfSpool _ = ⊥
 
 -- the command was stopped by one of these
 abbrev pub IsNoOutput : CommandError → Type 0

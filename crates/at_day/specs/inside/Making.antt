@@ -16,20 +16,13 @@ use Rattle.at_day.specs.Programs.{EndsMade}
 -- what was asked for is a day that can be made
 abbrev pub IsDayRequest : ToolRequest → Type 0
 IsDayRequest (request.Make count) = count ≤ MAX_EVENTS
-IsDayRequest (request.Submit queue mail file when) = ⊥
-IsDayRequest (request.List filter) = ⊥
-IsDayRequest (request.Remove numbers) = ⊥
-IsDayRequest (request.Show numbers) = ⊥
-IsDayRequest (request.Daemon limit interval once turns) = ⊥
+IsDayRequest _ = ⊥
 
 -- the folder was counted, or no memory was found for it
 abbrev pub IsSound : Result Counts StoreFault → Type 0
 IsSound (Ok counts) = Unit {0}
 IsSound (Err fault.Memory) = Unit {0}
-IsSound (Err fault.FileFault) = ⊥
-IsSound (Err (fault.Damaged damage)) = ⊥
-IsSound (Err fault.QueueFull) = ⊥
-IsSound (Err fault.NumbersUsedUp) = ⊥
+IsSound _ = ⊥
 
 -- the lines are those of what the day of so many events comes to
 pub record AreLinesOfDay (count : ℕ) (lines : List (List ℕ)) : Type 0 where

@@ -4,7 +4,7 @@ use Rattle.spool_model.specs.declared.number.TheConstants.{LAST_NUMBER}
 use Rattle.spool_model.specs.JobTable.{JobTable}
 use Rattle.spool_model.specs.Lists.{live_count}
 use Rattle.host_calls.specs.declared.store_fault.StoreFault.{StoreFault}
-use Rattle.host_calls.specs.declared.store_fault.StoreFault.TheVariants.{Damaged, FileFault, Memory, NumbersUsedUp, QueueFull}
+use Rattle.host_calls.specs.declared.store_fault.StoreFault.TheVariants.{Memory, NumbersUsedUp, QueueFull}
 use Rattle.spool_model.specs.declared.row.TheConstants.{MAX_LIVE}
 
 -- there is room for so many jobs more, and no number for each
@@ -17,5 +17,4 @@ abbrev pub IsRoomFault : JobTable → ℕ → StoreFault → Type 0
 IsRoomFault table count QueueFull = MAX_LIVE < live_count table + count
 IsRoomFault table count NumbersUsedUp = IsUsedUpFor table count
 IsRoomFault table count Memory = Unit {0}
-IsRoomFault table count FileFault = ⊥
-IsRoomFault table count (Damaged damage) = ⊥
+IsRoomFault table count _ = ⊥

@@ -67,16 +67,8 @@ after_put end (Err sink.Memory) = unless_memory end
 abbrev pub StopsText : List ℕ → Cause → Type 0
 StopsText bytes (cause.Refused TooLong) = MAX_CRONTAB < length bytes
 StopsText bytes (cause.Refused (BadCrontab line)) = IsBadAt line bytes
-StopsText bytes (cause.Refused _) = ⊥
 StopsText bytes cause.Memory = Unit {0}
-StopsText bytes cause.Done = ⊥
-StopsText bytes cause.FileFault = ⊥
-StopsText bytes cause.InputFault = ⊥
-StopsText bytes cause.OutputFault = ⊥
-StopsText bytes cause.Busy = ⊥
-StopsText bytes (cause.Damaged damage) = ⊥
-StopsText bytes cause.StillRunning = ⊥
-StopsText bytes cause.Faulty = ⊥
+StopsText bytes _ = ⊥
 
 -- the entries that the text spells, or why there are none
 abbrev pub IsOfText : List ℕ → Result (List CronEntry) CommandError → Type 0
@@ -93,14 +85,7 @@ pub record GaveText (tells : Bool) (path : List ℕ) (old new : InputAt) (result
 abbrev pub IsUnread : InputAt → InputAt → Cause → Type 0
 IsUnread old new cause.InputFault = AsksFile old new × Rose old.sources.input_faults new.sources.input_faults
 IsUnread old new cause.Memory = AsksFile old new
-IsUnread old new cause.Done = ⊥
-IsUnread old new (cause.Refused refusal) = ⊥
-IsUnread old new cause.FileFault = ⊥
-IsUnread old new cause.OutputFault = ⊥
-IsUnread old new cause.Busy = ⊥
-IsUnread old new (cause.Damaged damage) = ⊥
-IsUnread old new cause.StillRunning = ⊥
-IsUnread old new cause.Faulty = ⊥
+IsUnread old new _ = ⊥
 
 -- the entries of the file, or why there are none
 abbrev pub ReadsEntries : Bool → List ℕ → InputAt → InputAt → Result (List CronEntry) CommandError → Type 0

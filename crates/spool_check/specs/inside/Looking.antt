@@ -7,7 +7,7 @@ use Rattle.host_calls.specs.declared.damage.Damage.{Damage}
 use Rattle.host_calls.specs.Session.{Session}
 use Rattle.host_calls.specs.World.{reading}
 use Rattle.listing_text.specs.declared.cause.Cause.{Cause}
-use Rattle.listing_text.specs.declared.cause.Cause.TheVariants.{Done, Refused, FileFault, InputFault, OutputFault, Busy, Memory, Damaged, StillRunning, Faulty}
+use Rattle.listing_text.specs.declared.cause.Cause.TheVariants.{Refused, FileFault, OutputFault, Busy, Memory}
 use Rattle.listing_text.specs.declared.refusal.Refusal.{Refusal}
 use Rattle.listing_text.specs.declared.refusal.Refusal.TheVariants.{TargetNotEmpty}
 use Rattle.spool_faults.specs.Faults.{faults_of}
@@ -35,26 +35,13 @@ abbrev pub IsOfLooking : Cause → Type 0
 IsOfLooking FileFault = Unit {0}
 IsOfLooking Busy = Unit {0}
 IsOfLooking Memory = Unit {0}
-IsOfLooking Done = ⊥
-IsOfLooking (Refused refusal) = ⊥
-IsOfLooking InputFault = ⊥
-IsOfLooking OutputFault = ⊥
-IsOfLooking (Damaged damage) = ⊥
-IsOfLooking StillRunning = ⊥
-IsOfLooking Faulty = ⊥
+IsOfLooking _ = ⊥
 
 -- the lines could not be put
 abbrev pub IsOfTelling : Cause → Type 0
 IsOfTelling OutputFault = Unit {0}
 IsOfTelling Memory = Unit {0}
-IsOfTelling FileFault = ⊥
-IsOfTelling Busy = ⊥
-IsOfTelling Done = ⊥
-IsOfTelling (Refused refusal) = ⊥
-IsOfTelling InputFault = ⊥
-IsOfTelling (Damaged damage) = ⊥
-IsOfTelling StillRunning = ⊥
-IsOfTelling Faulty = ⊥
+IsOfTelling _ = ⊥
 
 -- the refusal of a new folder that is a spool
 abbrev pub IsOfTarget : Refusal → Type 0
@@ -67,12 +54,7 @@ IsOfSaving FileFault = Unit {0}
 IsOfSaving Busy = Unit {0}
 IsOfSaving Memory = Unit {0}
 IsOfSaving (Refused refusal) = IsOfTarget refusal
-IsOfSaving Done = ⊥
-IsOfSaving InputFault = ⊥
-IsOfSaving OutputFault = ⊥
-IsOfSaving (Damaged damage) = ⊥
-IsOfSaving StillRunning = ⊥
-IsOfSaving Faulty = ⊥
+IsOfSaving _ = ⊥
 
 -- a fault of a file, or a lock that was taken, comes only where its count rose
 pub record Rises (old new : Session) (cause : Cause) : Type 0 where
