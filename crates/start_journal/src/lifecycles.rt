@@ -74,15 +74,8 @@ pub struct Lifecycles {
 }
 
 impl Lifecycles {
-    // What no mark tells.
-    pub(crate) fn new(alloc: Global) -> Lifecycles
-        ensures { TellLifecycles [] result }
-    {
-        Lifecycles::with_row(alloc, u32::MAX)
-    }
-
-    // The same, where most marks name this number or later ones, and none a much later one.
-    pub(crate) fn with_row(alloc: Global, first: u32) -> Lifecycles
+    // What no mark tells. Most marks that come are to name this number or later ones, and none a much later one.
+    pub(crate) fn new(alloc: Global, first: u32) -> Lifecycles
         ensures { TellLifecycles [] result }
     {
         Lifecycles {

@@ -57,7 +57,7 @@ impl Journal {
                     marks: Vec::new(alloc),
                     free: 0,
                 },
-                Lifecycles::new(alloc),
+                Lifecycles::new(alloc, u32::MAX),
             )),
         }
     }
@@ -73,7 +73,7 @@ fn read(alloc: Global, bytes: &[u8], last: u32) -> Result<(Journal, Lifecycles),
     let (slots, rest) = bytes.as_chunks::<SLOT>();
     let mut marks = Vec::new(alloc);
     let first = (last as usize).saturating_sub(slots.len()) as u32;
-    let mut lives = Lifecycles::with_row(alloc, first);
+    let mut lives = Lifecycles::new(alloc, first);
     let mut free: u64 = 0;
     for (place, slot) in slots.iter().enumerate() {
         let found = match next(&lives, free, slot, last) {

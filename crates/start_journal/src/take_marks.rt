@@ -39,7 +39,7 @@ pub fn take(alloc: Global, bytes: &[u8], bound: u32) -> Result<Taken, AllocError
     let (slots, rest) = bytes.as_chunks::<SLOT>();
     let mut marks = Vec::new(alloc);
     let mut faults = Vec::new(alloc);
-    let mut lives = Lifecycles::new(alloc);
+    let mut lives = Lifecycles::new(alloc, u32::MAX);
     let mut free: u64 = 0;
     for (place, slot) in slots.iter().enumerate() {
         let fault = fault_of(&lives, free, slot, bound);
