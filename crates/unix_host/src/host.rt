@@ -13,6 +13,7 @@ use crate::finish::finish;
 use crate::job::{ChildProcess, JobStart, ending_of};
 use crate::locked::LockedFolder;
 use crate::naming::Naming;
+use crate::waits::Waits;
 use crate::{job, read_file};
 use host_calls::{Child, Ending, EnterFault, Host, HostFault, Name, StartFault, Text};
 use std::alloc::{AllocError, Global};
@@ -28,6 +29,7 @@ pub struct UnixHost<R: Runtime<File = File> + Processes> {
     pub(crate) spool: Text,
     pub(crate) absent: Absent,
     pub(crate) naming: Naming,
+    pub(crate) waits: Waits,
     pub(crate) head: usize,
     pub(crate) folder: Option<LockedFolder>,
     pub(crate) kids: Vec<ChildProcess<R>>,
@@ -61,6 +63,7 @@ impl<R: Runtime<File = File> + Processes> Host for UnixHost<R> {
             self.spool.as_str(),
             self.absent,
             self.naming,
+            self.waits,
         );
         match entered {
             Ok(folder) => {

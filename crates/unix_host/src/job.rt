@@ -15,8 +15,11 @@ use std::os::unix::process::ExitStatusExt;
 use std::process::{Command, ExitStatus, Processes};
 use std::{io, process};
 
-// Runs the script `$2` at the niceness `$1` with no environment, and puts what it writes into `$3`.
-const LINE: &str = "exec nice -n \"$1\" env -i /bin/sh \"$2\" >\"$3\" 2>&1 </dev/null";
+// Runs the script `$2` at the niceness `$1` with no environment, and puts what it writes into `$3`. Where that can't be made,
+// the script runs all the same: what it writes is lost, and standard error says which file it is.
+const LINE: &str = "{ command : >\"$3\"; } 2>/dev/null || \
+    { printf '%s: no output file %s\\n' \"$0\" \"$3\" >&2; set -- \"$1\" \"$2\" /dev/null; }; \
+    exec nice -n \"$1\" env -i /bin/sh \"$2\" >\"$3\" 2>&1 </dev/null";
 
 /// What a start asks for: the job by the name of its file, and how nice it is to be.
 #[derive(Clone, Copy)]

@@ -29,9 +29,13 @@ mod synced;
 mod torn;
 mod unsynced;
 mod untold;
+mod waits;
+mod watch;
+mod watched_file;
 
 pub use err::UnixErr;
 pub use host::UnixHost;
 pub use inputs::UnixInputs;
 pub use out::UnixOut;
 pub use readings::UnixReadings;
+pub use waits::Waits;

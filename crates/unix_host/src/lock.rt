@@ -29,14 +29,11 @@ ghost use Rattle.unix_host.specs.inside.LockByte.{amount_of, meaning_of};
 
 use crate::changes::Changes;
 use crate::unsynced::Unsynced;
+use crate::waits::{Waits, wait_for};
 use host_calls::{EnterFault, HostFault};
-use std::fs::{File, Files, OpenOptions, Permissions, TryLockError};
+use std::fs::{File, Files, OpenOptions, Permissions};
 use std::os::unix::fs::{FileExt, OpenOptionsExt, PermissionsExt};
-use std::thread;
-use std::time::{Clock, Duration};
-
-// How often a lock is asked for before it counts as taken.
-const TRIES: u32 = 10;
+use std::time::Clock;
 
 /// A lock that is held, until it is let go or the process ends.
 #[derive(Drop)]
@@ -46,14 +43,18 @@ pub struct Lock {
 }
 
 impl Lock {
-    /// Takes the lock, and waits a second between two tries.
-    pub fn take<R: Files<File = File> + Clock>(rt: &R, path: &str) -> Result<Lock, EnterFault> {
+    /// Takes the lock, and waits so for it.
+    pub fn take<R: Files<File = File> + Clock>(
+        rt: &R,
+        path: &str,
+        waits: Waits,
+    ) -> Result<Lock, EnterFault> {
         let mut options = OpenOptions::new();
         options.read(true).write(true).create(true).mode(0o600);
         let Ok(file) = options.open(rt, path) else {
             return Err(EnterFault::Failed);
         };
-        wait_for(rt, &file)?;
+        wait_for(rt, &file, waits)?;
         let byte = byte_in(&file);
         if byte.is_none() {
             // It is new, and the umask may have taken the rights of the owner too.
@@ -111,20 +112,6 @@ fn write_byte(file: &File, byte: u8, changes: &Changes) -> Result<(), HostFault>
 {
     let _ = changes;
     file.write_all_at(&[byte], 0).map_err(|_| HostFault::Failed)
-}
-
-fn wait_for(rt: &impl Clock, file: &File) -> Result<(), EnterFault> {
-    for turn in 1..=TRIES {
-        match file.try_lock() {
-            Ok(()) => return Ok(()),
-            Err(TryLockError::WouldBlock) if turn < TRIES => {
-                thread::sleep(rt, Duration::from_secs(1));
-            }
-            Err(TryLockError::WouldBlock) => {}
-            Err(TryLockError::Error(_)) => return Err(EnterFault::Failed),
-        }
-    }
-    Err(EnterFault::Taken)
 }
 
 // The byte of the file, if it can be read.

@@ -21,6 +21,7 @@ use crate::paths::Paths;
 use crate::synced::sync_path;
 use crate::torn::Torn;
 use crate::unsynced::Unsynced;
+use crate::waits::Waits;
 use crate::{file_calls, file_syncs, files};
 use host_calls::{EnterFault, HostFault, Name};
 use std::alloc::Global;
@@ -47,13 +48,14 @@ impl LockedFolder {
         spool: &str,
         absent: Absent,
         naming: Naming,
+        waits: Waits,
     ) -> Result<LockedFolder, EnterFault>
         ensures known { IfOk result (λ folder. unsynced_by folder.changes ≡ folder.lock.known) }
         ensures left { IfOk result (λ folder. left_by folder.changes ≡ folder.lock.known) }
         ensures unlisted { IfOk result (λ folder. folder.listing ≡ None) }
     {
         let paths = files::enter_folder(rt, alloc, spool, absent, naming)?;
-        let lock = Lock::take(rt, paths.lock())?;
+        let lock = Lock::take(rt, paths.lock(), waits)?;
         let changes = Changes::after(&lock);
         Ok(LockedFolder {
             paths,

@@ -6,6 +6,7 @@ ghost use Rattle.unix_host.specs.UnixHost.{session_of};
 use crate::absent::Absent;
 use crate::host::UnixHost;
 use crate::naming::Naming;
+use crate::waits::Waits;
 use host_calls::Text;
 use std::alloc::{AllocError, Global};
 use std::fs::File;
@@ -20,6 +21,7 @@ impl<R: Runtime<File = File> + Processes> UnixHost<R> {
         ensures children { IfOk result (λ made. (session_of made).children ≡ []) }
         ensures spool { IfOk result (λ made. made.spool ≡ spool) }
         ensures absent { IfOk result (λ made. made.absent ≡ Absent.Makes) }
+        ensures waits { IfOk result (λ made. made.waits ≡ Waits.Asking) }
         ensures counts { IfOk result (λ made. made.counts ≡ record { files = 0; starts = 0; taken = 0 }) }
     {
         Ok(host_of(rt, alloc, spool, Absent::Makes))
@@ -31,6 +33,7 @@ impl<R: Runtime<File = File> + Processes> UnixHost<R> {
         ensures children { IfOk result (λ made. (session_of made).children ≡ []) }
         ensures spool { IfOk result (λ made. made.spool ≡ spool) }
         ensures absent { IfOk result (λ made. made.absent ≡ Absent.Fails) }
+        ensures waits { IfOk result (λ made. made.waits ≡ Waits.Asking) }
         ensures counts { IfOk result (λ made. made.counts ≡ record { files = 0; starts = 0; taken = 0 }) }
     {
         Ok(host_of(rt, alloc, spool, Absent::Fails))
@@ -53,6 +56,14 @@ impl<R: Runtime<File = File> + Processes> UnixHost<R> {
             ..self
         }
     }
+
+    /// The same host, whose sessions wait so for a lock that is taken.
+    pub fn waiting(self, waits: Waits) -> UnixHost<R>
+        ensures waits { result.waits ≡ waits }
+        ensures others { record result { waits = self.waits } ≡ self }
+    {
+        UnixHost { waits, ..self }
+    }
 }
 
 fn host_of<R: Runtime<File = File> + Processes>(
@@ -65,6 +76,7 @@ fn host_of<R: Runtime<File = File> + Processes>(
     ensures kids { result.kids.items ≡ [] }
     ensures spool { result.spool ≡ spool }
     ensures absent { result.absent ≡ absent }
+    ensures waits { result.waits ≡ Waits.Asking }
     ensures counts { result.counts ≡ record { files = 0; starts = 0; taken = 0 } }
 {
     UnixHost {
@@ -72,6 +84,7 @@ fn host_of<R: Runtime<File = File> + Processes>(
         spool,
         absent,
         naming: Naming::Whole,
+        waits: Waits::Asking,
         head: 0,
         folder: None,
         kids: Vec::new(alloc),

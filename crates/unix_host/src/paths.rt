@@ -107,7 +107,8 @@ fn joined(alloc: Global, folder: &str, after: &str) -> Result<String, AllocError
     Ok(path)
 }
 
-fn within(alloc: Global, folder: &str, name: &Name) -> Result<String, AllocError>
+/// The file of this name in a folder.
+pub fn within(alloc: Global, folder: &str, name: &Name) -> Result<String, AllocError>
     ensures path { IfOk result (λ path. string_bytes path ≡ file_in folder.now name.now) }
     ensures absolute { IfOk result (λ path. IsAbsolute folder.now → IsAbsolute (string_bytes path)) }
 {

@@ -1,20 +1,24 @@
 //! The clock and the load of the machine.
-ghost use Rattle.std.specs.Prelude.{◌≡◌, ◌≤◌, [], false, IsSome, None};
-ghost use Rattle.std.specs.Result.{result_ok};
+ghost use Rattle.std.specs.Prelude.{◌≡◌, ◌≤◌, [], false, IfOk, IsSome, None};
+ghost use Rattle.std.specs.Path.{IsAbsolute};
 ghost use Rattle.host_calls.specs.Causes.{Rose};
 ghost use Rattle.unix_host.specs.inside.Seconds.{second_in};
 
 use crate::prefix::fill;
-use host_calls::Readings;
+use crate::watch::Watch;
+use host_calls::{Name, Readings};
 use load_reading::hundredths;
+use std::alloc::{AllocError, Global};
 use std::fs::{File, Files};
+use std::thread;
 use std::time::{Clock, Duration};
-use std::{io, thread};
 
 /// The system's clock and load. The load comes from `/proc/loadavg`.
 #[derive(Drop)]
 pub struct UnixReadings<R: Files<File = File> + Clock + Drop> {
     rt: R,
+    // What ends a rest, where that is more than its time.
+    watch: Option<Watch>,
     pub(crate) load_faults: u64,
 }
 
@@ -23,7 +27,30 @@ impl<R: Files<File = File> + Clock + Drop> UnixReadings<R> {
     pub fn make(rt: R) -> UnixReadings<R>
         ensures { result.load_faults ≡ 0 }
     {
-        UnixReadings { rt, load_faults: 0 }
+        UnixReadings {
+            rt,
+            watch: None,
+            load_faults: 0,
+        }
+    }
+
+    /// The same, whose rests end at a full second of the clock, and earlier where one of these files of a folder has changed
+    /// since the clock was read. The path of the folder is absolute, since a session may change the current directory.
+    pub fn watching(
+        rt: R,
+        alloc: Global,
+        folder: &str,
+        names: &[Name],
+    ) -> Result<UnixReadings<R>, AllocError>
+        requires { IsAbsolute folder.now }
+        ensures { IfOk result (λ made. made.load_faults ≡ 0) }
+    {
+        let watch = Some(Watch::over(&rt, alloc, folder, names)?);
+        Ok(UnixReadings {
+            rt,
+            watch,
+            load_faults: 0,
+        })
     }
 }
 
@@ -35,7 +62,11 @@ impl<R: Files<File = File> + Clock + Drop> Readings for UnixReadings<R> {
     ghost readers = { λ own. record { made_as = []; load_faults = own.load_faults } };
 
     fn now(&mut self) -> i64 {
-        second_of(self.rt.since_1970())
+        let time = match &mut self.watch {
+            Some(watch) => watch.look(&self.rt),
+            None => self.rt.since_1970().ok(),
+        };
+        second_of(time)
     }
 
     fn load(&mut self) -> Option<u32>
@@ -51,17 +82,20 @@ impl<R: Files<File = File> + Clock + Drop> Readings for UnixReadings<R> {
     }
 
     fn rest(&mut self, seconds: u32) {
-        thread::sleep(&self.rt, Duration::from_secs(u64::from(seconds)));
+        match &mut self.watch {
+            Some(watch) => watch.rest(&self.rt, seconds),
+            None => thread::sleep(&self.rt, Duration::from_secs(u64::from(seconds))),
+        }
     }
 }
 
 // The second of this time, and -1 where it can't be read or lies after each second that can be told.
-fn second_of(time: io::Result<Duration>) -> i64
-    ensures { result ≡ second_in (result_ok time) }
+fn second_of(time: Option<Duration>) -> i64
+    ensures { result ≡ second_in time }
 {
     match time {
-        Ok(time) => i64::try_from(time.as_secs()).unwrap_or(-1),
-        Err(_) => -1,
+        Some(time) => i64::try_from(time.as_secs()).unwrap_or(-1),
+        None => -1,
     }
 }
 

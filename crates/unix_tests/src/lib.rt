@@ -15,8 +15,12 @@ mod outside;
 #[cfg(test)]
 mod refusing;
 #[cfg(test)]
+mod rests;
+#[cfg(test)]
 mod streams;
 #[cfg(test)]
 mod syncs;
+#[cfg(test)]
+mod waits;
 #[cfg(test)]
 mod words;

@@ -1,84 +1,12 @@
-//! The lock, its byte, and who may look.
+//! The byte of the lock, and who may look.
 ghost use Rattle.std.specs.Prelude.{◌≡◌, false};
 ghost use Rattle.host_calls.specs.Session.{IsInside, IsOutside};
 
-use crate::words::{begin, clear, fresh_spool, host_of, host_over, line, named};
-use host_calls::{EnterFault, Host, HostFault, Name};
+use crate::words::{begin, clear, fresh_spool, host_of, line, named};
+use host_calls::{Host, HostFault, Name};
 use std::alloc::Global;
 use std::fs;
 use std::test::Fail;
-use std::time::{Clock, Duration};
-
-/// What a host is answered that enters a folder, twice.
-type Answers = (Result<(), EnterFault>, Result<(), EnterFault>);
-
-// How a session begins, which is left at once.
-fn entered<H: Host>(alloc: Global, host: &mut H) -> Result<(), EnterFault>
-    requires outside { IsOutside (H.session host.old) }
-    ensures outside { IsOutside (H.session host.new) }
-{
-    host.enter(alloc)?;
-    host.leave();
-    Ok(())
-}
-
-// What a second host of the folder is answered while the first one is in its session, and after that.
-fn answers_of_both<F: Host, S: Host>(
-    alloc: Global,
-    first: &mut F,
-    second: &mut S,
-) -> Result<Answers, HostFault>
-    requires first { IsOutside (F.session first.old) }
-    requires second { IsOutside (S.session second.old) }
-{
-    begin(alloc, first)?;
-    let within = entered(alloc, second);
-    first.leave();
-    let after = entered(alloc, second);
-    Ok((within, after))
-}
-
-// The same of a second host that comes by this path.
-fn answers_beside<F: Host>(
-    rt: &HostRuntime,
-    first: &mut F,
-    path: &str,
-) -> Result<Answers, HostFault>
-    requires { IsOutside (F.session first.old) }
-{
-    let mut second = host_over(rt.clone()?, rt.alloc(), path)?;
-    let answers = answers_of_both(rt.alloc(), first, &mut second);
-    drop(second);
-    answers
-}
-
-// The same beside a host of this folder, and how long it takes.
-fn answers_in_time(rt: &HostRuntime, path: &str, link: &str) -> Result<(Answers, Duration), Fail> {
-    let before = rt.monotonic()?;
-    let mut first = host_of(rt, path)?;
-    let answers = answers_beside(rt, &mut first, link);
-    drop(first);
-    let waited = rt.monotonic()?.saturating_sub(before);
-    Ok((answers?, waited))
-}
-
-// A spool and a link to it are one folder, with one lock. It is asked for ten times, by the system's clock: this waits for
-// nine seconds.
-#[test]
-fn a_host_is_refused_while_another_holds_the_lock(rt: HostRuntime) -> Result<(), Fail> {
-    let path = fresh_spool(&rt, "taken")?;
-    let link = format!(in rt.alloc(); "{path}.link")?;
-    line(&rt, "ln -s \"$1\" \"$1.link\"", path.as_str())?;
-    let seen = answers_in_time(&rt, path.as_str(), link.as_str());
-    drop(link);
-    let (answers, waited) = seen?;
-    assert_eq!(rt; answers, (Err(EnterFault::Taken), Ok(())));
-    assert!(rt; waited >= Duration::from_secs(9) && waited < Duration::from_secs(30));
-    let beside = line(&rt, "ls -d \"$1\"* | wc -l", path.as_str())?;
-    assert_eq!(rt; beside.as_slice(), b"4\n".as_slice());
-    drop(beside);
-    clear(&rt, path.as_str())
-}
 
 /// What one session does, between a settle and its end.
 #[derive(Clone, Copy)]

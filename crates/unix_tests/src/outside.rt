@@ -1,4 +1,4 @@
-//! An outside of the tests' own: the files of the system, a clock that stands still, and a pipe as standard input.
+//! An outside of the tests' own: the files of the system, a clock that goes on by rests alone, and a pipe as standard input.
 use std::alloc::Allocator;
 use std::cell::Cell;
 use std::fs::{File, Files, Metadata, OpenOptions};
@@ -7,21 +7,28 @@ use std::io::{BufRead, ErrorKind, Lines, PipeReader, Read};
 use std::path::PathBuf;
 use std::time::{Clock, Duration};
 
-/// Its clock tells `second`, and counts in `rested` for how many seconds a rest was asked.
+/// Its clock tells `time`, which goes on by `speed` times what a rest was asked for. All that was asked for is `rested`.
 #[derive(Drop)]
 pub struct Outside<'a> {
     rt: &'a HostRuntime,
-    second: u64,
-    pub rested: Cell<u64>,
+    pub time: Cell<Duration>,
+    speed: u32,
+    pub rested: Cell<Duration>,
     input: &'a PipeReader,
 }
 
 impl<'a> Outside<'a> {
-    pub fn at(rt: &'a HostRuntime, second: u64, input: &'a PipeReader) -> Outside<'a> {
+    pub fn at(
+        rt: &'a HostRuntime,
+        time: Duration,
+        speed: u32,
+        input: &'a PipeReader,
+    ) -> Outside<'a> {
         Outside {
             rt,
-            second,
-            rested: Cell::new(0),
+            time: Cell::new(time),
+            speed,
+            rested: Cell::new(Duration::ZERO),
             input,
         }
     }
@@ -33,12 +40,13 @@ impl Clock for Outside<'_> {
     }
 
     fn since_1970(&self) -> io::Result<Duration> {
-        Ok(Duration::from_secs(self.second))
+        Ok(self.time.get())
     }
 
     fn sleep(&self, duration: Duration) {
-        self.rested
-            .set(self.rested.get().saturating_add(duration.as_secs()));
+        self.rested.set(self.rested.get().saturating_add(duration));
+        let passed = duration.saturating_mul(self.speed);
+        self.time.set(self.time.get().saturating_add(passed));
     }
 }
 

@@ -8,6 +8,7 @@ use std::fmt::Display;
 use std::fs::File;
 use std::io::{self, Write};
 use std::test::Fail;
+use std::time::Duration;
 use unix_host::{UnixErr, UnixInputs, UnixOut, UnixReadings};
 
 #[test]
@@ -66,18 +67,6 @@ fn the_first_bytes_of_a_file_are_read(rt: HostRuntime) -> Result<(), Fail> {
     Ok(())
 }
 
-#[test]
-fn a_rest_is_asked_and_a_clock_after_all_seconds_is_none(rt: HostRuntime) -> Result<(), Fail> {
-    let (input, writer) = io::pipe(&rt)?;
-    drop(writer);
-    let outside = Outside::at(&rt, u64::MAX, &input);
-    let mut readings = UnixReadings::make(&outside);
-    readings.rest(7);
-    assert_eq!(rt; outside.rested.get(), 7);
-    assert_eq!(rt; readings.now(), -1);
-    Ok(())
-}
-
 // Each read gives a part, after an interruption.
 #[test]
 fn standard_input_is_read_part_by_part(rt: HostRuntime) -> Result<(), Fail> {
@@ -85,7 +74,7 @@ fn standard_input_is_read_part_by_part(rt: HostRuntime) -> Result<(), Fail> {
     let (input, mut writer) = io::pipe(&rt)?;
     Write::write_all(&mut writer, b"echo hi\n")?;
     drop(writer);
-    let outside = Outside::at(&rt, 0, &input);
+    let outside = Outside::at(&rt, Duration::ZERO, 0, &input);
     let mut inputs = UnixInputs::make(&outside);
     for (most, wanted) in [(4, "echo"), (100, " hi\n"), (100, "")] {
         let bytes = inputs.standard(alloc, most).expect(&rt, "bytes");

@@ -1,5 +1,5 @@
--- The second that a clock tells (own).
-use Rattle.std.specs.Prelude.{◌/◌, ◌^◌, ℤ, pos, negsuc, Option, Some, None, nat_lt, if◌then◌else◌}
+-- The second that a clock tells, and the end of a rest (own).
+use Rattle.std.specs.Prelude.{◌/◌, ◌*◌, ◌-◌, ◌^◌, ℕ, ℤ, pos, negsuc, Option, Some, None, nat_lt, if◌then◌else◌}
 use Rattle.std.specs.Duration.{as_nanos}
 use Rattle.std.specs.declared.time.Duration.{Duration}
 
@@ -9,3 +9,10 @@ second_in None = negsuc 0
 second_in (Some time) =
     let second = as_nanos time / 1_000_000_000 in
     if nat_lt second (2 ^ 63) then pos second else negsuc 0
+
+-- how many nanoseconds a rest of so many seconds has left: by the clock, what has passed since the second in which it began is over
+abbrev pub nanos_left : ℕ → Option Duration → Option Duration → ℕ
+nanos_left seconds None now = seconds * 1_000_000_000
+nanos_left seconds (Some began) None = seconds * 1_000_000_000
+nanos_left seconds (Some began) (Some now) =
+    seconds * 1_000_000_000 - (as_nanos now - as_nanos began / 1_000_000_000 * 1_000_000_000)
