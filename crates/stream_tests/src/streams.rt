@@ -1,6 +1,6 @@
 //! Readings, inputs and sinks.
 use crate::outside::Outside;
-use crate::words::{clear, fresh_spool, line};
+use crate::words::{clear, fresh_path, line};
 use host_calls::{InputFault, Inputs, Readings, Sink, SinkFault};
 use load_reading::hundredths;
 use std::alloc::Global;
@@ -39,7 +39,7 @@ fn count_of<I: Inputs>(
 
 #[test]
 fn the_first_bytes_of_a_file_are_read(rt: HostRuntime) -> Result<(), Fail> {
-    let path = fresh_spool(&rt, "input")?;
+    let path = fresh_path(&rt, "input")?;
     line(&rt, "head -c 10000 /dev/zero >\"$1\"", path.as_str())?;
     let mut inputs = UnixInputs::make(rt.clone()?);
     for (most, count) in [
@@ -57,12 +57,15 @@ fn the_first_bytes_of_a_file_are_read(rt: HostRuntime) -> Result<(), Fail> {
     let nothing = inputs.standard(rt.alloc(), 0).expect(&rt, "nothing");
     assert!(rt; nothing.as_slice().is_empty());
     drop(nothing);
-    clear(&rt, path.as_str())?;
-    for none in [path.as_str(), "/tmp"] {
-        assert_eq!(rt;
-            count_of(rt.alloc(), &mut inputs, none, 9),
-            Err(InputFault::Failed)
-        );
+    clear(&rt, path.as_str())
+}
+
+#[test]
+fn what_is_no_file_is_a_fault(rt: HostRuntime) -> Result<(), Fail> {
+    let mut inputs = UnixInputs::make(rt.clone()?);
+    for path in ["/tmp/streams_of_nobody", "/tmp"] {
+        let answer = count_of(rt.alloc(), &mut inputs, path, 9);
+        assert_eq!(rt; answer, Err(InputFault::Failed), "{path}");
     }
     Ok(())
 }
@@ -124,7 +127,7 @@ fn a_full_device_is_a_fault(rt: HostRuntime) -> Result<(), Fail> {
 
 #[test]
 fn a_pipe_that_nobody_reads_is_a_fault(rt: HostRuntime) -> Result<(), Fail> {
-    let path = fresh_spool(&rt, "pipe")?;
+    let path = fresh_path(&rt, "pipe")?;
     line(&rt, "mkfifo \"$1\"", path.as_str())?;
     let reader = File::options()
         .read(true)

@@ -1,6 +1,6 @@
 //! Rests: those that last as long as they are asked for, and those that end at a second of the clock or at a change.
 use crate::outside::Outside;
-use crate::words::{clear, fresh_spool, line, named};
+use crate::words::{clear, fresh_path, line, named};
 use host_calls::{Name, Readings};
 use std::alloc::Global;
 use std::fs::{File, Files, create_dir};
@@ -92,7 +92,7 @@ fn rested_after(
 // A change of the watched file ends a rest after its first second, and the rest after that lasts to its end.
 #[test]
 fn a_rest_ends_where_a_watched_file_has_changed(rt: HostRuntime) -> Result<(), Fail> {
-    let path = fresh_spool(&rt, "watched")?;
+    let path = fresh_path(&rt, "watched")?;
     let sequence = named(&rt, ".SEQ");
     create_dir(&rt, path.as_str())?;
     for (text, wanted) in [
@@ -113,25 +113,22 @@ fn a_rest_ends_where_a_watched_file_has_changed(rt: HostRuntime) -> Result<(), F
     clear(&rt, path.as_str())
 }
 
-// By the system's clock: the file changes within the rest of a minute.
-#[test]
-fn a_rest_ends_while_it_lasts(rt: HostRuntime) -> Result<(), Fail> {
-    let path = fresh_spool(&rt, "changing")?;
-    let files = [named(&rt, ".SEQ"), named(&rt, ".JRN")];
-    create_dir(&rt, path.as_str())?;
-    let mut readings = watching(rt.clone()?, rt.alloc(), path.as_str(), &files)?;
-    line(
-        &rt,
-        "(sleep 1.5; : >\"$1/.JRN\") >/dev/null 2>&1 &",
-        path.as_str(),
-    )?;
+// How long a rest of a minute lasts by the system's clock, where these files of a folder are watched.
+fn time_of_rest(rt: &HostRuntime, folder: &str, files: &[Name]) -> Result<Duration, Fail> {
+    let mut readings = watching(rt.clone()?, rt.alloc(), folder, files)?;
     let before = rt.monotonic()?;
     readings.rest(60);
-    let rested = rt.monotonic()?.saturating_sub(before);
+    Ok(rt.monotonic()?.saturating_sub(before))
+}
+
+#[test]
+fn a_rest_ends_while_it_lasts(rt: HostRuntime) -> Result<(), Fail> {
+    let path = fresh_path(&rt, "changing")?;
+    let text = "mkdir \"$1\"; (sleep 1.5; : >\"$1/.JRN\") >/dev/null 2>&1 &";
+    let files = [named(&rt, ".SEQ"), named(&rt, ".JRN")];
+    line(&rt, text, path.as_str())?;
+    let rested = time_of_rest(&rt, path.as_str(), &files)?;
     clear(&rt, path.as_str())?;
-    assert!(rt;
-        rested >= Duration::from_secs(1) && rested < Duration::from_secs(20),
-        "{rested:?}"
-    );
+    assert!(rt; rested >= Duration::from_secs(1) && rested < Duration::from_secs(20));
     Ok(())
 }
