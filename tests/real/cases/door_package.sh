@@ -29,6 +29,15 @@ grep -q "2 jobs of Debian's at wait in $old" /root/said || fails "the package sa
 grep -qx '2 of 2 jobs moved' /root/made || fails "it says $(cat /root/made)"
 /usr/libexec/coefhird/from-debian-at --make 2>/root/made; grep -qx '0 of 0 jobs moved' /root/made || fails 'it moves a job twice'
 [ "$(cat $old/a0000401c8b522)" = half ] || fails 'a job that is not whole was moved'
+/usr/libexec/coefhird/from-debian-at /nowhere 2>/root/made && fails 'a directory that is not there is moved'
+[ "$(cat /root/made)" = 'from-debian-at: /nowhere can not be read' ] || fails "it says $(cat /root/made)"
+# a job that is refused is named, and stays
+lists=/home/fresh/.local/state/coefhird/jobs
+echo fresh >$lists/at.deny
+cp -p $old/moved.c0000301e187e0 $old/c0000501e187e0
+/usr/libexec/coefhird/from-debian-at --make 2>/root/made && fails 'a refused job is moved'
+grep -qx "from-debian-at: $old/c0000501e187e0 is refused, and stays" /root/made && [ -e $old/c0000501e187e0 ] || fails "it says $(cat /root/made)"
+rm $old/c0000501e187e0; : >$lists/at.deny
 # the user: by su, as a login, with nothing set
 su fresh -c 'cd; echo "pwd; echo \$LOGNAME" | at now' >/root/said 2>&1 || fails "at of a fresh user: $(cat /root/said)"
 su - fresh -c atq >/root/said 2>&1 || fails "atq of a fresh user: $(cat /root/said)"
