@@ -100,19 +100,25 @@ fn what_a_job_writes_lands_in_its_file(rt: HostRuntime) -> Result<(), Fail> {
     Ok(())
 }
 
+// How a job ends whose script makes a file in the spool, prints, and exits with 3.
+fn ending_at(rt: &HostRuntime, path: &str, job: &Name) -> Result<Option<Ending>, Fail> {
+    let script = format!(in rt.alloc(); "echo hi; echo ho >&2; : >'{path}/ran'; exit 3\n")?;
+    let mut host = host_of(rt, path)?;
+    let ended = job_of(rt, &mut host, job, script.as_bytes());
+    drop(host);
+    let (_, ending, _) = ended?;
+    Ok(ending)
+}
+
 // The place of its output is taken by a folder.
 #[test]
 fn a_job_without_an_output_runs(rt: HostRuntime) -> Result<(), Fail> {
     let path = fresh_spool(&rt, "silent")?;
     line(&rt, "mkdir -p \"$1\" \"$1.out/job\"", path.as_str())?;
-    let script = format!(in rt.alloc(); "echo hi; echo ho >&2; : >'{path}/ran'; exit 3\n")?;
-    let mut host = host_of(&rt, path.as_str())?;
-    let ended = job_of(&rt, &mut host, &named(&rt, "job"), script.as_bytes());
-    drop(host);
+    let ending = ending_at(&rt, path.as_str(), &named(&rt, "job"))?;
     let left = line(&rt, "cd \"$1\"; echo *; ls \"$1.out/job\"", path.as_str())?;
     clear(&rt, path.as_str())?;
-    let (_, ending, again) = ended?;
-    assert!(rt; ending == Some(Ending::Exit(3)) && again == ending);
+    assert_eq!(rt; ending, Some(Ending::Exit(3)));
     assert_eq!(rt; left.as_slice(), b"job ran\n".as_slice());
     Ok(())
 }

@@ -17,15 +17,15 @@ fn moving_host(rt: &HostRuntime, path: &str) -> Result<UnixHost<HostRuntime>, Fa
     Ok(host_of(rt, path)?.keeping(8).moving())
 }
 
-// Reads of a file once the folder was listed and a stranger changed the file: within its first eight bytes, past them, and
-// after a change of the session's own.
+// Reads of a file, each after a blank, once the folder was listed and a stranger changed the file: within its first eight bytes,
+// past them, and after a change of the session's own.
 fn reads_after_listing<H: Host>(
     rt: &HostRuntime,
     host: &mut H,
     file: &str,
     job: &Name,
     other: &Name,
-) -> Result<(Vec<u8>, Vec<u8>, Vec<u8>), HostFault>
+) -> Result<Vec<u8>, HostFault>
     requires unknown { H.tells ≡ false }
     requires inside { IsInside (H.session host.old) }
 {
@@ -33,27 +33,32 @@ fn reads_after_listing<H: Host>(
     host.create(alloc, job, b"0123456789")?;
     host.names(alloc)?;
     fs::write(rt, file, b"abcdefghij".as_slice()).map_err(|_| HostFault::Failed)?;
-    let kept = host.read(alloc, job, 2, 4)?;
-    let past = host.read(alloc, job, 2, 100)?;
+    let mut reads = host.read(alloc, job, 2, 4)?;
+    reads.extend_from_slice(b" ")?;
+    reads.extend_from_slice(&host.read(alloc, job, 2, 100)?)?;
+    reads.extend_from_slice(b" ")?;
     host.create(alloc, other, b"")?;
-    let anew = host.read(alloc, job, 2, 4)?;
-    Ok((kept, past, anew))
+    reads.extend_from_slice(&host.read(alloc, job, 2, 4)?)?;
+    Ok(reads)
+}
+
+// The same in a spool at this path.
+fn reads_at(rt: &HostRuntime, path: &str, job: &Name, other: &Name) -> Result<Vec<u8>, Fail> {
+    let file = format!(in rt.alloc(); "{path}/job")?;
+    let mut host = moving_host(rt, path)?;
+    begin(rt.alloc(), &mut host)?;
+    let reads = reads_after_listing(rt, &mut host, file.as_str(), job, other);
+    drop(host);
+    Ok(reads?)
 }
 
 #[test]
 fn first_bytes_are_kept_until_a_change(rt: HostRuntime) -> Result<(), Fail> {
     let path = fresh_spool(&rt, "kept")?;
-    let mut host = moving_host(&rt, path.as_str())?;
     let (job, other) = (named(&rt, "job"), named(&rt, "other"));
-    let file = format!(in rt.alloc(); "{path}/job")?;
-    begin(rt.alloc(), &mut host)?;
-    let seen = reads_after_listing(&rt, &mut host, file.as_str(), &job, &other);
-    drop(host);
+    let reads = reads_at(&rt, path.as_str(), &job, &other)?;
     clear(&rt, path.as_str())?;
-    let (kept, past, anew) = seen?;
-    assert_eq!(rt; kept.as_slice(), b"2345".as_slice());
-    assert_eq!(rt; past.as_slice(), b"cdefghij".as_slice());
-    assert_eq!(rt; anew.as_slice(), b"cdef".as_slice());
+    assert_eq!(rt; reads.as_slice(), b"2345 cdefghij cdef".as_slice());
     Ok(())
 }
 
@@ -90,12 +95,15 @@ fn what_is_no_plain_file_is_not_opened(rt: HostRuntime) -> Result<(), Fail> {
 }
 
 // The names in each of two sessions of a host, and the current directory after them.
-fn listed_twice(rt: &HostRuntime, spool: &str) -> Result<(Vec<u8>, Vec<u8>, Vec<u8>), Fail> {
+fn listed_twice(rt: &HostRuntime, spool: &str) -> Result<Vec<u8>, Fail> {
     let mut host = moving_host(rt, spool)?;
     let first = listed(rt.alloc(), &mut host);
     let second = listed(rt.alloc(), &mut host);
     drop(host);
-    Ok((first?, second?, line(rt, "pwd -P", spool)?))
+    let mut all = first?;
+    all.extend_from_slice(&second?)?;
+    all.extend_from_slice(&line(rt, "pwd -P", spool)?)?;
+    Ok(all)
 }
 
 // By its whole path the folder becomes the current directory; by a relative one it is the same folder the next time too.
@@ -105,13 +113,10 @@ fn a_folder_is_found_again(rt: HostRuntime) -> Result<(), Fail> {
     line(&rt, "mkdir \"$1\" && : >\"$1/job\"", path.as_str())?;
     let relative = path.as_str().strip_prefix("/tmp/").unwrap_or("");
     env::set_current_dir(&rt, "/tmp")?;
-    let by_relative = listed_twice(&rt, relative)?;
-    let by_whole = listed_twice(&rt, path.as_str())?;
-    let folder = line(&rt, "cd \"$1\" && pwd -P", path.as_str())?;
-    let above = line(&rt, "cd /tmp && pwd -P", path.as_str())?;
-    clear(&rt, path.as_str())?;
-    assert!(rt; by_relative.0 == by_relative.1 && by_whole.0 == by_whole.1);
-    assert_eq!(rt; by_relative.0.as_slice(), b"job ".as_slice());
-    assert!(rt; by_relative.2 == above && by_whole.2 == folder);
-    Ok(())
+    for (spool, folder) in [(relative, "/tmp"), (path.as_str(), path.as_str())] {
+        let listed = listed_twice(&rt, spool)?;
+        let wanted = line(&rt, "cd \"$1\" && echo \"job job $(pwd -P)\"", folder)?;
+        assert_eq!(rt; listed.as_slice(), wanted.as_slice(), "{spool}");
+    }
+    clear(&rt, path.as_str())
 }
