@@ -133,6 +133,22 @@ case_check_walk() {
   with '' atq; [ "$(cut -f 1 out)" = 3 ] || fail "it lists $(cat out)"
 }
 
+# Lines that nobody reads hold no lock: a submission beside them is made.
+case_check_into_a_pipe_that_nobody_reads() {
+  opened
+  with 'true' at -t 203001010000; took 1
+  # (5,000 files whose numbers were not drawn, more lines than a pipe holds)
+  for number in $(seq 2 5001); do printf '%s/a%08x01e187e0\n' "$spool" "$number"; done | xargs -n 1000 touch
+  mkfifo pipe; exec 3<>pipe
+  (becomes "$bin/atcheck" "$spool" >pipe 2>err_of_check </dev/null) & local child=$!
+  for _ in $(seq 100); do [ -n "$(timeout 0.1 head -c 1 <&3)" ] && break; sleep 0.1; done
+  kill -0 "$child" 2>/dev/null || fail 'its lines fit into the pipe'
+  status=0; printf true | bare timeout 5 "$bin/at" -t 203001010000 2>err || status=$?
+  [ "$status $(cat err)" = "7 at: $(basename "$(file_of 2)") damaged at 0" ] || fail "at beside it: $status, $(cat err)"
+  kill -9 "$child"; wait "$child" 2>/dev/null
+  exec 3>&-
+}
+
 # It asks no more of a folder than atq does.
 case_check_many_jobs() {
   opened
