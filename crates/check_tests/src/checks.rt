@@ -147,7 +147,13 @@ fn starts_and_their_files(rt: HostRuntime) -> Result<(), Fail> {
         marks: "+S00000001a-000000000067748580.\n+I00000001--000000000000000000.\n",
         names: &[],
     };
-    try_folder(&rt, alloc, &[sequence, start], ".JRN damaged at 0\n", &given_up)?;
+    try_folder(
+        &rt,
+        alloc,
+        &[sequence, start],
+        ".JRN damaged at 0\n",
+        &given_up,
+    )?;
     let other = [sequence, start, ("b0000101b968a0", JOB)];
     try_folder(&rt, alloc, &other, ".JRN damaged at 10\n", &given_up)?;
     let running = Saved {
@@ -185,7 +191,13 @@ fn a_start_above_the_last_number(rt: HostRuntime) -> Result<(), Fail> {
         names: &["a0000101b968a0"],
         ..alone
     };
-    try_folder(&rt, alloc, &[drawn, start, job], ".JRN damaged at 0\n", &waits)
+    try_folder(
+        &rt,
+        alloc,
+        &[drawn, start, job],
+        ".JRN damaged at 0\n",
+        &waits,
+    )
 }
 
 #[test]

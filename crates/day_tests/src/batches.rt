@@ -41,7 +41,12 @@ fn turn(now: i64, load: u32) -> Event {
 }
 
 // How many jobs were handed over by two turns of a machine at this load: one at `NOW`, and one so many seconds later.
-fn handed_over(rt: &impl Abort, alloc: Global, load: u32, seconds: i64) -> Result<usize, AllocError> {
+fn handed_over(
+    rt: &impl Abort,
+    alloc: Global,
+    load: u32,
+    seconds: i64,
+) -> Result<usize, AllocError> {
     let mut host = spool(alloc)?;
     let turns = [turn(NOW, load), turn(NOW.saturating_add(seconds), load)];
     day_on(rt, alloc, &turns, &mut host)?;

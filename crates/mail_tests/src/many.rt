@@ -12,7 +12,8 @@ fn ended(alloc: Global, jobs: u32) -> Result<(Vec<u8>, Vec<u8>), AllocError> {
     for place in 0..jobs {
         let number = u64::from(place) + 1;
         let slots = format!(in alloc;
-            "+S{number:08x}a-000000000067748580.\n+E{number:08x}-x000000000000000000.\n")?;
+            "+S{number:08x}a-000000000067748580.\n+E{number:08x}-x000000000000000000.\n"
+        )?;
         let note = format!(in alloc; "N {number:08x} a{number:08x}01b968a0 1 ann\n")?;
         journal.extend_from_slice(slots.as_bytes())?;
         notes.extend_from_slice(note.as_bytes())?;

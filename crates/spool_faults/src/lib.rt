@@ -26,8 +26,8 @@ mod survey;
 
 pub use fault_list::FaultList;
 pub use laws::{
-    damage_is_the_first_fault, lost_marks_leave_no_job_pending, salvaged_marks_are_sound, salvages_show_what_is_taken,
-    small_folders, starts_are_not_pending, taken_marks_are_sound,
+    damage_is_the_first_fault, lost_marks_leave_no_job_pending, salvaged_marks_are_sound,
+    salvages_show_what_is_taken, small_folders, starts_are_not_pending, taken_marks_are_sound,
 };
 pub use list_faults::faults;
 pub use plan::Plan;
