@@ -17,7 +17,7 @@ becomes() { exec env -i PATH=/usr/bin:/bin ATSPOOL="$spool" LOGNAME="$user" PWD=
 bare() { (becomes "$@"); }
 
 # Calls a tool with the words after it, on what is on standard input. The answer lies in $status, ./out and ./err.
-call() { status=0; bare timeout -k 1 40 "$bin/$1" "${@:2}" >out 2>err || status=$?; }
+call() { status=0; bare timeout -k 1 120 "$bin/$1" "${@:2}" >out 2>err || status=$?; }
 
 # The same with these commands as standard input.
 with() { printf '%s' "$1" >commands; call "${@:2}" <commands; }
