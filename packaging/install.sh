@@ -179,8 +179,10 @@ units() { # which begin so, and where to
 case $PREFIX in
     "${HOME:-/nowhere}"/*)
         units user- "$to/share/systemd/user"
-        # (it is for one user, whoever that is)
-        sed -i '/^# It is enabled/,/^ConditionUser/d' "$to/share/systemd/user/atd.service"
+        # (they are for one user, whoever that is)
+        for source in "$here"/packaging/systemd/user-*; do
+            sed -i '/^# It .*enabled/,/^ConditionUser/d' "$to/share/systemd/user/${source##*/user-}"
+        done
         ;;
     *)
         units user- "$to/lib/systemd/user"

@@ -97,7 +97,7 @@ _coefhird_atcron() {
 
 _coefhird_atcrontab() {
     compopt -o filenames 2>/dev/null
-    mapfile -t COMPREPLY < <(compgen -W '-e -l -r' -- "${COMP_WORDS[COMP_CWORD]}"; compgen -f -- "${COMP_WORDS[COMP_CWORD]}")
+    mapfile -t COMPREPLY < <(compgen -W '-e -l -r --from-cron' -- "${COMP_WORDS[COMP_CWORD]}"; compgen -f -- "${COMP_WORDS[COMP_CWORD]}")
 }
 
 _coefhird_atcheck() { _coefhird_folder_or '--salvage' "${COMP_WORDS[COMP_CWORD]}"; }

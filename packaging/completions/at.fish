@@ -57,6 +57,7 @@ complete -c atcron -l turns -x -d 'make so many turns and end'
 complete -c atcrontab -s e -d 'edit the crontab'
 complete -c atcrontab -s l -d 'print the crontab'
 complete -c atcrontab -s r -d 'remove the crontab'
+complete -c atcrontab -l from-cron -r -F -d 'print what a crontab of cron is here'
 
 complete -c atcheck -f -a '(__fish_complete_directories)'
 complete -c atcheck -l salvage -d 'write what can be saved into the second folder'

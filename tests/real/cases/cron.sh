@@ -101,21 +101,29 @@ case_long_cron_of_three_minutes() {
 # A second user edits: a bad line is named and the old file stays, a good one is taken.
 steps_of_atcrontab() {
   chmod -R a+rX "$place/pre" "$place/door" 2>/dev/null
+  [ ! -d /run/systemd/system ] || mount -t tmpfs tmpfs /run/systemd || fail 'nothing can be mounted'
   table=home/.config/coefhird/crontab
+  none="atcrontab: there is no systemd to run atcron: start it by setsid -f atcron -f $PWD/$table"
   edits() { status=0; second env -i PATH=/usr/bin:/bin EDITOR="$2" "$door/atcrontab" $1 >out 2>err </dev/null || status=$?; }
   edits -l; refused 1 "atcrontab: there is no $PWD/$table"
   printf '#!/bin/sh\nprintf "30 8 * * 1-5 run\\n" >"$1"\n' >good; printf '#!/bin/sh\nprintf "30 8 * * 1-5 run\\n61 * * * * x\\n" >"$1"\n' >spoils
   chmod 755 good spoils
-  edits -e "$PWD/good"; [ "$status" = 0 ] || fail "a good line: $(cat err)"
+  edits -e "$PWD/good"; ended 0 '' "$none"$'\n'
   [ "$(cat $table) $(stat -c '%a %u' $table)" = "30 8 * * 1-5 run 600 $number" ] || fail "the file is $(cat $table) $(stat -c '%a %u' $table)"
   edits -e "$PWD/spoils"; [ "$status" = 1 ] && [ "$(head -n 1 err)" = 'atcrontab: bad crontab at line 2' ] || fail "a bad line: $status, $(cat err)"
   edits -l; ended 0 $'30 8 * * 1-5 run\n' ''
   edits -e true; ended 0 '' $'atcrontab: nothing is changed\n'
   edits -e false; refused 1 'atcrontab: the editor failed: nothing is changed'
   printf '0 0 * * * later\n' >other; chmod 644 other
-  edits "$PWD/other"; [ "$status" = 0 ] && [ "$(cat $table)" = '0 0 * * * later' ] || fail "a file: $(cat err)"
+  edits "$PWD/other"; ended 0 '' "$none"$'\n'; [ "$(cat $table)" = '0 0 * * * later' ] || fail "a file: $(cat $table)"
+  # a mark of a clock that was once ahead, and one of this minute
+  mark=home/.local/state/coefhird/jobs/.CRON
+  printf '%08x\n' $(($(date +%s) / 60 + 90)) >$mark; edits "$PWD/other"
+  grep -qE "^atcrontab: $PWD/$mark is (89|90) minutes ahead of the clock, and atcron submits nothing until then: see atcron\(8\)\$" err || fail "of a mark ahead: $(cat err)"
+  printf '%08x\n' $(($(date +%s) / 60)) >$mark; edits "$PWD/other"; ended 0 '' "$none"$'\n'
+  rm $mark
   edits -r; ended 0 '' ''; [ ! -e $table ] || fail 'the file is not removed'
-  for words in '' '-x' '-e -l' 'a b'; do edits "$words"; refused 1 'atcrontab: usage: atcrontab -e | -l | -r | FILE'; done
+  for words in '' '-x' '-e -l' 'a b' '--from-cron' '--from-cron a b'; do edits "$words"; refused 1 'atcrontab: usage: atcrontab -e | -l | -r | --from-cron FILE | FILE'; done
   [ -z "$(ls home/.config/coefhird)" ] || fail "there stays $(ls home/.config/coefhird)"
 }
 case_cron_atcrontab() { doored; apart steps_of_atcrontab; }

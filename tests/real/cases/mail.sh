@@ -7,7 +7,7 @@ delivering() {
   cat >sendmail <<WORDS
 #!/bin/sh
 [ "\$1 \$2 \$#" = '-i -- 3' ] || exit 64
-cat >"$PWD/messages/.\$\$" && mv "$PWD/messages/.\$\$" "$PWD/messages/\$3.\$(sed -n 's/^Subject: job \([0-9]*\) .*/\1/p' "$PWD/messages/.\$\$").\$\$"
+cat >"$PWD/messages/.\$\$" && mv "$PWD/messages/.\$\$" "$PWD/messages/\$3.\$(sed -n 's/^Subject: [^ ]*: job \([0-9]*\) .*/\1/p' "$PWD/messages/.\$\$").\$\$"
 WORDS
   printf '#!/bin/sh\nSENDMAIL=%q exec %q "$@"\n' "$PWD/sendmail" "$libexec/send" >deliver
   chmod 755 sendmail deliver
@@ -24,6 +24,14 @@ told() {
     sleep 0.1
   done
   fail 'a notice does not end'
+}
+
+# The lines before the body of a message for this user, with this line, type and encoding, and with no date.
+head_of_mail() {
+  local domain
+  domain=$(head -n 1 /etc/mailname 2>/dev/null)
+  printf '%s\n' "From: atpost <$(id -un)@${domain:-$(uname -n)}>" "To: $1" Date: "Subject: atpost@$(uname -n): $2" \
+    'Auto-Submitted: auto-generated' 'MIME-Version: 1.0' "Content-Type: $3" "Content-Transfer-Encoding: $4"
 }
 
 # So many messages came.
@@ -43,8 +51,10 @@ case_mail_of_a_job() {
   turns; call atrm 4 </dev/null; ended 0 '' ''
   posts; came 2
   [ "$(tail -n 4 "$spool/.MAIL")" = $'S 00000001\nS 00000002\nS 00000003\nD 00000004' ] || fail "the notes are $(cat "$spool/.MAIL")"
-  printf '%s\n' 'To: ann' 'Subject: job 1 exit 0' 'Auto-Submitted: auto-generated' 'MIME-Version: 1.0' \
-    'Content-Type: text/plain; charset=UTF-8' 'Content-Transfer-Encoding: 8bit' '' 'job 1 exit 0' >want
+  head_of_mail ann 'job 1 exit 0' 'text/plain; charset=UTF-8' 8bit >want
+  printf '%s\n' '' 'job 1 exit 0' >>want
+  date -d "$(sed -n 's/^Date: //p' messages/ann.1.*)" >/dev/null || fail "the date is $(cat messages/ann.1.*)"
+  sed -i 's/^Date: .*/Date:/' messages/*
   cmp want messages/ann.1.* || fail "the message of a quiet job: $(cat messages/ann.1.*)"
   { sed 's/job 1/job 3/' want; echo hi; } | cmp - messages/ann.3.* || fail "the message of a job: $(cat messages/ann.3.*)"
   posts; came 2
@@ -73,7 +83,7 @@ case_mail_of_each_end() {
 # pipe holds are no matter.
 case_mail_whole() {
   needs_atd; delivering
-  { printf '.\n..\nFrom ann\n%s\n' "it's \"so\" \$1 \\"; head -c 300000 /dev/zero | tr '\0' x; printf '\n.\nend'; } >text
+  { printf '.\n..\nFrom ann\n%s\n' "it's \"so\" \$1 \\"; head -c 300000 /dev/zero | tr '\0' x | fold -w 990; printf '\n.\nend'; } >text
   with "cat '$PWD/text'" at now; took 1
   posts; turns; posts; came 1
   sed '1,/^job 1 exit 0$/d' messages/ann.1.* | cmp - text || fail 'the output did not come whole'
