@@ -37,6 +37,8 @@ case_mail_that_is_lost() {
   with 'echo hi' at now; took 1
   posts; turns; posts
   [ "$(cat "$spool.out"/mail.00000001)" = "send: $PWD/sendmail ended with 75: no mail to ann of job 1 exit 0" ] || fail "it says $(cat "$spool.out"/mail.*)"
+  echo x | ./deliver ann 2>/dev/null; status=$?
+  [ "$status" = 75 ] || fail "send ends with $status"
   # the line of the pages finds it, and none that was mailed
   printf '#!/bin/sh\ncat >/dev/null\n' >sendmail
   with 'echo hi' at now; took 2; posts; turns; posts
