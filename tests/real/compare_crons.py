@@ -135,6 +135,8 @@ class CronLine:
             if re.search(r"(?<!\\)(\\\\)+%", command):
                 raise Bad("it has no equivalent")
             self.entry = (cron_minutes(words[:5]), cron_command(command), words[5] if user_column else None)
+            # (whether such a field is a restricted one is told in two ways)
+            self.named = any("*" in words[index][1:] and words[index][0] != "*" for index in (2, 4))
         except Bad:
             self.named = True
 
@@ -313,8 +315,7 @@ def random_field(choose, index):
     text = ",".join(element() for _ in range(choose.choice([1, 1, 1, 2, 3])))
     if choose.random() < 0.03:
         text = choose.choice([f"{high + 1}", "5-1", f"{low}/2", "", "x", "1,,2", "*/0", "1-2-3", ",1"]) or "-"
-    # (what a list whose later element is * means to a day is told in two ways)
-    return text.replace("*", str(high)) if index in (2, 4) and "*" in text[1:] else text
+    return text
 
 
 def random_line(choose):

@@ -51,7 +51,10 @@ steps_of_dma() {
   delivering; make_kinds; needs_atd
   spool=$PWD/spool user=$second
   mkdir mail && chgrp mail mail && chmod 2775 mail && mount --bind mail /var/mail || fail 'nothing can be mounted'
-  mkdir -m 2775 /var/spool/dma && chown root:mail /var/spool/dma
+  mkdir -m 2775 /var/spool/dma && chown root:mail /var/spool/dma && chmod 2775 /var/spool/dma
+  # (whatever this machine has for others: nothing leaves it)
+  : >dma.conf
+  [ ! -e /etc/dma/dma.conf ] || mount --bind dma.conf /etc/dma/dma.conf || fail 'nothing can be mounted'
   printf '#!/bin/sh\nSENDMAIL=/usr/sbin/dma exec %q "$@"\n' "$libexec/send" >deliver
   for kind in 1 2 3 4 5; do with "cat '$PWD/kinds/$kind'" at now; took $kind; done
   posts; turns; posts
