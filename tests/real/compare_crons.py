@@ -3,7 +3,8 @@
     compare_crons.py FROM_CRON FOLDER    the examples here, the crontabs of this machine, and 300 random lines
 
 FOLDER gets what `from-cron` printed, for a reader of crontabs to try. Two readings are written down here, apart from each
-other: that of crontab(5) as Debian has it, and that of POSIX by its letter. The year has a 29 February.
+other: that of cron, by Debian's crontab(5) and by what its cron was seen to do, and that of POSIX by its letter. The year
+has a 29 February.
 """
 import datetime
 import fnmatch
@@ -83,24 +84,16 @@ def cron_minutes(fields):
     return {60 * hour + minute for hour in hours for minute in minutes}, {day for day in DAYS if is_due(day)}
 
 
+# A byte of a command, or a backslash with the byte that it takes this meaning from.
+TOKEN = r"(?:\\[\\%]|\\(?![\\%])|[^\\%])"
+
+
 def cron_command(command):
-    """What cron's shell runs, and its standard input. A backslash takes itself and a percent sign from this."""
-    parts, place = [""], 0
-    while place < len(command):
-        if command.startswith("\\\\", place):
-            parts[-1] += "\\\\"
-            place += 2
-        elif command.startswith("\\%", place):
-            parts[-1] += "%"
-            place += 2
-        elif command[place] == "%":
-            parts.append("")
-            place += 1
-        else:
-            parts[-1] += command[place]
-            place += 1
-    lines = "\n".join(parts[1:])
-    return parts[0], lines + "\n" if lines and not lines.endswith("\n") else lines
+    """What cron's shell runs, and its standard input. In the command two backslashes are one, as cron itself has it."""
+    found = re.fullmatch(rf"({TOKEN}*)(?:%(.*))?", command)
+    text = re.sub(r"\\([\\%])", r"\1", found.group(1))
+    lines = re.sub(r"\\%|%", lambda sign: "%" if len(sign.group()) == 2 else "\n", found.group(2) or "")
+    return text, lines + "\n" if lines and not lines.endswith("\n") else lines
 
 
 class CronLine:
@@ -132,7 +125,7 @@ class CronLine:
             if word.startswith("@") and word not in KINDS or len(words) < (7 if user_column else 6):
                 raise Bad(line)
             command = words[-1]
-            if re.search(r"(?<!\\)(\\\\)+%", command):
+            if re.match(rf"{TOKEN}*\\\\%", command):
                 raise Bad("it has no equivalent")
             self.entry = (cron_minutes(words[:5]), cron_command(command), words[5] if user_column else None)
             # (whether such a field is a restricted one is told in two ways)
@@ -236,7 +229,7 @@ def compare_text(from_cron, text, folder, name, user=None):
     said = subprocess.run([from_cron, source] + [user] * (user is not None), capture_output=True, encoding="latin-1")
     with open(target, "w", encoding="latin-1", newline="") as file:
         file.write(said.stdout)
-    named = {int(number) for number in re.findall(r"^atcrontab: line (\d+) (?:has no equivalent|is no line of cron): ", said.stderr, re.M)}
+    named = {int(number) for number in re.findall(r"^atcrontab: line (\d+) has no equivalent: ", said.stderr, re.M)}
     assert len(said.stderr.splitlines()) == len(named), said.stderr
     lines = iter(line for line in said.stdout.splitlines() if line.strip(" \t") and not line.lstrip(" \t").startswith("#"))
     variables, entries = {}, 0
@@ -290,6 +283,14 @@ PATH=/usr/local/sbin:/usr/local/bin:/sbin:/bin:/usr/sbin:/usr/bin
 """
 
 
+# What Debian's cron 3.0pl1 was seen to run, and to write to its standard input.
+SEEN = [
+    (r"a\\b", r"a\b", ""), (r"a\\\\b", r"a\\b", ""), (r"a\\\%b", r"a\%b", ""), (r"a\\%b", "a\\", "b\n"), (r"a\b\%\\", "a\\b%\\", ""),
+    (r"x%a\\b", "x", "a\\\\b\n"), (r"x%a\\\%b", "x", "a\\\\%b\n"), (r"x%a\\%b", "x", "a\\%b\n"), ("x%a\\", "x", "a\\\n"),
+    ("a\\", "a\\", ""), ("x  %  b  %  ", "x  ", "  b  \n  \n"), ("x%", "x", ""), ("x%%", "x", "\n"), ("x%a%b%", "x", "a\nb\n"),
+]
+
+
 def random_field(choose, index):
     low, high = BOUNDS[index]
     names = {3: MONTHS, 4: WEEKDAYS}.get(index, [])
@@ -333,6 +334,8 @@ def random_line(choose):
 def main():
     from_cron, folder = sys.argv[1:]
     me = pwd.getpwuid(os.getuid()).pw_name
+    for command, text, lines in SEEN:
+        assert cron_command(command) == (text, lines), f"{command} is read as {cron_command(command)}"
     counts = [compare_text(from_cron, EXAMPLES, folder, "examples")]
     for user in ("root", "www-data", "nobody"):
         counts.append(compare_text(from_cron, SYSTEM, folder, f"system_{user}", user))

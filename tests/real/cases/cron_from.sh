@@ -62,14 +62,19 @@ steps_of_from_cron() {
 }
 case_cron_from_cron_words() { doored; apart steps_of_from_cron; }
 
-# A test of the day, in a job that atcron submits: it comes to the command today, and not on another weekday.
+# Jobs that atcron submits: a test of the day comes to the command today, and not on another weekday, and a command with its
+# standard input and its variables prints what it prints under cron.
 case_cron_from_cron_runs() {
   needs_atd; doored; opened
   # (a field that begins with * takes both: this day of the month, where it is that weekday)
   printf '* * */1 %d %d echo today\n* * */1 %d %d echo never\n' "$(date -u +%-m)" "$(date -u +%w)" "$(date -u +%-m)" $((($(date -u +%w) + 1) % 7)) >text
+  cat >>text <<'END'
+A = "5% of it's "
+* * * * * printf '<\%s>' 'a\\b\%' "$A"; cat%x\\%y%
+END
   "$libexec/from-cron" text >table || fail 'it names a line'
   crons_in_a_minute; ended 0 '' ''
-  [ "$(ls "$spool" | grep -c '^a0')" = 2 ] || fail "the jobs are $(ls "$spool")"
+  [ "$(ls "$spool" | grep -c '^a0')" = 3 ] || fail "the jobs are $(ls "$spool")"
   call atd -s </dev/null; [ "$status" = 0 ] || fail "atd: $(cat err)"
-  [ "$(cat "$spool.out"/a*)" = today ] || fail "the jobs print $(cat "$spool.out"/a*)"
+  [ "$(cat "$spool.out"/a*)" = $'today\n<a\\b%><5% of it\'s >x\\%y' ] || fail "the jobs print $(cat "$spool.out"/a*)"
 }
