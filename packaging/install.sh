@@ -193,6 +193,8 @@ case $PREFIX in
 esac
 
 [ -z "$DESTDIR" ] || exit 0
+# What is said to be installed is on the disk.
+sync -f -- "$to"
 echo "installed below $PREFIX: see $PREFIX/share/man/man1/at.1"
 case $PREFIX in
     "${HOME:-/nowhere}"/*)

@@ -31,6 +31,7 @@ for folder in libexec/coefhird share/doc/coefhird; do rmdir "$to/$folder" 2>/dev
 
 # What is left: the jobs, their lock and their outputs.
 [ -z "${DESTDIR:-}" ] || exit 0
+[ ! -d "$to" ] || sync -f -- "$to"
 case $PREFIX in
     "${HOME:-/nowhere}"/*) set -- "$HOME/.local/state/coefhird/jobs" "${XDG_STATE_HOME:-$HOME/.local/state}/coefhird/jobs" "$HOME/.config/coefhird/jobs" ;;
     *) set -- /var/spool/atjobs ;;

@@ -81,3 +81,40 @@ case_syncs_of_a_settle() {
   printf a >spool.lock; traced atq </dev/null
   made 'sync at.deny' 'sync JOB' 'sync .SEQ' 'sync .JRN' 'sync parent' 'sync folder'
 }
+
+# A script of the package under strace, all its processes: what it syncs, moves and removes below a folder, and what it says,
+# lie in ./calls, a line each.
+traced_script() { # folder, word..
+  status=0
+  timeout -k 1 60 "$strace" -f -y -s 80 -o traced -e 'trace=fsync,?rename,?renameat,?renameat2,?unlink,unlinkat,write' "${@:2}" >out 2>err || status=$?
+  [ "$status" = 0 ] || fail "status $status: $(cat err)"
+  sed -nE '
+    s/^[0-9]+ +//
+    s/^fsync\([0-9]+<([^>]*)>\) += 0$/sync \1/p
+    s/^rename(at2?)?\((AT_FDCWD[^,]*, )?"([^"]*)", (AT_FDCWD[^,]*, )?"([^"]*)".*\) += 0$/rename \3 \5/p
+    s/^unlink(at)?\((AT_FDCWD[^,]*, )?"([^"]*)".*\) += 0$/remove \3/p
+    s/^write\([12]<[^>]*>, "([0-9]+ of [^"\\]*).*$/says \1/p
+  ' traced | grep -E "^says | $1(/|\$)" | sed -E "s|$1\\>|HERE|g; s|crontab\.[A-Za-z0-9]{6}\\>|crontab.NEW|g" >calls
+}
+steps_of_a_crontab() {
+  needs_strace
+  chmod -R a+rX "$place/pre" "$place/door" 2>/dev/null
+  printf '0 0 * * * later\n' >other; chmod 644 other
+  local table=HERE/.config/coefhird/crontab
+  local user=(setpriv --reuid=$number --regid=$number --clear-groups env -i PATH=/usr/bin:/bin "$door/atcrontab")
+  traced_script "$PWD/home" "${user[@]}" "$PWD/other"
+  made "sync $table.NEW" "rename $table.NEW $table" 'sync HERE/.config/coefhird' 'sync HERE/.config' 'sync HERE'
+  traced_script "$PWD/home" "${user[@]}" -r
+  made "remove $table" 'sync HERE/.config/coefhird'
+}
+case_syncs_of_a_crontab() { doored; apart steps_of_a_crontab; }
+
+steps_of_a_move() {
+  needs_strace
+  command -v runuser >/dev/null || skip 'there is no runuser'
+  mkdir -m 700 /var/spool/atjobs old && : >/var/spool/atjobs/at.deny
+  printf '#!/bin/sh\n# atrun uid=0 gid=0\n# mail root 0\numask 22\ntrue\n' >old/a0000101c8b522; chmod 700 old/a0000101c8b522
+  traced_script "$PWD/old" "$place/pre/libexec/coefhird/from-debian-at" --make "$PWD/old"
+  made 'rename HERE/a0000101c8b522 HERE/moved.a0000101c8b522' 'sync HERE' 'says 1 of 1 jobs moved'
+}
+case_syncs_of_a_move() { doored; apart steps_of_a_move; }
