@@ -20,6 +20,8 @@ here=$(cd "$(dirname "$0")/.." && pwd)
 PREFIX=${PREFIX:-/usr/local}
 DESTDIR=${DESTDIR:-}
 to=$DESTDIR$PREFIX
+begun=$(mktemp)
+trap 'rm -f "$begun"' EXIT
 stops() { echo "install.sh: $1" >&2; exit 1; }
 case $PREFIX in
     *[\'\"\|\&\\%]* | *"
@@ -193,8 +195,8 @@ case $PREFIX in
 esac
 
 [ -z "$DESTDIR" ] || exit 0
-# What is said to be installed is on the disk.
-sync -f -- "$to"
+# What is said to be installed is on the disk: each file, and each directory that has new names.
+find "$to" \( -type f -o -type d \) -cnewer "$begun" -exec sync -- {} +
 echo "installed below $PREFIX: see $PREFIX/share/man/man1/at.1"
 case $PREFIX in
     "${HOME:-/nowhere}"/*)

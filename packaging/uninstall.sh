@@ -5,6 +5,8 @@ set -eu
 here=$(cd "$(dirname "$0")/.." && pwd)
 PREFIX=${PREFIX:-/usr/local}
 to=${DESTDIR:-}$PREFIX
+begun=$(mktemp)
+trap 'rm -f "$begun"' EXIT
 rm -f "$to/share/zsh/site-functions/_at" \
     "$to/lib/tmpfiles.d/coefhird.conf" \
     "$to/share/user-tmpfiles.d/coefhird.conf" \
@@ -31,7 +33,7 @@ for folder in libexec/coefhird share/doc/coefhird; do rmdir "$to/$folder" 2>/dev
 
 # What is left: the jobs, their lock and their outputs.
 [ -z "${DESTDIR:-}" ] || exit 0
-[ ! -d "$to" ] || sync -f -- "$to"
+[ ! -d "$to" ] || find "$to" -type d -cnewer "$begun" -exec sync -- {} +
 case $PREFIX in
     "${HOME:-/nowhere}"/*) set -- "$HOME/.local/state/coefhird/jobs" "${XDG_STATE_HOME:-$HOME/.local/state}/coefhird/jobs" "$HOME/.config/coefhird/jobs" ;;
     *) set -- /var/spool/atjobs ;;
