@@ -39,5 +39,5 @@ case $PREFIX in
     *) set -- /var/spool/atjobs ;;
 esac
 for spool; do
-    for left in "$spool" "$spool.lock" "$spool.out"; do [ ! -e "$left" ] || echo "$left"; done
+    for left in "$spool" "$spool.lock" "$spool.out" "$spool.accounts"; do [ ! -e "$left" ] || echo "$left"; done
 done | sort -u | sed 's/^/uninstall.sh: stays: /'
