@@ -166,3 +166,23 @@ case_outputs_trimmed() {
   printf '%s\n' "$(cd "$spool.out" && ls ?00000002* ?00000003*)" notes .hidden mail.1 a00000001 | sort >want
   ls -A "$spool.out" | sort | cmp -s - want || fail "at the end there stay $(ls -A "$spool.out"), not $(cat want)"
 }
+
+# Half a minute of all programs, and a judge that finds what is altered afterwards.
+case_soak() {
+  command -v python3 >/dev/null || skip 'there is no python3'
+  KEEP=1 BINARIES=$place/programs TMPDIR=$PWD "$here/../soak" 30 >said || fail "$(cat said)"
+  [ "$(sed '/^kept: /d; /^said: /d' said | tail -n 1)" = sound ] || fail "$(cat said)"
+  cat said
+  cd at_soak.* || exit 1
+  judged() { python3 "$here/../soak_judge.py" "$PWD/spool" | tail -n 1; }
+  [ "$(judged)" = sound ] || fail "judged again: $(judged)"
+  altered() { # file, what sed does to it
+    cp "$1" kept; sed -i "$2" "$1"
+    cmp -s kept "$1" && fail "$1 is not altered by $2"
+    [ "$(judged)" != sound ] || fail "the judge is content where $1 is altered by $2"
+    cp kept "$1"
+  }
+  altered starts '1p'; altered starts 1d; altered turns '/handed/{p;:a;n;ba}'; altered accepted 1d; altered removed 1d
+  altered spool/.MAIL '/^S/d'; altered waiting 1d; altered shown 's/ [1-9][0-9]*/ 0/'
+  mkdir gone && mv messages/* gone/; [ "$(judged)" != sound ] || fail 'the judge is content without messages'
+}
