@@ -1,7 +1,8 @@
-"""Makes a spool of many past jobs and measures the programs over it: SPOOL, the folder of the programs, how many jobs."""
+"""Makes a spool of many past jobs and measures the programs over it: SPOOL, the folder of the programs, how many jobs, and of
+how many of them the outputs are there."""
 import glob, os, resource, subprocess, sys, time
 
-spool, programs, past = sys.argv[1], sys.argv[2], int(sys.argv[3])
+spool, programs, past, outputs = sys.argv[1], sys.argv[2], int(sys.argv[3]), int(sys.argv[4])
 WAITING, KEPT, FULL = 100, 10000, 100000
 MINUTE = 28928160  # of the first job; one each minute and a half or so
 environment = {'ATSPOOL': spool, 'LOGNAME': 'root', 'HOME': '/root', 'PWD': '/', 'TZ': 'UTC', 'PATH': '/usr/bin:/bin'}
@@ -121,7 +122,7 @@ measure('new')
 subprocess.run(['rm', '-r', '--'] + glob.glob(spool + '*'), check=True)
 since = time.monotonic()
 apart(make, past)
-apart(make_outputs, past)
+apart(make_outputs, outputs)
 print('made in %d s: .JRN %d, .MAIL %d, .ACC %d bytes, %d outputs' % (
     time.monotonic() - since, size('.JRN'), size('.MAIL'), size('.ACC'), len(os.listdir(spool + '.out'))))
 measure('a year later')
