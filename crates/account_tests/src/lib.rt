@@ -4,6 +4,4 @@
 #[cfg(test)]
 mod lines;
 #[cfg(test)]
-mod room;
-#[cfg(test)]
 mod sessions;
