@@ -2,7 +2,31 @@
 
 _coefhird_jobs() { atq 2>/dev/null | cut -f 1; }
 
+# The numbers of the jobs that have an output in the caller's spool, from the names of its files.
+_coefhird_outputs() {
+    local spool=${ATSPOOL:-} name
+    if [[ ! $spool ]]; then
+        spool=/var/spool/atjobs
+        ((UID == 0)) || spool=~/.local/state/coefhird/jobs
+    fi
+    spool=$(cd -P -- "$spool" 2>/dev/null && pwd) || return
+    for name in "$spool".out/*; do
+        name=${name##*/}
+        [[ $name =~ ^[a-zA-Z]([0-9a-f]{8}|[0-9a-f]{5})[0-9a-f]{8}$ ]] && echo "$((16#${BASH_REMATCH[1]}))"
+    done
+}
+
+# What each tool takes as its only word.
+_coefhird_alone() { [[ $COMP_CWORD != 1 || ${COMP_WORDS[1]} != -* ]] || echo '--help --version'; }
+
+# The words of a time: after a number that is added the units alone, and after its + none.
 _coefhird_words() {
+    local before=("${COMP_WORDS[@]:0:COMP_CWORD}")
+    case ${before[*]: -2} in
+        *\ + | *\ +*[!0-9]*) return ;;
+        +\ [0-9]* | *\ +[0-9]*) printf '%s\n' minutes hours days weeks months years; return ;;
+        *\ next) printf '%s\n' minute hour day week month year; return ;;
+    esac
     printf '%s\n' now noon midnight teatime today tomorrow next utc am pm \
         minutes hours days weeks months years \
         monday tuesday wednesday thursday friday saturday sunday \
@@ -23,7 +47,7 @@ _coefhird_at() {
         case $word in -c | -l | -r) jobs=1 ;; esac
     done
     if [[ $current == -* ]]; then
-        mapfile -t COMPREPLY < <(compgen -W '-c -f -l -m -q -r -t' -- "$current")
+        mapfile -t COMPREPLY < <(compgen -W "-c -f -l -m -q -r -t $(_coefhird_alone)" -- "$current")
     elif [[ $jobs ]]; then
         mapfile -t COMPREPLY < <(compgen -W "$(_coefhird_jobs)" -- "$current")
     else
@@ -36,7 +60,7 @@ _coefhird_batch() {
     COMPREPLY=()
     case ${COMP_WORDS[COMP_CWORD-1]} in
         -f) compopt -o filenames; mapfile -t COMPREPLY < <(compgen -f -- "$current") ;;
-        *) mapfile -t COMPREPLY < <(compgen -W '-f' -- "$current") ;;
+        *) mapfile -t COMPREPLY < <(compgen -W "-f $(_coefhird_alone)" -- "$current") ;;
     esac
 }
 
@@ -45,19 +69,19 @@ _coefhird_atq() {
     COMPREPLY=()
     case ${COMP_WORDS[COMP_CWORD-1]} in
         -q) mapfile -t COMPREPLY < <(compgen -W "$(_coefhird_queues) =" -- "$current") ;;
-        *) mapfile -t COMPREPLY < <(compgen -W '-q' -- "$current") ;;
+        *) mapfile -t COMPREPLY < <(compgen -W "-q $(_coefhird_alone)" -- "$current") ;;
     esac
 }
 
 _coefhird_atrm() {
-    mapfile -t COMPREPLY < <(compgen -W "$(_coefhird_jobs)" -- "${COMP_WORDS[COMP_CWORD]}")
+    mapfile -t COMPREPLY < <(compgen -W "$(_coefhird_jobs) $(_coefhird_alone)" -- "${COMP_WORDS[COMP_CWORD]}")
 }
 
 _coefhird_atd() {
     COMPREPLY=()
     case ${COMP_WORDS[COMP_CWORD-1]} in
         -b | -l | --turns) ;;
-        *) mapfile -t COMPREPLY < <(compgen -W '-b -l -s --turns' -- "${COMP_WORDS[COMP_CWORD]}") ;;
+        *) mapfile -t COMPREPLY < <(compgen -W "-b -l -s --turns $(_coefhird_alone)" -- "${COMP_WORDS[COMP_CWORD]}") ;;
     esac
 }
 
@@ -65,14 +89,14 @@ _coefhird_atday() {
     COMPREPLY=()
     case ${COMP_WORDS[COMP_CWORD-1]} in
         --make) ;;
-        *) mapfile -t COMPREPLY < <(compgen -W '--make' -- "${COMP_WORDS[COMP_CWORD]}") ;;
+        *) mapfile -t COMPREPLY < <(compgen -W "--make $(_coefhird_alone)" -- "${COMP_WORDS[COMP_CWORD]}") ;;
     esac
 }
 
 # A folder, or one of these words.
 _coefhird_folder_or() {
     compopt -o filenames 2>/dev/null
-    mapfile -t COMPREPLY < <(compgen -W "$1" -- "$2"; compgen -d -- "$2")
+    mapfile -t COMPREPLY < <(compgen -W "$1 $(_coefhird_alone)" -- "$2"; compgen -d -- "$2")
 }
 
 _coefhird_ataccount() { _coefhird_folder_or '--show' "${COMP_WORDS[COMP_CWORD]}"; }
@@ -97,7 +121,7 @@ _coefhird_atcron() {
 
 _coefhird_atcrontab() {
     compopt -o filenames 2>/dev/null
-    mapfile -t COMPREPLY < <(compgen -W '-e -l -r --from-cron' -- "${COMP_WORDS[COMP_CWORD]}"; compgen -f -- "${COMP_WORDS[COMP_CWORD]}")
+    mapfile -t COMPREPLY < <(compgen -W "-e -l -r --from-cron $(_coefhird_alone)" -- "${COMP_WORDS[COMP_CWORD]}"; compgen -f -- "${COMP_WORDS[COMP_CWORD]}")
 }
 
 _coefhird_atcheck() { _coefhird_folder_or '--salvage' "${COMP_WORDS[COMP_CWORD]}"; }
@@ -105,11 +129,11 @@ _coefhird_atcheck() { _coefhird_folder_or '--salvage' "${COMP_WORDS[COMP_CWORD]}
 _coefhird_atsalvage() { _coefhird_folder_or '--yes' "${COMP_WORDS[COMP_CWORD]}"; }
 
 _coefhird_atout() {
-    mapfile -t COMPREPLY < <(compgen -W "-f $(_coefhird_jobs)" -- "${COMP_WORDS[COMP_CWORD]}")
+    mapfile -t COMPREPLY < <(compgen -W "-f $(_coefhird_outputs) $(_coefhird_alone)" -- "${COMP_WORDS[COMP_CWORD]}")
 }
 
 _coefhird_atwhen() {
-    mapfile -t COMPREPLY < <(compgen -W "$(_coefhird_words)" -- "${COMP_WORDS[COMP_CWORD]}")
+    mapfile -t COMPREPLY < <(compgen -W "$(_coefhird_words) $(_coefhird_alone)" -- "${COMP_WORDS[COMP_CWORD]}")
 }
 
 complete -F _coefhird_at at

@@ -9,11 +9,47 @@ function __coefhird_queues
         A B C D E F G H I J K L M N O P Q R S T U V W X Y Z
 end
 
+# The numbers of the jobs that have an output in the caller's spool, from the names of its files.
+function __coefhird_outputs
+    set -l spool /var/spool/atjobs
+    test (id -u) = 0; or set spool ~/.local/state/coefhird/jobs
+    set -q ATSPOOL[1]; and test -n "$ATSPOOL"; and set spool $ATSPOOL
+    set -l outputs (path resolve $spool).out/*
+    set -l numbers (string replace -rf '^.*/[a-zA-Z]([0-9a-f]{8}|[0-9a-f]{5})[0-9a-f]{8}$' '0x$1' -- $outputs)
+    set -q numbers[1]; and printf '%d\n' $numbers
+end
+
+# What the words before the current one leave to a time: `units` after a number that is added, `unit` after next, nothing
+# after +, and else any word.
+function __coefhird_time
+    set -l before (commandline -opc)
+    set -l kind words
+    switch (string join ' ' -- $before[-2..-1])
+        case '* +'
+            set kind number
+        case '+ *'
+            string match -qr '^[0-9]+$' -- $before[-1]; and set kind units
+        case '* +*'
+            string match -qr '^\+[0-9]+$' -- $before[-1]; and set kind units
+        case '* next'
+            set kind unit
+    end
+    test $kind = $argv[1]
+end
+
+# What each tool takes as its only word.
+for tool in at batch atq atrm atd atday ataccount atpost atcron atcrontab atcheck atsalvage atout atwhen
+    complete -c $tool -n 'test (count (commandline -opc)) = 1' -l help -d 'print what it is for'
+    complete -c $tool -n 'test (count (commandline -opc)) = 1' -l version -d 'print its version'
+end
+
 set -l of_jobs '__fish_contains_opt -s c -s l -s r'
 set -l words now noon midnight teatime today tomorrow next utc am pm \
     minutes hours days weeks months years \
     monday tuesday wednesday thursday friday saturday sunday \
     january february march april may june july august september october november december
+set -l units minutes hours days weeks months years
+set -l unit minute hour day week month year
 
 complete -c at -f
 complete -c at -s c -d 'put the scripts of jobs on standard output'
@@ -24,7 +60,9 @@ complete -c at -s q -x -a '(__coefhird_queues)' -d 'the queue'
 complete -c at -s r -d 'take jobs back'
 complete -c at -s t -x -d 'the time, as CCYYMMDDhhmm.SS'
 complete -c at -n "$of_jobs" -a '(__coefhird_jobs)'
-complete -c at -n "not $of_jobs" -a "$words"
+complete -c at -n "not $of_jobs; and __coefhird_time words" -a "$words"
+complete -c at -n "not $of_jobs; and __coefhird_time units" -a "$units"
+complete -c at -n "not $of_jobs; and __coefhird_time unit" -a "$unit"
 
 complete -c batch -f
 complete -c batch -s f -r -F -d 'read the commands from a file'
@@ -65,7 +103,10 @@ complete -c atcheck -l salvage -d 'write what can be saved into the second folde
 complete -c atsalvage -f -a '(__fish_complete_directories)'
 complete -c atsalvage -l yes -d 'do not ask before the swap'
 
-complete -c atout -f -a '(__coefhird_jobs)'
+complete -c atout -f -a '(__coefhird_outputs)'
 complete -c atout -s f -d 'wait for the job, and go on as it writes'
 
-complete -c atwhen -f -a "$words"
+complete -c atwhen -f
+complete -c atwhen -n '__coefhird_time words' -a "$words"
+complete -c atwhen -n '__coefhird_time units' -a "$units"
+complete -c atwhen -n '__coefhird_time unit' -a "$unit"
