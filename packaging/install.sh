@@ -71,12 +71,20 @@ build() {
     rm -f "$binary"
     # (at_tool makes a day in memory, and the others say their usage)
     case $crate in at_tool) set -- "$@" -- atday --make 8 ;; *) set -- "$@" -- "$crate" ;; esac
-    (cd "$here/crates/$crate" && rt run "$@" >"$log" 2>&1) &
-    building=$!
-    [ ! -t 2 ] || tell_progress
-    wait "$building" || [ -x "$binary" ] || failed=yes
-    [ ! -t 2 ] || printf '\r\033[K' >&2
-    if [ -n "${failed:-}" ]; then
+    # (the toolchain is the one that stays in reach of ^C)
+    telling=
+    if [ -t 2 ]; then
+        tell_progress &
+        telling=$!
+    fi
+    failed=
+    (cd "$here/crates/$crate" && rt run "$@" >"$log" 2>&1) || [ -x "$binary" ] || failed=yes
+    if [ -n "$telling" ]; then
+        kill "$telling" 2>/dev/null || true
+        wait "$telling" 2>/dev/null || true
+        printf '\r\033[K' >&2
+    fi
+    if [ -n "$failed" ]; then
         tail -n 20 "$log" >&2
         stops "$crate could not be proved and built: the log is $log"
     fi
@@ -95,12 +103,12 @@ tell_progress() {
         }
         END { visit(root); print count + 0 }' "$here/crates.txt")
     from=$(date +%s) before=
-    while kill -0 "$building" 2>/dev/null; do
+    while kill -0 $$ 2>/dev/null; do
         at=$(sed -n 's/^crate \([a-z_]*\): .*$/\1/p' "$log" | tail -n 1)
         [ "$at" = "$before" ] || { before=$at begun=$(date +%H:%M); }
-        done_now=$(grep -c '^logic=proved' "$log")
+        done_now=$(grep -c '^logic=proved' "$log") || true
         left=
-        [ "$done_now" = 0 ] || left="; $(((of - done_now) * ($(date +%s) - from) / done_now / 60 + 1)) minutes left"
+        [ "$done_now" = 0 ] || left="; about $(((of - done_now) * ($(date +%s) - from) / done_now / 60 + 1)) min left"
         printf '\r\033[K%s of %s crates: %s, begun %s%s' "$done_now" "$of" "${at:-reading}" "${begun:-$(date +%H:%M)}" "$left" >&2
         sleep 1
     done
@@ -109,7 +117,7 @@ tell_progress() {
 compare_record() {
     said=$(sed -n 's/^sha256 //p' "$binary.record" 2>/dev/null) || said=
     if [ -n "$said" ] && [ "$said" = "$(sha256sum <"$binary" | cut -c 1-64)" ]; then
-        this="commit $(sed -n 's/^commit \([0-9a-f]\{12\}\)[0-9a-f]*/\1/p' "$binary.record"), proved with $(sed -n 's/^toolchain //p' "$binary.record")"
+        this="commit $(sed -n 's/^\(commit [0-9a-f]\{12\}\)[0-9a-f]*/\1/; s/^commit //p' "$binary.record"), proved with $(sed -n 's/^toolchain //p' "$binary.record")"
     elif [ "${UNPROVED:-}" = yes ]; then
         this='not proved'
     else
