@@ -6,9 +6,9 @@ use Rattle.std.specs.Option.{option_map}
 use Rattle.host_calls.specs.Folder.{Files, Folder, IsImage}
 use Rattle.host_calls.specs.World.{GoesOn, World, reading}
 use Rattle.host_calls.proofs.WorldLemmas.{leaves_weaker}
-use Rattle.account_records.specs.declared.record.AccountRecord.{AccountRecord}
-use Rattle.account_records.specs.News.{known_of, news_of}
-use Rattle.account_totals.specs.Observing.{AreNews, known_in}
+use Rattle.accounts.specs.declared.record.AccountRecord.{AccountRecord}
+use Rattle.accounts.specs.News.{known_of, news_of}
+use Rattle.accounts.specs.Observing.{AreNews, known_in}
 use Rattle.listing_text.specs.declared.cause.Cause.{Cause}
 use Rattle.listing_text.specs.declared.cause.Cause.TheVariants.{Refused, FileFault, Memory, Damaged}
 use Rattle.listing_text.specs.declared.refusal.Refusal.TheVariants as refusal

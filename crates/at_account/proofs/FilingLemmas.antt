@@ -5,9 +5,9 @@ use Rattle.std.specs.FinMap as finite
 use Rattle.host_calls.specs.Folder.{Folder}
 use Rattle.host_calls.specs.World.{World}
 use Rattle.record_lines.specs.Lines.{AreLegalAfter, AreSpelled}
-use Rattle.account_records.specs.declared.record.AccountRecord.{AccountRecord}
-use Rattle.account_records.specs.Lines.{SpellsRecord}
-use Rattle.account_records.specs.Records.{MayCome}
+use Rattle.accounts.specs.declared.record.AccountRecord.{AccountRecord}
+use Rattle.accounts.specs.Lines.{SpellsRecord}
+use Rattle.accounts.specs.Records.{MayCome}
 use Rattle.whole_file.specs.Others.{ChangesFiles}
 use Rattle.whole_file.specs.Placing.{IsPlaced, IsPlacing}
 use Rattle.whole_file.proofs.ChangesJoined.{changes_weaker}

@@ -3,7 +3,7 @@ use Rattle.std.proofs.Common.{◌≡◌, ◌∙◌, ℕ, ◌+◌, ◌<◌, ◌�
 use Rattle.std.specs.Fmt.{decimal}
 use Rattle.std.proofs.lemmas.List.{drop_all}
 use Rattle.cause_output.specs.Putting.{lines_of}
-use Rattle.account_totals.specs.declared.line.AccountLine.{AccountLine}
+use Rattle.accounts.specs.declared.line.AccountLine.{AccountLine}
 use Rattle.at_account.specs.Showing.{counts_text, line_text}
 
 -- one more of a list is told

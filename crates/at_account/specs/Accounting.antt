@@ -16,7 +16,7 @@ use Rattle.listing_text.specs.declared.cause.Cause.{Cause}
 use Rattle.listing_text.specs.declared.cause.Cause.TheVariants.{Done, Refused, FileFault, OutputFault, Busy, Memory, Damaged}
 use Rattle.listing_text.specs.declared.refusal.Refusal.{Refusal}
 use Rattle.listing_text.specs.declared.refusal.Refusal.TheVariants.{AccountsFull}
-use Rattle.account_records.specs.declared.record.AccountRecord.{AccountRecord}
+use Rattle.accounts.specs.declared.record.AccountRecord.{AccountRecord}
 use Rattle.spool_model.specs.JobTable.{JobTable}
 use Rattle.spool_shows.specs.Shown.{Shows, shown_by}
 use Rattle.step_runs.specs.Calls.{ShowsAsBefore}

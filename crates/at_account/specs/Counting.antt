@@ -5,11 +5,11 @@ use Rattle.host_calls.specs.Damages.{damage_at}
 use Rattle.host_calls.specs.declared.damage.Damage.{Damage}
 use Rattle.host_calls.specs.Folder.{Files}
 use Rattle.record_lines.specs.Lines.{AreLines, IsFirstBadLine}
-use Rattle.account_records.specs.declared.record.AccountRecord.{AccountRecord}
-use Rattle.account_records.specs.Lines.{SpellsRecord}
-use Rattle.account_records.specs.Records.{MayCome}
-use Rattle.account_totals.specs.declared.account.TheConstants.{MAX_RECORDS}
-use Rattle.account_totals.specs.Observing.{AreNews, WouldPass}
+use Rattle.accounts.specs.declared.record.AccountRecord.{AccountRecord}
+use Rattle.accounts.specs.Lines.{SpellsRecord}
+use Rattle.accounts.specs.Records.{MayCome}
+use Rattle.accounts.specs.declared.account.TheConstants.{MAX_RECORDS}
+use Rattle.accounts.specs.Observing.{AreNews, WouldPass}
 use Rattle.spool_model.specs.JobTable.{JobTable}
 use Rattle.spool_shows.specs.Shown.{shown_by}
 use Rattle.at_account.specs.Names.{account_file}

@@ -2,9 +2,9 @@
 use Rattle.std.specs.Prelude.{◌≡◌, [], ◌∷◌, ◌++◌, ℕ, Bool, true, false, List}
 use Rattle.std.specs.Fmt.{decimal}
 use Rattle.cause_output.specs.Putting.{lines_of}
-use Rattle.account_records.specs.declared.record.AccountRecord.{AccountRecord}
-use Rattle.account_totals.specs.declared.line.AccountLine.{AccountLine}
-use Rattle.account_totals.specs.Totals.{AreTotals}
+use Rattle.accounts.specs.declared.record.AccountRecord.{AccountRecord}
+use Rattle.accounts.specs.declared.line.AccountLine.{AccountLine}
+use Rattle.accounts.specs.Totals.{AreTotals}
 
 -- each count after a space
 abbrev pub counts_text : List ℕ → List ℕ

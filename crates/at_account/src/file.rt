@@ -1,7 +1,7 @@
 //! The file of accounts, read and replaced.
 ghost use Rattle.std.specs.Prelude.{◌≡◌, Some, All, IfErr, IfOk, IsTrue, OnOk};
 ghost use Rattle.std.specs.FinMap as map;
-ghost use Rattle.account_records.specs.Lines.{SpellsRecord};
+ghost use Rattle.accounts.specs.Lines.{SpellsRecord};
 ghost use Rattle.cause_output.specs.Causes.{error_of};
 ghost use Rattle.host_calls.specs.Session.{CallsInside, IsInside};
 ghost use Rattle.host_calls.specs.World.{reading};
@@ -14,7 +14,7 @@ ghost use Rattle.at_account.specs.Names.{account_file, account_temp};
 ghost use Rattle.at_account.specs.inside.Filing.{IsOfHost, IsOfReading, IsWriting, IsWritten, ReadsAccount};
 
 use crate::{account_name, account_temporary_name};
-use account_totals::Account;
+use accounts::Account;
 use cause_output::CommandError;
 use host_calls::{Damage, Host, HostFault};
 use listing_text::Cause;

@@ -15,6 +15,6 @@ mod session;
 mod show;
 mod words;
 
-pub use account_totals::{Account, AccountFault, AccountLine};
+pub use accounts::{Account, AccountFault, AccountLine};
 pub use names::{account_name, account_temporary_name};
 pub use program::account_program;

@@ -1,7 +1,7 @@
 //! The session: the recovery, the records with what is new, and the file that has them.
 ghost use Rattle.std.specs.Prelude.{◌≡◌, ◌≢◌, All, IfErr, IfOk, IsTrue};
 ghost use Rattle.std.specs.FinMap as map;
-ghost use Rattle.account_records.specs.Lines.{SpellsRecord};
+ghost use Rattle.accounts.specs.Lines.{SpellsRecord};
 ghost use Rattle.cause_output.specs.Causes.{error_of};
 ghost use Rattle.cause_output.specs.Sinks.{sink_at};
 ghost use Rattle.host_calls.specs.Causes.{Rose};
@@ -17,7 +17,7 @@ ghost use Rattle.at_account.specs.inside.Inside.{Accounts, Counts, EndsInside, I
 
 use crate::file::{read_account, write_account};
 use crate::show::shown;
-use account_totals::{Account, AccountFault};
+use accounts::{Account, AccountFault};
 use cause_output::{CommandError, cause_of_put};
 use host_calls::{Bytes, Host, Sink};
 use listing_text::{Cause, Refusal};

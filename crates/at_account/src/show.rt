@@ -4,7 +4,7 @@ ghost use Rattle.std.specs.Fmt.{decimal};
 ghost use Rattle.cause_output.specs.Putting.{lines_of};
 ghost use Rattle.at_account.specs.Showing.{IsShown, counts_text, line_text};
 
-use account_totals::{Account, AccountLine};
+use accounts::{Account, AccountLine};
 use host_calls::Bytes;
 use std::alloc::{AllocError, Global};
 

@@ -1,14 +1,18 @@
-//! Texts as their formats spell them: digits, names, loads, times and scripts, by examples from outside.
+//! Texts as their formats spell them: digits, names, loads, times, scripts and files of records, by examples from outside.
 #![tactic(auto)]
 
 #[cfg(test)]
 mod digits;
 #[cfg(test)]
 mod job_names;
+mod letters;
 #[cfg(test)]
 mod loads;
 #[cfg(test)]
 mod names;
+mod numbers;
+#[cfg(test)]
+mod record_files;
 #[cfg(test)]
 mod scripts;
 #[cfg(test)]
@@ -19,3 +23,6 @@ mod timespecs;
 mod tokens;
 #[cfg(test)]
 mod touches;
+
+pub use letters::{Letter, Rising};
+pub use numbers::{Distinct, Number};

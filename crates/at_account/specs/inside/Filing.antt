@@ -1,7 +1,7 @@
 -- The file of accounts, as it is read and replaced (own).
 use Rattle.std.specs.Prelude.{◌≡◌, ◌⊎◌, ℕ, List, Option, Some, Result, Ok, Err}
 use Rattle.std.specs.FinMap as finite
-use Rattle.account_records.specs.declared.record.AccountRecord.{AccountRecord}
+use Rattle.accounts.specs.declared.record.AccountRecord.{AccountRecord}
 use Rattle.cause_output.specs.declared.command_error.CommandError.{CommandError}
 use Rattle.host_calls.specs.Folder.{Files, Folder, IsImage, IsInNoImage, reading_of}
 use Rattle.listing_text.specs.declared.cause.Cause.{Cause}

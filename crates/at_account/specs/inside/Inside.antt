@@ -1,8 +1,8 @@
 -- What is done within the session, and what is put after it (own).
 use Rattle.std.specs.Prelude.{◌≡◌, ◌≤◌, ◌++◌, ℕ, Bool, true, List, Option, Result, Ok, Err, length}
-use Rattle.account_records.specs.declared.record.AccountRecord.{AccountRecord}
-use Rattle.account_totals.specs.declared.account.TheConstants.{MAX_RECORDS}
-use Rattle.account_totals.specs.Observing.{AreNews, WouldPass}
+use Rattle.accounts.specs.declared.record.AccountRecord.{AccountRecord}
+use Rattle.accounts.specs.declared.account.TheConstants.{MAX_RECORDS}
+use Rattle.accounts.specs.Observing.{AreNews, WouldPass}
 use Rattle.cause_output.specs.declared.command_error.CommandError.{CommandError}
 use Rattle.cause_output.specs.Sinks.{IsCut, IsPut, IsSilent, SinkAt}
 use Rattle.host_calls.specs.World.{World, reading}

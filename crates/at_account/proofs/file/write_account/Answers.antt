@@ -1,6 +1,6 @@
 use Rattle.std.proofs.Common.{subst, sym}
 use Rattle.record_lines.specs.Lines.{AreSpelled}
-use Rattle.account_records.specs.Lines.{SpellsRecord}
+use Rattle.accounts.specs.Lines.{SpellsRecord}
 use Rattle.at_account.proofs.FilingLemmas.{writes, written}
 use Rattle.at_account.proofs.file.write_account.Goals as goal
 

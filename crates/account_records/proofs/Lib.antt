@@ -1,5 +1,0 @@
-pub mod LegalLemmas
-pub mod NewsLemmas
-pub mod StandingLemmas
-pub mod TextLemmas
-pub mod WritingLemmas

@@ -1,5 +1,0 @@
-pub mod Lines
-pub mod News
-pub mod Records
-pub mod Standings
-pub mod inside

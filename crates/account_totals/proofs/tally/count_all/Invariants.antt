@@ -1,9 +1,0 @@
-use Rattle.std.proofs.Common.{◌++◌, List, take}
-use Rattle.account_records.specs.declared.record.AccountRecord.{AccountRecord}
-use Rattle.account_records.specs.Standings.{IsLedgerOf}
-use Rattle.account_totals.specs.inside.Tallying.{IsTallyOf}
-use Rattle.account_totals.proofs.tally.count_all.Given as goal
-
-abbrev pub invariant-loop-one : goal.invariant-loop-one
-invariant-loop-one l = (all counted : List AccountRecord) → IsLedgerOf all l.ledger → IsTallyOf all counted l.fn.tally
-    → IsTallyOf all (counted ++ take l.one-index l.records) l.tally

@@ -1,6 +1,0 @@
-use Rattle.std.proofs.Common.{◌≡◌, ◌++◌, map}
-use Rattle.account_totals.specs.inside.Tallying.{line_of}
-use Rattle.account_totals.proofs.tally.lines_of.Given as goal
-
-abbrev pub invariant-loop-user : goal.invariant-loop-user
-invariant-loop-user l = l.lines.items ++ map line_of l.user-iterator ≡ map line_of l.tally.entries

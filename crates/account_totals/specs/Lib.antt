@@ -1,4 +1,0 @@
-pub mod Laws
-pub mod Observing
-pub mod Totals
-pub mod inside

@@ -1,0 +1,12 @@
+pub mod AccountLemmas
+pub mod GatheringLemmas
+pub mod KnowingLemmas
+pub mod LegalLemmas
+pub mod LineLemmas
+pub mod NewsLemmas
+pub mod OneListLemmas
+pub mod StandingLemmas
+pub mod TallyLemmas
+pub mod TextLemmas
+pub mod WritableLemmas
+pub mod WritingLemmas

@@ -1,0 +1,26 @@
+use Rattle.std.proofs.Common.{◌≡◌, ◌∙◌, ◌++◌, ap, append-nil, sym}
+use Rattle.std.specs.BTreeMap as tree
+use Rattle.std.specs.Ordering.{nat_cmp}
+use Rattle.accounts.specs.News.{news_of}
+use Rattle.accounts.specs.inside.Gathering.{news_of_all}
+use Rattle.accounts.proofs.GatheringLemmas.{are_news, gathered_more, news_in_turn}
+use Rattle.accounts.proofs.gathering.news_of_jobs.Goals as goal
+
+pub loop-number-preserved : goal.loop-number-preserved
+loop-number-preserved c before ledger =
+    gathered_more before (news_of_all before c.args.jobs.now.entries) c.loop-number.news.items c.add_news.new.news.items c.in-Some.number.now c.in-Some.known.now
+    c.loop-number.number-iterator c.next.new.self c.in-Some.ensures.steps (c.loop-number.invariant before ledger)
+    (c.in_ok-add_news.ensures before (c.standing.ensures before ledger)
+    ∙ ap (λ job. c.loop-number.news.items ++ news_of before c.in-Some.number.now job) c.as_ref.ensures.value)
+
+pub returns-clause-are : goal.returns-clause-are
+returns-clause-are c before known ledger knows =
+    let all : c.loop-number.news.items ≡ news_of_all before c.args.jobs.now.entries =
+    sym (append-nil c.loop-number.news.items) ∙ ap (λ left. c.loop-number.news.items ++ news_of_all before left) (sym c.in-None.ensures.steps.0) ∙ c.loop-number.invariant before ledger in
+    are_news before known c.args.jobs.now c.loop-number.news.items c.into_iter-number-iterator.ensures.into_iter_gives.5 knows all
+
+pub returns-clause-in_turn : goal.returns-clause-in_turn
+returns-clause-in_turn c before ledger =
+    let all : c.loop-number.news.items ≡ news_of_all before c.args.jobs.now.entries =
+    sym (append-nil c.loop-number.news.items) ∙ ap (λ left. c.loop-number.news.items ++ news_of_all before left) (sym c.in-None.ensures.steps.0) ∙ c.loop-number.invariant before ledger in
+    news_in_turn before (tree.get nat_cmp c.args.ledger.now.standings) c.args.jobs.now c.loop-number.news.items c.into_iter-number-iterator.ensures.into_iter_gives.5 ledger all

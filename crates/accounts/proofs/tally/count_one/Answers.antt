@@ -1,0 +1,15 @@
+use Rattle.std.proofs.Common.{subst}
+use Rattle.std.specs.BTreeMap as tree
+use Rattle.accounts.specs.inside.Tallying.{AreRaised, owner_pair, pair_cmp}
+use Rattle.accounts.proofs.TallyLemmas.{tally_more, tally_same}
+use Rattle.accounts.proofs.tally.count_one.Goals as goal
+
+pub returns : goal.returns
+returns c all counted ledger tally =
+    tally_more all counted c.args.one.now c.in-Some.standing.now c.args.tally.now c.insert.new.self c.raised-counts.result (c.in-Some.ensures all ledger)
+    (subst (λ kind. AreRaised (tree.get pair_cmp c.args.tally.now (owner_pair c.in-Some.standing.now.owner)) kind c.raised-counts.result) c.kind_of.ensures.kind
+    (subst (λ found. AreRaised found c.kind_of.result c.raised-counts.result) c.get.ensures.value c.raised-counts.ensures))
+    c.in_ok-insert.ensures.updates.0 tally
+
+pub returns-in_default : goal.returns-in_default
+returns-in_default c all counted ledger tally = tally_same all counted c.args.one.now c.args.tally.now (c.in_default.ensures all ledger) tally

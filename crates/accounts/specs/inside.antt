@@ -1,0 +1,4 @@
+pub mod Gathering
+pub mod Knowing
+pub mod Spelling
+pub mod Tallying

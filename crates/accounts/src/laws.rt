@@ -1,0 +1,29 @@
+//! Records, their lines, what is new, and what records come to.
+ghost use Rattle.std.specs.Prelude.{◌≤◌, ◌<◌, ◌^◌, ℕ, List, Option};
+ghost use Rattle.record_lines.specs.Lines.{AreLegalAfter, CanBeSpelled};
+ghost use Rattle.accounts.specs.Lines.{HasOwner, SpellsRecord};
+ghost use Rattle.accounts.specs.News.{news_of};
+ghost use Rattle.accounts.specs.Records.{MayCome};
+ghost use Rattle.accounts.specs.Standings.{StandsAt};
+ghost use Rattle.accounts.specs.declared.ledger.Standing.{Standing};
+ghost use Rattle.accounts.specs.declared.news.KnownJob.{KnownJob};
+ghost use Rattle.accounts.specs.declared.record.AccountRecord.{AccountRecord};
+ghost use Rattle.accounts.specs.Laws.{NewsAreOne};
+
+/// A record of a number from 1 on, whose owner, where it has one, has a letter for the queue, can be
+/// written.
+pub fn records_can_be_written()
+    ensures { (one : AccountRecord) → 1 ≤ one.number → one.number < 2 ^ 32 → HasOwner one.event
+        → CanBeSpelled SpellsRecord one }
+{}
+
+/// What is new of a number may come after the records.
+pub fn news_may_come()
+    ensures { (before : List AccountRecord) (number : ℕ) (standing : Option Standing) (known : Option KnownJob)
+        → StandsAt before number standing → AreLegalAfter MayCome before (news_of before number known) }
+{}
+
+/// The new records after others are fixed by what the table has of each number.
+pub fn news_are_one()
+    ensures { NewsAreOne }
+{}

@@ -1,6 +1,0 @@
-use Rattle.std.proofs.Common.{sym}
-use Rattle.record_tests.proofs.LetterLemmas.{last_more}
-use Rattle.record_tests.proofs.letters.RisingKeeperLetter.add.Goals as goal
-
-pub returns : goal.returns
-returns c before tells may = sym (last_more before c.args.next.now)
