@@ -12,6 +12,10 @@ mod many;
 #[cfg(test)]
 mod notices;
 #[cfg(test)]
+mod placing;
+#[cfg(test)]
 mod program;
 #[cfg(test)]
 mod sessions;
+#[cfg(test)]
+mod trims;

@@ -1,0 +1,16 @@
+-- What holds of all trims (own).
+use Rattle.std.specs.Prelude.{◌≡◌, ◌⊎◌, ◌↔◌, ◌<◌, ℕ, true, List}
+use Rattle.host_calls.specs.Folder.{Files}
+use Rattle.spool_model.specs.JobTable.{JobTable}
+use Rattle.mail_notes.specs.declared.note.Note.{Note}
+use Rattle.mail_session.specs.Leaving.{AreSessionSteps}
+use Rattle.mail_trim.specs.Trimming.{is_live_in, trimmed}
+
+-- a job that is live in the later table was live in the first one, or its number was drawn since
+abbrev pub NoJobLivesAgain : JobTable → JobTable → Type 0
+NoJobLivesAgain table later = (number : ℕ) → is_live_in later number ≡ true → (is_live_in table number ≡ true) ⊎ (table.last < number)
+
+-- after a trim the steps of a session on a later table are those that they are without it
+abbrev pub TrimsChangeNoSession : Type 0
+TrimsChangeNoSession = (table later : JobTable) (notes steps : List Note) (files : Files) → NoJobLivesAgain table later →
+    (AreSessionSteps files later (trimmed table notes) steps ↔ AreSessionSteps files later notes steps)

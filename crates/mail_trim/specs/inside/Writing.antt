@@ -1,0 +1,15 @@
+-- How the notes that stay are written (own).
+use Rattle.std.specs.Prelude.{◌≡◌, ◌⊎◌, List}
+use Rattle.host_calls.specs.World.{World}
+use Rattle.spool_model.specs.JobTable.{JobTable}
+use Rattle.whole_file.specs.Placing.{IsPlaced}
+use Rattle.mail_notes.specs.declared.note.Note.{Note}
+use Rattle.mail_notes.specs.Lines.{notes_text}
+use Rattle.mail_notes.specs.Names.{mail_file, mail_temp}
+use Rattle.mail_trim.specs.Trimming.{trimmed}
+
+-- the text of those that stay was placed, or all stay and nothing was done
+abbrev pub IsWritten : JobTable → List Note → World → World → Type 0
+IsWritten table notes old new =
+    IsPlaced mail_temp mail_file (notes_text (trimmed table notes)) old.now.folder new.now.folder
+    ⊎ ((new ≡ old) × (trimmed table notes ≡ notes))

@@ -1,0 +1,49 @@
+//! The program that trims.
+ghost use Rattle.std.specs.Prelude.{◌≡◌, map, string_bytes};
+ghost use Rattle.host_calls.specs.Session.{IsOutside};
+ghost use Rattle.listing_text.specs.Cause.{status_of};
+ghost use Rattle.mail_trim.specs.Program.{TrimEnds, outside_at};
+ghost use Rattle.mail_trim.specs.Words.{trim_asked};
+
+use crate::trim;
+use crate::words::ask_for_a_trim;
+use cause_output::{cause_of_end, cause_of_words, say_cause};
+use host_calls::{Host, Sink};
+use listing_text::{Cause, Status};
+use std::alloc::Global;
+
+// The name under which the program says its causes.
+const PROGRAM: &str = "atpost";
+
+/// Makes one trim, where the words are `--trim`. One that is not done is said on `err`.
+pub fn trim_program<H: Host, E: Sink>(
+    alloc: Global,
+    words: &[String],
+    host: &mut H,
+    err: &mut E,
+) -> Status
+    requires { IsOutside (H.session host.old) }
+    ensures code { result ≡ status_of result.cause }
+    ensures made_as { (E.outlet err.new).made_as ≡ (E.outlet err.old).made_as }
+    ensures trims { TrimEnds (trim_asked (map string_bytes words.now))
+        (outside_at H.Host E.Sink host.old err.old) (outside_at H.Host E.Sink host.new err.new) result.cause }
+{
+    let cause = answer(alloc, words, host, err);
+    Status::of(cause)
+}
+
+// Does what the words ask for. Answers the cause, which was said.
+fn answer<H: Host, E: Sink>(alloc: Global, words: &[String], host: &mut H, err: &mut E) -> Cause
+    requires { IsOutside (H.session host.old) }
+    ensures made_as { (E.outlet err.new).made_as ≡ (E.outlet err.old).made_as }
+    ensures trims { TrimEnds (trim_asked (map string_bytes words.now))
+        (outside_at H.Host E.Sink host.old err.old) (outside_at H.Host E.Sink host.new err.new) result }
+{
+    match ask_for_a_trim(alloc, words) {
+        Ok(()) => {
+            let end = trim(alloc, host);
+            say_cause(alloc, PROGRAM, cause_of_end(&end), err)
+        }
+        Err(fault) => say_cause(alloc, PROGRAM, cause_of_words(fault), err),
+    }
+}
