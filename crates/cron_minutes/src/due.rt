@@ -12,7 +12,8 @@ pub fn matches(entry: &CronEntry, civil: &CivilMinute) -> bool
     has(&entry.minute, civil.minute) && has(&entry.hour, civil.hour) && is_date_due(entry, civil)
 }
 
-fn is_date_due(entry: &CronEntry, civil: &CivilMinute) -> bool
+/// Whether the entry is due at some time of the civil day.
+pub fn is_date_due(entry: &CronEntry, civil: &CivilMinute) -> bool
     ensures { result ≡ is_date_due entry.now civil.now }
 {
     let is_day = has(&entry.month, civil.month) && has(&entry.day, civil.day);

@@ -6,4 +6,4 @@ mod due;
 mod pieces;
 
 pub use commands::commands_of;
-pub use due::matches;
+pub use due::{is_date_due, matches};

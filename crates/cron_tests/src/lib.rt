@@ -9,6 +9,8 @@ mod crontabs;
 #[cfg(test)]
 mod fuses;
 #[cfg(test)]
+mod listing;
+#[cfg(test)]
 mod many;
 #[cfg(test)]
 mod marks;
@@ -20,3 +22,5 @@ mod outside;
 mod program;
 #[cfg(test)]
 mod readings;
+#[cfg(test)]
+mod schedule;

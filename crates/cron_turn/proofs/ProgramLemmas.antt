@@ -17,7 +17,8 @@ use Rattle.listing_text.specs.declared.cause.Cause.{Cause}
 use Rattle.listing_text.specs.declared.cause.Cause.TheVariants as cause
 use Rattle.cron_turn.specs.declared.words.CronRequest.{CronRequest}
 use Rattle.cron_turn.specs.Items.{Item, program_name}
-use Rattle.cron_turn.specs.Outside.{InputAt, RunAt, Telling}
+use Rattle.cron_input.specs.Reading.{InputAt}
+use Rattle.cron_turn.specs.Outside.{RunAt, Telling}
 use Rattle.cron_turn.specs.Running.{CarriesOut, Does, EndsAfter, HasRisen, IsEnded, Serves, Works, WorksUnless, all_made, caller_refused, cut_short, next_session, no_session, refused_by, refused_zone}
 use Rattle.cron_turn.specs.Sessions.{RestsBefore, Stops}
 

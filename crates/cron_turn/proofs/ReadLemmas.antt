@@ -5,9 +5,9 @@ use Rattle.listing_text.specs.declared.cause.Cause.TheVariants as cause
 use Rattle.listing_text.specs.declared.refusal.Refusal.{Refusal}
 use Rattle.listing_text.specs.declared.refusal.Refusal.TheVariants.{TooLong, BadCrontab}
 use Rattle.cause_output.specs.declared.command_error.CommandError.{CommandError}
-use Rattle.cron_turn.specs.Outside.{InputAt, RunAt, Telling}
-use Rattle.cron_turn.specs.Sessions.{AsksFile, ReadsFile, StopsAtFile, StopsBefore}
-use Rattle.cron_turn.specs.inside.Turning.{IsUnread, ReadsEntries, StopsText}
+use Rattle.cron_input.specs.Reading.{AsksFile, InputAt, IsUnread, ReadsEntries, ReadsFile, StopsText}
+use Rattle.cron_turn.specs.Outside.{RunAt, Telling}
+use Rattle.cron_turn.specs.Sessions.{StopsAtFile, StopsBefore}
 
 -- the inputs were asked once, whatever came of it
 asked_unread : (old new : InputAt) (cause : Cause) → IsUnread old new cause → AsksFile old new

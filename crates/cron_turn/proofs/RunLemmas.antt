@@ -7,7 +7,8 @@ use Rattle.listing_text.specs.declared.cause.Cause.TheVariants.{Done}
 use Rattle.cause_output.specs.declared.caller.Caller.{Caller}
 use Rattle.cron_turn.specs.declared.words.CronRequest.{CronRequest}
 use Rattle.cron_turn.specs.Items.{Item, rest_after}
-use Rattle.cron_turn.specs.Outside.{ClockAt, RunAt, StaysSo, Telling}
+use Rattle.cron_input.specs.Clock.{ClockAt}
+use Rattle.cron_turn.specs.Outside.{RunAt, StaysSo, Telling}
 use Rattle.cron_turn.specs.Running.{EndsAfter, Serves, Works, all_made, cut_short, next_session, no_session}
 use Rattle.cron_turn.specs.Sessions.{IsMade, RestsBefore, RestsOn, Stops}
 use Rattle.cron_turn.specs.inside.Turning.{GoesOn, HasServed, Says, Turns}

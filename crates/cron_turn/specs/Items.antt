@@ -47,10 +47,11 @@ cause_of_end Memory = cause.Memory
 abbrev pub end_line : CronEnd → List ℕ
 end_line end = cause_line_of program_name (cause_of_end end)
 
--- What is said of a session after which another may come: its line. That of want of memory may be wanting.
+-- What is said of a session after which another may come: its line. That of want of memory may be wanting. Where it was
+-- done nothing is put: the sink is as it was.
 abbrev pub SaysEnd : CronEnd → SinkAt → SinkAt → Type 0
 SaysEnd Memory old new = IsSilent old new ⊎ IsPut (end_line Memory) old new
-SaysEnd Done old new = IsPut (end_line Done) old new
+SaysEnd Done old new = new ≡ old
 SaysEnd Busy old new = IsPut (end_line Busy) old new
 SaysEnd FileFault old new = IsPut (end_line FileFault) old new
 SaysEnd (Damaged damage) old new = ⊥
@@ -67,6 +68,16 @@ MayGoOn QueueFull = Unit {0}
 MayGoOn NumbersUsedUp = Unit {0}
 MayGoOn Memory = Unit {0}
 
+-- the session has a line: it was not done, and found no damage
+abbrev pub HasLine : CronEnd → Type 0
+HasLine Done = ⊥
+HasLine (Damaged damage) = ⊥
+HasLine Busy = Unit {0}
+HasLine FileFault = Unit {0}
+HasLine QueueFull = Unit {0}
+HasLine NumbersUsedUp = Unit {0}
+HasLine Memory = Unit {0}
+
 -- what is said of a session after which another comes
 pub record GoesOnSaying (tells : Bool) (end : CronEnd) (old new : SinkAt) : Type 0 where
   pub goes_on : MayGoOn end
@@ -75,13 +86,13 @@ pub record GoesOnSaying (tells : Bool) (end : CronEnd) (old new : SinkAt) : Type
 
 -- its line was cut, since its put failed
 pub record IsCutOff (tells : Bool) (end : CronEnd) (old new : SinkAt) : Type 0 where
-  pub goes_on : MayGoOn end
+  pub has_line : HasLine end
   pub rose : Rose old.faults new.faults
   pub cut : tells ≡ true → IsCut (end_line end) old new
 
 -- its line found no memory, and is not that of want of memory
 pub record IsUnsaid (tells : Bool) (end : CronEnd) (old new : SinkAt) : Type 0 where
-  pub goes_on : MayGoOn end
+  pub has_line : HasLine end
   pub wanted : end ≢ Memory
   pub silent : tells ≡ true → IsSilent old new
 

@@ -1,24 +1,14 @@
 -- What the program works with, at a moment (own).
 use Rattle.std.specs.Prelude.{◌≡◌, ◌≤◌, Bool}
-use Rattle.host_calls.specs.Clock.{Answers, Readers}
 use Rattle.host_calls.specs.declared.host.Host as host
 use Rattle.host_calls.specs.declared.inputs.Inputs as inputs
 use Rattle.host_calls.specs.declared.readings.Readings as readings
 use Rattle.host_calls.specs.declared.sink.Sink as sink
-use Rattle.host_calls.specs.Inputs.{Contents, Sources}
 use Rattle.host_calls.specs.Session.{IsLeft}
 use Rattle.cause_output.specs.Sinks.{SinkAt, sink_at}
+use Rattle.cron_input.specs.Clock.{ClockAt, clock_at}
+use Rattle.cron_input.specs.Reading.{InputAt, input_at}
 use Rattle.cron_session.specs.Leaving.{CronAt}
-
--- the clock: its answers, and what it tells always
-pub record ClockAt : Type 0 where
-  pub answers : Answers
-  pub readers : Readers
-
--- the inputs: their content, and what they tell always
-pub record InputAt : Type 0 where
-  pub contents : Contents
-  pub sources : Sources
 
 -- the host, the clock, the inputs, and what was said
 pub record RunAt : Type 0 where
@@ -40,12 +30,6 @@ telling h r i e = record { files = h.tells; alone = h.alone; clock = r.tells; in
 
 abbrev pub spool_at : {H : Type 0} → host.Ghosts H → H → CronAt
 spool_at h host = record { session = h.session host; world = h.world host }
-
-abbrev pub clock_at : {R : Type 0} → readings.Ghosts R → R → ClockAt
-clock_at r readings = record { answers = r.answers readings; readers = r.readers readings }
-
-abbrev pub input_at : {I : Type 0} → inputs.Ghosts I → I → InputAt
-input_at i inputs = record { contents = i.contents inputs; sources = i.sources inputs }
 
 abbrev pub run_at : {H R I E : Type 0} → host.Ghosts H → readings.Ghosts R → inputs.Ghosts I → sink.Ghosts E
     → H → R → I → E → RunAt

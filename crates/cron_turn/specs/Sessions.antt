@@ -3,39 +3,25 @@
 use Rattle.std.specs.Prelude.{◌≡◌, ◌⊎◌, ◌+◌, ◌≤◌, ◌<◌, ℕ, ℤ, Bool, true, List, Option, Some, None, length}
 use Rattle.clock_range.specs.ClockRange.{IsClockSecond}
 use Rattle.host_calls.specs.Causes.{Rose}
-use Rattle.host_calls.specs.Clock.{with_now, with_rest}
-use Rattle.host_calls.specs.Inputs.{AreReadOnce, IsPrefixOf}
+use Rattle.host_calls.specs.Clock.{with_rest}
+use Rattle.host_calls.specs.Inputs.{IsPrefixOf}
 use Rattle.listing_text.specs.declared.cause.Cause.{Cause}
 use Rattle.listing_text.specs.declared.cause.Cause.TheVariants.{Refused, InputFault, Memory}
 use Rattle.listing_text.specs.declared.refusal.Refusal.TheVariants.{BadClock, BadCrontab, TooLong}
 use Rattle.cause_output.specs.declared.caller.Caller.{Caller}
 use Rattle.cron_text.specs.declared.crontab.TheConstants.{MAX_CRONTAB}
-use Rattle.cron_text.specs.Crontab.{IsFirstBad, SpellsCrontab}
+use Rattle.cron_text.specs.Crontab.{SpellsCrontab}
+use Rattle.cron_input.specs.Clock.{ClockAt, ReadsClock}
+use Rattle.cron_input.specs.Reading.{AsksFile, IsBadAt, ReadsFile}
 use Rattle.cron_session.specs.Leaving.{CronsTo}
 use Rattle.cron_session.specs.Steps.{Cron}
 use Rattle.cron_turn.specs.Items.{EndsSaying, Item}
-use Rattle.cron_turn.specs.Outside.{ClockAt, InputAt, RunAt, Telling}
-
--- the clock answered the second, and no load was read
-pub record ReadsClock (tells : Bool) (now : ℤ) (old new : ClockAt) : Type 0 where
-  pub known : tells ≡ true → new.answers ≡ with_now now old.answers
-  pub readers : new.readers ≡ old.readers
+use Rattle.cron_turn.specs.Outside.{RunAt, Telling}
 
 -- a rest of so many seconds
 pub record Rests (tells : Bool) (seconds : ℕ) (old new : ClockAt) : Type 0 where
   pub known : tells ≡ true → new.answers ≡ with_rest seconds old.answers
   pub readers : new.readers ≡ old.readers
-
--- the inputs were asked once for a file
-pub record AsksFile (old new : InputAt) : Type 0 where
-  pub contents : new.contents ≡ old.contents
-  pub once : AreReadOnce old.sources new.sources
-  pub later : old.sources.input_faults ≤ new.sources.input_faults
-
--- they gave these first bytes of it: one more at most than a crontab has
-pub record ReadsFile (tells : Bool) (path bytes : List ℕ) (old new : InputAt) : Type 0 where
-  pub asks : AsksFile old new
-  pub given : tells ≡ true → IsPrefixOf (old.contents.file path) (MAX_CRONTAB + 1) bytes
 
 -- a rest of the clock before a session, if it is not the first
 abbrev pub RestsOn : Bool → Option ℕ → ClockAt → ClockAt → Type 0
@@ -89,11 +75,6 @@ pub record StopsAtText (tells : Telling) (path : List ℕ) (IsSo : List ℕ → 
   pub bytes : List ℕ
   pub given : tells.input ≡ true → IsPrefixOf (old.input.contents.file path) (MAX_CRONTAB + 1) bytes
   pub so : IsSo bytes
-
--- the text is no longer than a crontab, and this is its first bad line
-pub record IsBadAt (line : ℕ) (bytes : List ℕ) : Type 0 where
-  pub few : length bytes ≤ MAX_CRONTAB
-  pub first : IsFirstBad bytes line
 
 -- Why no session was made: the clock, the inputs, a text that is too long or has a bad line, or want of memory.
 abbrev pub StopsBefore : Telling → List ℕ → RunAt → RunAt → Cause → Type 0

@@ -11,7 +11,6 @@
 
 mod item;
 mod program;
-mod read;
 mod run;
 mod say;
 mod turn;

@@ -2,7 +2,7 @@
 ghost use Rattle.std.specs.Prelude.{◌≡◌, ◌≤◌, None};
 ghost use Rattle.cause_output.specs.Sinks.{sink_at};
 ghost use Rattle.cron_turn.specs.Items.{end_line};
-ghost use Rattle.cron_turn.specs.inside.Turning.{PutsLine, Says, after_put, damage_in};
+ghost use Rattle.cron_turn.specs.inside.Turning.{PutsLine, Says, after_put, damage_in, is_done};
 
 use crate::item::cause_of_end;
 use cron_session::CronEnd;
@@ -36,7 +36,8 @@ fn damage_in(end: &CronEnd) -> Option<Damage>
     }
 }
 
-// Says how a session ended that found no damage.
+// Says how a session ended that found no damage. Of one that was done nothing is put, so that a sink that fails is not
+// asked for nothing.
 fn say_line<E: Sink>(alloc: Global, end: &CronEnd, err: &mut E) -> Option<Cause>
     requires { damage_in end.now ≡ None }
     ensures made_as { (E.outlet err.new).made_as ≡ (E.outlet err.old).made_as }
@@ -44,8 +45,17 @@ fn say_line<E: Sink>(alloc: Global, end: &CronEnd, err: &mut E) -> Option<Cause>
     ensures says { Says E.tells end.now
         (sink_at (E.content err.old) (E.outlet err.old)) (sink_at (E.content err.new) (E.outlet err.new)) result }
 {
+    if is_done(end) {
+        return None;
+    }
     let put = put_line(alloc, end, err);
     after_put(end, put)
+}
+
+fn is_done(end: &CronEnd) -> bool
+    ensures { result ≡ is_done end.now }
+{
+    matches!(end, CronEnd::Done)
 }
 
 // Puts the line of a session's end.

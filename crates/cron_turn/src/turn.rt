@@ -3,15 +3,16 @@ ghost use Rattle.std.specs.Prelude.{◌≡◌, ◌<◌, None};
 ghost use Rattle.civil_minute.specs.Zone.{IsReadable};
 ghost use Rattle.host_calls.specs.Session.{IsOutside};
 ghost use Rattle.job_script.specs.Check.{first_fault};
-ghost use Rattle.cron_turn.specs.Outside.{StaysSo, clock_at, run_at, telling};
+ghost use Rattle.cron_input.specs.Clock.{clock_at};
+ghost use Rattle.cron_turn.specs.Outside.{StaysSo, run_at, telling};
 ghost use Rattle.cron_turn.specs.Sessions.{RestsOn};
 ghost use Rattle.cron_turn.specs.inside.Turning.{Turns};
 
 use crate::item::rest_after;
-use crate::read::read_entries;
 use crate::say::say;
 use cause_output::Caller;
 use clock_range::is_clock_second;
+use cron_input::read_entries;
 use cron_session::cron_session;
 use host_calls::{Host, Inputs, Readings, Sink};
 use listing_text::{Cause, Refusal};

@@ -1,24 +1,19 @@
 -- How one session more goes, by its parts (own).
-use Rattle.std.specs.Prelude.{◌≡◌, ◌⊎◌, ◌≤◌, ◌<◌, ℕ, Bool, true, List, Option, Some, None, Result, Ok, Err, IsErrOf, length}
+use Rattle.std.specs.Prelude.{◌≡◌, ◌≤◌, ℕ, Bool, true, false, List, Option, Some, None, Result, Ok, Err, IsErrOf, length}
 use Rattle.host_calls.specs.Causes.{Rose}
 use Rattle.host_calls.specs.declared.fault.SinkFault.{SinkFault}
 use Rattle.host_calls.specs.declared.fault.SinkFault.TheVariants as sink
 use Rattle.listing_text.specs.declared.cause.Cause.{Cause}
 use Rattle.listing_text.specs.declared.cause.Cause.TheVariants as cause
-use Rattle.listing_text.specs.declared.refusal.Refusal.TheVariants.{BadCrontab, TooLong}
 use Rattle.cause_output.specs.declared.caller.Caller.{Caller}
-use Rattle.cause_output.specs.declared.command_error.CommandError.{CommandError}
 use Rattle.cause_output.specs.Sinks.{IsCut, IsPut, IsSilent, SinkAt}
 use Rattle.host_calls.specs.declared.damage.Damage.{Damage}
-use Rattle.cron_text.specs.declared.crontab.TheConstants.{MAX_CRONTAB}
-use Rattle.cron_text.specs.declared.entry.CronEntry.{CronEntry}
-use Rattle.cron_text.specs.Crontab.{SpellsCrontab}
 use Rattle.cron_session.specs.declared.report.CronEnd.{CronEnd}
 use Rattle.cron_session.specs.declared.report.CronEnd.TheVariants.{Done, Busy, FileFault, Damaged, QueueFull, NumbersUsedUp, Memory}
 use Rattle.cron_turn.specs.Items.{EndsSaying, GoesOnSaying, Item, rest_after}
-use Rattle.cron_turn.specs.Outside.{InputAt, RunAt, Telling}
+use Rattle.cron_turn.specs.Outside.{RunAt, Telling}
 use Rattle.cron_turn.specs.Running.{Serves}
-use Rattle.cron_turn.specs.Sessions.{AsksFile, IsBadAt, IsMade, ReadsFile, Stops}
+use Rattle.cron_turn.specs.Sessions.{IsMade, Stops}
 
 -- what was said of a session, by whether a further one may come
 abbrev pub Says : Bool → CronEnd → SinkAt → SinkAt → Option Cause → Type 0
@@ -47,6 +42,16 @@ damage_in QueueFull = None
 damage_in NumbersUsedUp = None
 damage_in Memory = None
 
+-- the session was done
+abbrev pub is_done : CronEnd → Bool
+is_done Done = true
+is_done Busy = false
+is_done FileFault = false
+is_done (Damaged damage) = false
+is_done QueueFull = false
+is_done NumbersUsedUp = false
+is_done Memory = false
+
 -- the line of want of memory may be wanting
 abbrev pub unless_memory : CronEnd → Option Cause
 unless_memory Memory = None
@@ -62,35 +67,6 @@ abbrev pub after_put : CronEnd → Result (Unit {0}) SinkFault → Option Cause
 after_put end (Ok done) = None
 after_put end (Err sink.Failed) = Some cause.OutputFault
 after_put end (Err sink.Memory) = unless_memory end
-
--- why a text gives no entries
-abbrev pub StopsText : List ℕ → Cause → Type 0
-StopsText bytes (cause.Refused TooLong) = MAX_CRONTAB < length bytes
-StopsText bytes (cause.Refused (BadCrontab line)) = IsBadAt line bytes
-StopsText bytes cause.Memory = Unit {0}
-StopsText bytes _ = ⊥
-
--- the entries that the text spells, or why there are none
-abbrev pub IsOfText : List ℕ → Result (List CronEntry) CommandError → Type 0
-IsOfText bytes (Ok entries) = (length bytes ≤ MAX_CRONTAB) × SpellsCrontab bytes entries
-IsOfText bytes (Err stopped) = StopsText bytes stopped.cause
-
--- the file gave a text, which answers so
-pub record GaveText (tells : Bool) (path : List ℕ) (old new : InputAt) (result : Result (List CronEntry) CommandError) : Type 0 where
-  pub bytes : List ℕ
-  pub reads : ReadsFile tells path bytes old new
-  pub of_text : IsOfText bytes result
-
--- why the file gave no text
-abbrev pub IsUnread : InputAt → InputAt → Cause → Type 0
-IsUnread old new cause.InputFault = AsksFile old new × Rose old.sources.input_faults new.sources.input_faults
-IsUnread old new cause.Memory = AsksFile old new
-IsUnread old new _ = ⊥
-
--- the entries of the file, or why there are none
-abbrev pub ReadsEntries : Bool → List ℕ → InputAt → InputAt → Result (List CronEntry) CommandError → Type 0
-ReadsEntries tells path old new (Ok entries) = GaveText tells path old new (Ok entries)
-ReadsEntries tells path old new (Err stopped) = GaveText tells path old new (Err stopped) ⊎ IsUnread old new stopped.cause
 
 -- a session was made after which another may come, before which so many seconds are to be rested
 pub record GoesOn (tells : Telling) (caller : Caller) (path : List ℕ) (next : Option ℕ) (old new : RunAt) : Type 0 where

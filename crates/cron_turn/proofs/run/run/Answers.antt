@@ -1,5 +1,6 @@
 use Rattle.std.proofs.Common.{◌∙◌, None, arith, refl, sym}
-use Rattle.cron_turn.specs.Outside.{clock_at, run_at, telling}
+use Rattle.cron_input.specs.Clock.{clock_at}
+use Rattle.cron_turn.specs.Outside.{run_at, telling}
 use Rattle.cron_turn.proofs.RunLemmas.{none_served, one_served, rests_before, served_all, served_short, stays_on, stays_rested, stays_same}
 use Rattle.cron_turn.proofs.run.run.Goals as goal
 

@@ -3,7 +3,8 @@ use Rattle.std.proofs.lemmas.Int.{to_z-of_z}
 use Rattle.clock_range.specs.ClockRange.{IsClockSecond}
 use Rattle.cron_session.specs.Leaving.{CronsTo}
 use Rattle.cron_turn.specs.Items.{Item, rest_after}
-use Rattle.cron_turn.specs.Outside.{input_at, run_at, spool_at, telling}
+use Rattle.cron_input.specs.Reading.{input_at}
+use Rattle.cron_turn.specs.Outside.{run_at, spool_at, telling}
 use Rattle.cron_turn.proofs.ReadLemmas.{asked, stops_reading}
 use Rattle.cron_turn.proofs.RunLemmas.{turned}
 use Rattle.cron_turn.proofs.turn.turn.Goals as goal

@@ -1,8 +1,7 @@
 //! The crontab, read from its file.
 ghost use Rattle.std.specs.Prelude.{◌≡◌, ◌≤◌, All, IfOk, length};
 ghost use Rattle.cron_text.specs.declared.crontab.TheConstants.{MAX_CRONTAB};
-ghost use Rattle.cron_turn.specs.Outside.{input_at};
-ghost use Rattle.cron_turn.specs.inside.Turning.{IsOfText, ReadsEntries};
+ghost use Rattle.cron_input.specs.Reading.{IsOfText, ReadsEntries, input_at};
 
 use cause_output::CommandError;
 use cron_text::{CronFault, Entries, MAX_CRONTAB, crontabs_have_one_reading, read_crontab};
@@ -10,8 +9,8 @@ use host_calls::Inputs;
 use listing_text::{Cause, Refusal};
 use std::alloc::Global;
 
-// The entries of the file. One byte more is asked for than a crontab may have, so that a longer one is known.
-pub(crate) fn read_entries<I: Inputs>(
+/// The entries of the file. One byte more is asked for than a crontab may have, so that a longer one is known.
+pub fn read_entries<I: Inputs>(
     alloc: Global,
     path: &str,
     inputs: &mut I,

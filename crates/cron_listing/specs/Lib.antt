@@ -1,0 +1,4 @@
+pub mod Listing
+pub mod Running
+pub mod Words
+pub mod inside

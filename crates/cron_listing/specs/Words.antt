@@ -1,0 +1,39 @@
+-- The words of the program (own): `--next N` and `-f FILE`, which both have to be given.
+use Rattle.std.specs.Prelude.{[], ◌∷◌, ℕ, List, Option, Some, None, Result, Ok, Err, codes, nat_le, if◌then◌else◌}
+use Rattle.clap.specs.Simple.{App}
+use Rattle.clap.specs.Walk.{Row, Text, first_of}
+use Rattle.at_words.specs.Answers.{named_asked}
+use Rattle.at_words.specs.Commands.{app_with, long_rule, value_rule}
+use Rattle.at_words.specs.Daemons.{turns_asked}
+use Rattle.at_words.specs.declared.fault.WordsFault.{WordsFault}
+use Rattle.at_words.specs.declared.fault.WordsFault.TheVariants.{Usage}
+use Rattle.cron_listing.specs.declared.words.NextRequest.{NextRequest}
+use Rattle.cron_listing.specs.declared.words.TheConstants.{MAX_NEXT}
+
+-- `atcron`: the options -f and --next
+unfoldable pub next_app : App
+next_app = app_with (codes "atcron") (value_rule (codes "file") 102 ∷ long_rule (codes "next") ∷ [])
+
+-- the number, where it is no greater than the most that are listed
+abbrev pub few_of : Option ℕ → Option ℕ
+few_of (Some number) = if nat_le number MAX_NEXT then Some number else None
+few_of None = None
+
+-- the number of minutes, which has to be given, and is written as one of turns is
+abbrev pub count_asked : Option Text → Option ℕ
+count_asked (Some text) = few_of (turns_asked (Some text))
+count_asked None = None
+
+-- a crontab and a number of minutes, where there are both
+abbrev pub request_of : Option Text → Option ℕ → Result NextRequest WordsFault
+request_of (Some file) (Some count) = Ok (record { file = file; count = count })
+request_of (Some file) None = Err Usage
+request_of None count = Err Usage
+
+-- the path of the crontab, and the number of minutes
+abbrev pub rows_asked : List Row → Result NextRequest WordsFault
+rows_asked rows = request_of (first_of (codes "file") rows) (count_asked (first_of (codes "next") rows))
+
+-- what the words ask for, the first of which stands for the program's name; without it they ask for nothing
+abbrev pub next_asked : List Text → Result NextRequest WordsFault
+next_asked words = named_asked next_app rows_asked words
