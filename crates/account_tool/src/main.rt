@@ -1,18 +1,10 @@
-//! The program over the real outside: the spool folder that its first word names, and the standard streams of the
-//! process. Without a folder it is asked for nothing, and makes none.
+//! Accounts over the real outside: the spool folder that the first word names, and the standard streams of the process.
+//! Without a folder it is asked for nothing, and makes none.
 #![tactic(auto)]
 
-ghost use Rattle.host_calls.specs.Session.{IsOutside};
-
-use at_account::account_program;
-use host_calls::{Host, Text};
-use job_script::MAX_HEADER;
-use process_input::{
-    StartupError, held_streams, no_spool, say_startup_error, take_folder, words_of,
-};
-use std::alloc::AllocError;
+use process_input::held_streams;
+use real_programs::{exit_code, run_account};
 use std::process::ExitCode;
-use unix_host::{UnixErr, UnixHost, UnixOut};
 
 // The name under which is said why the program could not begin.
 const TOOL: &str = "ataccount";
@@ -20,33 +12,5 @@ const TOOL: &str = "ataccount";
 fn main(rt: HostRuntime) -> ExitCode {
     // They stay held until the end: what is opened in between must not become a standard stream.
     let _streams = held_streams(&rt);
-    match run(&rt) {
-        Ok(code) => ExitCode::from(code),
-        Err(why) => ExitCode::from(say_startup_error(&rt, TOOL, why)),
-    }
-}
-
-// Does what the words of this process ask for, and gives the exit status.
-fn run(rt: &HostRuntime) -> Result<u8, StartupError> {
-    let mut words = words_of(rt)?;
-    match take_folder(&mut words) {
-        Some(folder) => {
-            let host = UnixHost::existing(rt.clone()?, rt.alloc(), Text::from(folder))?;
-            Ok(over(rt, &words, &mut host.keeping(MAX_HEADER))?)
-        }
-        None => {
-            let mut host = no_spool(rt.alloc())?;
-            Ok(over(rt, &[], &mut host)?)
-        }
-    }
-}
-
-// Does what the words ask for over the folder.
-fn over<H: Host>(rt: &HostRuntime, words: &[String], host: &mut H) -> Result<u8, AllocError>
-    requires { IsOutside (H.session host.old) }
-{
-    let mut out = UnixOut::make(rt.clone()?);
-    let mut err = UnixErr::make(rt.clone()?);
-    let status = account_program(rt.alloc(), words, host, &mut out, &mut err);
-    Ok(status.code)
+    exit_code(&rt, TOOL, run_account(&rt))
 }

@@ -2,18 +2,18 @@
 ghost use Rattle.std.specs.Prelude.{◌<◌, IfOk};
 ghost use Rattle.host_calls.specs.Session.{IsOutside};
 
+use crate::environment::environment_at;
 use at_day::{Caller, program};
 use civil_minute::Zone;
 use host_calls::{Host, Text};
 use job_script::{Context, Variables};
-use memory_host::{ListReadings, MemoryInputs, MemorySink};
 use std::alloc::{AllocError, Global};
 
-// 2025-01-01 00:00:00 UTC.
-const NOW: i64 = 1_735_689_600;
+/// 2025-01-01 00:00:00 UTC.
+pub const NOW: i64 = 1_735_689_600;
 
-// The user `ann`.
-fn ann(alloc: Global) -> Result<Caller, AllocError>
+/// The user `ann`.
+pub fn ann(alloc: Global) -> Result<Caller, AllocError>
     ensures { IfOk result (λ caller. caller.context.umask < 512) }
 {
     let context = Context {
@@ -28,8 +28,8 @@ fn ann(alloc: Global) -> Result<Caller, AllocError>
     })
 }
 
-// The words of a command line.
-fn texts(alloc: Global, words: &[&str]) -> Result<Vec<String>, AllocError> {
+/// The words of a command line.
+pub fn texts(alloc: Global, words: &[&str]) -> Result<Vec<String>, AllocError> {
     let mut texts = Vec::new(alloc);
     for word in words {
         texts.push(String::from_str(alloc, word)?)?;
@@ -37,26 +37,28 @@ fn texts(alloc: Global, words: &[&str]) -> Result<Vec<String>, AllocError> {
     Ok(texts)
 }
 
-// The status of the command of these words, at the same second always.
-fn status<H: Host>(alloc: Global, words: &[&str], host: &mut H) -> Result<u8, AllocError>
+/// The status of the command of these words, at this second always.
+pub fn status<H: Host>(
+    alloc: Global,
+    words: &[&str],
+    now: i64,
+    host: &mut H,
+) -> Result<u8, AllocError>
     requires { IsOutside (H.session host.old) }
     ensures { IsOutside (H.session host.new) }
 {
     let caller = ann(alloc)?;
     let words = texts(alloc, words)?;
-    let mut readings = ListReadings::make(alloc, &[NOW], &[None])?;
-    let mut inputs = MemoryInputs::make(alloc, b"echo hi\n", None, false)?;
-    let mut out = MemorySink::make(alloc, None);
-    let mut err = MemorySink::make(alloc, None);
+    let mut around = environment_at(alloc, now)?;
     let status = program(
         alloc,
         &words,
         &caller,
         host,
-        &mut readings,
-        &mut inputs,
-        &mut out,
-        &mut err,
+        &mut around.readings,
+        &mut around.inputs,
+        &mut around.out,
+        &mut around.err,
     );
     Ok(status.code)
 }
@@ -70,13 +72,13 @@ fn is_well_done<H: Host>(alloc: Global, last: u32, host: &mut H) -> Result<bool,
 {
     let second = format!(in alloc; "{}", last + 2)?;
     let third = format!(in alloc; "{}", last + 3)?;
-    let submitted = status(alloc, &["at", "now"], host)?
-        | status(alloc, &["batch"], host)?
-        | status(alloc, &["at", "now", "+", "2", "days"], host)?;
-    let shown = status(alloc, &["atq"], host)?
-        | status(alloc, &["at", "-c", third.as_str()], host)?;
-    let removed = status(alloc, &["atrm", second.as_str()], host)?;
-    let served = status(alloc, &["atd", "-s"], host)?;
+    let submitted = status(alloc, &["at", "now"], NOW, host)?
+        | status(alloc, &["batch"], NOW, host)?
+        | status(alloc, &["at", "now", "+", "2", "days"], NOW, host)?;
+    let shown = status(alloc, &["atq"], NOW, host)?
+        | status(alloc, &["at", "-c", third.as_str()], NOW, host)?;
+    let removed = status(alloc, &["atrm", second.as_str()], NOW, host)?;
+    let served = status(alloc, &["atd", "-s"], NOW, host)?;
     Ok(submitted | shown | removed | served == 0)
 }
 

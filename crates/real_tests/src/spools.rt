@@ -5,15 +5,15 @@ ghost use Rattle.host_calls.specs.Session.{IsOutside};
 use crate::keeping::Keeping;
 use host_calls::{Host, Name, Text};
 use memory_host::{Files, MemoryHost, Plan};
+use real_programs::{RealFolder, existing_folder};
 use std::alloc::{AllocError, Global};
 use std::process;
 use std::process::Command;
 use std::test::Fail;
-use unix_host::UnixHost;
-use witnessed_host::Witnessed;
+use unix_host::Waits;
 
-/// The folder of the system, beside one who keeps what it holds.
-pub type KeptFolder = Witnessed<UnixHost<HostRuntime>, Keeping>;
+/// A real folder, beside one who keeps what it holds.
+pub type KeptFolder = RealFolder<Keeping>;
 
 /// Does a line of the shell, whose `$1` is the path.
 pub fn line(rt: &HostRuntime, text: &str, path: &str) -> Result<(), Fail> {
@@ -28,7 +28,11 @@ pub fn fresh_spool(rt: &HostRuntime, test: &str) -> Result<String, Fail> {
     let own = process::id(rt.process());
     let path = format!(in rt.alloc(); "/tmp/real_tests_{own}_{test}")?;
     clear(rt, path.as_str())?;
-    line(rt, "mkdir -p \"$1\" && : >\"$1/at.deny\"", path.as_str())?;
+    line(
+        rt,
+        "mkdir \"$1\" \"$1.out\" && : >\"$1/at.deny\"",
+        path.as_str(),
+    )?;
     Ok(path)
 }
 
@@ -45,8 +49,9 @@ pub fn kept_folder(rt: &HostRuntime, path: &str) -> Result<Option<KeptFolder>, F
     let Some(model) = model(alloc)? else {
         return Ok(None);
     };
-    let host = UnixHost::make(rt.clone()?, alloc, Text::of(alloc, path)?)?;
-    Ok(Some(Witnessed::new(host, Keeping::new(alloc, model))))
+    let spool = Text::of(alloc, path)?;
+    let keeping = Keeping::new(alloc, model);
+    Ok(Some(existing_folder(rt, spool, Waits::Asking, keeping)?))
 }
 
 // The model of such a spool, within a session.

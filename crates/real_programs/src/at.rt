@@ -1,5 +1,5 @@
-//! The program over the real things, for every witness.
-ghost use Rattle.std.specs.Prelude.{◌≡◌, ◌<◌, map, string_bytes, true};
+//! The tools over the real things: `at`, `batch`, `atq`, `atrm`, `atd` and `atday`.
+ghost use Rattle.std.specs.Prelude.{◌≡◌, ◌<◌, IfOk, map, string_bytes, true};
 ghost use Rattle.at_commands.specs.Outside.{HasRisen, ServesAsked, StaysMade, outside_at};
 ghost use Rattle.at_commands.specs.Served.{IsNotServed};
 ghost use Rattle.at_words.specs.Requests.{request_of};
@@ -8,16 +8,24 @@ ghost use Rattle.listing_text.specs.Cause.{status_of};
 ghost use Rattle.serving.specs.Outside.{EndsOutside};
 ghost use Rattle.at_day.specs.Programs.{EndsUnservedUnlessDay, MakesDay, asks_for_day};
 
-use crate::real::{RealClock, RealErrors, RealFolder, RealInput, RealOutput};
+use crate::folders::{RealFolder, spool_folder};
+use crate::streams::{
+    RealClock, RealErrors, RealInput, RealOutput, real_clock, real_errors, real_input, real_output,
+};
 use at_day::{Caller, program};
-use host_calls::{Host, Inputs, Readings, Sink};
+use host_calls::{Host, Inputs, Readings, Sink, Text};
 use listing_text::Status;
-use std::alloc::Global;
-use witnessed_host::{InputWitness, Witness};
+use process_input::{StartupError, caller_of, text_of, words_of};
+use std::alloc::{AllocError, Global};
+use unix_host::Waits;
+use witnessed_host::{InputWitness, Silent, Witness};
+
+// Where jobs lie if no variable names another folder.
+const SPOOL: &str = "/var/spool/atjobs";
 
 /// Does what the words of the tools ask for over the real things. What the folder holds is what the one witness knows of
 /// it, and what the input holds what the other one knows; the clock and the two outputs tell what they answered and took.
-pub fn answer<W: Witness + Drop, V: InputWitness + Drop>(
+pub fn at_answer<W: Witness + Drop, V: InputWitness + Drop>(
     alloc: Global,
     words: &[String],
     caller: &Caller,
@@ -69,4 +77,43 @@ pub fn answer<W: Witness + Drop, V: InputWitness + Drop>(
         (at folder.new clock.new input.new output.new errors.new) }
 {
     program(alloc, words, caller, folder, clock, input, output, errors)
+}
+
+/// The same over the spool folder of this path, beside which nobody disputes anything.
+pub fn at_over(
+    rt: &HostRuntime,
+    words: &[String],
+    caller: &Caller,
+    spool: Text,
+    waits: Waits,
+    clock: &mut RealClock,
+) -> Result<Status, AllocError>
+    requires umask { caller.now.context.umask < 512 }
+    ensures code { IfOk result (λ status. status ≡ status_of status.cause) }
+{
+    let mut input = real_input(rt, Silent)?;
+    let mut output = real_output(rt)?;
+    let mut errors = real_errors(rt)?;
+    let mut folder = spool_folder(rt, spool, waits, Silent)?;
+    Ok(at_answer(
+        rt.alloc(),
+        words,
+        caller,
+        &mut folder,
+        clock,
+        &mut input,
+        &mut output,
+        &mut errors,
+    ))
+}
+
+/// Does what the words of this process ask for over the spool folder that `ATSPOOL` names, or the usual one.
+pub fn run_at(rt: &HostRuntime) -> Result<Status, StartupError>
+    ensures code { IfOk result (λ status. status ≡ status_of status.cause) }
+{
+    let words = words_of(rt)?;
+    let caller = caller_of(rt)?;
+    let spool = text_of(rt, "ATSPOOL", SPOOL)?;
+    let mut clock = real_clock(rt)?;
+    Ok(at_over(rt, &words, &caller, spool, Waits::Asking, &mut clock)?)
 }

@@ -1,17 +1,13 @@
-//! The real things, each beside what it is told to.
+//! The clock and the streams of a process. What the clock answered and what the outputs took is told; what the input holds
+//! is what its witness knows.
 ghost use Rattle.std.specs.Prelude.{◌≡◌, [], IfOk};
-ghost use Rattle.host_calls.specs.Session.{IsOutside};
+ghost use Rattle.std.specs.Path.{IsAbsolute};
 
-use host_calls::Host;
-use job_script::MAX_HEADER;
+use host_calls::Name;
 use noted_streams::{NotedReadings, NotedSink};
-use process_input::text_of;
 use std::alloc::AllocError;
-use unix_host::{UnixErr, UnixHost, UnixInputs, UnixOut, UnixReadings};
-use witnessed_host::{InputWitness, Witness, Witnessed, WitnessedInputs};
-
-/// The spool folder, beside a witness.
-pub type RealFolder<W> = Witnessed<UnixHost<HostRuntime>, W>;
+use unix_host::{UnixErr, UnixInputs, UnixOut, UnixReadings};
+use witnessed_host::{InputWitness, WitnessedInputs};
 
 /// The clock and the load of the machine, which tell what they answered.
 pub type RealClock = NotedReadings<UnixReadings<HostRuntime>>;
@@ -25,29 +21,24 @@ pub type RealOutput = NotedSink<UnixOut<HostRuntime>>;
 /// Standard error, which tells what was put.
 pub type RealErrors = NotedSink<UnixErr<HostRuntime>>;
 
-// Where jobs lie if no variable names another folder.
-const SPOOL: &str = "/var/spool/atjobs";
-
-/// The folder that `ATSPOOL` names, or the usual one, beside this witness.
-pub fn real_folder<W: Witness + Drop>(
-    rt: &HostRuntime,
-    witness: W,
-) -> Result<RealFolder<W>, AllocError>
-    ensures outside { IfOk result (λ folder. IsOutside (⟦<RealFolder<W> as Host>⟧.session folder)) }
-    ensures witness { IfOk result (λ folder. folder.witness ≡ witness) }
-{
-    let spool = text_of(rt, "ATSPOOL", SPOOL)?;
-    let host = UnixHost::make(rt.clone()?, rt.alloc(), spool)?
-        .keeping(MAX_HEADER)
-        .moving();
-    Ok(Witnessed::new(host, witness))
-}
-
 /// The clock, which has answered nothing so far.
 pub fn real_clock(rt: &HostRuntime) -> Result<RealClock, AllocError>
     ensures nothing { IfOk result (λ clock. clock.trace.items ≡ []) }
 {
     Ok(NotedReadings::new(UnixReadings::make(rt.clone()?)))
+}
+
+/// The same, whose rests end at a full second, and earlier where one of these files of a folder has changed.
+pub fn watching_clock(
+    rt: &HostRuntime,
+    folder: &str,
+    names: &[Name],
+) -> Result<RealClock, AllocError>
+    requires { IsAbsolute folder.now }
+    ensures nothing { IfOk result (λ clock. clock.trace.items ≡ []) }
+{
+    let readings = UnixReadings::watching(rt.clone()?, rt.alloc(), folder, names)?;
+    Ok(NotedReadings::new(readings))
 }
 
 /// The input, beside this witness.
