@@ -42,15 +42,25 @@ pub fn variable(rt: &HostRuntime, name: &str) -> Result<Option<String>, AllocErr
 pub fn variables_of(rt: &HostRuntime) -> Result<Variables, AllocError> {
     let alloc = rt.alloc();
     let mut variables = Variables::new(alloc);
+    for (name, value) in &entries_of(rt)? {
+        variables.push(alloc, name.as_str(), value.as_str())?;
+    }
+    Ok(variables)
+}
+
+/// The names and values of all variables that are texts, in the order of the runtime.
+pub fn entries_of(rt: &HostRuntime) -> Result<Vec<(Text, Text)>, AllocError> {
+    let alloc = rt.alloc();
+    let mut entries = Vec::new(alloc);
     for place in 0..usize::MAX {
         let Some(entry) = entry_at(rt, alloc, place)? else {
             break;
         };
         if let Some((name, value)) = split(entry.as_slice()) {
-            variables.push(alloc, name, value)?;
+            entries.push((Text::of(alloc, name)?, Text::of(alloc, value)?))?;
         }
     }
-    Ok(variables)
+    Ok(entries)
 }
 
 // The entry of the environment at this place; none after the last.

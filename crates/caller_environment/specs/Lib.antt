@@ -1,0 +1,9 @@
+pub mod Fields
+pub mod MachineLists
+pub mod SpoolPlace
+pub mod Status
+pub mod Tools
+pub mod UserTable
+pub mod Variables
+pub mod ZoneFile
+pub mod ZoneRule

@@ -1,0 +1,48 @@
+-- The table of users: a line has seven fields after colons, of which the first is the name, the third the number and the
+-- sixth the home directory (passwd(5)).
+use Rattle.std.specs.Prelude.{◌==◌, ◌&&◌, ℕ, Bool, false, List, Option, Some, None, find, option_and_then, unwrap_or}
+use Rattle.std.specs.List.{slice_split}
+use Rattle.std.specs.Str.{bytes_eq}
+use Rattle.caller_environment.specs.Fields.{field, user_number}
+
+-- the name of the line's user
+abbrev pub name_in : List ℕ → List ℕ
+name_in line = unwrap_or (field 58 0 line) line
+
+-- the home directory of the line's user
+abbrev pub home_in : List ℕ → Option (List ℕ)
+home_in line = field 58 5 line
+
+-- the number is this one
+abbrev pub is_number : ℕ → Option ℕ → Bool
+is_number number (Some other) = other == number
+is_number number None = false
+
+-- the user number of the line is this one
+abbrev pub has_number : ℕ → List ℕ → Bool
+has_number number line = is_number number (option_and_then user_number (field 58 2 line))
+
+-- the user of the line has this number and name
+abbrev pub is_named : ℕ → List ℕ → List ℕ → Bool
+is_named number name line = has_number number line && bytes_eq (name_in line) name
+
+-- the lines of the table
+abbrev pub lines_of : List ℕ → List (List ℕ)
+lines_of table = slice_split (λ byte. byte == 10) table
+
+-- the first line of this number and name
+abbrev pub named_line : ℕ → List ℕ → List ℕ → Option (List ℕ)
+named_line number name table = find (is_named number name) (lines_of table)
+
+-- the first line of this number
+abbrev pub numbered_line : ℕ → List ℕ → Option (List ℕ)
+numbered_line number table = find (has_number number) (lines_of table)
+
+-- the one, or else the other
+abbrev pub line_or : Option (List ℕ) → Option (List ℕ) → Option (List ℕ)
+line_or (Some line) other = Some line
+line_or None other = other
+
+-- the user's line: that of the number and the name, or else the first of the number
+abbrev pub user_line : ℕ → List ℕ → List ℕ → Option (List ℕ)
+user_line number name table = line_or (named_line number name table) (numbered_line number table)

@@ -1,0 +1,27 @@
+//! What a tool takes from the process that called it, as functions of texts: which tool the words name, the variables of a
+//! job, the caller's user number and entry in the table of users, the rule of a zone, the place of the spool, and who may
+//! use at by the lists of the machine.
+#![tactic(auto)]
+
+mod digits;
+mod fields;
+mod machine_lists;
+mod paths;
+mod spool_place;
+mod status;
+mod tool_name;
+mod tool_words;
+mod user_table;
+mod variables;
+mod zone_path;
+mod zone_rule;
+
+pub use machine_lists::may_use_machine;
+pub use spool_place::{MeantSpool, SpoolSources, meant_spool};
+pub use status::user_number_in;
+pub use tool_name::ToolName;
+pub use tool_words::take_tool;
+pub use user_table::{home_in, name_in, user_line};
+pub use variables::{CallerSettings, job_variables};
+pub use zone_path::zone_file;
+pub use zone_rule::{MAX_RULE, MAX_ZONE_FILE, rule_in};

@@ -1,0 +1,3 @@
+pub mod Permission
+pub mod Tools
+pub mod Zones

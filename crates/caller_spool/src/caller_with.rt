@@ -1,0 +1,54 @@
+//! The caller by what is set of their environment.
+ghost use Rattle.std.specs.Prelude.{◌≡◌, ◌<◌, IfOk, option_copied};
+ghost use Rattle.caller_environment.specs.Variables.{job_variables};
+ghost use Rattle.civil_minute.specs.ZoneText.{IsZoneOf};
+ghost use Rattle.caller_spool.specs.Zones.{zone_text};
+
+use caller_environment::{CallerSettings, job_variables};
+use cause_output::Caller;
+use civil_minute::{Zone, zone_of};
+use host_calls::Text;
+use job_script::Context;
+use std::alloc::{AllocError, Global};
+
+/// The caller of a process with these variables, of whom this is set: what a job takes over of their environment, and the
+/// zone in which times are read. The zone is the rule that is set, or else the value that TZ has.
+pub fn caller_by(
+    alloc: Global,
+    variables: &[(Text, Text)],
+    settings: CallerSettings,
+    zone: Option<&str>,
+    umask: u16,
+) -> Result<Caller, AllocError>
+    ensures environment { IfOk result (λ caller.
+        caller.context.environment ≡ job_variables settings variables.now) }
+    ensures user { IfOk result (λ caller. caller.context.user ≡ settings.user) }
+    ensures directory { IfOk result (λ caller. caller.context.directory ≡ settings.directory) }
+    ensures umask { IfOk result (λ caller. caller.context.umask ≡ umask) }
+    ensures zone { IfOk result (λ caller. IsZoneOf (zone_text settings.zone (option_copied zone.entry)) caller.zone) }
+{
+    let environment = job_variables(alloc, variables, &settings)?;
+    let zone = zone_by(alloc, &settings.zone, zone)?;
+    let CallerSettings {
+        directory,
+        user,
+        zone: _,
+    } = settings;
+    let context = Context {
+        user,
+        directory,
+        umask,
+        environment,
+    };
+    Ok(Caller { context, zone })
+}
+
+// The zone that the rule names, or else the value of TZ.
+fn zone_by(alloc: Global, rule: &Option<Text>, zone: Option<&str>) -> Result<Zone, AllocError>
+    ensures { IfOk result (IsZoneOf (zone_text rule.now (option_copied zone.entry))) }
+{
+    match rule {
+        Some(rule) => zone_of(alloc, Some(rule.as_str())),
+        None => zone_of(alloc, zone),
+    }
+}

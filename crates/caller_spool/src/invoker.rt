@@ -1,0 +1,93 @@
+//! Who calls a tool, and what a job takes over from them.
+ghost use Rattle.std.specs.Prelude.{◌<◌};
+
+use crate::caller_with::caller_by;
+use crate::user::{CallingUser, calling_user};
+use caller_environment::{CallerSettings, MAX_ZONE_FILE, rule_in, zone_file};
+use cause_output::Caller;
+use host_calls::Text;
+use process_input::{entries_of, umask_in, variable};
+use std::alloc::AllocError;
+use std::fs::File;
+use std::io::Read;
+use std::{env, fs, str};
+
+// The umask of a process that does not tell its own.
+const USUAL_UMASK: u16 = 0o022;
+
+/// Who calls a tool.
+#[derive(Drop)]
+pub struct Invoker {
+    pub user: CallingUser,
+    pub caller: Caller,
+    ghost umask: { caller.context.umask < 512 },
+}
+
+/// Who calls this process: `PWD` is the directory in which it is, `LOGNAME` the name of its user, and `TZ` the rule of the
+/// caller's zone. All other variables are those of the process.
+pub fn invoker_of(rt: &HostRuntime) -> Result<Invoker, AllocError> {
+    let status = status_of_process(rt);
+    let user = calling_user(rt, status.as_slice())?;
+    let umask = umask_by(status.as_slice());
+    let settings = CallerSettings {
+        directory: directory_of(rt)?,
+        user: Text::of(rt.alloc(), user.name.as_str())?,
+        zone: zone_rule(rt)?,
+    };
+    let variables = entries_of(rt)?;
+    let zone = variable(rt, "TZ")?;
+    let caller = caller_by(rt.alloc(), &variables, settings, zone.as_deref(), umask)?;
+    Ok(Invoker { user, caller })
+}
+
+/// The user of this process.
+pub fn user_of_process(rt: &HostRuntime) -> Result<CallingUser, AllocError> {
+    calling_user(rt, status_of_process(rt).as_slice())
+}
+
+// What the system tells of this process, or nothing.
+fn status_of_process(rt: &HostRuntime) -> Vec<u8> {
+    fs::read(rt, "/proc/self/status").unwrap_or(Vec::new(rt.alloc()))
+}
+
+fn umask_by(status: &[u8]) -> u16
+    ensures { result < 512 }
+{
+    match str::from_utf8(status) {
+        Ok(status) => umask_in(status).unwrap_or(USUAL_UMASK),
+        Err(_) => USUAL_UMASK,
+    }
+}
+
+// The directory in which this process is. One that is gone has the empty text, which no job takes.
+fn directory_of(rt: &HostRuntime) -> Result<Text, AllocError> {
+    match env::current_dir(rt) {
+        Ok(directory) => Ok(Text::from(directory.into_string())),
+        Err(_) => Text::of(rt.alloc(), ""),
+    }
+}
+
+// The rule that `TZ` becomes, if it is changed.
+fn zone_rule(rt: &HostRuntime) -> Result<Option<Text>, AllocError> {
+    let zone = variable(rt, "TZ")?;
+    let directory = variable(rt, "TZDIR")?;
+    let Some(path) = zone_file(rt.alloc(), zone.as_deref(), directory.as_deref())? else {
+        return Ok(None);
+    };
+    let Some(bytes) = plain_file(rt, path.as_str()) else {
+        return Ok(None);
+    };
+    match rule_in(bytes.as_slice()).and_then(|rule| str::from_utf8(rule).ok()) {
+        Some(rule) => Ok(Some(Text::of(rt.alloc(), rule)?)),
+        None => Ok(None),
+    }
+}
+
+// The bytes of a plain file that is no longer than one of zones.
+fn plain_file(rt: &HostRuntime, path: &str) -> Option<Vec<u8>> {
+    let found = fs::metadata(rt, path).ok()?;
+    if !found.is_file() || found.len() > MAX_ZONE_FILE as u64 {
+        return None;
+    }
+    fs::read(rt, path).ok()
+}

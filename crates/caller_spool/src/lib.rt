@@ -1,0 +1,24 @@
+//! Who calls, and which spool is meant: the user of the process, what a job takes over of the environment, and the lists of
+//! the machine; the spool that words, variables or the home directory name, which is made where it is the caller's own, and
+//! whether a tool may work on it.
+#![tactic(auto)]
+
+mod caller_with;
+mod invoker;
+mod machine_lists;
+mod own_spool;
+mod owners;
+mod permission;
+mod spool_paths;
+mod tool_spool;
+mod user;
+
+pub use caller_with::caller_by;
+pub use invoker::{Invoker, invoker_of, user_of_process};
+pub use machine_lists::{LISTS, may_call};
+pub use own_spool::sync_folder;
+pub use owners::{is_link, is_theirs};
+pub use permission::{SpoolOwner, may_save_into, may_work_on};
+pub use spool_paths::{SpoolPaths, is_folder, paths_of, within};
+pub use tool_spool::{ToolSpool, callers_spool, make_own, spool_of};
+pub use user::CallingUser;

@@ -1,0 +1,106 @@
+//! The user who calls.
+use crate::spool_paths::is_folder_of;
+use caller_environment::{home_in, name_in, user_line, user_number_in};
+use host_calls::Text;
+use process_input::{text_of, variable};
+use std::alloc::AllocError;
+use std::process::Command;
+use std::{fs, str};
+
+/// The user who calls.
+#[derive(Drop)]
+pub struct CallingUser {
+    /// The number by which the system knows them. None where the system does not tell it.
+    pub number: Option<u32>,
+    pub name: Text,
+    /// The home directory, where it is there and is the user's own.
+    pub home: Option<Text>,
+}
+
+impl CallingUser {
+    /// Whether it is root.
+    pub fn is_root(&self) -> bool {
+        match self.number {
+            Some(number) => number == 0,
+            None => self.name.as_str() == "root",
+        }
+    }
+}
+
+/// The user of the process with this status. The entry in the table of users has the name and the home directory, and
+/// without one the variables `LOGNAME` and `HOME`.
+pub fn calling_user(rt: &HostRuntime, status: &[u8]) -> Result<CallingUser, AllocError> {
+    let called = text_of(rt, "LOGNAME", "")?;
+    let Some(number) = user_number_in(status) else {
+        return Ok(CallingUser {
+            number: None,
+            name: called,
+            home: None,
+        });
+    };
+    match entry_of(rt, number, called.as_str())? {
+        Some((name, home)) => Ok(CallingUser {
+            number: Some(number),
+            name,
+            home: own_home(rt, home, number),
+        }),
+        None => Ok(CallingUser {
+            number: Some(number),
+            name: called,
+            home: own_home(rt, text_of(rt, "HOME", "")?, number),
+        }),
+    }
+}
+
+// The directory, where it is there and is the user's own.
+fn own_home(rt: &HostRuntime, home: Text, number: u32) -> Option<Text> {
+    let is_own = is_folder_of(rt, home.as_str(), number);
+    Some(home).filter(|_| is_own)
+}
+
+// The name and the home directory of a user, by the table of the machine, or else by what the system asks for users.
+fn entry_of(rt: &HostRuntime, number: u32, name: &str) -> Result<Option<(Text, Text)>, AllocError> {
+    if let Ok(table) = fs::read(rt, "/etc/passwd") {
+        let found = entry_in(rt, table.as_slice(), number, name)?;
+        if found.is_some() {
+            return Ok(found);
+        }
+    }
+    match asked_table(rt, number) {
+        Some(table) => entry_in(rt, table.as_slice(), number, name),
+        None => Ok(None),
+    }
+}
+
+// What `getent` prints of a user.
+fn asked_table(rt: &HostRuntime, number: u32) -> Option<Vec<u8>> {
+    let digits = number.to_string(rt.alloc()).ok()?;
+    let mut command = Command::new(rt.alloc(), "/usr/bin/getent").ok()?;
+    let said = command
+        .arg("passwd")
+        .ok()?
+        .arg(digits.as_str())
+        .ok()?
+        .output(rt)
+        .ok()?;
+    Some(said.stdout)
+}
+
+fn entry_in(
+    rt: &HostRuntime,
+    table: &[u8],
+    number: u32,
+    name: &str,
+) -> Result<Option<(Text, Text)>, AllocError> {
+    let Some(line) = user_line(table, number, name.as_bytes()) else {
+        return Ok(None);
+    };
+    let home = home_in(line).unwrap_or(b"");
+    match (str::from_utf8(name_in(line)), str::from_utf8(home)) {
+        (Ok(name), Ok(home)) => Ok(Some((
+            Text::of(rt.alloc(), name)?,
+            Text::of(rt.alloc(), home)?,
+        ))),
+        _ => Ok(None),
+    }
+}

@@ -1,0 +1,15 @@
+//! The installed program: each tool by its name, after what it takes from the process that called it is set.
+#![tactic(auto)]
+
+use launcher::{called_as, run};
+use process_input::{held_streams, say_startup_error};
+use std::process::ExitCode;
+
+fn main(rt: HostRuntime) -> ExitCode {
+    // They stay held until the end: what is opened in between must not become a standard stream.
+    let _streams = held_streams(&rt);
+    match run(&rt) {
+        Ok(code) => ExitCode::from(code),
+        Err(why) => ExitCode::from(say_startup_error(&rt, called_as(&rt), why)),
+    }
+}

@@ -1,0 +1,4 @@
+pub mod Descriptions
+pub mod ExitCodes
+pub mod Locks
+pub mod Marks

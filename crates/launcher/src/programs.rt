@@ -1,0 +1,145 @@
+//! Each tool over its spool, by the program that has it.
+ghost use Rattle.std.specs.Prelude.{◌≡◌, ◌<◌, IfOk};
+ghost use Rattle.std.specs.Path.{IsAbsolute};
+ghost use Rattle.listing_text.specs.Cause.{status_of};
+
+use crate::note_trims::{asks_for_trim, trim_at_start};
+use crate::one_daemon::{DaemonLock, daemon_lock};
+use crate::refusal::refused;
+use caller_environment::ToolName;
+use caller_spool::{Invoker, SpoolPaths};
+use cause_output::Caller;
+use host_calls::{Name, Text};
+use listing_text::{Cause, Refusal, Status};
+use process_input::take_folder;
+use real_programs::{
+    RealClock, account_over, at_over, check_over, cron_over, post_over, real_clock, trim_over,
+    watching_clock,
+};
+use sequence_file::sequence_name;
+use start_journal::journal_name;
+use std::alloc::AllocError;
+use std::path::Path;
+use unix_host::Waits;
+
+/// Does what the words of a tool ask for over its spool. The paths are those of the spool, where it is there.
+pub fn answer_of(
+    rt: &HostRuntime,
+    tool: ToolName,
+    words: &mut Vec<String>,
+    invoker: &Invoker,
+    spool: Text,
+    paths: &Option<SpoolPaths>,
+) -> Result<Status, AllocError>
+    ensures code { IfOk result (λ status. status ≡ status_of status.cause) }
+{
+    match tool {
+        ToolName::At | ToolName::Batch | ToolName::Atq | ToolName::Atrm | ToolName::Atday => {
+            commands_over(rt, words, &invoker.caller, spool)
+        }
+        ToolName::Atd => daemon_over(rt, words, &invoker.caller, spool, paths),
+        ToolName::Atpost => mail_over(rt, words, spool, paths),
+        ToolName::Atcron => crontab_over(rt, words, &invoker.caller, spool, paths),
+        ToolName::Ataccount => account_over(rt, words, spool, Waits::Napping),
+        ToolName::Atcheck => checker_over(rt, words, spool),
+        ToolName::Atstat => Ok(refused(rt, tool, Cause::Refused(Refusal::Usage))),
+    }
+}
+
+/// The same of a tool that submits, lists, shows or removes jobs, or makes a day.
+pub fn commands_over(
+    rt: &HostRuntime,
+    words: &[String],
+    caller: &Caller,
+    spool: Text,
+) -> Result<Status, AllocError>
+    requires umask { caller.now.context.umask < 512 }
+    ensures code { IfOk result (λ status. status ≡ status_of status.cause) }
+{
+    let mut clock = real_clock(rt)?;
+    at_over(rt, words, caller, spool, Waits::Napping, &mut clock)
+}
+
+// The same of atd, if no other one works on the spool.
+fn daemon_over(
+    rt: &HostRuntime,
+    words: &[String],
+    caller: &Caller,
+    spool: Text,
+    paths: &Option<SpoolPaths>,
+) -> Result<Status, AllocError>
+    requires umask { caller.now.context.umask < 512 }
+    ensures code { IfOk result (λ status. status ≡ status_of status.cause) }
+{
+    // It is held until the end.
+    let lock = match paths {
+        Some(paths) => daemon_lock(rt, paths),
+        None => DaemonLock::Unlocked,
+    };
+    if matches!(&lock, DaemonLock::Taken) {
+        return Ok(refused(rt, ToolName::Atd, Cause::Busy));
+    }
+    let mut clock = clock_over(rt, paths, &[sequence_name()])?;
+    at_over(rt, words, caller, spool, Waits::Napping, &mut clock)
+}
+
+// The same of atpost: a trim, or sessions whose rests end when a job was submitted or a journal mark was written.
+fn mail_over(
+    rt: &HostRuntime,
+    words: &[String],
+    spool: Text,
+    paths: &Option<SpoolPaths>,
+) -> Result<Status, AllocError>
+    ensures code { IfOk result (λ status. status ≡ status_of status.cause) }
+{
+    if asks_for_trim(words) {
+        return trim_over(rt, words, spool, Waits::Napping);
+    }
+    if let Some(told) = trim_at_start(rt, words, spool.as_str())? {
+        return Ok(told);
+    }
+    let mut clock = clock_over(rt, paths, &[sequence_name(), journal_name()])?;
+    post_over(rt, words, spool, Waits::Napping, &mut clock)
+}
+
+// The same of atcron.
+fn crontab_over(
+    rt: &HostRuntime,
+    words: &[String],
+    caller: &Caller,
+    spool: Text,
+    paths: &Option<SpoolPaths>,
+) -> Result<Status, AllocError>
+    requires umask { caller.now.context.umask < 512 }
+    ensures code { IfOk result (λ status. status ≡ status_of status.cause) }
+{
+    let mut clock = clock_over(rt, paths, &[])?;
+    cron_over(rt, words, caller, spool, Waits::Napping, &mut clock)
+}
+
+// The same of atcheck, whose next word names the directory into which it saves.
+fn checker_over(
+    rt: &HostRuntime,
+    words: &mut Vec<String>,
+    spool: Text,
+) -> Result<Status, AllocError>
+    ensures code { IfOk result (λ status. status ≡ status_of status.cause) }
+{
+    let new = take_folder(words).map(Text::from);
+    check_over(rt, words, spool, new, Waits::Napping)
+}
+
+// A clock whose rests end at a full second, and earlier where one of these files of the spool has changed.
+fn clock_over(
+    rt: &HostRuntime,
+    paths: &Option<SpoolPaths>,
+    names: &[Name],
+) -> Result<RealClock, AllocError> {
+    if let Some(paths) = paths {
+        let spool = paths.spool.as_str();
+        if Path::new(spool).is_absolute() {
+            return watching_clock(rt, spool, names);
+        }
+    }
+    real_clock(rt)
+}

@@ -1,0 +1,79 @@
+//! What a tool prints of itself, where a word alone asks for it: its help, its version, and the caller's spool.
+ghost use Rattle.std.specs.Prelude.{◌≡◌, IfOk, map, string_bytes};
+ghost use Rattle.launcher.specs.Descriptions.{description_asked, description_of};
+ghost use Rattle.launcher.specs.ExitCodes.{IsExitCode};
+
+use crate::built_record::built_record;
+use crate::exit_codes::exit_code_of;
+use crate::refusal::refused;
+use caller_environment::ToolName;
+use caller_spool::{callers_spool, user_of_process};
+use listing_text::Cause;
+use std::alloc::AllocError;
+use tool_help::{help_text, version_text};
+
+/// What a tool is asked to print of itself.
+#[derive(Clone, Copy, Debug, PartialEq, Eq)]
+pub enum Description {
+    Help,
+    Version,
+    Spool,
+}
+
+/// What the words ask a tool to print of itself, by the one word after its name.
+pub fn description_asked(words: &[String]) -> Option<Description>
+    ensures { result ≡ description_asked (map string_bytes words.now) }
+{
+    match words {
+        [_, word] => description_of(word.as_str()),
+        _ => None,
+    }
+}
+
+fn description_of(word: &str) -> Option<Description>
+    ensures { result ≡ description_of word.now }
+{
+    if word == "--help" {
+        Some(Description::Help)
+    } else if word == "--version" {
+        Some(Description::Version)
+    } else if word == "--spool" {
+        Some(Description::Spool)
+    } else {
+        None
+    }
+}
+
+/// Prints it. Answers the exit status.
+pub fn describe(rt: &HostRuntime, tool: ToolName, asked: Description) -> Result<u8, AllocError>
+    ensures { IfOk result IsExitCode }
+{
+    match asked {
+        Description::Help => Ok(put(rt, tool, help_text(tool).as_bytes())),
+        Description::Version => {
+            let record = built_record(rt);
+            let text = version_text(rt.alloc(), tool, record.as_ref().map(|it| it.as_bytes()))?;
+            Ok(put(rt, tool, text.as_slice()))
+        }
+        Description::Spool => put_spool(rt, tool),
+    }
+}
+
+fn put_spool(rt: &HostRuntime, tool: ToolName) -> Result<u8, AllocError>
+    ensures { IfOk result IsExitCode }
+{
+    let user = user_of_process(rt)?;
+    let spool = callers_spool(rt, &user)?;
+    let line = format!(in rt.alloc(); "{}\n", spool.path.as_str())?;
+    Ok(put(rt, tool, line.as_bytes()))
+}
+
+// Puts a text on standard output. Answers the exit status.
+fn put(rt: &HostRuntime, tool: ToolName, text: &[u8]) -> u8
+    ensures { IsExitCode result }
+{
+    match rt.write_all(text) {
+        Ok(()) => exit_code_of(&Cause::Done),
+        Err(_) => exit_code_of(&refused(rt, tool, Cause::OutputFault).cause),
+    }
+}

@@ -1,0 +1,122 @@
+//! What stops the use of a spool, found out after a tool said `spool fault`.
+use crate::disk_probe::refusal_of;
+use caller_spool::{CallingUser, SpoolPaths, ToolSpool, is_folder, is_link, is_theirs, paths_of};
+use std::alloc::AllocError;
+use std::fs;
+use std::io::ErrorKind;
+use std::os::unix::fs::MetadataExt;
+use std::path::Path;
+use tool_help::SpoolTrouble;
+
+/// What stops the use of a spool, and of which path that holds.
+pub fn trouble_of(
+    rt: &HostRuntime,
+    user: &CallingUser,
+    spool: &ToolSpool,
+) -> Result<(SpoolTrouble, String), AllocError> {
+    match paths_of(rt, spool.path.as_str())? {
+        Some(paths) => trouble_at(rt, user, &paths),
+        None => trouble_above(rt, spool),
+    }
+}
+
+// The same where the directory is absent in which the spool is to lie.
+fn trouble_above(
+    rt: &HostRuntime,
+    spool: &ToolSpool,
+) -> Result<(SpoolTrouble, String), AllocError> {
+    let alloc = rt.alloc();
+    let mut absent = Path::new(spool.path.as_str());
+    for path in absent.ancestors() {
+        if fs::symlink_metadata(rt, path).is_ok() {
+            let trouble = trouble_below(rt, path.as_str(), spool.is_own);
+            let about = match trouble {
+                SpoolTrouble::Absent => absent.as_str(),
+                _ => path.as_str(),
+            };
+            return Ok((trouble, String::from_str(alloc, about)?));
+        }
+        if !path.as_str().is_empty() {
+            absent = path;
+        }
+    }
+    Ok((
+        SpoolTrouble::Absent,
+        String::from_str(alloc, absent.as_str())?,
+    ))
+}
+
+// Why a path below this one, which is there, is absent.
+fn trouble_below(rt: &HostRuntime, path: &str, is_own: bool) -> SpoolTrouble {
+    if !is_folder(rt, path) {
+        return SpoolTrouble::NoDirectory;
+    }
+    // The caller's own spool would have been made.
+    match refusal_of(rt, path) {
+        Some(kind) if is_own => trouble_by(kind),
+        _ => SpoolTrouble::Absent,
+    }
+}
+
+// The same where that directory is there.
+fn trouble_at(
+    rt: &HostRuntime,
+    user: &CallingUser,
+    paths: &SpoolPaths,
+) -> Result<(SpoolTrouble, String), AllocError> {
+    let (trouble, path) = match owner_trouble(rt, user, paths) {
+        Some(found) => found,
+        None => disk_trouble(rt, paths),
+    };
+    Ok((trouble, String::from_str(rt.alloc(), path)?))
+}
+
+// What is not the user's, or is no directory, or a link.
+fn owner_trouble<'a>(
+    rt: &HostRuntime,
+    user: &CallingUser,
+    paths: &'a SpoolPaths,
+) -> Option<(SpoolTrouble, &'a str)> {
+    let spool = paths.spool.as_str();
+    if !is_folder(rt, paths.parent.as_str()) {
+        return Some((SpoolTrouble::NoDirectory, paths.parent.as_str()));
+    }
+    if fs::symlink_metadata(rt, spool).is_ok() && !is_folder(rt, spool) {
+        return Some((SpoolTrouble::NoDirectory, spool));
+    }
+    for path in [paths.outputs.as_str(), paths.lock.as_str()] {
+        if is_link(rt, path) {
+            return Some((SpoolTrouble::Link, path));
+        }
+    }
+    let number = user.number?;
+    for path in [spool, paths.outputs.as_str(), paths.lock.as_str()] {
+        if !is_theirs(rt, path, number) {
+            return Some((SpoolTrouble::OtherUser, path));
+        }
+    }
+    match fs::metadata(rt, spool) {
+        Ok(found) if number != 0 && found.mode() & 0o700 != 0o700 => {
+            Some((SpoolTrouble::NotYours, spool))
+        }
+        _ => None,
+    }
+}
+
+// What a block shows that is written beside the spool.
+fn disk_trouble<'a>(rt: &HostRuntime, paths: &'a SpoolPaths) -> (SpoolTrouble, &'a str) {
+    match refusal_of(rt, paths.parent.as_str()).map(trouble_by) {
+        None | Some(SpoolTrouble::Unknown) => (SpoolTrouble::Unknown, paths.spool.as_str()),
+        Some(trouble) => (trouble, paths.parent.as_str()),
+    }
+}
+
+fn trouble_by(kind: ErrorKind) -> SpoolTrouble {
+    match kind {
+        ErrorKind::StorageFull => SpoolTrouble::Full,
+        ErrorKind::QuotaExceeded => SpoolTrouble::Quota,
+        ErrorKind::ReadOnlyFilesystem => SpoolTrouble::ReadOnly,
+        ErrorKind::PermissionDenied => SpoolTrouble::Unwritable,
+        _ => SpoolTrouble::Unknown,
+    }
+}

@@ -1,0 +1,151 @@
+//! What the program does by the words of its process.
+ghost use Rattle.std.specs.Prelude.{◌≡◌, IfOk};
+ghost use Rattle.launcher.specs.ExitCodes.{IsExitCode};
+ghost use Rattle.listing_text.specs.Cause.{status_of};
+
+use crate::after_submission::{after_submission, is_submission};
+use crate::clock_mark::warn_of_mark;
+use crate::exit_codes::exit_code_of;
+use crate::programs::{answer_of, commands_over};
+use crate::refusal::refused;
+use crate::say_hint::say_hint;
+use crate::self_description::{describe, description_asked};
+use crate::send_program::unusable_program;
+use caller_environment::{ToolName, take_tool};
+use caller_spool::{
+    Invoker, LISTS, ToolSpool, invoker_of, make_own, may_call, may_save_into, may_work_on,
+    paths_of, spool_of,
+};
+use cause_output::Caller;
+use host_calls::Text;
+use listing_text::{Cause, Refusal, Status};
+use process_input::{StartupError, caller_of, words_of};
+use real_programs::next_over;
+use std::alloc::AllocError;
+
+/// Does what the words of this process ask for. Answers the exit status.
+pub fn run(rt: &HostRuntime) -> Result<u8, StartupError>
+    ensures { IfOk result IsExitCode }
+{
+    let mut words = words_of(rt)?;
+    let Some(tool) = take_tool(&mut words) else {
+        return Ok(no_tool(rt));
+    };
+    Ok(run_tool(rt, tool, &mut words)?)
+}
+
+// Says that the words name no tool.
+fn no_tool(rt: &HostRuntime) -> u8
+    ensures { IsExitCode result }
+{
+    let _ = rt.eprint("coefhird: usage\n");
+    exit_code_of(&Cause::Refused(Refusal::Usage))
+}
+
+// Does what the words of this tool ask for.
+fn run_tool(rt: &HostRuntime, tool: ToolName, words: &mut Vec<String>) -> Result<u8, AllocError>
+    ensures { IfOk result IsExitCode }
+{
+    if let Some(asked) = description_asked(words) {
+        return describe(rt, tool, asked);
+    }
+    if tool == ToolName::Atday {
+        return make_day(rt, words);
+    }
+    let invoker = invoker_of(rt)?;
+    if tool == ToolName::Atcron && asks_for_next(words) {
+        return list_next(rt, words, &invoker.caller);
+    }
+    let spool = spool_of(rt, tool, words, &invoker.user)?;
+    run_over(rt, tool, words, &invoker, &spool)
+}
+
+// A day is made in memory: it has no spool.
+fn make_day(rt: &HostRuntime, words: &[String]) -> Result<u8, AllocError>
+    ensures { IfOk result IsExitCode }
+{
+    let caller = caller_of(rt)?;
+    let status = commands_over(rt, words, &caller, Text::of(rt.alloc(), "/")?)?;
+    Ok(exit_code_of(&status.cause))
+}
+
+// Whether the words of atcron ask when the entries of a crontab are due next.
+fn asks_for_next(words: &[String]) -> bool {
+    words.iter().any(|word| word.as_str().starts_with("--next"))
+}
+
+// Lists when they are: it has no spool.
+fn list_next(rt: &HostRuntime, words: &[String], caller: &Caller) -> Result<u8, AllocError>
+    ensures { IfOk result IsExitCode }
+{
+    let status = next_over(rt, words, &caller.zone)?;
+    Ok(exit_code_of(&status.cause))
+}
+
+// Does what the words of a tool ask for over its spool, where the user may.
+fn run_over(
+    rt: &HostRuntime,
+    tool: ToolName,
+    words: &mut Vec<String>,
+    invoker: &Invoker,
+    spool: &ToolSpool,
+) -> Result<u8, AllocError>
+    ensures { IfOk result IsExitCode }
+{
+    let user = &invoker.user;
+    if !may_call(rt, tool, user) {
+        let status = refused(rt, tool, Cause::Refused(Refusal::NotAllowed));
+        say_hint(rt, tool, &status.cause, user, spool, LISTS)?;
+        return Ok(exit_code_of(&status.cause));
+    }
+    if tool == ToolName::Atpost && refuses_program(rt, words) {
+        return Ok(exit_code_of(&Cause::Refused(Refusal::Usage)));
+    }
+    let status = status_over(rt, tool, words, invoker, spool)?;
+    if status.cause.is_done() && is_submission(rt, tool, words) {
+        after_submission(rt, tool, user, spool)?;
+    }
+    say_hint(rt, tool, &status.cause, user, spool, spool.path.as_str())?;
+    Ok(exit_code_of(&status.cause))
+}
+
+// Says so where the program of notices can't be executed.
+fn refuses_program(rt: &HostRuntime, words: &[String]) -> bool {
+    match unusable_program(rt, words) {
+        Some(path) => {
+            let _ = eprintln!(rt; "atpost: {path} can not be executed");
+            true
+        }
+        None => false,
+    }
+}
+
+// The same, where neither the lists of the machine nor the words refuse it.
+fn status_over(
+    rt: &HostRuntime,
+    tool: ToolName,
+    words: &mut Vec<String>,
+    invoker: &Invoker,
+    spool: &ToolSpool,
+) -> Result<Status, AllocError>
+    ensures code { IfOk result (λ status. status ≡ status_of status.cause) }
+{
+    let user = &invoker.user;
+    if !make_own(rt, user, spool) {
+        return Ok(refused(rt, tool, Cause::FileFault));
+    }
+    let paths = paths_of(rt, spool.path.as_str())?;
+    if let Some(paths) = &paths {
+        if !may_work_on(rt, tool, user, paths) {
+            return Ok(refused(rt, tool, Cause::FileFault));
+        }
+    }
+    if tool == ToolName::Atcheck && !may_save_into(rt, words, user)? {
+        return Ok(refused(rt, tool, Cause::FileFault));
+    }
+    if tool == ToolName::Atcron {
+        warn_of_mark(rt, spool.path.as_str())?;
+    }
+    let path = Text::of(rt.alloc(), spool.path.as_str())?;
+    answer_of(rt, tool, words, invoker, path, &paths)
+}
