@@ -1,11 +1,12 @@
 #!/bin/sh
-# Makes a Debian package of the proved program: packaging/build-deb.sh FOLDER puts coefhird_VERSION_amd64.deb into FOLDER.
-# BINARY, BINARIES, UNPROVED, and --cpu NAME after FOLDER, are as for install.sh. It needs dpkg-deb and no other tool of
+# Makes a Debian package of the proved program: packaging/build-deb.sh DIRECTORY puts coefhird_VERSION_amd64.deb there.
+# BINARY, BINARIES, UNPROVED, and --cpu NAME after DIRECTORY, are as for install.sh. VERSION is the version of the package,
+# where it is to be another one than that of the program. It needs dpkg-deb and no other tool of
 # packages. Two builds of one commit are equal to the byte: where SOURCE_DATE_EPOCH is not set, files have the time of the
 # first entry of debian/changelog.
 set -eu
 here=$(cd "$(dirname "$0")/.." && pwd)
-into=${1:?a folder for the package}
+into=${1:?a directory for the package}
 shift
 version=${VERSION:-$(cat "$here/VERSION")}
 export VERSION="$version"
@@ -26,9 +27,11 @@ rmdir "$root/usr/share/zsh/site-functions"
 
 # What a package of Debian's has besides.
 doc=$root/usr/share/doc/coefhird
-for program in $(awk '$1 == "command" && $4 != "script" && !seen[$4]++ { print $4 == "at_tool" ? "program" : $4 }' \
-    "$here/packaging/programs"); do
-    strip --remove-section=.comment --remove-section=.note "$root/usr/libexec/coefhird/$program" 2>/dev/null || true
+for program in $(awk '$1 == "command" && $4 != "script" && !seen[$4]++ { print $4 }' "$here/packaging/programs"); do
+    program=$root/usr/libexec/coefhird/$program
+    strip --remove-section=.comment --remove-section=.note "$program" 2>/dev/null || true
+    # (what is stripped has another checksum)
+    [ ! -e "$program.built" ] || sed -i "s/^sha256 .*/sha256 $(sha256sum <"$program" | cut -c 1-64)/" "$program.built"
 done
 mkdir -p "$doc" "$root/etc/default"
 cp "$here/packaging/debian/copyright" "$doc/copyright"
@@ -40,6 +43,9 @@ for link in $(find "$root/usr/share/man" -type l); do
     rm "$link"
 done
 echo /etc/default/coefhird >"$root/DEBIAN/conffiles"
+# Where no systemd runs.
+install -D -m 755 "$here/packaging/debian/init" "$root/etc/init.d/coefhird-users"
+echo /etc/init.d/coefhird-users >>"$root/DEBIAN/conffiles"
 # What postinst puts back.
 install -D -m 644 "$root/usr/lib/systemd/system/atd.service" "$root/usr/share/coefhird/atd.service"
 for script in preinst postinst prerm postrm; do

@@ -1,27 +1,32 @@
 #!/bin/sh
-# Installs the commands of packaging/programs, with their man pages, completions and units: the proved programs in
-# PREFIX/libexec/coefhird, and before them, in PREFIX/bin, a script that sets what they take from their surroundings.
+# Installs the commands of packaging/programs, with their man pages, completions and units: the proved program is
+# PREFIX/libexec/coefhird/coefhird, and each of its names in PREFIX/bin is a link to it. The scripts are files of their own.
 #
 #   packaging/install.sh                             for the machine, below /usr/local
 #   PREFIX="$HOME/.local" packaging/install.sh       for one user, without root
 #
 # PREFIX       where to install
-# DESTDIR      a folder in the place of the root, for whoever makes a package
-# BINARY       a program that at_tool of these sources was built to before
-# BINARIES     a folder of such programs, by the names of their crates
-# UNPROVED     yes: install programs without a record, as not proved
+# DESTDIR      a directory in the place of the root, to make a package
+# BINARY       a coefhird that was built from these sources before
+# BINARIES     a directory that has it by the name of its crate
+# UNPROVED     yes: install a program without a record, as not proved
 # --cpu NAME   x86-64 for each processor of that kind; without it those since 2009 or so, which x86-64-v2 means
 #
-# Beside each program PROGRAM stands the record of what proved it, PROGRAM.record: its checksum, the commit and the toolchain.
-# The gate (.ci/run) writes it, and so does this script where the toolchain proves and builds the program here, which it
-# does where none is built or a source is newer. A program whose record is absent, or of another program, is refused.
+# Beside a program PROGRAM is the record of what proved it, PROGRAM.record: its checksum, the commit and the toolchain. The
+# gate (.ci/run) writes it, and so does this script where the toolchain proves and builds the program here, which it does
+# where none is built or a source is newer. A program whose record is absent, or of another program, is refused. What is
+# installed keeps that record as coefhird.built, from which `--version` prints the commit and the toolchain.
+#
+# ^C, or another signal that ends it, leaves what was installed before as it was, unless the copying had begun: then call it
+# once more.
 set -eu
 here=$(cd "$(dirname "$0")/.." && pwd)
 PREFIX=${PREFIX:-/usr/local}
 DESTDIR=${DESTDIR:-}
 to=$DESTDIR$PREFIX
-begun=$(mktemp)
-trap 'rm -f "$begun"' EXIT
+begun=$(mktemp) telling=
+trap 'rm -f "$begun"; [ -z "$telling" ] || kill "$telling" 2>/dev/null || true' EXIT
+trap 'echo "install.sh: stopped" >&2; exit 130' HUP INT TERM
 stops() { echo "install.sh: $1" >&2; exit 1; }
 case $PREFIX in
     *[\'\"\|\&\\%]* | *"
@@ -45,7 +50,7 @@ binary_of() { # crate, and --cpu NAME
     crate=$1
     shift
     binary=$here/crates/$crate/out/$crate
-    if [ "$crate" = at_tool ] && [ -n "${BINARY:-}" ]; then
+    if [ -n "${BINARY:-}" ]; then
         binary=$BINARY
     elif [ -n "${BINARIES:-}" ]; then
         binary=$BINARIES/$crate
@@ -69,10 +74,9 @@ build() {
     log=$(mktemp "${TMPDIR:-/tmp}/coefhird_$crate.XXXXXX")
     echo "install.sh: proving and building $crate: about an hour where nothing is proved yet; the log is $log" >&2
     rm -f "$binary"
-    # (at_tool makes a day in memory, and the others say their usage)
-    case $crate in at_tool) set -- "$@" -- atday --make 8 ;; *) set -- "$@" -- "$crate" ;; esac
+    # (which makes a simulated run in memory)
+    set -- "$@" -- atday --make 8
     # (the toolchain is the one that stays in reach of ^C)
-    telling=
     if [ -t 2 ]; then
         tell_progress &
         telling=$!
@@ -82,6 +86,7 @@ build() {
     if [ -n "$telling" ]; then
         kill "$telling" 2>/dev/null || true
         wait "$telling" 2>/dev/null || true
+        telling=
         printf '\r\033[K' >&2
     fi
     if [ -n "$failed" ]; then
@@ -113,50 +118,46 @@ tell_progress() {
         sleep 1
     done
 }
-# What the record of $binary says, where it fits: proof becomes its commit and toolchain. All programs are to have one proof.
+# Whether the record of $binary fits, or it is installed as not proved: then $proof is empty.
 compare_record() {
     said=$(sed -n 's/^sha256 //p' "$binary.record" 2>/dev/null) || said=
     if [ -n "$said" ] && [ "$said" = "$(sha256sum <"$binary" | cut -c 1-64)" ]; then
-        this="commit $(sed -n 's/^\(commit [0-9a-f]\{12\}\)[0-9a-f]*/\1/; s/^commit //p' "$binary.record"), proved with $(sed -n 's/^toolchain //p' "$binary.record")"
+        proof=$binary.record
     elif [ "${UNPROVED:-}" = yes ]; then
-        this='not proved'
+        proof=
     else
         stops "$binary has no record of its proof: .ci/run writes one, and UNPROVED=yes installs it as not proved"
     fi
-    case ${proof:-$this} in
-        "$this" | 'not proved') proof=${proof:-$this} ;;
-        *) [ "$this" = 'not proved' ] || stops "the programs are of two proofs: $proof; $this"; proof=$this ;;
-    esac
 }
 
 file() { install -D -m 644 "$1" "$2"; }
 
-# The program, and the doorstep before it, each by the names of the tools.
+# The program, and each of its names, which are links to it; then the scripts.
 libexec=$PREFIX/libexec/coefhird
-version=${VERSION:-$(cat "$here/VERSION")}
 filled() { # mode, file, where
     mkdir -p "$(dirname "$3")"
-    sed -e "s|@LIBEXEC@|$libexec|; s|@BINDIR@|$PREFIX/bin|; s|@VERSION@|$version|; s|@PROOF@|$proof|" "$2" >"$3.new"
+    sed -e "s|@LIBEXEC@|$libexec|; s|@BINDIR@|$PREFIX/bin|; s|@SBINDIR@|$PREFIX/sbin|" "$2" >"$3.new"
     chmod "$1" "$3.new"
     mv -f "$3.new" "$3"
 }
 for crate in $crates; do
     binary_of "$crate" "$@"
     compare_record
-    # (at_tool is many commands by one name)
-    case $crate in at_tool) program=program ;; *) program=$crate ;; esac
-    install -D -m 755 "$binary" "$to/libexec/coefhird/$program"
-    for tool in $(commands "what == \"$crate\""); do ln -sf "$program" "$to/libexec/coefhird/$tool"; done
+    program=$to/libexec/coefhird/$crate
+    install -D -m 755 "$binary" "$program.new"
+    mv -f "$program.new" "$program"
+    if [ -n "$proof" ]; then file "$proof" "$program.built"; else rm -f "$program.built"; fi
 done
-for script in $(commands 'what == "script"'); do filled 755 "$here/packaging/doorstep/$script" "$to/libexec/coefhird/$script"; done
-for words in help hints; do filled 644 "$here/packaging/doorstep/$words" "$to/libexec/coefhird/$words"; done
-# (the program stood here before)
-rm -f "$to/bin/at"
-filled 755 "$here/packaging/doorstep/at" "$to/bin/at"
-called=$(commands 'where != "libexec" && name != "at"')
-for tool in $called; do ln -sf at "$to/bin/$tool"; done
-mkdir -p "$to/sbin"
-for tool in $(commands 'where == "sbin"'); do ln -sf ../bin/at "$to/sbin/$tool"; done
+# What install.sh put there before: a link of each name to one of several programs, and parts of a script.
+(cd "$to/libexec/coefhird" && rm -f program help hints account_tool check_tool cron_tool post_tool $(commands 'where != "libexec"'))
+mkdir -p "$to/bin" "$to/sbin"
+for tool in $(commands 'what != "script"'); do ln -sfn "../libexec/coefhird/$(commands "name == \"$tool\"" what)" "$to/bin/$tool"; done
+for script in $(commands 'what == "script"'); do
+    case $(commands "name == \"$script\"" where) in libexec) place=$to/libexec/coefhird ;; *) place=$to/bin ;; esac
+    filled 755 "$here/packaging/scripts/$script" "$place/$script"
+done
+called=$(commands 'where != "libexec"')
+for tool in $(commands 'where == "sbin"'); do ln -sfn "../bin/$tool" "$to/sbin/$tool"; done
 
 for page in "$here"/man/*.[158]; do
     file "$page" "$to/share/man/man${page##*.}/$(basename "$page")"
@@ -168,9 +169,9 @@ done
 ln -sf at.allow.5 "$to/share/man/man5/at.deny.5"
 
 file "$here/packaging/completions/at.bash" "$to/share/bash-completion/completions/at"
-for tool in $called; do ln -sf at "$to/share/bash-completion/completions/$tool"; done
+for tool in $called; do [ "$tool" = at ] || ln -sf at "$to/share/bash-completion/completions/$tool"; done
 file "$here/packaging/completions/_at" "$to/share/zsh/site-functions/_at"
-for tool in at $called; do
+for tool in $called; do
     file "$here/packaging/completions/at.fish" "$to/share/fish/vendor_completions.d/$tool.fish"
 done
 
@@ -197,6 +198,7 @@ case $PREFIX in
     *)
         units user- "$to/lib/systemd/user"
         units system- "$to/lib/systemd/system"
+        unit "$here/packaging/systemd/system-run-coefhird-wake.mount" "$to/lib/systemd/system/run-coefhird-wake.mount"
         file "$here/packaging/systemd/coefhird.tmpfiles" "$to/lib/tmpfiles.d/coefhird.conf"
         file "$here/packaging/systemd/hardening.conf" "$to/share/doc/coefhird/hardening.conf"
         ;;
@@ -220,8 +222,9 @@ case $PREFIX in
         ;;
     *)
         systemctl daemon-reload 2>/dev/null || true
-        echo 'to have an atd run for root, and one for each user from their next session on:'
-        echo '  systemctl enable --now atd && systemctl --global enable atd'
+        echo 'to have an atd run for root, and one for each user who submits a job:'
+        echo '  systemd-tmpfiles --create coefhird.conf'
+        echo '  systemctl enable --now atd coefhird-users.path coefhird-boot.service'
         echo 'or, where no systemd runs it, as each user:'
         echo '  setsid -f atd >/dev/null'
         ;;

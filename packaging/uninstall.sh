@@ -1,6 +1,7 @@
 #!/bin/sh
 # Removes what install.sh put below PREFIX. Spools stay, and what lies beside them. End atd before: that is
-# `systemctl disable --now atd`, with --user for a unit of one user, and `systemctl --global disable atd` for those of all.
+# `systemctl disable --now atd coefhird-users.path coefhird-boot.service` and `systemctl stop 'coefhird-atd@*'`, and for the
+# unit of one user `systemctl --user disable --now atd`.
 set -eu
 here=$(cd "$(dirname "$0")/.." && pwd)
 PREFIX=${PREFIX:-/usr/local}
@@ -16,17 +17,16 @@ for unit in "$here"/packaging/systemd/user-* "$here"/packaging/systemd/system-*;
     name=${name#*-}
     rm -f "$to/share/systemd/user/$name" "$to/lib/systemd/user/$name" "$to/lib/systemd/system/$name"
 done
-# Its commands, and the programs that they are.
+# Its commands, and the program.
 while read -r kind tool where what page; do
     [ "$kind" = command ] || continue
-    rm -f "$to/libexec/coefhird/$tool" "$to/libexec/coefhird/$what"
+    rm -f "$to/libexec/coefhird/$tool" "$to/libexec/coefhird/$what" "$to/libexec/coefhird/$what.built"
     [ "$where" != libexec ] || continue
     rm -f "$to/bin/$tool" "$to/sbin/$tool" \
         "$to/share/bash-completion/completions/$tool" \
         "$to/share/fish/vendor_completions.d/$tool.fish" \
         "$to/share/man/man${page##*.}/$tool.${page##*.}"
 done <"$here/packaging/programs"
-for name in program help hints; do rm -f "$to/libexec/coefhird/$name"; done
 for page in "$here"/man/*.[158]; do rm -f "$to/share/man/man${page##*.}/${page##*/}"; done
 rm -f "$to/share/man/man5/at.deny.5"
 for folder in libexec/coefhird share/doc/coefhird; do rmdir "$to/$folder" 2>/dev/null || true; done
@@ -36,7 +36,7 @@ for folder in libexec/coefhird share/doc/coefhird; do rmdir "$to/$folder" 2>/dev
 [ ! -d "$to" ] || find "$to" -type d -cnewer "$begun" -exec sync -- {} +
 case $PREFIX in
     "${HOME:-/nowhere}"/*) set -- "$HOME/.local/state/coefhird/jobs" "${XDG_STATE_HOME:-$HOME/.local/state}/coefhird/jobs" "$HOME/.config/coefhird/jobs" ;;
-    *) set -- /var/spool/atjobs ;;
+    *) set -- /var/spool/atjobs /var/spool/coefhird ;;
 esac
 for spool; do
     for left in "$spool" "$spool.lock" "$spool.out" "$spool.accounts"; do [ ! -e "$left" ] || echo "$left"; done

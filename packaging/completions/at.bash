@@ -1,4 +1,4 @@
-# Completions of at, batch, atq, atrm, atd, atday, ataccount, atpost, atcron, atcrontab, atcheck, atsalvage, atout and atwhen for bash.
+# Completions of at, batch, atq, atrm, atd, atday, ataccount, atpost, atcron, atcrontab, atcheck, atsalvage, atout, atwhen and atusers for bash.
 
 _coefhird_jobs() { atq 2>/dev/null | cut -f 1; }
 
@@ -16,8 +16,8 @@ _coefhird_outputs() {
     done
 }
 
-# What each tool takes as its only word.
-_coefhird_alone() { [[ $COMP_CWORD != 1 || ${COMP_WORDS[1]} != -* ]] || echo '--help --version'; }
+# What each tool takes as its only word, and what this one does besides.
+_coefhird_alone() { [[ $COMP_CWORD != 1 || ${COMP_WORDS[1]} != -* ]] || echo "--help --version ${1:-}"; }
 
 # The words of a time: after a number that is added the units alone, and after its + none.
 _coefhird_words() {
@@ -47,7 +47,7 @@ _coefhird_at() {
         case $word in -c | -l | -r) jobs=1 ;; esac
     done
     if [[ $current == -* ]]; then
-        mapfile -t COMPREPLY < <(compgen -W "-c -f -l -m -q -r -t $(_coefhird_alone)" -- "$current")
+        mapfile -t COMPREPLY < <(compgen -W "-c -f -l -m -q -r -t $(_coefhird_alone --spool)" -- "$current")
     elif [[ $jobs ]]; then
         mapfile -t COMPREPLY < <(compgen -W "$(_coefhird_jobs)" -- "$current")
     else
@@ -106,7 +106,7 @@ _coefhird_atpost() {
     case ${COMP_WORDS[COMP_CWORD-1]} in
         --send) compopt -o filenames 2>/dev/null; mapfile -t COMPREPLY < <(compgen -f -- "${COMP_WORDS[COMP_CWORD]}") ;;
         --turns) ;;
-        *) _coefhird_folder_or '--send --turns' "${COMP_WORDS[COMP_CWORD]}" ;;
+        *) _coefhird_folder_or '--send --trim --turns' "${COMP_WORDS[COMP_CWORD]}" ;;
     esac
 }
 
@@ -114,14 +114,14 @@ _coefhird_atcron() {
     COMPREPLY=()
     case ${COMP_WORDS[COMP_CWORD-1]} in
         -f) compopt -o filenames 2>/dev/null; mapfile -t COMPREPLY < <(compgen -f -- "${COMP_WORDS[COMP_CWORD]}") ;;
-        --turns) ;;
-        *) _coefhird_folder_or '-f --turns' "${COMP_WORDS[COMP_CWORD]}" ;;
+        --turns | --next) ;;
+        *) _coefhird_folder_or '-f --turns --next' "${COMP_WORDS[COMP_CWORD]}" ;;
     esac
 }
 
 _coefhird_atcrontab() {
     compopt -o filenames 2>/dev/null
-    mapfile -t COMPREPLY < <(compgen -W "-e -l -r --from-cron $(_coefhird_alone)" -- "${COMP_WORDS[COMP_CWORD]}"; compgen -f -- "${COMP_WORDS[COMP_CWORD]}")
+    mapfile -t COMPREPLY < <(compgen -W "-e -l -r --from-cron --next $(_coefhird_alone)" -- "${COMP_WORDS[COMP_CWORD]}"; compgen -f -- "${COMP_WORDS[COMP_CWORD]}")
 }
 
 _coefhird_atcheck() { _coefhird_folder_or '--salvage' "${COMP_WORDS[COMP_CWORD]}"; }
@@ -134,6 +134,17 @@ _coefhird_atout() {
 
 _coefhird_atwhen() {
     mapfile -t COMPREPLY < <(compgen -W "$(_coefhird_words) $(_coefhird_alone)" -- "${COMP_WORDS[COMP_CWORD]}")
+}
+
+_coefhird_atusers() {
+    COMPREPLY=()
+    case ${COMP_WORDS[COMP_CWORD-1]} in
+        -u) mapfile -t COMPREPLY < <(compgen -u -- "${COMP_WORDS[COMP_CWORD]}") ;;
+        -q) mapfile -t COMPREPLY < <(compgen -W "$(_coefhird_queues) =" -- "${COMP_WORDS[COMP_CWORD]}") ;;
+        atq) mapfile -t COMPREPLY < <(compgen -W -q -- "${COMP_WORDS[COMP_CWORD]}") ;;
+        atrm) ;;
+        *) mapfile -t COMPREPLY < <(compgen -W "-u atq atrm $(_coefhird_alone)" -- "${COMP_WORDS[COMP_CWORD]}") ;;
+    esac
 }
 
 complete -F _coefhird_at at
@@ -150,3 +161,4 @@ complete -F _coefhird_atcheck atcheck
 complete -F _coefhird_atsalvage atsalvage
 complete -F _coefhird_atout atout
 complete -F _coefhird_atwhen atwhen
+complete -F _coefhird_atusers atusers

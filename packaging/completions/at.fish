@@ -42,6 +42,7 @@ for tool in at batch atq atrm atd atday ataccount atpost atcron atcrontab atchec
     complete -c $tool -n 'test (count (commandline -opc)) = 1' -l help -d 'print what it is for'
     complete -c $tool -n 'test (count (commandline -opc)) = 1' -l version -d 'print its version'
 end
+complete -c at -n 'test (count (commandline -opc)) = 1' -l spool -d 'print the spool directory'
 
 set -l of_jobs '__fish_contains_opt -s c -s l -s r'
 set -l words now noon midnight teatime today tomorrow next utc am pm \
@@ -86,19 +87,22 @@ complete -c ataccount -l show -d 'print a line for each user and queue'
 
 complete -c atpost -f -a '(__fish_complete_directories)'
 complete -c atpost -l send -r -F -d 'what notices are handed to'
+complete -c atpost -l trim -d 'drop the notes of jobs that are done'
 complete -c atpost -l turns -x -d 'make so many sessions and end'
 
 complete -c atcron -f -a '(__fish_complete_directories)'
 complete -c atcron -s f -r -F -d 'the crontab'
 complete -c atcron -l turns -x -d 'make so many turns and end'
+complete -c atcron -l next -x -d 'print the next minutes of each entry'
 
 complete -c atcrontab -s e -d 'edit the crontab'
 complete -c atcrontab -s l -d 'print the crontab'
 complete -c atcrontab -s r -d 'remove the crontab'
 complete -c atcrontab -l from-cron -r -F -d 'print what a crontab of cron is here'
+complete -c atcrontab -l next -x -d 'print the next minutes of each entry'
 
 complete -c atcheck -f -a '(__fish_complete_directories)'
-complete -c atcheck -l salvage -d 'write what can be saved into the second folder'
+complete -c atcheck -l salvage -d 'write what can be saved into the second directory'
 
 complete -c atsalvage -f -a '(__fish_complete_directories)'
 complete -c atsalvage -l yes -d 'do not ask before the swap'
@@ -110,3 +114,6 @@ complete -c atwhen -f
 complete -c atwhen -n '__coefhird_time words' -a "$words"
 complete -c atwhen -n '__coefhird_time units' -a "$units"
 complete -c atwhen -n '__coefhird_time unit' -a "$unit"
+
+complete -c atusers -f -a 'atq atrm'
+complete -c atusers -s u -x -a '(__fish_complete_users)' -d 'the user whose jobs are meant'
