@@ -36,7 +36,7 @@ for number, (kind, _, token) in accepted.items():
         is_true(handed[number] == 0, 'job %d did not run and was handed over' % number)
 # mail
 notes, sent = {}, collections.Counter()
-for note in lines(os.path.join(spool, '.MAIL')):
+for note in lines('notes'):
     notes.setdefault(int(note[1], 16), []).append(note[0])
 for name in os.listdir('messages'):
     sent[int(name.split('.')[0] or 0)] += 1

@@ -115,22 +115,103 @@ case_check_walk() {
   second=$(file_of 2)
   printf 0000000 >"$spool/.SEQ"; printf '#!/bin/sh\nexit\n' >"$second"; cp "$(file_of 3)" "$spool/b$(basename "$(file_of 3)" | cut -c 2-)"
   bytes_of "$spool" >before
-  extra=(LOGNAME=ann ATSPOOL="$spool")
+  extra=(ATSPOOL="$spool" TZ=UTC)
   status=0; printf 'n\n' | env -i PATH=/usr/bin:/bin "${extra[@]}" "$door/atsalvage" "$spool" >out 2>err || status=$?
   [ "$status" = 1 ] || fail "a no: status $status: $(cat out err)"
-  bytes_of "$spool" | cmp -s - before || fail 'a no changes the folder'
+  bytes_of "$spool" | cmp -s - before || fail 'a no changes the directory'
   [ -z "$(ls -d spool.new* spool.bad 2>/dev/null)" ] || fail "a no leaves $(ls -d spool.new* spool.bad)"
-  mkdir spool.bad; knock atsalvage --yes; [ "$status" = 1 ] || fail "with an old folder there: $status"
+  mkdir spool.bad; knock atsalvage --yes; [ "$status" = 1 ] || fail "with an old directory there: $status"
   rmdir spool.bad
   knock atsalvage --yes
   [ "$status" = 0 ] || fail "status $status: $(cat out err)"
-  grep -qx "not in it: $PWD/spool.bad/$(basename "$second")" out || fail "what is not saved is not told: $(cat out)"
-  bytes_of spool.bad | cmp -s - before || fail 'the old folder is changed'
+  grep -qx "not in it: $PWD/spool.bad/$(basename "$second")" out || fail "what is not saved is not named: $(cat out)"
+  grep -qP '^3\t.*Tue Jan  1 00:00:00 2030' out || fail "what waits is not reported: $(cat out)"
+  bytes_of spool.bad | cmp -s - before || fail 'the old directory is changed'
   [ -e "$spool/at.deny" ] && [ -z "$(ls -d spool.new* 2>/dev/null)" ] || fail "it leaves $(ls -d spool.new*)"
   knock atsalvage; [ "$status" = 0 ] || fail "a whole spool: $status: $(cat err)"
-  with 'echo later' at now; took 5
-  call atd -s </dev/null; ended 0 $'job 5 handed over\njob 5 exit 0\n' ''
-  with '' atq; [ "$(cut -f 1 out)" = 3 ] || fail "it lists $(cat out)"
+  user=$me with 'echo later' at now; took 5
+  user=$me call atd -s </dev/null; ended 0 $'job 5 handed over\njob 5 exit 0\n' ''
+  knock atq; [ "$(cut -f 1 out)" = 3 ] || fail "it lists $(cat out)"
+}
+
+# A spool with a fault, and nothing beside it.
+faulty_spool() {
+  rm -rf "$spool" "$spool".*; cp -a whole "$spool"; printf 0000000 >"$spool/.SEQ"
+}
+# Both orders of its words, and the caller's own spool where none is named.
+case_check_salvage_words() {
+  doored; day_of_jobs; cp -a "$spool" whole
+  extra=(ATSPOOL="$PWD/none" TZ=UTC)
+  for words in '--yes SPOOL' 'SPOOL --yes'; do
+    faulty_spool
+    # shellcheck disable=SC2086
+    knock atsalvage ${words/SPOOL/$spool}; [ "$status" = 0 ] && [ -d spool.bad ] || fail "$words: $status: $(cat out err)"
+  done
+  extra=(ATSPOOL="$spool" TZ=UTC); faulty_spool
+  knock atsalvage --yes; [ "$status" = 0 ] && [ -d spool.bad ] || fail "--yes: $status: $(cat out err)"
+  for words in '-y' '--yes a b' 'a b' '--yes --no'; do
+    # shellcheck disable=SC2086
+    knock atsalvage $words; refused 1 'atsalvage: usage: atsalvage [--yes] [SPOOL]'
+  done
+  knock atsalvage "$PWD/none"; refused 2 "atsalvage: $PWD/none is no directory"
+}
+
+# Without a journal nothing is damaged, and each job whose file is there waits: it asks, and names those that have an output.
+case_check_salvage_without_a_journal() {
+  doored; day_of_jobs
+  first=$(basename "$(file_of 2)")
+  extra=(ATSPOOL="$spool" TZ=UTC)
+  rm "$spool/.JRN"; mkdir -p "$spool.out"; : >"$spool.out/$first"
+  for answer in n '' y; do
+    bytes_of "$spool" >before
+    status=0; printf '%s\n' "$answer" y | env -i PATH=/usr/bin:/bin "${extra[@]}" "$door/atsalvage" >out 2>err || status=$?
+    grep -qx "atsalvage: $spool has no journal: no job of it was ever started or removed, or the journal is lost" err || fail "it says $(cat err)"
+    grep -qx "atsalvage: $spool.out/$first is the output of a job that would run again" err || fail "it says $(cat err)"
+    [ "$answer" = y ] && break
+    [ "$status" = 1 ] && [ ! -e spool.bad ] || fail "after '$answer': $status: $(cat out err)"
+    bytes_of "$spool" | cmp -s - before || fail "'$answer' changes the directory"
+  done
+  [ "$status" = 0 ] && [ -d spool.bad ] && [ -e "$spool/.JRN" ] || fail "after a yes: $status: $(cat out err)"
+  rm -rf spool.bad "$spool/.JRN"
+  knock atsalvage --yes; [ "$status" = 0 ] && [ -d spool.bad ] || fail "--yes: $status: $(cat out err)"
+  # a spool that never gave a number is none of these
+  rm -rf spool spool.*; opened
+  knock atsalvage; [ "$status $(cat err)" = "0 atsalvage: $spool has no fault: there is nothing to do" ] || fail "a new spool: $status: $(cat err)"
+}
+
+# What a salvage that was killed left is said, and --yes moves it to a name with the date.
+case_check_salvage_after_a_killed_one() {
+  doored; day_of_jobs; cp -a "$spool" whole
+  extra=(ATSPOOL="$spool" TZ=UTC)
+  for left in unfinished whole; do
+    faulty_spool
+    mkdir -m 700 spool.new spool.new.out; : >spool.new.lock; : >spool.new/a0000000201e187e0
+    what='left by an atsalvage that did not end'
+    [ $left = unfinished ] || { printf '00000004\n' >spool.new/.SEQ; what='a whole salvage that was not put in place'; }
+    ls -R spool.new* >before
+    knock atsalvage </dev/null
+    [ "$status" = 1 ] && grep -q "^atsalvage: $spool.new is $what: 'atsalvage --yes' moves it to $spool.new.20[0-9TZ-]*, or move it away yourself\$" err \
+      || fail "$left: $status: $(cat err)"
+    ls -R spool.new* | cmp -s - before || fail "it changes what was $left"
+    knock atsalvage --yes
+    [ "$status" = 0 ] && grep -q "^atsalvage: $spool.new was $what: it is now $spool.new.20" err || fail "$left: $status: $(cat err)"
+    moved=$(sed -n 's/^.* it is now //p' err)
+    [ -e "$moved/a0000000201e187e0" ] && [ -e "$moved.lock" ] && [ -d "$moved.out" ] && [ ! -e spool.new ] && [ -d spool.bad ] || fail "there is $(ls -d spool*)"
+  done
+  # one that was killed between its two steps
+  faulty_spool; mv spool spool.bad; mkdir spool.new
+  knock atsalvage --yes "$spool"
+  refused 1 "atsalvage: an atsalvage was cut off between its two steps: 'mv $spool.bad $spool' takes the first one back"
+}
+
+# On a terminal it says how many files it checks, and counts those that are saved.
+case_check_salvage_counts() {
+  needs_terminal; doored; filled 3412; cp -a "$spool" whole; faulty_spool
+  extra=(ATSPOOL="$spool" TZ=UTC)
+  typed "exec $door/atsalvage --yes"
+  grep -qx "atsalvage: checking $spool, 3,412 job files" said || fail "it says $(grep -v "2004" said)"
+  tr '\033' '\n' <said | grep -q 'saved 3,412 of 3,412' || fail "it counts $(tr '\033' '\n' <said | grep saved)"
+  [ -d spool.bad ] || fail "it says $(tail -n 3 said)"
 }
 
 # Lines that nobody reads hold no lock: a submission beside them is made.

@@ -116,14 +116,28 @@ steps_of_atcrontab() {
   edits -e false; refused 1 'atcrontab: the editor failed: nothing is changed'
   printf '0 0 * * * later\n' >other; chmod 644 other
   edits "$PWD/other"; ended 0 '' "$none"$'\n'; [ "$(cat $table)" = '0 0 * * * later' ] || fail "a file: $(cat $table)"
+  # the next minutes, of the file itself and of another; a number that is none, and no file
+  lists() {
+    [ "$status $(wc -l <out)" = "0 $2" ] && [ ! -s err ] || fail "status $status: $(cat out err)"
+    [ "$(grep -cE "^[A-Z][a-z]{2} [A-Z][a-z]{2} [ 0-9][0-9] 00:00:00 [0-9]{4}	$1\$" out)" = "$2" ] || fail "next minutes: $(cat out)"
+  }
+  edits '--next 3'; lists later 3
+  printf '0 0 1 * * first\n0 0 30 2 * never\n' >third; chmod 644 third
+  edits "--next 1 $PWD/third"; [ "$(tail -n 1 out)" = $'not within nine years\tnever' ] || fail "of no minute: $(cat out)"
+  sed -i '$d' out; lists first 1
+  edits '--next 0'; refused 1 'atcron: usage'
+  edits "--next 1 $PWD/absent"; refused 3 'atcron: input fault'
   # a mark of a clock that was once ahead, and one of this minute
   mark=home/.local/state/coefhird/jobs/.CRON
+  second mkdir -p "${mark%/*}"
   printf '%08x\n' $(($(date +%s) / 60 + 90)) >$mark; edits "$PWD/other"
   grep -qE "^atcrontab: $PWD/$mark is (89|90) minutes ahead of the clock, and atcron submits nothing until then: see atcron\(8\)\$" err || fail "of a mark ahead: $(cat err)"
   printf '%08x\n' $(($(date +%s) / 60)) >$mark; edits "$PWD/other"; ended 0 '' "$none"$'\n'
   rm $mark
   edits -r; ended 0 '' ''; [ ! -e $table ] || fail 'the file is not removed'
-  for words in '' '-x' '-e -l' 'a b' '--from-cron' '--from-cron a b'; do edits "$words"; refused 1 'atcrontab: usage: atcrontab -e | -l | -r | --from-cron FILE | FILE'; done
+  for words in '' '-x' '-e -l' 'a b' '--from-cron' '--from-cron a b' '--next' '--next 1 a b'; do
+    edits "$words"; refused 1 'atcrontab: usage: atcrontab -e | -l | -r | --from-cron FILE | --next COUNT [FILE] | FILE'
+  done
   [ -z "$(ls home/.config/coefhird)" ] || fail "there stays $(ls home/.config/coefhird)"
 }
 case_cron_atcrontab() { doored; apart steps_of_atcrontab; }

@@ -1,26 +1,31 @@
-# The doorstep: what is set before the program, the queue at the spool, and one atd, as install.sh installs it.
+# coefhird, which packaging/install.sh installs by the name of each tool: what it sets, and what it refuses.
 door=$place/pre/bin libexec=$place/pre/libexec/coefhird
 me=$(id -un)
 
-# Installs it once for all cases. (Below DESTDIR no manager of units is told.)
+# Installs it once for all cases, also those that run at once. (Below DESTDIR no manager of units is told.)
 doored() {
-  [ ! -d "$place/pre" ] || return 0
-  mkdir "$place/door"
-  DESTDIR=$place/door PREFIX=$place/pre BINARIES=$place/programs UNPROVED=yes sh "$here/../../packaging/install.sh" || fail 'it is not installed'
-  ln -s "$place/door$place/pre" "$place/pre"
+  (
+    flock 7
+    [ ! -e "$place/pre" ] || exit 0
+    mkdir "$place/door" || exit 1
+    DESTDIR=$place/door PREFIX=$place/pre BINARIES=$place/programs UNPROVED=yes sh "$here/../../packaging/install.sh" || exit 1
+    ln -s "$place/door$place/pre" "$place/pre"
+  ) 7>>"$place/door.lock" || fail 'it is not installed'
 }
 
-# Calls a tool through it with no variables but these and those in `extra`. The answer lies in $status, ./out and ./err.
+# Calls a tool with no variables but these and those in `extra`. The answer lies in $status, ./out and ./err.
 knock() { status=0; env -i PATH=/usr/bin:/bin "${extra[@]}" timeout -k 1 40 "$door/$1" "${@:2}" >out 2>err || status=$?; }
 
 # The same with these commands as standard input.
 hand() { printf '%s' "$1" >commands; knock "${@:2}" <commands; }
 
-# The directory and the zone in the text of the job of this number.
+# The directory, the zone and the user in the text of the job of this number.
 directory_of() { sed -n "s/^cd '\(.*\)' || {\$/\1/p" "$(file_of "$1")"; }
 zone_of() { sed -n "s/^TZ='\(.*\)'; export TZ\$/\1/p" "$(file_of "$1")"; }
+user_of() { sed -n 's/^# at.* user=\([^ ]*\) mail=.*/\1/p' "$(file_of "$1")"; }
 
-# Steps in a mount namespace of root, in which ./passwd has a second user with a folder in ./home, and /var/spool is empty.
+# Steps in a mount namespace of root, in which ./passwd has a second user with a directory in ./home, and /var/spool, /run and
+# what is written to /etc are of this case alone.
 apart() { # function
   [ "$(id -u)" = 0 ] && unshare -m true 2>/dev/null || skip 'only root makes a second user, in a mount namespace'
   command -v setpriv >/dev/null || skip 'there is no setpriv'
@@ -34,8 +39,21 @@ settle_apart() {
   cp /etc/passwd passwd && printf '%s:*:%s:%s::%s/home:/bin/sh\n' $second $number $number "$PWD" >>passwd
   mount --bind passwd /etc/passwd && mount -t tmpfs -o mode=755 tmpfs /var/spool && mkdir -m 755 /var/spool/cron || fail 'nothing can be mounted'
 }
-# Becomes the second user, with these words.
+# Becomes the second user, with these words; and as in a login of theirs.
 second() { setpriv --reuid=$number --regid=$number --clear-groups "$@"; }
+login() { second env -i PATH=/usr/bin:/bin LOGNAME=$second USER=$second HOME="$home" "$@"; }
+
+# Calls a tool on a terminal, by a line of a shell. What it says lies in ./said.
+typed() { # line, and what calls it
+  printf '%s\n' "$1" >steps; chmod 644 steps
+  "${@:2}" env -i PATH=/usr/bin:/bin SHELL=/bin/sh "${extra[@]}" script -qec ". $PWD/steps" /dev/null </dev/null 2>&1 | tr -d '\r' >said
+}
+# It says that line, and then a hint that has these words.
+hinted() { # line, words
+  [ "$(head -n 1 said)" = "$1" ] && [ "$(wc -l <said)" = 2 ] && tail -n 1 said | grep -qF -- "$2" \
+    && tail -n 1 said | grep -qE '^[a-z]+: .{10,250}$' || fail "in place of '$1' and '$2' it says: $(cat said)"
+}
+needs_terminal() { command -v script >/dev/null || skip 'there is no script, which makes a terminal'; }
 
 case_door_directories() {
   doored; opened
@@ -65,7 +83,7 @@ case_door_directories() {
   mkdir gone; cd gone || exit 1; rmdir ../gone
   status=0; ATSPOOL=$spool "$door/at" -t 203001010000 <../commands >../out 2>../err || status=$?
   cd ..
-  [ "$status" = 1 ] && [ "$(tail -n 1 err)" = 'at: bad directory' ] || fail "a directory that is gone: $status, $(cat err)"
+  refused 1 'at: bad directory'
 }
 
 case_door_make() {
@@ -107,6 +125,29 @@ END
   done
 }
 
+# A file of a zone has at most 64 KiB and ends with its rule; nothing else is read, and nobody waits for a named pipe.
+case_door_zone_files() {
+  doored
+  zone_file() { # bytes, first bytes, last line
+    { printf %s "$2"; head -c $(($1 - ${#2} - ${#3} - 2)) /dev/zero; printf '\n%s\n' "$3"; } >"$PWD/zone_file"
+  }
+  zoned() { rm -rf spool; opened; extra=(ATSPOOL="$spool" TZ="$PWD/zone_file"); hand true at -t 203007010000; }
+  zone_file 65536 TZif2 EST5; zoned; took 1
+  [ "$(zone_of 1)" = EST5 ] || fail "the zone is $(zone_of 1)"
+  while IFS='|' read -r bytes first last; do
+    zone_file "$bytes" "$first" "$last"; zoned; refused 1 'at: bad TZ'
+  done <<END
+65537|TZif2|EST5
+3145728|TZif2|EST5
+500|TZig2|EST5
+500|TZif2|5EST
+500|TZif2|$(printf 'E%.0s' $(seq 62))5EST
+END
+  rm zone_file; mkfifo zone_file
+  begun=$SECONDS; zoned; refused 1 'at: bad TZ'
+  [ $((SECONDS - begun)) -lt 10 ] || fail 'it waits for a named pipe'
+}
+
 # Debian's desktops and servers have no TZ, and a link at /etc/localtime.
 steps_of_localtime() {
   [ -e /usr/share/zoneinfo/Europe/Berlin ] || skip 'there are no zone files'
@@ -119,7 +160,7 @@ steps_of_localtime() {
 }
 case_door_localtime() { doored; apart steps_of_localtime; }
 
-# With no room for a further process a submission fails, or is whole.
+# With no room for a further process a submission is whole, since it needs none.
 steps_of_a_limit() {
   cd home || exit 1
   for limit in 1 2 3 4 5 6 7 8 50; do
@@ -136,8 +177,15 @@ case_door_no_room_for_processes() { doored; apart steps_of_a_limit; }
 # Root, and a second user: by setpriv as a login of theirs, by plain su, by sudo, and with nothing but a path.
 steps_of_users() {
   cd home || exit 1
-  spool=$PWD/.local/state/coefhird/jobs
+  home=$PWD spool=$PWD/.local/state/coefhird/jobs
   printf true >../commands
+  # What only tells of a tool makes nothing.
+  for words in 'at --help' 'atd --version' 'at --spool'; do
+    # shellcheck disable=SC2086
+    login "$door/${words%% *}" ${words#* } >../out 2>&1
+    [ ! -e .local ] || fail "$words makes a spool"
+  done
+  [ "$(login "$door/at" --spool)" = "$spool" ] && [ "$("$door/at" --spool)" = /var/spool/atjobs ] || fail "--spool prints $(login "$door/at" --spool), $("$door/at" --spool)"
   LOGNAME=$second HOME=$PWD second "$door/at" -t 203001010000 <../commands 2>../err || fail "as themselves: $(cat ../err)"
   [ "$(stat -c '%U %a' "$spool")" = "$second 700" ] && [ -f "$spool/at.deny" ] || fail 'their spool is not made for them alone'
   # plain su, and su -m: the names of another
@@ -205,141 +253,24 @@ END
   extra=(ATSPOOL="$spool" TZ=UTC); hand true at -q c -m noon tomorrow; took 1
   knock at -c 1; cmp -s out "$(file_of 1)" || fail 'what is shown is not the job'
   knock atday --make 8; [ "$status" = 0 ] && [ "$(head -n 1 out)" = 'events 8' ] || fail "atday says $(cat out err)"
-  knock at --help; [ "$status" = 0 ] && grep -q 'TIMESPEC' out && [ ! -s err ] || fail "--help says $(cat out err)"
+  for tool in at batch atq atrm atd atday ataccount atpost atcron atcheck atout atwhen atcrontab atsalvage; do
+    knock "$tool" --help; [ "$status" = 0 ] && grep -q "^$tool" out && tail -n 1 out | grep -qE '^man [18] (at|batch)' && [ ! -s err ] || fail "$tool --help says $(cat out err)"
+    knock "$tool" --version; [ "$status" = 0 ] && [ "$(head -n 1 out)" = "$tool (Coefhird) $(cat "$here/../../VERSION")" ] || fail "$tool --version says $(cat out err)"
+  done
+  knock at --spool; ended 0 "$spool"$'\n' ''
+  hand '' at --spool now; refused 1 'at: usage'
   knock atd --version; [ "$status" = 0 ] && grep -qF " $(cat "$here/../../VERSION")" out && grep -qE '^(commit [0-9a-f]{12}, proved with .+|not proved)$' out || fail "--version says $(cat out)"
   # by another name the first word is the tool
   ln -s "$door/at" ./frob
   status=0; ATSPOOL=$spool TZ=UTC ./frob atq >out 2>err || status=$?
   [ "$status" = 0 ] && grep -q "^1	.* c $me\$" out || fail "by another name: $(cat out err)"
-  status=0; ./frob now >out 2>err || status=$?; refused 1 'at: usage'
+  status=0; ./frob now >out 2>err || status=$?; refused 1 'coefhird: usage'
   # outputs that are full or closed
   status=0; ATSPOOL=$spool TZ=UTC "$door/atq" >/dev/full 2>err || status=$?; [ "$status $(cat err)" = '4 atq: output fault' ] || fail "a full output: $status, $(cat err)"
   status=0; ATSPOOL=$spool TZ=UTC "$door/atq" >&- 2>err || status=$?; [ "$status $(cat err)" = '4 atq: output fault' ] || fail "a closed output: $status, $(cat err)"
   status=0; ATSPOOL=$spool TZ=UTC "$door/at" noon tomorrow <&- >out 2>err || status=$?; refused 3 'at: input fault'
   status=0; ATSPOOL=$spool TZ=UTC "$door/at" noon tomorrow <. >out 2>err || status=$?; refused 3 'at: input fault'
   [ "$(find spool -name 'c0*' | wc -l)" = 1 ] && [ -z "$(find spool -name 'a0*')" ] || fail "there are jobs: $(ls spool)"
-}
-
-# On a terminal one line more says what to do.
-case_door_hints() {
-  command -v script >/dev/null || skip 'there is no script, which makes a terminal'
-  doored; opened
-  : >"$PWD/file"
-  while IFS='|' read -r folder zone words line hint; do
-    env -i PATH=/usr/bin:/bin SHELL=/bin/sh ATSPOOL="$folder" TZ="$zone" script -qec "$door/$words </dev/null" /dev/null 2>&1 </dev/null | tr -d '\r' >said
-    [ "$(head -n 1 said)" = "$line" ] && [ "$(wc -l <said)" = 2 ] && tail -n 1 said | grep -qF -- "$hint" \
-      || fail "$words over $folder says: $(cat said)"
-  done <<END
-$spool|UTC|at|at: usage|at --help
-$spool|UTC|atq 1|atq: usage|atq --help
-$PWD/none/spool|UTC|at now|at: spool fault|$PWD/none is not there
-$PWD/file|UTC|at now|at: spool fault|$PWD/file is no folder
-$spool|Mars/Base|at now|at: bad TZ|Europe/Berlin
-$spool|UTC|at 830|at: bad time at byte 0|8:15 tomorrow
-$spool|UTC|atrm 7|atrm: no such job 7|atq
-END
-  env -i SHELL=/bin/sh PATH=/usr/bin:/bin ATSPOOL="$spool" TZ=UTC script -qec "echo true | $door/at -t 203001010000; $door/atq" /dev/null 2>&1 </dev/null | tr -d '\r' >said
-  [ "$(cat said)" = $'job 1 at Tue Jan  1 00:00:00 2030\n1\tTue Jan  1 00:00:00 2030 a '"$me" ] || fail "it says: $(cat said)"
-}
-
-# Each refusal and each fault has a hint, of one line.
-case_door_hints_for_each_cause() {
-  doored
-  while read -r text; do
-    # shellcheck disable=SC2016
-    sh -c '_door_tool=at _door_status=1 _door_said="at: $2" _door_spool=/none/jobs _door_beside=/none/jobs; . "$1/hints"' _ "$libexec" "$text" 2>said
-    [ "$(head -n 1 said)" = "at: $text" ] && [ "$(wc -l <said)" = 2 ] && tail -n 1 said | grep -qE '^at: .{10,150}$' || fail "after $text stands $(cat said)"
-  done <<'END'
-usage
-not allowed
-bad time at byte 12
-no such day
-time out of range
-time is past
-bad -t time
-bad TZ
-bad queue
-bad directory
-bad user name
-commands too long
-environment too large
-queue full
-job numbers used up
-no such job 4
-job 4 is not yours
-job 4 is running
-bad clock
-spool fault
-input fault
-output fault
-spool busy
-out of memory
-.SEQ damaged at 4
-END
-}
-
-# A disk without room, and a folder of another.
-steps_of_places() {
-  mkdir disk && mount -t tmpfs -o size=64k,mode=777 tmpfs disk || fail 'no small disk can be mounted'
-  mkdir -m 700 disk/spool disk/spool.out && : >disk/spool/at.deny && : >disk/spool.lock && chown -R $number:$number disk/spool*
-  head -c 90000 /dev/zero >disk/filler 2>/dev/null
-  mkdir -m 755 closed
-  while IFS='|' read -r folder hint; do
-    printf 'exec %s/at -t 203001010000 </dev/null\n' "$door" >steps
-    second env -i PATH=/usr/bin:/bin SHELL=/bin/sh LOGNAME=$second HOME="$PWD/home" ATSPOOL="$folder" TZ=UTC script -qec ". $PWD/steps" /dev/null </dev/null 2>&1 | tr -d '\r' >said
-    [ "$(head -n 1 said)" = 'at: spool fault' ] && [ "$(wc -l <said)" = 2 ] && tail -n 1 said | grep -qF -- "$hint" || fail "over $folder it says $(cat said)"
-  done <<END
-$PWD/disk/spool|the disk of $PWD/disk is full
-/var/spool/atjobs|/var/spool is not yours to write
-$PWD/closed/spool|$PWD/closed is not yours to write
-END
-}
-case_door_hints_on_places() {
-  command -v script >/dev/null || skip 'there is no script, which makes a terminal'
-  doored; apart steps_of_places
-}
-
-# What a caller exports does neither it nor a job harm, in each shell that may be /bin/sh.
-case_door_hostile_callers() {
-  doored; opened 'a spool'
-  ln -s "$(command -v bash)" sh
-  for shell in "$(command -v dash)" "$PWD/sh" "$(command -v busybox) ash" "$(command -v mksh)"; do
-    [ -x "${shell%% *}" ] || continue
-    rm -rf "a spool"; opened 'a spool'
-    printf 'touch "%s/read"\n' "$PWD" >env
-    (
-      cd() { echo no; }; command() { echo no; }; [() { echo no; }; printf() { echo no; }; exec() { echo no; }; kill() { echo no; }
-      export -f cd command [ printf exec kill
-      export ATSPOOL="$spool" TZ=UTC LOGNAME='$(touch hacked)' HOME='~root'
-      export PATH=/nowhere IFS=/ao ENV="$PWD/env" BASH_ENV="$PWD/env" CDPATH=/ _=x OPTIND=3 PS4=x OLDPWD=/usr tool=mine word=mine spool=mine status=mine number=mine
-      # shellcheck disable=SC2086
-      IFS=' '; /usr/bin/env $shell "$door/at" -t 203001010000
-    ) <<<'printf "%s\n" "$tool$word$spool$status$number" "$PATH"' >out 2>err || fail "$shell: $(cat err)"
-    status=0; took 1
-    [ ! -e hacked ] && [ ! -e read ] || fail "$shell ran what it should not"
-    [ "$(/bin/sh "$(file_of 1)" 2>&1)" = $'mineminemineminemine\n/nowhere' ] || fail "$shell: the job prints $(/bin/sh "$(file_of 1)" 2>&1)"
-    grep -qx "# at user=$me mail=0" "$(file_of 1)" || fail "$shell: the user is $(sed -n 2p "$(file_of 1)")"
-    grep -qx "OLDPWD='/usr'; export OLDPWD" "$(file_of 1)" || fail "$shell: OLDPWD is another"
-    ! grep -q '_door' "$(file_of 1)" || fail "$shell: names of the doorstep reach the job"
-    printf true >commands
-    # shellcheck disable=SC2086
-    for words in 'at -t 203001010000' 'atq' 'atrm 2'; do
-      ATSPOOL=$spool TZ= $shell "$door/${words%% *}" ${words#"${words%% *}"} <commands >out 2>err || fail "$shell $words: $(cat err)"
-    done
-    printf true | ATSPOOL=$spool TZ= $shell "$door/batch" 2>err || fail "$shell batch: $(cat err)"
-    [ "$(ATSPOOL=$spool TZ= $shell "$door/atq" | wc -l)" = 2 ] || fail "$shell: the jobs are $(ATSPOOL=$spool "$door/atq")"
-  done
-}
-
-# Programs that take their folder as first word have the spool first where there is no word or the first begins with -.
-case_door_folders_of_programs() {
-  doored; opened
-  printf '#!/bin/sh\nprintf "<%%s>" "$@"\n' >"$libexec/atother"; chmod 755 "$libexec/atother"; ln -sf at "$door/atother"
-  extra=(ATSPOOL="$spool")
-  knock atother; ended 0 "<$spool>" ''
-  knock atother --turns 3; ended 0 "<$spool><--turns><3>" ''
-  knock atother /a/folder -x; ended 0 '</a/folder><-x>' ''
-  rm "$libexec/atother" "$door/atother"
 }
 
 case_door_outputs_and_times() {
@@ -361,7 +292,7 @@ case_door_outputs_and_times() {
   knock atq; ended 0 '' ''
 }
 
-# A submission that is not whole is none: its cat can't be made, or whoever called it has gone.
+# A submission that is killed before its commands ended is none; as many commands as may be are one.
 case_door_commands_that_do_not_come_whole() {
   doored; opened
   export ATSPOOL=$spool TZ=UTC
@@ -369,14 +300,33 @@ case_door_commands_that_do_not_come_whole() {
   sleep 0.2
   kill -9 "$!"; wait "$!" 2>/dev/null
   sleep 0.8
-  [ -z "$(find spool -name 'a0*')" ] || fail 'a submission that was killed before its commands ended stands'
-  { printf 'echo begun\n'; sleep 0.5; } | { "$door/at" -t 203001010000 2>err & echo $! >id; wait; } &
-  sleep 0.2
-  for child in $(cat "/proc/$(cat id)/task/$(cat id)/children"); do
-    for reader in $(cat "/proc/$child/task/$child/children"); do kill -9 "$reader"; done
-  done
-  wait
-  [ -z "$(find spool -name 'a0*')" ] || fail 'a job has a part of its commands'
+  [ -z "$(find spool -name 'a0*')" ] || fail 'a submission that was killed before its commands ended is a job'
   head -c 1048576 /dev/zero | tr '\0' '#' | "$door/at" -t 203001010000 2>err || fail "as many as may be: $(cat err)"
   [ "$(tail -c 1048576 "$(file_of 1)" | tr -d '#' | wc -c)" = 0 ] || fail 'the commands are others'
+}
+
+# What a job has of its caller: each variable in its place, with PWD, LOGNAME and TZ set, and those of the three that were
+# absent last. Whatever a shell would read of it runs nothing.
+case_door_variables() {
+  doored; opened
+  export spool
+  (
+    cd() { echo no; }; command() { echo no; }; printf() { echo no; }; exec() { echo no; }
+    export -f cd command printf exec
+    # shellcheck disable=SC2016
+    builtin exec /usr/bin/env ZONE=1 LOGNAME='$(touch hacked)' HOME='~root' PATH=/nowhere IFS=/ao ENV="$PWD/env" BASH_ENV="$PWD/env" CDPATH=/ \
+      OLDPWD=/usr tool=mine ATSPOOL="$spool" TZ=JST-9 "$door/at" -t 203001010000 <<<'printf "%s\n" "$tool" "$PATH"'
+  ) >out 2>err || fail "$(cat err)"
+  [ ! -e hacked ] && [ "$(user_of 1)" = "$me" ] || fail "the user is $(user_of 1)"
+  [ "$(zone_of 1) $(directory_of 1)" = "JST-9 $PWD" ] || fail "zone and directory are $(zone_of 1), $(directory_of 1)"
+  grep -qx "OLDPWD='/usr'; export OLDPWD" "$(file_of 1)" || fail 'OLDPWD is another'
+  [ "$(env -i /bin/sh "$(file_of 1)" 2>&1)" = $'mine\n/nowhere' ] || fail "the job prints $(env -i /bin/sh "$(file_of 1)" 2>&1)"
+  # (a name that is none of a shell's, as of an exported function, is left out)
+  names_of() { sed -nE "s/^([A-Za-z_][A-Za-z0-9_]*)='.*/\\1/p" "$(file_of "$1")" | paste -sd ' '; }
+  env -i B=1 PWD=/nowhere A=2 TZ=UTC LOGNAME=x ATSPOOL="$spool" C=3 "$door/at" -t 203001010000 <<<true 2>err || fail "$(cat err)"
+  [ "$(names_of 2)" = 'B PWD A TZ LOGNAME ATSPOOL C' ] || fail "the variables are $(names_of 2)"
+  grep -qx "LOGNAME='$me'; export LOGNAME" "$(file_of 2)" && grep -qx "PWD='$PWD'; export PWD" "$(file_of 2)" || fail "they are $(cat "$(file_of 2)")"
+  env -i B=1 ATSPOOL="$spool" A=2 "$door/at" -t 203001010000 <<<true 2>err || fail "$(cat err)"
+  case $(names_of 3) in 'B ATSPOOL A '*) ;; *) fail "the variables are $(names_of 3)" ;; esac
+  [ "$(names_of 3 | tr ' ' '\n' | tail -n +4 | sort | paste -sd ' ')" = 'LOGNAME PWD TZ' ] || fail "the variables are $(names_of 3)"
 }

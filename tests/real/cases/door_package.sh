@@ -45,7 +45,8 @@ su - fresh -c atq >/root/said 2>&1 || fails "atq of a fresh user: $(cat /root/sa
 su fresh -c 'atd -s' >/root/said 2>&1 || fails "atd of a fresh user: $(cat /root/said)"
 [ "$(su fresh -c 'atout 2')" = $'/home/fresh\nfresh' ] || fails "their job prints $(su fresh -c 'atout 2' 2>&1)"
 [ "$(su fresh -c 'at -c 1' | sed -n 2p) $(su fresh -c 'at -c 1 | sh')" = '# at user=fresh mail=1 moved no zone' ] || fails "the moved job prints $(su fresh -c 'at -c 1 | sh')"
-[ -e /etc/systemd/user/default.target.wants/atd.service ] || fails 'the unit of users is not enabled'
+[ ! -L /etc/systemd/user/default.target.wants/atd.service ] || fails 'a unit of each user is enabled'
+[ -L /etc/systemd/system/multi-user.target.wants/coefhird-boot.service ] || fails "what starts the daemons of users is not enabled: $(ls /etc/systemd/system/*.wants)"
 # root
 cd /tmp && echo 'echo of root' | at now 2>/root/said || fails "at of root: $(cat /root/said)"
 atd -s >/root/said 2>&1 || fails "atd of root: $(cat /root/said)"

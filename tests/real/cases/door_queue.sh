@@ -1,8 +1,8 @@
-# The queue at the door, and one atd on a spool.
+# Many callers at one spool, and one atd on it.
 
 # A spool in which so many jobs wait.
-filled() { # count
-  opened
+filled() { # count, name
+  opened "${2:-spool}"
   for ((made = 1; made <= $1; made++)); do
     printf '#!/bin/sh\n# at user=%s mail=0\numask 0022\ncd '\''/'\'' || {\n\techo '\''Execution directory inaccessible'\'' >&2\n\texit 1\n}\ntrue\n' "$me" \
       >"$spool/a$(printf %08x "$made")0fffffff"
@@ -64,19 +64,35 @@ case_door_pipes_that_wait() {
   [ "$(cat said slow slow_too | grep -c '^job ')" = 5 ] || fail "the jobs are $(cat said slow slow_too)"
 }
 
-# A caller waits for its turn in the queue of the folder, whatever that is called, and at its head for whoever holds the spool:
-# ten seconds are not all it has.
+# A caller waits until nobody holds the spool, by whatever name it is called: ten seconds are not all it has.
 case_door_a_long_turn() {
   doored; filled 1
   ln -s spool link
-  (flock 9; sleep 1; : >freed) 9<"$spool" &
-  sleep 0.2
-  ATSPOOL=$PWD/link "$door/atq" >out; [ -e freed ] || fail 'a caller went on without its turn'
   : >>"$spool.lock"
+  (flock 9; sleep 1; : >freed) 9<"$spool.lock" &
+  sleep 0.2
+  ATSPOOL=$PWD/link "$door/atq" >out; [ -e freed ] || fail 'a caller does not wait for the lock'
   (flock 9; sleep 11) 9<"$spool.lock" &
   sleep 0.2
   "$door/atrm" 1 2>said || fail "it says $(cat said)"
   wait
+}
+
+# A daemon beside eight submitters without pause makes each turn.
+case_door_a_daemon_in_a_crowd() {
+  needs_atd; doored; opened
+  export ATSPOOL=$spool TZ=UTC
+  printf true >commands
+  for submitter in $(seq 8); do
+    (until [ -e over ]; do
+      "$door/at" -t 203001010000 <commands 2>"said_$submitter" && "$door/atrm" "$(cut -d ' ' -f 2 "said_$submitter")" 2>"said_$submitter" \
+        || cat "said_$submitter" >>failed
+    done) &
+  done
+  timeout 120 "$door/atd" --turns 20 >served 2>said </dev/null; status=$?
+  : >over; wait
+  [ "$status" = 0 ] && [ ! -s said ] && [ ! -s served ] || fail "atd ends with $status: $(sort said | uniq -c; head -n 3 served)"
+  [ ! -e failed ] || fail "callers are refused: $(sort failed | uniq -c)"
 }
 
 case_door_one_atd() {

@@ -79,6 +79,14 @@ case_mail_weekly() {
   refused 1 "atcheck: the mail of job 10 may be lost, see $spool.out/mail.0000000a: no such user"
   printf 0 >"$spool/.SEQ"; weekly
   [ "$status" = 9 ] && grep -q '^atcheck: spool has faults$' err && grep -q 'job 10' err || fail "of both: $status, $(cat out err)"
-  spool=$PWD/home/.local/state/coefhird/jobs; mkdir -p "$spool.out"; cp spool.out/mail.0000000a "$spool.out/"
-  env -i HOME="$PWD/home" "$libexec/weekly" >out 2>err; grep -q "job 10 may be lost, see $spool.out/" err || fail "of a home: $(cat err)"
 }
+
+# Where no ATSPOOL names one, the spool that it looks at is the user's own.
+steps_of_a_weekly_check() {
+  home=$PWD/home spool=$PWD/home/.local/state/coefhird/jobs
+  login "$door/at" -t 203001010000 <<<true 2>err || fail "at: $(cat err)"
+  second mkdir -p "$spool.out"; echo 'no such user' | second tee "$spool.out/mail.0000000a" >/dev/null
+  status=0; login "$libexec/weekly" >out 2>err || status=$?
+  refused 1 "atcheck: the mail of job 10 may be lost, see $spool.out/mail.0000000a: no such user"
+}
+case_mail_weekly_of_a_user() { doored; apart steps_of_a_weekly_check; }

@@ -15,12 +15,11 @@ case_an_output_that_cannot_be_created() {
   [ "$(output_of 2)" = ho ] || fail "the output of the other job is $(output_of 2)"
 }
 
-# The atd of a program whose clock watches the spool. The one of at_tool rests to the end of each minute whatever happens.
-needs_watch() { [ -n "${WATCHING:-}" ] || skip 'atd does not watch its spool: WATCHING=1 says that it does'; }
-
-# Starts atd, traced where words for that come, and ends it with the case.
+# Starts the installed atd, traced where words for that come, and ends it with the case. (The atd of tests/mains rests to the
+# end of each minute whatever happens.)
 serves() {
-  (becomes "$@" "$bin/atd" >served 2>said </dev/null) &
+  extra=(ATSPOOL="$spool" TZ=UTC)
+  (exec env -i PATH=/usr/bin:/bin "${extra[@]}" "$@" "$door/atd" >served 2>said </dev/null) &
   daemon=$!
   trap 'kill "$daemon" 2>/dev/null' EXIT
   sleep 1.5
@@ -35,20 +34,20 @@ awaits_start() {
 }
 
 case_at_now_starts_at_once() {
-  needs_atd; needs_watch; opened; serves
+  needs_atd; doored; opened; serves
   for round in 1 2 3; do
     rm -f started
-    with 'date +%s%3N >started_not; mv started_not started' at now
+    hand 'date +%s%3N >started_not; mv started_not started' at now
     took "$round"
     awaits_start
   done
 }
 
 case_long_a_job_starts_at_its_minute() {
-  needs_atd; needs_watch; opened; serves
+  needs_atd; doored; opened; serves
   [ $(($(date +%s) % 60)) -lt 50 ] || sleep 11
   minute=$((($(date +%s) / 60 + 1) * 60))
-  with 'date +%s%3N >started_not; mv started_not started' at -t "$(TZ=UTC date -d "@$minute" +%Y%m%d%H%M)"
+  hand 'date +%s%3N >started_not; mv started_not started' at -t "$(TZ=UTC date -d "@$minute" +%Y%m%d%H%M)"
   took 1
   sleep $((minute - $(date +%s)))
   awaits_start
@@ -58,10 +57,10 @@ case_long_a_job_starts_at_its_minute() {
 
 # However many submissions there are, atd makes one turn a second, and one more where a minute ends.
 case_a_flood_of_submissions() {
-  needs_atd; needs_watch; needs_strace; opened
+  needs_strace; needs_atd; doored; opened
   serves strace -D -f -e trace=flock -o "$PWD/calls"
   from=$(counted_turns) begun=$(date +%s%3N)
-  for _ in $(seq 40); do with true at -t 203001010000; done
+  for _ in $(seq 40); do hand true at -t 203001010000; done
   sleep 1.5
   turns=$(($(counted_turns) - from)) seconds=$((($(date +%s%3N) - begun) / 1000 + 1))
   [ "$turns" -ge 1 ] && [ "$turns" -le $((seconds + 1)) ] || fail "$turns turns in $seconds seconds"
@@ -69,12 +68,13 @@ case_a_flood_of_submissions() {
 
 # Listings, removals and ends of jobs are no submissions.
 case_long_a_rest_that_no_submission_ends() {
-  needs_atd; needs_watch; needs_strace; opened
-  with true at -t 203001010000; took 1
+  needs_strace; needs_atd; doored; opened
+  extra=(ATSPOOL="$spool" TZ=UTC)
+  hand true at -t 203001010000; took 1
   [ $(($(date +%s) % 60)) -lt 40 ] || sleep 21
   serves strace -D -f -e trace=flock -o "$PWD/calls"
   from=$(counted_turns)
-  with '' atq; with '' atrm 1
+  knock atq; knock atrm 1
   sleep 5
   [ "$(counted_turns)" = "$from" ] || fail "$(($(counted_turns) - from)) turns within a minute"
   sleep $((61 - $(date +%s) % 60))

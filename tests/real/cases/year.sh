@@ -183,6 +183,6 @@ case_soak() {
     cp kept "$1"
   }
   altered starts '1p'; altered starts 1d; altered turns '/handed/{p;:a;n;ba}'; altered accepted 1d; altered removed 1d
-  altered spool/.MAIL '/^S/d'; altered waiting 1d; altered shown 's/ [1-9][0-9]*/ 0/'
+  altered notes '/^S/d'; altered waiting 1d; altered shown 's/ [1-9][0-9]*/ 0/'
   mkdir gone && mv messages/* gone/; [ "$(judged)" != sound ] || fail 'the judge is content without messages'
 }
