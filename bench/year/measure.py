@@ -1,8 +1,8 @@
-"""Makes a spool of many past jobs and measures the programs over it: SPOOL, the folder of the programs, how many jobs, and of
+"""Makes a spool of many past jobs and measures the programs over it: SPOOL, the prefix of the installation, how many jobs, and of
 how many of them the outputs are there."""
 import glob, os, resource, subprocess, sys, time
 
-spool, programs, past, outputs = sys.argv[1], sys.argv[2], int(sys.argv[3]), int(sys.argv[4])
+spool, prefix, past, outputs = sys.argv[1], sys.argv[2], int(sys.argv[3]), int(sys.argv[4])
 WAITING, KEPT, FULL = 100, 10000, 100000
 MINUTE = 28928160  # of the first job; one each minute and a half or so
 environment = {'ATSPOOL': spool, 'LOGNAME': 'root', 'HOME': '/root', 'PWD': '/', 'TZ': 'UTC', 'PATH': '/usr/bin:/bin'}
@@ -84,8 +84,9 @@ def run(name, words, text=b''):
     os.write(sink, text)
     os.close(sink)
     since = time.monotonic()
-    child = subprocess.Popen([name] + words, executable=os.path.join(programs, name), env=environment, cwd='/', stdin=source,
-                             stdout=subprocess.DEVNULL, stderr=subprocess.PIPE)
+    places = [os.path.join(prefix, place, name) for place in ('bin', 'libexec/coefhird')]
+    child = subprocess.Popen([name] + words, executable=next(filter(os.path.exists, places)), env=environment, cwd='/',
+                             stdin=source, stdout=subprocess.DEVNULL, stderr=subprocess.PIPE)
     said = child.stderr.read().decode()
     _, status, used = os.wait4(child.pid, 0)
     wall = (time.monotonic() - since) * 1000
