@@ -1,0 +1,25 @@
+//! What became of a job: how far the job of a number has come, as a function of the number and the table, which numbers
+//! are asked for, and the line of each, as text or as a JSON object.
+//!
+//! Its definitions, in the order in which to read them:
+//! 1. `Stages`: how far the job of a number has come
+//! 2. `Lines` and `Objects`: its line, as text and as an object
+//! 3. `Reports`: which numbers are asked for, and the text of their lines
+//! 4. `Laws`: what follows of them
+#![tactic(auto)]
+
+mod form;
+mod laws;
+mod line;
+mod numbers;
+mod object;
+mod report;
+mod search;
+mod stage;
+mod words;
+
+pub use form::Form;
+pub use laws::{scripts_decide_no_stage, stages_exclude_each_other};
+pub use numbers::{asked_numbers, is_in_queue};
+pub use report::report_of;
+pub use stage::{Stage, stage_of};
