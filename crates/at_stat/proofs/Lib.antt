@@ -1,0 +1,9 @@
+mod CheckLemmas
+mod DigitLemmas
+mod EndLemmas
+mod FrameLemmas
+mod LateLemmas
+mod LookLemmas
+mod OperandLemmas
+mod SightLemmas
+mod UserLemmas

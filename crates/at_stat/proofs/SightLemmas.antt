@@ -1,0 +1,33 @@
+-- The sessions, by the first one and what comes after it.
+use Rattle.std.proofs.Common.{◌≡◌, ℕ, true, List, refl, subst, sym}
+use Rattle.std.specs.Prelude.{Option, Some, None, Result, Ok, Err}
+use Rattle.at_words.specs.declared.filter.Filter.{Filter}
+use Rattle.cause_output.specs.declared.command_error.CommandError.{CommandError}
+use Rattle.step_runs.specs.Current.{Kept}
+use Rattle.at_stat.specs.declared.wait.Sight.{Sight}
+use Rattle.at_stat.specs.Waiting.{ComesAfter, HasSeen, LooksAt, StopsAfter, WaitAt, WaitTelling, at_later}
+use Rattle.at_stat.specs.inside.Sighting.{Awaits, Sees}
+
+module _ (tells : WaitTelling) (user : List ℕ) (wait : Option ℕ) (which : Filter) (old start new : WaitAt) (seen : Kept)
+    (first : LooksAt tells user which old start (Ok seen)) where
+  -- the ends of jobs are waited for
+  pub sees_after : (turns : ℕ) (result : Result Sight CommandError) → wait ≡ Some turns → Awaits tells user turns which seen start new result
+      → Sees tells user wait which old new result
+  sees_after turns (Ok sight) is awaits = record {
+    seen = seen;
+    start = start;
+    first = first;
+    later = subst (λ (one : Option ℕ). ComesAfter tells user one which seen start new sight.store sight.finished) (sym is) awaits;
+  }
+  sees_after turns (Err stopped) is awaits =
+      at_later seen start first (subst (λ (one : Option ℕ). StopsAfter tells user one which seen start new stopped) (sym is) awaits)
+
+-- they are not
+pub sees_once : (tells : WaitTelling) (user : List ℕ) (wait : Option ℕ) (which : Filter) (old new : WaitAt) (seen : Kept)
+    → LooksAt tells user which old new (Ok seen) → wait ≡ None → HasSeen tells user wait which old new seen true
+sees_once tells user wait which old new seen first is = record {
+  seen = seen;
+  start = new;
+  first = first;
+  later = subst (λ (one : Option ℕ). ComesAfter tells user one which seen new new seen true) (sym is) (refl, refl, refl);
+}

@@ -1,0 +1,24 @@
+//! A text, put at once.
+ghost use Rattle.std.specs.Prelude.{◌≡◌};
+ghost use Rattle.cause_output.specs.Sinks.{sink_at};
+ghost use Rattle.host_calls.specs.Causes.{Rose};
+ghost use Rattle.at_stat.specs.inside.Putting.{PutsWhole};
+
+use cause_output::cause_of_put;
+use host_calls::Sink;
+use listing_text::Cause;
+use std::alloc::Global;
+
+// Puts the text; nothing where it is empty, so that a sink that fails is not asked for nothing.
+pub(crate) fn put_whole<O: Sink>(alloc: Global, text: &[u8], out: &mut O) -> Cause
+    ensures made_as { (O.outlet out.new).made_as ≡ (O.outlet out.old).made_as }
+    ensures output_fault { result ≡ Cause.OutputFault
+        → Rose (O.outlet out.old).sink_faults (O.outlet out.new).sink_faults }
+    ensures puts { PutsWhole O.tells text.now (sink_at (O.content out.old) (O.outlet out.old))
+        (sink_at (O.content out.new) (O.outlet out.new)) result }
+{
+    if text.is_empty() {
+        return Cause::Done;
+    }
+    cause_of_put(out.put(alloc, text))
+}

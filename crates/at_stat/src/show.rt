@@ -1,0 +1,96 @@
+//! The lines of what the last session saw.
+ghost use Rattle.std.specs.Prelude.{◌≡◌, ◌⊎◌, IfOk, Some};
+ghost use Rattle.cause_output.specs.Sinks.{sink_at};
+ghost use Rattle.civil_minute.specs.Zone.{IsReadable};
+ghost use Rattle.host_calls.specs.Causes.{Rose};
+ghost use Rattle.at_stat.specs.Stating.{HasCode, IsText};
+ghost use Rattle.at_stat.specs.inside.Putting.{IsWithoutText, PutsBy, PutsLines, sight_status};
+
+use crate::StatStatus;
+use crate::checks::done_code;
+use crate::put::put_whole;
+use crate::request::StatRequest;
+use crate::wait::Sight;
+use civil_minute::Zone;
+use host_calls::{Bytes, Sink};
+use job_states::{asked_numbers, report_of};
+use listing_text::Cause;
+use spool_model::UserName;
+use spool_store::Store;
+use std::alloc::{AllocError, Global};
+
+// Puts the lines of the jobs that are asked for.
+pub(crate) fn show<O: Sink>(
+    alloc: Global,
+    sight: &Sight,
+    user: &UserName,
+    request: &StatRequest,
+    zone: &Zone,
+    out: &mut O,
+) -> StatStatus
+    requires { IsReadable zone.now }
+    ensures made_as { (O.outlet out.new).made_as ≡ (O.outlet out.old).made_as }
+    ensures code { HasCode result }
+    ensures output_fault { result.cause ≡ Some Cause.OutputFault
+        → Rose (O.outlet out.old).sink_faults (O.outlet out.new).sink_faults }
+    ensures puts { PutsLines request.now user.now zone.now sight.now O.tells
+        (sink_at (O.content out.old) (O.outlet out.old)) (sink_at (O.content out.new) (O.outlet out.new)) result
+        ⊎ IsWithoutText O.tells (sink_at (O.content out.old) (O.outlet out.old))
+        (sink_at (O.content out.new) (O.outlet out.new)) result }
+{
+    // The session is over, so that a slow reader does not hold the lock.
+    match text_of(alloc, &sight.store, user, request, zone) {
+        Ok(text) => put_text(alloc, sight, request, text.as_slice(), out),
+        Err(_) => StatStatus::of(Cause::Memory),
+    }
+}
+
+// The lines of the jobs that are asked for.
+fn text_of(
+    alloc: Global,
+    store: &Store,
+    user: &UserName,
+    request: &StatRequest,
+    zone: &Zone,
+) -> Result<Bytes, AllocError>
+    requires { IsReadable zone.now }
+    ensures { IfOk result (IsText request.now user.now zone.now store.now.table) }
+{
+    let numbers = asked_numbers(alloc, store, user, &request.which)?;
+    report_of(alloc, store, &numbers, request.form, zone)
+}
+
+// Puts the text.
+fn put_text<O: Sink>(
+    alloc: Global,
+    sight: &Sight,
+    request: &StatRequest,
+    text: &[u8],
+    out: &mut O,
+) -> StatStatus
+    ensures made_as { (O.outlet out.new).made_as ≡ (O.outlet out.old).made_as }
+    ensures code { HasCode result }
+    ensures output_fault { result.cause ≡ Some Cause.OutputFault
+        → Rose (O.outlet out.old).sink_faults (O.outlet out.new).sink_faults }
+    ensures puts { PutsBy request.now sight.now text.now O.tells (sink_at (O.content out.old) (O.outlet out.old))
+        (sink_at (O.content out.new) (O.outlet out.new)) result.code result.cause }
+{
+    match put_whole(alloc, text, out) {
+        Cause::Done => sight_status(sight, request),
+        cause => StatStatus::of(cause),
+    }
+}
+
+// The status of what was seen: that of the wait, where each awaited job is done.
+fn sight_status(sight: &Sight, request: &StatRequest) -> StatStatus
+    ensures { result ≡ sight_status request.now sight.now sight.now.finished }
+{
+    if sight.finished {
+        StatStatus {
+            code: done_code(request.wait, &request.which, &sight.store),
+            cause: None,
+        }
+    } else {
+        StatStatus::of(Cause::StillRunning)
+    }
+}

@@ -1,0 +1,16 @@
+//! What became of jobs, over the real outside: the spool folder that `ATSPOOL` names, or the usual one, and the standard
+//! streams of the process.
+#![tactic(auto)]
+
+use process_input::held_streams;
+use real_programs::{run_stat, stat_exit_code};
+use std::process::ExitCode;
+
+// The name under which is said why the program could not begin.
+const TOOL: &str = "atstat";
+
+fn main(rt: HostRuntime) -> ExitCode {
+    // They stay held until the end: what is opened in between must not become a standard stream.
+    let _streams = held_streams(&rt);
+    stat_exit_code(&rt, TOOL, run_stat(&rt))
+}
