@@ -2,4 +2,4 @@ mod EventLemmas
 pub mod MakingLemmas
 pub mod OnceLemmas
 pub mod ProgramLemmas
-mod SentLemmas
+pub mod SentLemmas

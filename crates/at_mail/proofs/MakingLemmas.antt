@@ -1,8 +1,7 @@
 -- Sessions one after another.
 use Rattle.std.proofs.Common.{◌≡◌, ◌≢◌, ◌+◌, ◌≤◌, ◌<◌, ℕ, zero, suc, Bool, true, List, [], ◌∷◌, ◌++◌, length, refl, sym, ap, subst, ◌∙◌, inl, inr, append-nil, append_assoc, arith}
-use Rattle.std.specs.Prelude.{IsErrOf, IsSome, Some, None, Result, Ok, Err}
+use Rattle.std.specs.Prelude.{IsErrOf, IsSome, Option, Some, None, Result, Ok, Err}
 use Rattle.host_calls.specs.Causes.{Rose}
-use Rattle.host_calls.specs.Clock.{Answers, Readers, with_rest}
 use Rattle.host_calls.specs.Session.{IsOutside, KeepsCounts}
 use Rattle.host_calls.specs.declared.child.Child.{Child}
 use Rattle.host_calls.specs.declared.fault.SinkFault.{SinkFault}
@@ -14,11 +13,12 @@ use Rattle.daemon_turn.specs.Kids.{AreChildren, KeepsChildren}
 use Rattle.host_session.specs.declared.turn_end.TurnEnd.{TurnEnd}
 use Rattle.host_session.specs.declared.turn_end.TurnEnd.TheVariants.{Done, Busy, FileFault, Damaged, Memory}
 use Rattle.mail_session.specs.Leaving.{PostAt}
-use Rattle.at_mail.specs.Making.{IsSession, MakesSessions, RestsAfter, Telling, WorkAt, next_session, no_session, rest_seconds}
+use Rattle.cause_output.specs.Outside.{ClockAt, Rests, RestsBefore, RestsOn, Telling, WorkAt}
+use Rattle.at_mail.specs.Making.{IsSession, MakesSessions, next_session, no_session, rest_after_sessions, rest_seconds}
 use Rattle.at_mail.specs.Outcomes.{PostItem, last_outcome, outcome_by, outcome_or_done}
 use Rattle.at_mail.specs.declared.outcome.Outcome.{Outcome}
 use Rattle.at_mail.specs.declared.outcome.Outcome.TheVariants.{Own}
-use Rattle.at_mail.specs.inside.Progressing.{HasMade, RestsBefore}
+use Rattle.at_mail.specs.inside.Progressing.{HasMade, rest_before}
 
 pub last_more : (items : List PostItem) (item : PostItem) → last_outcome (items ++ item ∷ []) ≡ outcome_by item.end item.said
 last_more [] item = refl
@@ -30,38 +30,24 @@ one_longer [] item = refl
 one_longer (one ∷ items) item = (let longer : length (items ++ item ∷ []) ≡ length items + 1 = one_longer items item in omega arith)
 
 -- the rest before the session of a place
-pub rests_later : (place : ℕ) (tells : Bool) (was is : Answers) (had has : Readers) → place ≢ 0 → (tells ≡ true → is ≡ with_rest rest_seconds was) → has ≡ had
-    → RestsBefore place tells was is had has
-rests_later zero tells was is had has some known same = absurd (some refl)
-rests_later (suc place) tells was is had has some known same = (known, same)
+pub rests_later : (place : ℕ) (tells : Bool) (old new : ClockAt) → place ≢ 0 → Rests tells rest_seconds old new → RestsOn tells (rest_before place) old new
+rests_later zero tells old new some rests = absurd (some refl)
+rests_later (suc place) tells old new some rests = rests
 
-pub rests_first : (place : ℕ) (tells : Bool) (was : Answers) (had : Readers) → place ≡ 0 → RestsBefore place tells was was had had
-rests_first zero tells was had none = (refl, refl)
-rests_first (suc place) tells was had none = absurd (omega arith)
+pub rests_first : (place : ℕ) (tells : Bool) (at : ClockAt) → place ≡ 0 → RestsOn tells (rest_before place) at at
+rests_first zero tells at none = refl
+rests_first (suc place) tells at none = absurd (omega arith)
 
 -- the rest before the next session
-module _ (tells : Bool) (spool : PostAt) (said : SinkAt) (was is : Answers) (had has : Readers) where
-  pub rests_after : (items : List PostItem) (place : ℕ) → length items ≡ place → RestsBefore place tells was is had has
-      → RestsAfter tells items (record { spool = spool; answers = was; readers = had; said = said }) (record { spool = spool; answers = is; readers = has; said = said })
-  rests_after [] zero same rests =
-      ap (λ (answers : Answers). record { spool = spool; answers = answers; readers = has; said = said }) rests.0
-      ∙ ap (λ (readers : Readers). record { spool = spool; answers = was; readers = readers; said = said }) rests.1
-  rests_after [] (suc place) same rests = absurd (omega arith)
-  rests_after (item ∷ items) zero same rests = absurd (omega arith)
-  rests_after (item ∷ items) (suc place) same rests = record { known = rests.0; readers = rests.1; spool = refl; said = refl }
+pub rest_same : (items : List PostItem) (place : ℕ) → length items ≡ place → rest_before place ≡ rest_after_sessions items
+rest_same [] zero same = refl
+rest_same [] (suc place) same = absurd (omega arith)
+rest_same (item ∷ items) zero same = absurd (omega arith)
+rest_same (item ∷ items) (suc place) same = refl
 
--- the spool and what was said stay while it rests
-pub rested_spool : (tells : Bool) (items : List PostItem) (old new : WorkAt) → RestsAfter tells items old new → new.spool ≡ old.spool
-rested_spool tells [] old new same = ap (λ (at : WorkAt). at.spool) same
-rested_spool tells (item ∷ items) old new rests = rests.spool
-
-pub rested_said : (tells : Bool) (items : List PostItem) (old new : WorkAt) → RestsAfter tells items old new → new.said ≡ old.said
-rested_said tells [] old new same = ap (λ (at : WorkAt). at.said) same
-rested_said tells (item ∷ items) old new rests = rests.said
-
-pub rested_readers : (tells : Bool) (items : List PostItem) (old new : WorkAt) → RestsAfter tells items old new → new.readers ≡ old.readers
-rested_readers tells [] old new same = ap (λ (at : WorkAt). at.readers) same
-rested_readers tells (item ∷ items) old new rests = rests.readers
+pub rested_readers : (tells : Bool) (rest : Option ℕ) (old new : ClockAt) → RestsOn tells rest old new → new.readers ≡ old.readers
+rested_readers tells None old new same = ap (λ (at : ClockAt). at.readers) same
+rested_readers tells (Some seconds) old new rests = rests.readers
 
 pub children_same : (children : List Child) → KeepsChildren children children
 children_same children = ([], sym (append-nil children))
@@ -71,15 +57,15 @@ children_then old middle new first second =
     (first.0 ++ second.0, second.1 ∙ ap (λ (before : List Child). before ++ second.0) first.1 ∙ append_assoc old first.0 second.0)
 
 -- What sessions keep, one after another: no session is on, the kids are children, no child is forgotten, no count has fallen.
-pub record Keeps (first last : WorkAt) : Type 0 where
+pub record Keeps (first last : WorkAt PostAt) : Type 0 where
   pub outside : IsOutside last.spool.session
   pub children : AreChildren last.spool.session.children last.spool.post.kids
   pub kept : KeepsChildren first.spool.session.children last.spool.session.children
   pub counts : KeepsCounts first.spool.session last.spool.session
   pub said : first.said.faults ≤ last.said.faults
-  pub readers : last.readers ≡ first.readers
+  pub readers : last.clock.readers ≡ first.clock.readers
 
-pub keeps_none : (first : WorkAt) → IsOutside first.spool.session → AreChildren first.spool.session.children first.spool.post.kids → Keeps first first
+pub keeps_none : (first : WorkAt PostAt) → IsOutside first.spool.session → AreChildren first.spool.session.children first.spool.post.kids → Keeps first first
 keeps_none first outside children = record {
   outside = outside;
   children = children;
@@ -89,23 +75,23 @@ keeps_none first outside children = record {
   readers = refl;
 }
 
-pub keeps_more : (tells : Telling) (item : PostItem) (items : List PostItem) (first last rested after : WorkAt) → Keeps first last
-    → RestsAfter tells.clock items last rested → IsSession tells item rested after → Keeps first after
+pub keeps_more : (tells : Telling) (item : PostItem) (items : List PostItem) (first last rested after : WorkAt PostAt) → Keeps first last
+    → RestsBefore tells.clock (rest_after_sessions items) last rested → IsSession tells item rested after → Keeps first after
 keeps_more tells item items first last rested after keeps rests session = record {
   outside = session.posts.outside;
   children = session.posts.children;
   kept = children_then first.spool.session.children last.spool.session.children after.spool.session.children keeps.kept
-      (subst (λ (spool : PostAt). KeepsChildren spool.session.children after.spool.session.children) (rested_spool tells.clock items last rested rests) session.posts.kept);
+      (subst (λ (spool : PostAt). KeepsChildren spool.session.children after.spool.session.children) rests.spool session.posts.kept);
   counts = counts_on first.spool.session last.spool.session after.spool.session keeps.counts
-      (subst (λ (spool : PostAt). KeepsCounts spool.session after.spool.session) (rested_spool tells.clock items last rested rests) session.posts.counts);
+      (subst (λ (spool : PostAt). KeepsCounts spool.session after.spool.session) rests.spool session.posts.counts);
   said = (let before : first.said.faults ≤ last.said.faults = keeps.said in
       let later : last.said.faults ≤ after.said.faults =
-      subst (λ (said : SinkAt). said.faults ≤ after.said.faults) (rested_said tells.clock items last rested rests) session.says.later in omega arith);
-  readers = session.readers ∙ rested_readers tells.clock items last rested rests ∙ keeps.readers;
+      subst (λ (said : SinkAt). said.faults ≤ after.said.faults) rests.said session.says.later in omega arith);
+  readers = ap (λ (at : ClockAt). at.readers) session.clock ∙ rested_readers tells.clock (rest_after_sessions items) last.clock rested.clock rests.clock ∙ keeps.readers;
 }
 
-module _ (tells : Telling) (first : WorkAt) (outside : IsOutside first.spool.session) (children : AreChildren first.spool.session.children first.spool.post.kids) where
-  pub keeps_all : (items : List PostItem) (last : WorkAt) → MakesSessions tells first items last → Keeps first last
+module _ (tells : Telling) (first : WorkAt PostAt) (outside : IsOutside first.spool.session) (children : AreChildren first.spool.session.children first.spool.post.kids) where
+  pub keeps_all : (items : List PostItem) (last : WorkAt PostAt) → MakesSessions tells first items last → Keeps first last
   keeps_all _ _ no_session = keeps_none first outside children
   keeps_all _ _ (next_session before item last rested after makes goes_on rests session) =
       keeps_more tells item before first last rested after (keeps_all before last makes) rests session
@@ -126,7 +112,7 @@ outcome_rose FileFault (Err put.Memory) old new failed comes = absurd (cc)
 outcome_rose (Damaged damage) (Err put.Memory) old new failed comes = absurd (cc)
 outcome_rose Memory (Err put.Memory) old new failed comes = absurd (cc)
 
-pub output_rose : (tells : Telling) (items : List PostItem) (first last : WorkAt) → MakesSessions tells first items last → IsOutside first.spool.session
+pub output_rose : (tells : Telling) (items : List PostItem) (first last : WorkAt PostAt) → MakesSessions tells first items last → IsOutside first.spool.session
     → AreChildren first.spool.session.children first.spool.post.kids → last_outcome items ≡ Some (Own cause.OutputFault) → Rose first.said.faults last.said.faults
 output_rose tells _ first _ no_session outside children comes = absurd (cc)
 output_rose tells _ first _ (next_session before item last rested after makes goes_on rests session) outside children comes =
@@ -134,13 +120,13 @@ output_rose tells _ first _ (next_session before item last rested after makes go
     let earlier : first.said.faults ≤ last.said.faults = keeps.said in
     let rose : Rose rested.said.faults after.said.faults =
     outcome_rose item.end item.said rested.said after.said session.says.failed (sym (last_more before item) ∙ comes) in
-    let risen : Rose last.said.faults after.said.faults = subst (λ (said : SinkAt). Rose said.faults after.said.faults) (rested_said tells.clock before last rested rests) rose in
+    let risen : Rose last.said.faults after.said.faults = subst (λ (said : SinkAt). Rose said.faults after.said.faults) rests.said rose in
     omega arith
 
 -- One session more.
 
-module _ (tells : Telling) (items : List PostItem) (first last rested after : WorkAt) (makes : MakesSessions tells first items last)
-    (goes_on : last_outcome items ≡ None) (rests : RestsAfter tells.clock items last rested) (item : PostItem) (session : IsSession tells item rested after) where
+module _ (tells : Telling) (items : List PostItem) (first last rested after : WorkAt PostAt) (makes : MakesSessions tells first items last)
+    (goes_on : last_outcome items ≡ None) (rests : RestsBefore tells.clock (rest_after_sessions items) last rested) (item : PostItem) (session : IsSession tells item rested after) where
   pub makes_more : MakesSessions tells first (items ++ item ∷ []) after
   makes_more = next_session items item last rested after makes goes_on rests session
 
@@ -155,7 +141,7 @@ module _ (tells : Telling) (items : List PostItem) (first last rested after : Wo
   }
 
 -- all were made
-pub ended_made : (tells : Telling) (items : List PostItem) (turns : ℕ) (first last : WorkAt) → MakesSessions tells first items last → last_outcome items ≡ None
+pub ended_made : (tells : Telling) (items : List PostItem) (turns : ℕ) (first last : WorkAt PostAt) → MakesSessions tells first items last → last_outcome items ≡ None
     → length items ≡ turns → HasMade tells turns first last (Own cause.Done)
 ended_made tells items turns first last makes goes_on all = record {
   items = items;

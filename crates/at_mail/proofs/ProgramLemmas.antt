@@ -19,9 +19,11 @@ use Rattle.daemon_turn.specs.Kids.{AreChildren, KeepsChildren}
 use Rattle.host_session.specs.declared.turn_end.TurnEnd.{TurnEnd}
 use Rattle.host_session.specs.declared.turn_end.TurnEnd.TheVariants.{Done, Busy, FileFault, Damaged, Memory}
 use Rattle.mail_session.specs.PostState.{PostState, new_post}
-use Rattle.at_mail.specs.Making.{MakesSessions, Telling, WorkAt, next_session, no_session}
+use Rattle.cause_output.specs.Outside.{OutsideAt, Telling, WorkAt}
+use Rattle.mail_session.specs.Leaving.{PostAt}
+use Rattle.at_mail.specs.Making.{MakesSessions, next_session, no_session}
 use Rattle.at_mail.specs.Outcomes.{PostItem, last_outcome, outcome_by, outcome_or_done, program_name}
-use Rattle.at_mail.specs.Program.{PostsSessions, HasMadeNone, OutsideAt, PostEnds, SaysOutcome, work_with}
+use Rattle.at_mail.specs.Program.{PostsSessions, HasMadeNone, PostEnds, SaysOutcome, work_with}
 use Rattle.at_mail.specs.declared.outcome.Outcome.{Outcome}
 use Rattle.at_mail.specs.declared.outcome.Outcome.TheVariants.{OfSession, Own}
 use Rattle.at_mail.specs.declared.request.PostRequest.{PostRequest}
@@ -48,7 +50,7 @@ words_other words.Usage is = cc
 words_other words.BadQueue is = cc
 words_other words.Memory is = cc
 
-module _ (asked : Result PostRequest WordsFault) (old new : OutsideAt) (final : Cause) (outside : IsOutside old.session) (made : new.made_as ≡ old.made_as) where
+module _ (asked : Result PostRequest WordsFault) (old new : OutsideAt) (final : Cause) (outside : IsOutside old.session) (made : new.err.made_as ≡ old.err.made_as) where
   undone_ends : (of : Cause) → of ≢ cause.OutputFault → HasMadeNone of old new final
       → ((fault : WordsFault) → asked ≡ Err fault → HasMadeNone (words_cause fault) old new final ⊎ HasMadeNone cause.Memory old new final)
       → ((request : PostRequest) → asked ≡ Ok request → HasMadeNone cause.Memory old new final ⊎ PostsSessions request.turns (new_post request.program) old new final)
@@ -59,7 +61,7 @@ module _ (asked : Result PostRequest WordsFault) (old new : OutsideAt) (final : 
     counts = subst (λ (session : Session). KeepsCounts old.session session) (sym is.session) (no_counts old.session);
     readers_made = ap (λ readers. readers.made_as) is.readers;
     made = made;
-    output_fault = λ same. absurd (said_other of old.tells.errors old.said new.said final is.says other same);
+    output_fault = λ same. absurd (said_other of old.tells.errors old.holds.errors new.holds.errors final is.says other same);
     unasked = unasked;
     posts = posts;
   }
@@ -99,7 +101,7 @@ session_other FileFault (Err put.Memory) is = cc
 session_other (Damaged damage) (Err put.Memory) is = cc
 session_other Memory (Err put.Memory) is = cc
 
-sessions_other : (tells : Telling) (items : List PostItem) (first last : WorkAt) → MakesSessions tells first items last → last_outcome items ≡ Some (OfSession cause.OutputFault) → ⊥
+sessions_other : (tells : Telling) (items : List PostItem) (first last : WorkAt PostAt) → MakesSessions tells first items last → last_outcome items ≡ Some (OfSession cause.OutputFault) → ⊥
 sessions_other tells _ first _ no_session is = cc
 sessions_other tells _ first _ (next_session before item last rested after makes goes_on rests session) is =
     session_other item.end item.said (sym (last_more before item) ∙ is)
@@ -116,7 +118,7 @@ session_output (Some outcome) is = ap Some is
 pub no_kids : (children : List Child) (program : List ℕ) → AreChildren children (new_post program).kids
 no_kids children program = record { each = λ kid is. absurd (let less : is.0 < 0 = is.1 in omega arith) }
 
-module _ (tells : Telling) (items : List PostItem) (first last : WorkAt) (makes : MakesSessions tells first items last) (outside : IsOutside first.spool.session)
+module _ (tells : Telling) (items : List PostItem) (first last : WorkAt PostAt) (makes : MakesSessions tells first items last) (outside : IsOutside first.spool.session)
     (children : AreChildren first.spool.session.children first.spool.post.kids) where
   rose_by : (errors : Bool) (outcome : Outcome) (new : SinkAt) (final : Cause) → outcome ≡ outcome_or_done (last_outcome items) → last.said.faults ≤ new.faults
       → SaysOutcome errors outcome last.said new final → final ≡ cause.OutputFault → Rose first.said.faults new.faults
@@ -131,18 +133,18 @@ module _ (tells : Telling) (items : List PostItem) (first last : WorkAt) (makes 
 
 -- the sessions were made, and what they came to was said
 pub posted_ends : (request : PostRequest) (post : PostState) (old mid new : OutsideAt) (outcome : Outcome) (final : Cause) → IsOutside old.session
-    → HasMade old.tells request.turns (work_with (new_post request.program) old) (work_with post mid) outcome → new.session ≡ mid.session → new.spool ≡ mid.spool
-    → new.answers ≡ mid.answers → new.readers ≡ mid.readers → mid.said.faults ≤ new.said.faults → new.made_as ≡ old.made_as
-    → SaysOutcome old.tells.errors outcome mid.said new.said final → PostEnds (Ok request) old new final
+    → HasMade old.tells request.turns (work_with (new_post request.program) old) (work_with post mid) outcome → new.session ≡ mid.session → new.holds.spool ≡ mid.holds.spool
+    → new.holds.answers ≡ mid.holds.answers → new.readers ≡ mid.readers → mid.holds.errors.faults ≤ new.holds.errors.faults → new.err.made_as ≡ old.err.made_as
+    → SaysOutcome old.tells.errors outcome mid.holds.errors new.holds.errors final → PostEnds (Ok request) old new final
 posted_ends request post old mid new outcome final outside made session spool answers readers later same says =
-    let first : WorkAt = work_with (new_post request.program) old in
+    let first : WorkAt PostAt = work_with (new_post request.program) old in
     let keeps = keeps_all old.tells first outside (no_kids old.session.children request.program) made.items (work_with post mid) made.makes in record {
       outside = subst IsOutside (sym session) keeps.outside;
       kept = subst (λ (is : Session). KeepsChildren old.session.children is.children) (sym session) keeps.kept;
       counts = subst (λ (is : Session). KeepsCounts old.session is) (sym session) keeps.counts;
       readers_made = ap (λ is. is.made_as) (readers ∙ keeps.readers);
       made = same;
-      output_fault = rose_by old.tells made.items first (work_with post mid) made.makes outside (no_kids old.session.children request.program) old.tells.errors outcome new.said final made.comes later says;
+      output_fault = rose_by old.tells made.items first (work_with post mid) made.makes outside (no_kids old.session.children request.program) old.tells.errors outcome new.holds.errors final made.comes later says;
       unasked = λ fault was. absurd (not_both (Ok request) fault request (sym was) refl);
       posts = λ other was. inr (subst (λ (of : PostRequest). PostsSessions of.turns (new_post of.program) old new final) (same_request request other was) (record {
         items = made.items;
@@ -154,6 +156,6 @@ posted_ends request post old mid new outcome final outside made session spool an
         spool = spool;
         answers = answers;
         readers = readers;
-        says = subst (λ (of : Outcome). SaysOutcome old.tells.errors of mid.said new.said final) made.comes says;
+        says = subst (λ (of : Outcome). SaysOutcome old.tells.errors of mid.holds.errors new.holds.errors final) made.comes says;
       }));
     }

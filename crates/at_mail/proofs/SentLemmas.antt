@@ -24,7 +24,7 @@ use Rattle.mail_notes.specs.declared.note.Note.TheVariants.{Dropped, Noted, Sent
 use Rattle.mail_notes.specs.declared.note.NotedJob.{NotedJob}
 use Rattle.mail_notes.specs.Hands.{HandsByNow, Hands, IsNoticeOf, Mailing}
 use Rattle.mail_notes.specs.Lines.{Fits, HoldsNotes, IsNote, SpellsNote, note_text, notes_text}
-use Rattle.mail_notes.specs.Notes.{is_closed, is_closing, names}
+use Rattle.mail_notes.specs.Notes.{is_closed, is_closing, is_named, names}
 use Rattle.mail_notes.specs.Notices.{notice_text}
 use Rattle.mail_notes.proofs.OneText.{one_note_a_line}
 use Rattle.mail_notes.proofs.WritingLemmas.{notes_can_be_written}
@@ -128,10 +128,10 @@ sent_both (Noted job ∷ later) second = sent_both later second
 sent_both (Dropped number ∷ later) second = sent_both later second
 
 -- what was handed over by these notes, the last of which may be wanting, is of the first of their numbers
-pub by_now_numbers : (of : Mailing) (notes : List Note) (given : List Handed) → HandsByNow of notes given
+pub by_now_numbers : (of : Mailing) (notes : List Note) (image : Files) (given : List Handed) → HandsByNow of notes image given
     → (more : List ℕ) × (sent_numbers notes ≡ notice_numbers given ++ more)
-by_now_numbers of notes given (inl hands) = ([], sym (append-nil (notice_numbers given) ∙ hands_numbers of notes given hands))
-by_now_numbers of notes given (inr lacks) =
+by_now_numbers of notes image given (inl hands) = ([], sym (append-nil (notice_numbers given) ∙ hands_numbers of notes given hands))
+by_now_numbers of notes image given (inr lacks) =
     (lacks.number ∷ [], ap sent_numbers lacks.ends ∙ sent_both lacks.earlier (Sent lacks.number ∷ []) ∙ ap (λ (numbers : List ℕ). numbers ++ lacks.number ∷ []) (sym (hands_numbers of lacks.earlier given lacks.hands)))
 
 -- a number whose notice was sent is closed
@@ -153,6 +153,31 @@ sent_closed number before notes is =
 pub closed_more : (number : ℕ) (notes later : List Note) → is_closed number notes ≡ true → is_closed number (notes ++ later) ≡ true
 closed_more number notes later is =
     list_any-append (λ note. names number note && is_closing note) notes later ∙ one_is (is_closed number notes) (is_closed number later) is
+
+-- a number whose notice was sent is named
+pub named_of_sent : (number : ℕ) (notes : List Note) → has number (sent_numbers notes) ≡ true → is_named number notes ≡ true
+named_of_sent number [] is = is
+named_of_sent number (Sent one ∷ later) is = elim (either (one == number) (has number (sent_numbers later)) is) [
+  | inl same ↦ one_is (one == number) (is_named number later) same
+  | inr rest ↦ other_is (one == number) (is_named number later) (named_of_sent number later rest)
+]
+named_of_sent number (Noted job ∷ later) is = other_is (job.number == number) (is_named number later) (named_of_sent number later is)
+named_of_sent number (Dropped one ∷ later) is = other_is (one == number) (is_named number later) (named_of_sent number later is)
+
+neither : (one other : Bool) → one ≡ false → other ≡ false → (one || other) ≡ false
+neither one other is rest = rw (is, rest) refl
+
+not_one : (one other : Bool) → (one || other) ≡ false → one ≡ false
+not_one true other is = is
+not_one false other is = refl
+
+-- a number that neither of two lists of notes names, and one that both don't
+
+pub unnamed_both : (number : ℕ) (first second : List Note) → is_named number first ≡ false → is_named number second ≡ false → is_named number (first ++ second) ≡ false
+unnamed_both number first second one two = list_any-append (names number) first second ∙ neither (is_named number first) (is_named number second) one two
+
+pub unnamed_first : (number : ℕ) (first second : List Note) → is_named number (first ++ second) ≡ false → is_named number first ≡ false
+unnamed_first number first second is = not_one (is_named number first) (is_named number second) (sym (list_any-append (names number) first second) ∙ is)
 
 -- What is due.
 

@@ -10,7 +10,8 @@ use Rattle.host_session.specs.declared.turn_end.TurnEnd.{TurnEnd}
 use Rattle.mail_notes.specs.declared.note.Note.{Note}
 use Rattle.mail_notes.specs.Names.{mail_file}
 use Rattle.mail_session.specs.Leaving.{GivesNotes, MailLeaves, PostAt, PostsTo}
-use Rattle.at_mail.specs.Making.{MakesSessions, Telling, WorkAt}
+use Rattle.cause_output.specs.Outside.{Telling, WorkAt}
+use Rattle.at_mail.specs.Making.{MakesSessions}
 use Rattle.at_mail.specs.Outcomes.{PostItem}
 
 -- what was handed over is a notice: its script has no header of a job
@@ -87,5 +88,5 @@ SessionsAreEvents = (old new : PostAt) (end : TurnEnd) (sent : List ℕ) → Pos
 
 -- and the sessions of the program are events, one after another
 abbrev pub ProgramsAreEvents : Type 0
-ProgramsAreEvents = (tells : Telling) (items : List PostItem) (first last : WorkAt) → tells.files ≡ true → tells.alone ≡ true →
+ProgramsAreEvents = (tells : Telling) (items : List PostItem) (first last : WorkAt PostAt) → tells.files ≡ true → tells.alone ≡ true →
     MakesSessions tells first items last → MailEvents first.spool.world last.spool.world

@@ -3,53 +3,31 @@ use Rattle.std.specs.Prelude.{◌≡◌, ◌⊎◌, ◌≤◌, ℕ, Bool, true, 
 use Rattle.at_words.specs.declared.fault.WordsFault.{WordsFault}
 use Rattle.cause_output.specs.Saying.{IsSaid}
 use Rattle.cause_output.specs.Causes.{words_cause}
-use Rattle.cause_output.specs.Sinks.{SinkAt, sink_at}
+use Rattle.cause_output.specs.Outside.{OutsideAt, WorkAt, no_inputs, no_sink, outside_at, work_at}
+use Rattle.cause_output.specs.Sinks.{SinkAt}
 use Rattle.daemon_turn.specs.Kids.{KeepsChildren}
 use Rattle.host_calls.specs.Causes.{Rose}
-use Rattle.host_calls.specs.Clock.{Answers, Readers}
 use Rattle.host_calls.specs.declared.host.Host as host
 use Rattle.host_calls.specs.declared.readings.Readings as readings
 use Rattle.host_calls.specs.declared.sink.Sink as sink
-use Rattle.host_calls.specs.Session.{IsOutside, KeepsCounts, Session}
-use Rattle.host_calls.specs.World.{World}
+use Rattle.host_calls.specs.Session.{IsOutside, KeepsCounts}
 use Rattle.listing_text.specs.declared.cause.Cause.{Cause}
 use Rattle.listing_text.specs.declared.cause.Cause.TheVariants as cause
 use Rattle.mail_session.specs.PostState.{PostState, new_post}
+use Rattle.mail_session.specs.Leaving.{PostAt}
 use Rattle.at_mail.specs.declared.outcome.Outcome.{Outcome}
 use Rattle.at_mail.specs.declared.outcome.Outcome.TheVariants.{OfSession, Own}
 use Rattle.at_mail.specs.declared.request.PostRequest.{PostRequest}
-use Rattle.at_mail.specs.Making.{MakesSessions, Telling, WorkAt}
+use Rattle.at_mail.specs.Making.{MakesSessions}
 use Rattle.at_mail.specs.Outcomes.{PostItem, last_outcome, outcome_or_done, program_name}
 
--- A host, readings and the sink for what is said, with what it was made as, at a moment.
-pub record OutsideAt : Type 0 where
-  pub tells : Telling
-  pub session : Session
-  pub spool : World
-  pub answers : Answers
-  pub readers : Readers
-  pub said : SinkAt
-  pub made_as : List ℕ
-
-abbrev pub outside_at : {H R E : Type 0} → host.Ghosts H → readings.Ghosts R → sink.Ghosts E → H → R → E → OutsideAt
-outside_at h r e host readings err = record {
-  tells = record { files = h.tells; alone = h.alone; clock = r.tells; errors = e.tells };
-  session = h.session host;
-  spool = h.world host;
-  answers = r.answers readings;
-  readers = r.readers readings;
-  said = sink_at (e.content err) (e.outlet err);
-  made_as = (e.outlet err).made_as;
-}
+-- all that the program is handed: no inputs, and nothing to print on
+abbrev pub mail_outside : {H R E : Type 0} → host.Ghosts H → readings.Ghosts R → sink.Ghosts E → H → R → E → OutsideAt
+mail_outside h r e host readings err = outside_at h r no_inputs no_sink e host readings tt tt err
 
 -- what is worked with, with this post
-abbrev pub work_with : PostState → OutsideAt → WorkAt
-work_with post at = record {
-  spool = record { session = at.session; world = at.spool; post = post };
-  answers = at.answers;
-  readers = at.readers;
-  said = at.said;
-}
+abbrev pub work_with : PostState → OutsideAt → WorkAt PostAt
+work_with post at = work_at (record { session = at.session; world = at.holds.spool; post = post }) at
 
 -- the last line: that of a cause of its own; the line of a session that ended it was said before
 abbrev pub SaysOutcome : Bool → Outcome → SinkAt → SinkAt → Cause → Type 0
@@ -59,24 +37,24 @@ SaysOutcome tells (Own of) old new final = IsSaid program_name tells of old new 
 -- No session was made, and this cause was said.
 pub record HasMadeNone (of : Cause) (old new : OutsideAt) (final : Cause) : Type 0 where
   pub session : new.session ≡ old.session
-  pub spool : new.spool ≡ old.spool
-  pub answers : new.answers ≡ old.answers
+  pub spool : new.holds.spool ≡ old.holds.spool
+  pub answers : new.holds.answers ≡ old.holds.answers
   pub readers : new.readers ≡ old.readers
-  pub says : IsSaid program_name old.tells.errors of old.said new.said final
+  pub says : IsSaid program_name old.tells.errors of old.holds.errors new.holds.errors final
 
 -- The sessions, on one post, lead to the end: all that were asked for, or fewer where one ended the program. What it comes to
 -- is that of the last session, or that all was done.
 pub record PostsSessions (turns : ℕ) (begun : PostState) (old new : OutsideAt) (final : Cause) : Type 0 where
   pub items : List PostItem
-  pub last : WorkAt
+  pub last : WorkAt PostAt
   pub few : length items ≤ turns
   pub makes : MakesSessions old.tells (work_with begun old) items last
   pub stops : (length items ≡ turns) ⊎ IsSome (last_outcome items)
   pub session : new.session ≡ last.spool.session
-  pub spool : new.spool ≡ last.spool.world
-  pub answers : new.answers ≡ last.answers
-  pub readers : new.readers ≡ last.readers
-  pub says : SaysOutcome old.tells.errors (outcome_or_done (last_outcome items)) last.said new.said final
+  pub spool : new.holds.spool ≡ last.spool.world
+  pub answers : new.holds.answers ≡ last.clock.answers
+  pub readers : new.readers ≡ last.clock.readers
+  pub says : SaysOutcome old.tells.errors (outcome_or_done (last_outcome items)) last.said new.holds.errors final
 
 -- How the program ends, by what its words ask for. No session is on, no child is forgotten and no count has fallen; what the
 -- readings and the sink were made as stays; a fault of the output comes only where its count rose. Words that ask for nothing
@@ -86,8 +64,8 @@ pub record PostEnds (asked : Result PostRequest WordsFault) (old new : OutsideAt
   pub kept : KeepsChildren old.session.children new.session.children
   pub counts : KeepsCounts old.session new.session
   pub readers_made : new.readers.made_as ≡ old.readers.made_as
-  pub made : new.made_as ≡ old.made_as
-  pub output_fault : final ≡ cause.OutputFault → Rose old.said.faults new.said.faults
+  pub made : new.err.made_as ≡ old.err.made_as
+  pub output_fault : final ≡ cause.OutputFault → Rose old.holds.errors.faults new.holds.errors.faults
   pub unasked : (fault : WordsFault) → asked ≡ Err fault →
       HasMadeNone (words_cause fault) old new final ⊎ HasMadeNone cause.Memory old new final
   pub posts : (request : PostRequest) → asked ≡ Ok request →

@@ -1,5 +1,7 @@
-//! Mail of jobs: each job's end is handed to a mail program, at most once. What the calls below make is handed out here
-//! too: the notes, a notice, and a session of mail.
+//! The program of atpost: sessions of mail with rests, their lines, its exit. In any list of sessions, other events and
+//! crashes no notice is sent twice.
+//!
+//! It also exports the notes, a notice and a session of mail, from the crates below.
 //!
 //! Its definitions are what a reader of `post_program` believes. In the order in which to read them:
 //! 1. `Words`: what the words ask for

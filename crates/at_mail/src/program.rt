@@ -3,7 +3,7 @@ ghost use Rattle.std.specs.Prelude.{◌≡◌, IsTrue, Ok, map, string_bytes};
 ghost use Rattle.host_calls.specs.Session.{IsOutside};
 ghost use Rattle.listing_text.specs.Cause.{status_of};
 ghost use Rattle.mail_session.specs.PostState.{may_be_program};
-ghost use Rattle.at_mail.specs.Program.{PostEnds, outside_at};
+ghost use Rattle.at_mail.specs.Program.{PostEnds, mail_outside};
 ghost use Rattle.at_mail.specs.Words.{post_asked};
 
 use crate::outcomes::{PROGRAM, say_outcome};
@@ -28,8 +28,8 @@ pub fn post_program<H: Host, R: Readings, E: Sink>(
     requires { IsOutside (H.session host.old) }
     ensures code { result ≡ status_of result.cause }
     ensures posts { PostEnds (post_asked (map string_bytes words.now))
-        (outside_at H.Host R.Readings E.Sink host.old readings.old err.old)
-        (outside_at H.Host R.Readings E.Sink host.new readings.new err.new) result.cause }
+        (mail_outside H.Host R.Readings E.Sink host.old readings.old err.old)
+        (mail_outside H.Host R.Readings E.Sink host.new readings.new err.new) result.cause }
 {
     let cause = answer(alloc, words, host, readings, err);
     Status::of(cause)
@@ -45,8 +45,8 @@ fn answer<H: Host, R: Readings, E: Sink>(
 ) -> Cause
     requires { IsOutside (H.session host.old) }
     ensures { PostEnds (post_asked (map string_bytes words.now))
-        (outside_at H.Host R.Readings E.Sink host.old readings.old err.old)
-        (outside_at H.Host R.Readings E.Sink host.new readings.new err.new) result }
+        (mail_outside H.Host R.Readings E.Sink host.old readings.old err.old)
+        (mail_outside H.Host R.Readings E.Sink host.new readings.new err.new) result }
 {
     match request(alloc, words) {
         Ok(request) => carry_out(alloc, &request, host, readings, err),
@@ -65,8 +65,8 @@ fn carry_out<H: Host, R: Readings, E: Sink>(
     requires outside { IsOutside (H.session host.old) }
     requires program { IsTrue (may_be_program request.now.program) }
     ensures { PostEnds (Ok request.now)
-        (outside_at H.Host R.Readings E.Sink host.old readings.old err.old)
-        (outside_at H.Host R.Readings E.Sink host.new readings.new err.new) result }
+        (mail_outside H.Host R.Readings E.Sink host.old readings.old err.old)
+        (mail_outside H.Host R.Readings E.Sink host.new readings.new err.new) result }
 {
     match Post::new(alloc, request.program.as_str()) {
         Ok(mut post) => {

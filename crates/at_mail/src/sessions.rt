@@ -1,10 +1,11 @@
 //! Sessions, one after another.
 ghost use Rattle.std.specs.Prelude.{◌≡◌, ◌≤◌};
+ghost use Rattle.cause_output.specs.Outside.{RestsOn, clock_at};
 ghost use Rattle.cause_output.specs.Sinks.{sink_at};
 ghost use Rattle.daemon_turn.specs.Kids.{AreChildren};
 ghost use Rattle.host_calls.specs.Session.{IsOutside};
-ghost use Rattle.at_mail.specs.Program.{outside_at, work_with};
-ghost use Rattle.at_mail.specs.inside.Progressing.{HasMade, MakesOne, RestsBefore};
+ghost use Rattle.at_mail.specs.Program.{mail_outside, work_with};
+ghost use Rattle.at_mail.specs.inside.Progressing.{HasMade, MakesOne, rest_before};
 
 use crate::outcome::Outcome;
 use crate::outcomes::{outcome_by, say_end};
@@ -28,9 +29,9 @@ pub(crate) fn make_sessions<H: Host, R: Readings, E: Sink>(
     requires outside { IsOutside (H.session host.old) }
     requires children { AreChildren (H.session host.old).children post.old.kids }
     ensures made { (E.outlet err.new).made_as ≡ (E.outlet err.old).made_as }
-    ensures makes { HasMade (outside_at H.Host R.Readings E.Sink host.old readings.old err.old).tells turns
-        (work_with post.old (outside_at H.Host R.Readings E.Sink host.old readings.old err.old))
-        (work_with post.new (outside_at H.Host R.Readings E.Sink host.new readings.new err.new)) result }
+    ensures makes { HasMade (mail_outside H.Host R.Readings E.Sink host.old readings.old err.old).tells turns
+        (work_with post.old (mail_outside H.Host R.Readings E.Sink host.old readings.old err.old))
+        (work_with post.new (mail_outside H.Host R.Readings E.Sink host.new readings.new err.new)) result }
 {
     for place in 0..turns {
         rest_before(place, readings);
@@ -44,8 +45,8 @@ pub(crate) fn make_sessions<H: Host, R: Readings, E: Sink>(
 
 // Rests before the session of this place. There is no rest before the first.
 fn rest_before<R: Readings>(place: u64, readings: &mut R)
-    ensures { RestsBefore place R.tells (R.answers readings.old) (R.answers readings.new)
-        (R.readers readings.old) (R.readers readings.new) }
+    ensures { RestsOn R.tells (rest_before place)
+        (clock_at R.Readings readings.old) (clock_at R.Readings readings.new) }
 {
     if place != 0 {
         readings.rest(REST);

@@ -37,20 +37,21 @@ hands_then of (note ∷ others) later given more before after = (
 )
 
 -- where the last notice of later notes is wanting, it is wanting after earlier ones too
-lacks_then : (of : Mailing) (first later : List Note) (given more : List Handed) → Hands of first given → LacksLast of later more →
-    LacksLast of (first ++ later) (given ++ more)
-lacks_then of first later given more before lacks = record {
+lacks_then : (of : Mailing) (first later : List Note) (image : Files) (given more : List Handed) → Hands of first given →
+    LacksLast of later image more → LacksLast of (first ++ later) image (given ++ more)
+lacks_then of first later image given more before lacks = record {
   earlier = first ++ lacks.earlier;
   number = lacks.number;
   ends = ap (λ (l : List Note). first ++ l) lacks.ends ∙ sym (append_assoc first lacks.earlier (Sent lacks.number ∷ []));
+  placed = lacks.placed;
   hands = hands_then of first lacks.earlier given more before lacks.hands;
 }
 
-by_now_then : (of : Mailing) (first later : List Note) (given more : List Handed) → Hands of first given → HandsByNow of later more →
-    HandsByNow of (first ++ later) (given ++ more)
-by_now_then of first later given more before by_now = elim by_now [
+by_now_then : (of : Mailing) (first later : List Note) (image : Files) (given more : List Handed) → Hands of first given →
+    HandsByNow of later image more → HandsByNow of (first ++ later) image (given ++ more)
+by_now_then of first later image given more before by_now = elim by_now [
   | inl all ↦ inl (hands_then of first later given more before all)
-  | inr lacks ↦ inr (lacks_then of first later given more before lacks)
+  | inr lacks ↦ inr (lacks_then of first later image given more before lacks)
 ]
 
 -- what leaves the files of an image alone leaves those alone that the image left
@@ -86,7 +87,7 @@ along_after of notes first later given questions start middle before image hande
   holds = subst (HoldsNotes (map.get image mail_file)) (append_assoc notes first is.prefix) is.holds;
   given = given ++ is.given;
   grown = is.grown ∙ ap (λ (l : List Handed). l ++ is.given) before.handed ∙ append_assoc start.now.handed given is.given;
-  hands = by_now_then of first is.prefix given is.given before.hands is.hands;
+  hands = by_now_then of first is.prefix image given is.given before.hands is.hands;
 }
 
 -- what later notes leave, they leave of all

@@ -1,6 +1,8 @@
 -- What notes hand over (own): the notice of each that was sent.
 use Rattle.std.specs.Prelude.{◌≡◌, ◌⊎◌, ◌++◌, [], ◌∷◌, ℕ, List, Option, Some, None, Contains}
+use Rattle.std.specs.FinMap as map
 use Rattle.host_calls.specs.declared.child.Handed.{Handed}
+use Rattle.host_calls.specs.Folder.{Files}
 use Rattle.listing_text.specs.Lines.{turn_text}
 use Rattle.listing_text.specs.declared.turn_step.TurnStepText.{TurnStepText}
 use Rattle.listing_text.specs.declared.turn_step.TurnStepText.TheVariants as step
@@ -11,6 +13,7 @@ use Rattle.spool_model.specs.JobTable.{JobTable, entry_at}
 use Rattle.mail_notes.specs.declared.note.Note.{Note}
 use Rattle.mail_notes.specs.declared.note.Note.TheVariants.{Dropped, Noted, Sent}
 use Rattle.mail_notes.specs.declared.note.NotedJob.{NotedJob}
+use Rattle.mail_notes.specs.Names.{notice_file}
 use Rattle.mail_notes.specs.Notices.{notice_text}
 
 -- what notices are made of: the mail program, the table of jobs, and the notes with the new ones
@@ -40,6 +43,12 @@ pub record IsNoticeOf (of : Mailing) (number : ℕ) (script : List ℕ) : Type 0
   pub ended : IsEndOf of.table number end
   pub script_is : script ≡ notice_text of.program job (turn_text end)
 
+-- the image has the notice of the number's end under its name
+pub record HasNotice (of : Mailing) (number : ℕ) (image : Files) : Type 0 where
+  pub script : List ℕ
+  pub held : map.get image (notice_file number) ≡ Some script
+  pub notice : IsNoticeOf of number script
+
 -- how nice a notice is
 abbrev pub notice_nice : ℕ
 notice_nice = 19
@@ -62,14 +71,16 @@ Hands of [] given = given ≡ []
 Hands of (note ∷ later) given =
     (first : List Handed) × (rest : List Handed) × HandsOne of note first × Hands of later rest × (given ≡ first ++ rest)
 
--- The last note is that a notice was sent which was not handed over yet; those before it have handed over these.
-pub record LacksLast (of : Mailing) (notes : List Note) (given : List Handed) : Type 0 where
+-- The last note is that a notice was sent which was not handed over yet, and the image has it; the notes before have
+-- handed over these.
+pub record LacksLast (of : Mailing) (notes : List Note) (image : Files) (given : List Handed) : Type 0 where
   pub earlier : List Note
   pub number : ℕ
   pub ends : notes ≡ earlier ++ Sent number ∷ []
+  pub placed : HasNotice of number image
   pub hands : Hands of earlier given
 
--- What was handed over once these notes stand. That a notice was sent stands before it is handed over, so that of the last
--- note may be wanting.
-abbrev pub HandsByNow : Mailing → List Note → List Handed → Type 0
-HandsByNow of notes given = Hands of notes given ⊎ LacksLast of notes given
+-- What was handed over once these notes are in the image. A notice is placed before its note is written, and the note
+-- before the notice is handed over, so that of the last note may not be handed over yet.
+abbrev pub HandsByNow : Mailing → List Note → Files → List Handed → Type 0
+HandsByNow of notes image given = Hands of notes given ⊎ LacksLast of notes image given

@@ -21,7 +21,7 @@ pub record IsAlong (of : Mailing) (notes new_ones : List Note) (start : Moment) 
   pub holds : HoldsNotes (map.get image mail_file) (notes ++ prefix)
   pub given : List Handed
   pub grown : handed ≡ start.handed ++ given
-  pub hands : HandsByNow of prefix given
+  pub hands : HandsByNow of prefix image given
 
 -- each image of the folder holds the notes, and no file of mail is being made in it
 pub record IsReady (notes : List Note) (folder : Folder) : Type 0 where

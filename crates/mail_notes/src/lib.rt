@@ -1,5 +1,5 @@
-//! The notes of the mail of jobs: a job was seen, its notice was sent or dropped; their lines, what they say of each
-//! job, the text of a notice, and what a crash leaves of a run of notes.
+//! `.MAIL`, the notes on jobs for mail: their lines, which may come next, names and texts of notices. A note that is
+//! allowed can be written and reads back.
 #![tactic(auto)]
 
 mod book;

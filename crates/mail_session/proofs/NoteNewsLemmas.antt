@@ -51,9 +51,9 @@ module _ (tells : Bool) (before after : Session) (old new : World) (news : List 
   noting_ends : (of : Mailing) (notes : List Note) → IsReady notes old.now.folder → text ≡ notes_text (notes ++ noting_of news) →
       (result : Result (Unit {0}) HostFault) → Places mail_file text old new result → NotingEnds of notes (noting_of news) old new result
   noting_ends of notes ready text_is (Ok done) places =
-      notes_made of notes (noting_of news) text old new ready text_is (inl (noting_hands_nothing of news)) places.changes places.placed (noting_hands_nothing of news)
+      notes_made of notes (noting_of news) text old new ready text_is (λ image is. inl (noting_hands_nothing of news)) places.changes places.placed (noting_hands_nothing of news)
   noting_ends of notes ready text_is (Err fault) places =
-      notes_stopped of notes (noting_of news) text old new ready text_is (inl (noting_hands_nothing of news)) places.changes
+      notes_stopped of notes (noting_of news) text old new ready text_is (λ image is. inl (noting_hands_nothing of news)) places.changes
 
   none_made : (result : Result (Unit {0}) HostFault) → Places mail_file text old new result → IfOk result (λ done. IsInNoImage new.now.folder mail_temp)
   none_made (Ok done) places = places.placed.no_temp

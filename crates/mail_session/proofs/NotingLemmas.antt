@@ -32,7 +32,7 @@ along_none of notes new_ones start image alone holds = record {
 
 -- and one that holds all of the new ones, once these were handed over
 pub along_all : (of : Mailing) (notes new_ones : List Note) (start : Moment) (image : Files) (given handed : List Handed) →
-    LeavesOthers IsMailName start.folder image → HoldsNotes (map.get image mail_file) (notes ++ new_ones) → HandsByNow of new_ones given →
+    LeavesOthers IsMailName start.folder image → HoldsNotes (map.get image mail_file) (notes ++ new_ones) → HandsByNow of new_ones image given →
     handed ≡ start.handed ++ given → IsAlong of notes new_ones start image handed
 along_all of notes new_ones start image given handed alone holds by_now grown = record {
   prefix = new_ones;
@@ -133,7 +133,8 @@ notice_made of notes number script old new ready changes placed =
 
 -- Notes are placed, all at once.
 module _ (of : Mailing) (notes new_ones : List Note) (text : List ℕ) (old new : World) (ready : IsReady notes old.now.folder)
-    (text_is : text ≡ notes_text (notes ++ new_ones)) (by_now : HandsByNow of new_ones [])
+    (text_is : text ≡ notes_text (notes ++ new_ones))
+    (by_now : (image : Files) → IsPlacing mail_temp mail_file text old.now.folder image → HandsByNow of new_ones image [])
     (changes : ChangesFiles (IsPlacing mail_temp mail_file text old.now.folder) old new) where
   alone_placing : (image : Files) → IsPlacing mail_temp mail_file text old.now.folder image → LeavesOthers IsMailName old.now.folder image
   alone_placing image is = alone_of mail_file (inl refl) old.now.folder image is.alone
@@ -145,7 +146,7 @@ module _ (of : Mailing) (notes new_ones : List Note) (text : List ℕ) (old new 
         (along_none of notes new_ones old.now image (alone_placing image is.0)
         (subst (λ held. HoldsNotes held notes) (sym same) (ready.holds is.0.alone.from is.0.alone.was)))
     | inr new_text ↦ along_all of notes new_ones old.now image [] handed (alone_placing image is.0)
-        (subst (λ held. HoldsNotes held (notes ++ new_ones)) (sym new_text) text_is) by_now (is.1 ∙ sym (append-nil old.now.handed))
+        (subst (λ held. HoldsNotes held (notes ++ new_ones)) (sym new_text) text_is) (by_now image is.0) (is.1 ∙ sym (append-nil old.now.handed))
   ]
 
   pub leaves_placing : LeavesOnly (IsAlong of notes new_ones old.now) old new

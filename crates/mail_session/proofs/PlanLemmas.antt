@@ -4,7 +4,6 @@ use Rattle.std.specs.Prelude.{Result, Ok, Err, option_map}
 use Rattle.std.specs.FinMap as finite
 use Rattle.std.specs.List.{filter_map, cons_option}
 use Rattle.host_calls.specs.declared.damage.Damage.{Damage}
-use Rattle.host_calls.specs.declared.fault.HostFault.TheVariants as host
 use Rattle.host_calls.specs.Damages.{IfDamaged}
 use Rattle.host_calls.specs.World.{World, reading}
 use Rattle.record_lines.specs.Lines.{AreLines, AreSpelled}

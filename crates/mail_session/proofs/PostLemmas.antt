@@ -260,7 +260,7 @@ module _ (program : List ℕ) (tells : Bool) (before after : Session) (old new :
     files = λ known of notes same ready text_is due. record {
       given = [];
       numbered = refl;
-      ends = notes_made of notes (Dropped number ∷ []) is old new ready (text_with notes (Dropped number) was is added text_is) (inl (quiet of))
+      ends = notes_made of notes (Dropped number ∷ []) is old new ready (text_with notes (Dropped number) was is added text_is) (λ image is. inl (quiet of))
           (places known).changes (places known).placed (quiet of);
     };
   }
@@ -283,7 +283,7 @@ module _ (program : List ℕ) (tells : Bool) (before after : Session) (old new :
     files = λ known of notes same ready text_is due. record {
       given = [];
       numbered = refl;
-      ends = notes_stopped of notes (Dropped number ∷ []) is old new ready (text_with notes (Dropped number) was is added text_is) (inl (quiet of)) (places known).changes;
+      ends = notes_stopped of notes (Dropped number ∷ []) is old new ready (text_with notes (Dropped number) was is added text_is) (λ image is. inl (quiet of)) (places known).changes;
     };
   }
 

@@ -25,7 +25,7 @@ use Rattle.mail_notes.specs.Runs.{AreMade, AreStopped, IsAlong, IsReady}
 use Rattle.mail_notes.proofs.RunLemmas.{notes_are_made_after, notes_are_stopped_after}
 use Rattle.mail_session.specs.inside.Sending.{HandsNoticeOver, IsHandingOver, Places, Sends, SendingEnds, added_by}
 use Rattle.mail_session.proofs.ReadLemmas.{reads_after, reads_sent}
-use Rattle.mail_session.proofs.NotingLemmas.{alone_end, along_all, leaves_placing, notes_stopped, notice_elsewhere, notice_made, notice_stopped, ready_placed}
+use Rattle.mail_session.proofs.NotingLemmas.{alone_end, along_all, leaves_placing, notes_stopped, notice_elsewhere, notice_made, notice_stopped, placing_end, ready_placed}
 
 pub no_fault : {T : Type 0} (value : T) (fault : HostFault) → ◌≡◌ {A = Result T HostFault} (Ok value) (Err fault) → ⊥
 no_fault value fault is = cc
@@ -85,28 +85,43 @@ pub notice_held : (number : ℕ) (script text : List ℕ) (old middle new : Worl
 notice_held number script text old middle new first then =
     subst IsSome (sym (then.placed.others (notice_file number) (notice_elsewhere number) ∙ first.placed.placed (reading middle) (reading_is_image middle.now.folder))) refl
 
--- the notes with the one that is being sent have handed over nothing of it
-lacking : (of : Mailing) (number : ℕ) → HandsByNow of (Sent number ∷ []) []
-lacking of number = inr (record { earlier = []; number = number; ends = refl; hands = refl })
+-- the notes with the one that is being sent have handed over nothing of it, and its notice is there, as before
+lacking : (of : Mailing) (number : ℕ) (script text : List ℕ) (folder : Folder) → IsNoticeOf of number script →
+    ((from : Files) → IsImage folder from → map.get from (notice_file number) ≡ Some script) → (image : Files) → IsPlacing mail_temp mail_file text folder image →
+    HandsByNow of (Sent number ∷ []) image []
+lacking of number script text folder notice held image is = inr (record {
+  earlier = [];
+  number = number;
+  ends = refl;
+  placed = record {
+    script = script;
+    held = is.alone.others (notice_file number) (notice_elsewhere number) ∙ held is.alone.from is.alone.was;
+    notice = notice;
+  };
+  hands = refl;
+})
 
 -- After the note, the notice is handed over.
 module _ (of : Mailing) (notes : List Note) (number : ℕ) (script text : List ℕ) (old middle new : World) (ready : IsReady notes old.now.folder)
     (text_is : text ≡ notes_text (notes ++ Sent number ∷ [])) (notice : IsNoticeOf of number script)
-    (held : map.get (reading old) (notice_file number) ≡ Some script)
+    (held : (image : Files) → IsImage old.now.folder image → map.get image (notice_file number) ≡ Some script)
     (changes : ChangesFiles (IsPlacing mail_temp mail_file text old.now.folder) old middle)
     (placed : IsPlaced mail_temp mail_file text old.now.folder middle.now.folder) where
   -- what was read is the notice
   script_is : (read : List ℕ) → map.get (reading middle) (notice_file number) ≡ Some read → read ≡ script
-  script_is read is = let both : Some read ≡ Some script = sym is ∙ placed.others (notice_file number) (notice_elsewhere number) ∙ held in cc
+  script_is read is = let both : Some read ≡ Some script = sym is ∙ placed.others (notice_file number) (notice_elsewhere number) ∙ held (reading old) (reading_is_image old.now.folder) in cc
+
+  lacking_now : (image : Files) → IsPlacing mail_temp mail_file text old.now.folder image → HandsByNow of (Sent number ∷ []) image []
+  lacking_now = lacking of number script text old.now.folder notice held
 
   ready_now : IsReady (notes ++ Sent number ∷ []) middle.now.folder
-  ready_now = ready_placed of notes (Sent number ∷ []) text old middle ready text_is (lacking of number) changes placed
+  ready_now = ready_placed of notes (Sent number ∷ []) text old middle ready text_is lacking_now changes placed
 
   alone_now : (image : Files) → IsImage middle.now.folder image → LeavesOthers IsMailName old.now.folder image
-  alone_now = alone_end of notes (Sent number ∷ []) text old middle ready text_is (lacking of number) changes
+  alone_now = alone_end of notes (Sent number ∷ []) text old middle ready text_is lacking_now changes
 
   leaves_now : LeavesOnly (IsAlong of notes (Sent number ∷ []) old.now) old middle
-  leaves_now = leaves_placing of notes (Sent number ∷ []) text old middle ready text_is (lacking of number) changes
+  leaves_now = leaves_placing of notes (Sent number ∷ []) text old middle ready text_is lacking_now changes
 
   -- where it was handed over
   module _ (started : Bool) (over : HandsOver number (notice_file number) notice_nice started middle.now new.now) (folder : new.now.folder ≡ middle.now.folder)
@@ -136,8 +151,8 @@ module _ (of : Mailing) (notes : List Note) (number : ℕ) (script text : List �
     along_now : (image : Files) (handed : List Handed) → IsImage middle.now.folder image × ((handed ≡ middle.now.handed) ⊎ (handed ≡ new.now.handed)) →
         IsAlong of notes (Sent number ∷ []) old.now image handed
     along_now image handed is = elim is.1 [
-      | inl not_yet ↦ along_all of notes (Sent number ∷ []) old.now image [] handed (alone_now image is.0) (ready_now.holds image is.0) (lacking of number)
-          (not_yet ∙ changes.handed ∙ sym (append-nil old.now.handed))
+      | inl not_yet ↦ along_all of notes (Sent number ∷ []) old.now image [] handed (alone_now image is.0) (ready_now.holds image is.0)
+          (lacking_now image (placing_end mail_file text old middle changes image is.0)) (not_yet ∙ changes.handed ∙ sym (append-nil old.now.handed))
       | inr all ↦ along_all of notes (Sent number ∷ []) old.now image (record { number = number; script = over.script; nice = notice_nice; started = started } ∷ []) handed
           (alone_now image is.0) (ready_now.holds image is.0) (inl hands) (all ∙ grown)
     ]
@@ -163,7 +178,7 @@ module _ (of : Mailing) (notes : List Note) (number : ℕ) (script text : List �
   handing_ends (Ok child) over = sent_now (is_some child) over.outcome over.folder over.asked over.leaves
   handing_ends (Err fault) over =
       subst (AreStopped of notes [] (Sent number ∷ []) [] [] old) (sym over.outcome)
-      (notes_stopped of notes (Sent number ∷ []) text old middle ready text_is (lacking of number) changes)
+      (notes_stopped of notes (Sent number ∷ []) text old middle ready text_is lacking_now changes)
 
 -- a sending goes on after the notice that was placed
 pub ends_after : (of : Mailing) (notes : List Note) (number : ℕ) (start middle end : World) (result : Result (Option Child) HostFault) →
@@ -215,7 +230,8 @@ module _ (tells : Bool) (before : Session) (old : World) (number : ℕ) (script 
       reads = λ known. tt;
       files = λ known of notes ready text_is notice. let made = made_first known of notes ready in
           ends_after of notes number old middle new (Err fault) made
-          (notes_stopped of (notes ++ []) (Sent number ∷ []) text middle new made.ready (text_after notes text_is) (lacking of number) (then known).changes);
+          (notes_stopped of (notes ++ []) (Sent number ∷ []) text middle new made.ready (text_after notes text_is)
+          (lacking of number script text middle.now.folder notice (places known).placed.placed) (then known).changes);
     }
 
     pub sent_whole : (last after : Session) (noted new : World) (result : Result (Option Child) HostFault) → CallsInside {T = Unit {0}} Failed between last (Ok tt) →
@@ -235,5 +251,5 @@ module _ (tells : Bool) (before : Session) (old : World) (number : ℕ) (script 
       files = λ known of notes ready text_is notice. let made = made_first known of notes ready in
           ends_after of notes number old middle new result made
           (handing_ends of (notes ++ []) number script text middle noted new made.ready (text_after notes text_is) notice
-          ((places known).placed.placed (reading middle) (reading_is_image middle.now.folder)) (then known).changes (then known).placed result (hands.files known));
+          (places known).placed.placed (then known).changes (then known).placed result (hands.files known));
     }

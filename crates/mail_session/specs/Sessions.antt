@@ -27,14 +27,15 @@ pub record IsUntouched (start : Moment) (image : Files) (handed : List Handed) :
   pub same : map.get image mail_file ≡ map.get beside.from mail_file
   pub as_many : handed ≡ start.handed
 
--- the image holds the notes and a prefix of the new ones after them, and since the start this was handed over by them
+-- The image holds the notes and a prefix of the new ones after them, and since the start this was handed over by them. A
+-- notice whose note is the last, and that was not handed over yet, is under its name.
 pub record HoldsPrefix (of : Mailing) (notes new_ones : List Note) (start : Moment) (image : Files) (handed : List Handed) : Type 0 where
   pub prefix : List Note
   pub is_prefix : AreFirst prefix new_ones
   pub holds : HoldsNotes (map.get image mail_file) (notes ++ prefix)
   pub given : List Handed
   pub grown : handed ≡ start.handed ++ given
-  pub hands : HandsByNow of prefix given
+  pub hands : HandsByNow of prefix image given
 
 -- The image shows what an image of the start shows. It has the notes of that image, and nothing was handed over since; or
 -- it holds the notes and a prefix of the new ones, and what these hand over was handed over.

@@ -1,4 +1,5 @@
-//! What is due of the mail of jobs is noted in the spool, and the notices are handed over.
+//! A session of mail: notes new jobs; places, records and sends the notices that are due; removes old ones. A notice is
+//! recorded before it is sent, and sent at most once.
 #![tactic(auto)]
 
 mod ask;

@@ -4,7 +4,7 @@ ghost use Rattle.host_calls.specs.Session.{IsOutside};
 ghost use Rattle.memory_host.specs.Host.{memory_session};
 
 use crate::folders::{notes_now, spool};
-use crate::program::one_session;
+use crate::program::is_done;
 use memory_host::{MemoryHost, Plan};
 use std::alloc::{AllocError, Global};
 use std::process::Abort;
@@ -49,64 +49,37 @@ fn fused(alloc: Global, fuse: u64) -> Plan {
     plan
 }
 
-// A session through which no call gets from the fuse on, a reboot with the pick, and two more sessions: whether the first
-// was done, and how often each notice was handed over.
-fn cut_off(rt: &impl Abort, alloc: Global, fuse: u64, pick: u64) -> Result<(bool, u64, u64), Fail> {
+// Whether a session through which no call gets from the fuse on, a reboot with the pick, and two more sessions hand each
+// notice over at most once.
+fn is_sent_once(rt: &impl Abort, alloc: Global, fuse: u64, pick: u64) -> Result<bool, AllocError> {
     let mut host = two_ends(rt, alloc, fused(alloc, fuse))?;
-    let counts = counts_on(rt, alloc, pick, &mut host);
+    let is_sent = is_sent_on(alloc, pick, &mut host);
     drop(host);
-    counts
+    is_sent
 }
 
-fn counts_on(
-    rt: &impl Abort,
-    alloc: Global,
-    pick: u64,
-    host: &mut MemoryHost,
-) -> Result<(bool, u64, u64), Fail>
+fn is_sent_on(alloc: Global, pick: u64, host: &mut MemoryHost) -> Result<bool, AllocError>
     requires { IsOutside (memory_session host.old) }
 {
-    let is_done = says_nothing(alloc, host)?;
+    let first = is_done(alloc, host)?;
     host.reboot(alloc, pick, None)?;
-    let second = ends_with(alloc, host)?;
-    let third = ends_with(alloc, host)?;
-    assert_eq!(rt; (second, third), (0, 0), "pick {pick}");
-    assert_eq!(rt; notes_now(host), Some(CLOSED), "pick {pick}");
-    Ok((is_done, count_of(host, 1), count_of(host, 2)))
+    let second = is_done(alloc, host)?;
+    let third = is_done(alloc, host)?;
+    let is_closed = notes_now(host) == Some(CLOSED);
+    Ok(second && third && is_closed && is_fit(first, count_of(host, 1), count_of(host, 2)))
 }
 
-// Whether a session was done: it said nothing.
-fn says_nothing(alloc: Global, host: &mut MemoryHost) -> Result<bool, AllocError>
-    requires { IsOutside (memory_session host.old) }
-    ensures { IsOutside (memory_session host.new) }
-{
-    let answered = one_session(alloc, host)?;
-    let is_silent = answered.err.content().is_empty();
-    drop(answered);
-    Ok(is_silent)
-}
-
-// The status after a session.
-fn ends_with(alloc: Global, host: &mut MemoryHost) -> Result<u8, AllocError>
-    requires { IsOutside (memory_session host.old) }
-    ensures { IsOutside (memory_session host.new) }
-{
-    let answered = one_session(alloc, host)?;
-    let code = answered.code;
-    drop(answered);
-    Ok(code)
+// Whether the notices were handed over so often as they may be: once each, where the first session was done.
+fn is_fit(was_done: bool, first: u64, second: u64) -> bool {
+    first <= 1 && second <= 1 && (!was_done || (first == 1 && second == 1))
 }
 
 #[test]
 fn no_notice_is_handed_over_twice(rt: HostRuntime) -> Result<(), Fail> {
     for fuse in 1..60 {
         for pick in [0, 1, u64::MAX] {
-            let (is_done, first, second) = cut_off(&rt, rt.alloc(), fuse, pick)?;
-            assert!(rt; first <= 1 && second <= 1, "fuse {fuse}, pick {pick}");
-            assert!(rt;
-                !is_done || (first == 1 && second == 1),
-                "fuse {fuse}, pick {pick}"
-            );
+            let is_sent = is_sent_once(&rt, rt.alloc(), fuse, pick)?;
+            assert!(rt; is_sent, "fuse {fuse}, pick {pick}");
         }
     }
     Ok(())

@@ -15,12 +15,6 @@ pub(crate) const JOB: &[u8] = b"#!/bin/sh\n# at user=ann mail=1\numask 0022\n";
 // The line of its note.
 pub(crate) const NOTED: &[u8] = b"N 00000001 a0000000101b968a0 1 ann\n";
 
-// The second at which the job is due.
-pub(crate) const DUE: i64 = 1_735_689_600;
-
-// The mail program.
-pub(crate) const SENDMAIL: &str = "/usr/sbin/sendmail";
-
 pub(crate) fn name(rt: &impl Abort, bytes: &[u8]) -> Name {
     Name::of(bytes).expect(rt, "a name")
 }
@@ -42,13 +36,6 @@ pub(crate) fn spool(
         files.put(alloc, name(rt, other), bytes)?;
     }
     MemoryHost::make(alloc, files, plan)
-}
-
-// The spool of one job, which is due.
-pub(crate) fn one_job(rt: &impl Abort, alloc: Global, plan: Plan) -> Result<MemoryHost, AllocError>
-    ensures { IfOk result (λ host. IsOutside (memory_session host)) }
-{
-    spool(rt, alloc, 1, &[(b"a0000000101b968a0", JOB)], plan)
 }
 
 pub(crate) fn notes_now(host: &MemoryHost) -> Option<&[u8]> {

@@ -1,4 +1,5 @@
-//! Mail: notes, notices, sessions and the program, by examples from outside.
+//! Mail: notes and notices by examples from outside, and sessions and trims that calls and crashes cut off. Other examples of
+//! sessions are scenarios.
 #![tactic(auto)]
 
 #[cfg(test)]
@@ -15,7 +16,5 @@ mod notices;
 mod placing;
 #[cfg(test)]
 mod program;
-#[cfg(test)]
-mod sessions;
 #[cfg(test)]
 mod trims;

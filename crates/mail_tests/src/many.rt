@@ -1,6 +1,6 @@
 //! Many jobs whose ends are to be told at once.
 use crate::folders::{notes_now, spool};
-use crate::program::one_session;
+use crate::program::is_done;
 use memory_host::Plan;
 use std::alloc::{AllocError, Global};
 use std::test::Fail;
@@ -30,14 +30,13 @@ fn thirty_ends_are_told_at_once(rt: HostRuntime) -> Result<(), Fail> {
         (b".MAIL".as_slice(), notes.as_slice()),
     ];
     let mut host = spool(&rt, alloc, 30, &others, Plan::quiet(alloc))?;
-    let answered = one_session(alloc, &mut host)?;
-    assert_eq!(rt; answered.code, 0);
+    let is_done = is_done(alloc, &mut host)?;
+    assert!(rt; is_done);
     assert_eq!(rt; host.handed().len(), 30);
     let after = notes_now(&host).ok_or("no notes")?;
     assert!(rt; after.starts_with(notes.as_slice()));
     assert!(rt; after.ends_with(b"S 0000001d\nS 0000001e\n".as_slice()));
     assert_eq!(rt; after.len(), notes.len() + 30 * 11);
-    drop(answered);
     drop(host);
     Ok(())
 }

@@ -4,7 +4,7 @@ ghost use Rattle.host_calls.specs.Session.{IsOutside};
 ghost use Rattle.memory_host.specs.Host.{memory_session};
 
 use crate::folders::{JOB, NOTED, notes_now, spool};
-use crate::program::one_session;
+use crate::program::is_done;
 use at_mail::notice_name;
 use memory_host::{Failing, MemoryHost, Part, Plan};
 use std::alloc::{AllocError, Global};
@@ -21,44 +21,46 @@ fn one_end(rt: &impl Abort, alloc: Global, plan: Plan) -> Result<MemoryHost, All
     spool(rt, alloc, 1, &[(b".JRN", ENDED), (b".MAIL", NOTED)], plan)
 }
 
-// Whether a session was done.
-fn is_done(alloc: Global, host: &mut MemoryHost) -> Result<bool, AllocError>
-    requires { IsOutside (memory_session host.old) }
-    ensures { IsOutside (memory_session host.new) }
-{
-    let answered = one_session(alloc, host)?;
-    let is_silent = answered.err.content().is_empty();
-    drop(answered);
-    Ok(is_silent)
+// How a session ended of which the call of this number alone fails, and whether what it left is right.
+#[derive(Clone, Copy)]
+struct Ended {
+    was_done: bool,
+    is_right: bool,
 }
 
-// A session of which the call of this number alone fails, and another, of which it fails where the first has fewer calls.
-// Where the note is there, so is the notice; where it is not, the second session hands the notice over.
+// Such a session, and another, of which the call fails where the first has fewer calls. Where the note is there, so is the
+// notice; where it is not, the second session hands the notice over.
 fn with_a_failing_call(
     rt: &impl Abort,
     alloc: Global,
     call: u64,
     part: Part,
-) -> Result<bool, Fail> {
+) -> Result<Ended, Fail> {
     let mut plan = Plan::quiet(alloc);
     plan.failing.push(alloc, Failing { call, part })?;
     let mut host = one_end(rt, alloc, plan)?;
-    let was_done = is_done(alloc, &mut host)?;
-    let is_noted = notes_now(&host) != Some(NOTED);
+    let ended = two_sessions(alloc, &mut host);
+    drop(host);
+    Ok(ended?)
+}
+
+fn two_sessions(alloc: Global, host: &mut MemoryHost) -> Result<Ended, AllocError>
+    requires { IsOutside (memory_session host.old) }
+{
+    let was_done = is_done(alloc, host)?;
+    let is_noted = notes_now(host) != Some(NOTED);
     let is_there = host.reading(&notice_name(1)).is_some();
     let handed = host.handed().len();
-    assert!(rt; !is_noted || is_there, "call {call}");
-    assert!(rt; is_noted || handed == 0, "call {call}");
-    let next = is_done(alloc, &mut host)?;
-    assert!(rt; was_done || next, "call {call}");
-    let more = if is_noted { 0 } else { 1 };
-    assert_eq!(rt;
-        host.handed().len(),
-        usize::saturating_add(handed, more),
-        "call {call}"
-    );
-    drop(host);
-    Ok(was_done)
+    let next = is_done(alloc, host)?;
+    let is_right = if is_noted {
+        is_there && host.handed().len() == handed
+    } else {
+        handed == 0 && host.handed().len() == 1
+    };
+    Ok(Ended {
+        was_done,
+        is_right: is_right && (was_done || next),
+    })
 }
 
 #[test]
@@ -66,7 +68,9 @@ fn a_notice_that_is_not_placed_is_sent_by_the_next_session(rt: HostRuntime) -> R
     let mut failed = 0;
     for call in 0..40 {
         for part in [Part::Nothing, Part::All] {
-            if !with_a_failing_call(&rt, rt.alloc(), call, part)? {
+            let ended = with_a_failing_call(&rt, rt.alloc(), call, part)?;
+            assert!(rt; ended.is_right, "call {call}");
+            if !ended.was_done {
                 failed = u64::saturating_add(failed, 1);
             }
         }
@@ -78,8 +82,9 @@ fn a_notice_that_is_not_placed_is_sent_by_the_next_session(rt: HostRuntime) -> R
 // The notes of two jobs that live.
 const BOTH: &[u8] = b"N 00000001 a0000000101b968a0 1 ann\nN 00000002 a0000000201b968a0 1 ann\n";
 
-// A session over two jobs that are new, cut off at the call, and a reboot with the pick.
-fn cut_off(rt: &impl Abort, alloc: Global, fuse: u64, pick: u64) -> Result<(), Fail> {
+// Whether a session over two jobs that are new, cut off at the call, and a reboot with the pick leave the notes of both, or
+// of none.
+fn is_one_change(rt: &impl Abort, alloc: Global, fuse: u64, pick: u64) -> Result<bool, Fail> {
     let others = [
         (b"a0000000101b968a0".as_slice(), JOB),
         (b"a0000000201b968a0".as_slice(), JOB),
@@ -87,22 +92,26 @@ fn cut_off(rt: &impl Abort, alloc: Global, fuse: u64, pick: u64) -> Result<(), F
     let mut plan = Plan::quiet(alloc);
     plan.fuse = Some(fuse);
     let mut host = spool(rt, alloc, 2, &others, plan)?;
-    let was_done = is_done(alloc, &mut host)?;
-    host.reboot(alloc, pick, None)?;
-    let notes = notes_now(&host);
-    assert!(rt;
-        notes == Some(BOTH) || (!was_done && notes.is_none()),
-        "fuse {fuse}, pick {pick}"
-    );
+    let is_one = is_one_on(alloc, pick, &mut host);
     drop(host);
-    Ok(())
+    Ok(is_one?)
+}
+
+fn is_one_on(alloc: Global, pick: u64, host: &mut MemoryHost) -> Result<bool, AllocError>
+    requires { IsOutside (memory_session host.old) }
+{
+    let was_done = is_done(alloc, host)?;
+    host.reboot(alloc, pick, None)?;
+    let notes = notes_now(host);
+    Ok(notes == Some(BOTH) || (!was_done && notes.is_none()))
 }
 
 #[test]
 fn the_notes_of_what_is_new_are_one_change(rt: HostRuntime) -> Result<(), Fail> {
     for fuse in 1..30 {
         for pick in [0, 1, u64::MAX] {
-            cut_off(&rt, rt.alloc(), fuse, pick)?;
+            let is_one = is_one_change(&rt, rt.alloc(), fuse, pick)?;
+            assert!(rt; is_one, "fuse {fuse}, pick {pick}");
         }
     }
     Ok(())

@@ -4,7 +4,7 @@ ghost use Rattle.host_calls.specs.Session.{IsOutside};
 ghost use Rattle.memory_host.specs.Host.{memory_session};
 
 use crate::folders::{JOB, notes_now, spool};
-use crate::program::one_session;
+use crate::program::{is_done, texts};
 use at_mail::notice_name;
 use mail_trim::trim_program;
 use memory_host::{MemoryHost, MemorySink, Plan};
@@ -55,10 +55,7 @@ fn run_trim(alloc: Global, words: &[&str], host: &mut MemoryHost) -> Result<Trim
     requires { IsOutside (memory_session host.old) }
     ensures { IsOutside (memory_session host.new) }
 {
-    let mut texts = Vec::new(alloc);
-    for word in words {
-        texts.push(String::from_str(alloc, word)?)?;
-    }
+    let texts = texts(alloc, words)?;
     let mut err = MemorySink::make(alloc, None);
     let status = trim_program(alloc, &texts, host, &mut err);
     Ok(Trimmed {
@@ -67,160 +64,168 @@ fn run_trim(alloc: Global, words: &[&str], host: &mut MemoryHost) -> Result<Trim
     })
 }
 
-// The status and the line of one trim.
-fn trims(alloc: Global, host: &mut MemoryHost) -> Result<Trimmed, AllocError>
+// The words of a trim.
+const TRIM: &[&str] = &["atpost", "--trim"];
+
+// Makes a trim: whether it was done, with nothing to say.
+fn trims(alloc: Global, host: &mut MemoryHost) -> Result<bool, AllocError>
     requires { IsOutside (memory_session host.old) }
     ensures { IsOutside (memory_session host.new) }
 {
-    run_trim(alloc, &["atpost", "--trim"], host)
-}
-
-// Makes a trim over these notes, and looks which of them are left.
-fn trim_leaves(rt: &impl Abort, alloc: Global, notes: &[u8], left: &[u8]) -> Result<(), Fail> {
-    let mut host = five_jobs(rt, alloc, notes, Plan::quiet(alloc))?;
-    let trimmed = trims(alloc, &mut host)?;
-    assert_eq!(rt; trimmed.code, 0);
-    assert_eq!(rt; trimmed.err.content(), b"".as_slice());
+    let trimmed = run_trim(alloc, TRIM, host)?;
+    let is_silent = trimmed.code == 0 && trimmed.err.content().is_empty();
     drop(trimmed);
-    assert_eq!(rt; notes_now(&host), Some(left));
-    assert_eq!(rt; host.reading(&notice_name(7)), Some(LEFT_OVER));
-    assert_eq!(rt; host.handed().len(), 0);
-    drop(host);
-    Ok(())
+    Ok(is_silent)
 }
 
-#[test]
-fn notes_of_jobs_that_are_done_are_dropped(rt: HostRuntime) -> Result<(), Fail> {
-    let alloc = rt.alloc();
-    trim_leaves(&rt, alloc, BEFORE, AFTER)?;
-    trim_leaves(&rt, alloc, AFTER, AFTER)?;
-    trim_leaves(&rt, alloc, b"", b"")?;
-    trim_leaves(&rt, alloc, JOB_1, b"")?;
-    Ok(())
+// Whether a trim over these notes leaves those, hands nothing over, and removes no other file.
+fn trim_leaves(
+    rt: &impl Abort,
+    alloc: Global,
+    notes: &[u8],
+    left: &[u8],
+) -> Result<bool, AllocError> {
+    let mut host = five_jobs(rt, alloc, notes, Plan::quiet(alloc))?;
+    let is_done = trims(alloc, &mut host)?;
+    let is_left = notes_now(&host) == Some(left);
+    let is_alone = host.reading(&notice_name(7)) == Some(LEFT_OVER) && host.handed().len() == 0;
+    drop(host);
+    Ok(is_done && is_left && is_alone)
 }
 
 // The notes of job 1 alone.
 const JOB_1: &[u8] = b"N 00000001 a0000000101b968a0 1 ann\nS 00000001\n";
 
 #[test]
+fn notes_of_jobs_that_are_done_are_dropped(rt: HostRuntime) -> Result<(), Fail> {
+    let cases: [(&[u8], &[u8]); 4] = [(BEFORE, AFTER), (AFTER, AFTER), (b"", b""), (JOB_1, b"")];
+    for (notes, left) in cases {
+        let is_left = trim_leaves(&rt, rt.alloc(), notes, left)?;
+        assert!(rt; is_left, "{notes:?}");
+    }
+    Ok(())
+}
+
+#[test]
 fn a_spool_without_notes_gets_none(rt: HostRuntime) -> Result<(), Fail> {
     let alloc = rt.alloc();
-    let mut host = spool(
-        &rt,
-        alloc,
-        1,
-        &[(b"a0000000101b968a0", JOB)],
-        Plan::quiet(alloc),
-    )?;
-    let trimmed = trims(alloc, &mut host)?;
-    assert_eq!(rt; trimmed.code, 0);
+    let others = [(b"a0000000101b968a0".as_slice(), JOB)];
+    let mut host = spool(&rt, alloc, 1, &others, Plan::quiet(alloc))?;
+    let is_done = trims(alloc, &mut host)?;
+    assert!(rt; is_done);
     assert_eq!(rt; notes_now(&host), None);
-    drop(trimmed);
     drop(host);
     Ok(())
 }
 
-// How a trim ends that a call of this number and each later one cut off, and how often each notice is handed over by two
-// sessions after a reboot with the pick.
-fn cut_off(rt: &impl Abort, alloc: Global, fuse: u64, pick: u64) -> Result<(), Fail> {
+// Whether a trim that a call of this number and each later one cut off leaves the notes of before or those of after it, and
+// two sessions after a reboot with the pick hand over the one notice that waits, once.
+fn is_cut_off(rt: &impl Abort, alloc: Global, fuse: u64, pick: u64) -> Result<bool, AllocError> {
     let mut plan = Plan::quiet(alloc);
     plan.fuse = Some(fuse);
     let mut host = five_jobs(rt, alloc, BEFORE, plan)?;
-    let trimmed = trims(alloc, &mut host)?;
-    let is_done = trimmed.code == 0;
-    drop(trimmed);
-    host.reboot(alloc, pick, None)?;
-    let is_trimmed = notes_now(&host) == Some(AFTER);
-    assert!(rt;
-        is_trimmed || (!is_done && notes_now(&host) == Some(BEFORE)),
-        "fuse {fuse}, pick {pick}"
-    );
-    assert_eq!(rt; host.reading(&notice_name(7)), Some(LEFT_OVER));
-    let sent = sends_one(rt, alloc, &mut host);
+    let is_right = is_cut_on(alloc, pick, &mut host);
     drop(host);
-    sent
+    is_right
 }
 
-// Two sessions, of which the first hands over the one notice that waits.
-fn sends_one(rt: &impl Abort, alloc: Global, host: &mut MemoryHost) -> Result<(), Fail>
+fn is_cut_on(alloc: Global, pick: u64, host: &mut MemoryHost) -> Result<bool, AllocError>
     requires { IsOutside (memory_session host.old) }
 {
-    one_is_sent(rt, alloc, host)?;
-    one_is_sent(rt, alloc, host)
+    let was_done = trims(alloc, host)?;
+    host.reboot(alloc, pick, None)?;
+    let is_trimmed = notes_now(host) == Some(AFTER);
+    let is_either = is_trimmed || (!was_done && notes_now(host) == Some(BEFORE));
+    let is_alone = host.reading(&notice_name(7)) == Some(LEFT_OVER);
+    let first = one_is_sent(alloc, host)?;
+    let second = one_is_sent(alloc, host)?;
+    Ok(is_either && is_alone && first && second)
 }
 
-// A session after which the notice of job 3 alone was handed over.
-fn one_is_sent(rt: &impl Abort, alloc: Global, host: &mut MemoryHost) -> Result<(), Fail>
+// Whether a session is done, after which the notice of job 3 alone was handed over.
+fn one_is_sent(alloc: Global, host: &mut MemoryHost) -> Result<bool, AllocError>
     requires { IsOutside (memory_session host.old) }
     ensures { IsOutside (memory_session host.new) }
 {
-    let answered = one_session(alloc, host)?;
-    assert_eq!(rt; answered.code, 0);
-    assert_eq!(rt; host.handed().len(), 1);
-    assert!(rt; host.handed().iter().all(|handed| handed.number == 3));
-    assert!(rt; notes_now(host).is_some_and(|notes| notes.ends_with(b"S 00000003\n")));
-    drop(answered);
-    Ok(())
+    let is_done = is_done(alloc, host)?;
+    let handed = host.handed();
+    let is_one = handed.len() == 1 && handed[0].number == 3;
+    let is_noted = notes_now(host).is_some_and(|notes| notes.ends_with(b"S 00000003\n"));
+    Ok(is_done && is_one && is_noted)
 }
 
 #[test]
 fn a_trim_is_cut_off_at_each_call(rt: HostRuntime) -> Result<(), Fail> {
     for fuse in 0..30 {
         for pick in [0, 1, u64::MAX] {
-            cut_off(&rt, rt.alloc(), fuse, pick)?;
+            let is_right = is_cut_off(&rt, rt.alloc(), fuse, pick)?;
+            assert!(rt; is_right, "fuse {fuse}, pick {pick}");
         }
     }
     Ok(())
 }
 
-#[test]
-fn what_keeps_a_trim_from_its_notes(rt: HostRuntime) -> Result<(), Fail> {
-    let alloc = rt.alloc();
-    let cases: [(&[u8], bool, u8, &[u8]); 3] = [
-        (BEFORE, true, 5, b"atpost: spool busy\n"),
-        (b"S 00000001\n", false, 7, b"atpost: .MAIL damaged at 0\n"),
-        (
-            b"N 00000004 a0000000401b968a0 1 ann\nn",
-            false,
-            7,
-            b"atpost: .MAIL damaged at 35\n",
-        ),
-    ];
-    for (notes, is_taken, code, line) in cases {
-        let mut plan = Plan::quiet(alloc);
-        if is_taken {
-            plan.taken.push(alloc, 0)?;
-        }
-        let mut host = five_jobs(&rt, alloc, notes, plan)?;
-        let trimmed = trims(alloc, &mut host)?;
-        assert_eq!(rt; (trimmed.code, trimmed.err.content()), (code, line));
-        assert_eq!(rt; notes_now(&host), Some(notes));
-        drop(trimmed);
-        drop(host);
-    }
-    Ok(())
-}
+// Words, notes and whether the spool is taken, and the status and the line by which the trim is refused.
+type Refusal = (
+    &'static [&'static str],
+    &'static [u8],
+    bool,
+    u8,
+    &'static [u8],
+);
 
-#[test]
-fn words_that_ask_for_no_trim(rt: HostRuntime) -> Result<(), Fail> {
-    let alloc = rt.alloc();
-    let cases: [&[&str]; 5] = [
-        &[],
-        &["atpost"],
-        &["atpost", "--trim", "--trim"],
-        &["atpost", "--trim", "now"],
+const USAGE: &[u8] = b"atpost: usage\n";
+
+const REFUSALS: [Refusal; 8] = [
+    (TRIM, BEFORE, true, 5, b"atpost: spool busy\n"),
+    (
+        TRIM,
+        b"S 00000001\n",
+        false,
+        7,
+        b"atpost: .MAIL damaged at 0\n",
+    ),
+    (
+        TRIM,
+        b"N 00000004 a0000000401b968a0 1 ann\nn",
+        false,
+        7,
+        b"atpost: .MAIL damaged at 35\n",
+    ),
+    (&[], BEFORE, false, 1, USAGE),
+    (&["atpost"], BEFORE, false, 1, USAGE),
+    (&["atpost", "--trim", "--trim"], BEFORE, false, 1, USAGE),
+    (&["atpost", "--trim", "now"], BEFORE, false, 1, USAGE),
+    (
         &["atpost", "--trim", "--send", "/bin/true"],
-    ];
-    for words in cases {
-        let mut host = five_jobs(&rt, alloc, BEFORE, Plan::quiet(alloc))?;
-        let trimmed = run_trim(alloc, words, &mut host)?;
-        assert_eq!(rt;
-            (trimmed.code, trimmed.err.content()),
-            (1, b"atpost: usage\n".as_slice())
-        );
-        assert_eq!(rt; host.calls(), 0);
-        drop(trimmed);
-        drop(host);
+        BEFORE,
+        false,
+        1,
+        USAGE,
+    ),
+];
+
+// Whether it is refused so, and changes nothing. Where the words are refused the spool is not entered.
+fn is_refused(rt: &impl Abort, alloc: Global, refusal: &Refusal) -> Result<bool, Fail> {
+    let (words, notes, is_taken, code, line) = *refusal;
+    let mut plan = Plan::quiet(alloc);
+    if is_taken {
+        plan.taken.push(alloc, 0)?;
+    }
+    let mut host = five_jobs(rt, alloc, notes, plan)?;
+    let trimmed = run_trim(alloc, words, &mut host)?;
+    let is_so = trimmed.code == code && trimmed.err.content() == line;
+    drop(trimmed);
+    let is_apart = notes_now(&host) == Some(notes) && (code != 1 || host.calls() == 0);
+    drop(host);
+    Ok(is_so && is_apart)
+}
+
+#[test]
+fn trims_that_are_refused(rt: HostRuntime) -> Result<(), Fail> {
+    for refusal in &REFUSALS {
+        let is_refused = is_refused(&rt, rt.alloc(), refusal)?;
+        assert!(rt; is_refused, "{}", refusal.3);
     }
     Ok(())
 }

@@ -1,6 +1,9 @@
+pub mod EventLemmas
 pub mod KeepingLemmas
 pub mod KeptLemmas
 pub mod LeavingLemmas
+pub mod NamedLemmas
 pub mod ProgramLemmas
+pub mod RevivingLemmas
 pub mod StayingLemmas
 pub mod WritingLemmas

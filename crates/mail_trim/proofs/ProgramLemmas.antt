@@ -7,7 +7,8 @@ use Rattle.at_words.specs.declared.fault.WordsFault.TheVariants as words
 use Rattle.cause_output.specs.Causes.{words_cause}
 use Rattle.listing_text.specs.declared.cause.Cause.{Cause}
 use Rattle.listing_text.specs.declared.cause.Cause.TheVariants.{Memory}
-use Rattle.mail_trim.specs.Program.{HasMadeNone, HasTrimmed, OutsideAt, TrimEnds}
+use Rattle.cause_output.specs.Outside.{OutsideAt}
+use Rattle.mail_trim.specs.Program.{HasMadeNone, HasTrimmed, TrimEnds}
 
 pub asked_ends : (asked : Result (Unit {0}) WordsFault) (value : Unit {0}) (old new : OutsideAt) (final : Cause) → Answers asked (Ok value) → HasTrimmed old new final → TrimEnds asked old new final
 asked_ends asked value old new final is has = subst (λ of. TrimEnds of old new final) is (inl has)

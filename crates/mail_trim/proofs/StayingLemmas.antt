@@ -25,7 +25,7 @@ use Rattle.mail_trim.specs.Laws.{NoJobLivesAgain, TrimsChangeNoSession}
 use Rattle.mail_trim.specs.Trimming.{is_live_in, is_of_live, is_over, stays, trimmed}
 use Rattle.mail_trim.proofs.KeepingLemmas.{any_kept, none_kept}
 
-same_number : (one other : ℕ) → (one == other) ≡ true → one ≡ other
+pub same_number : (one other : ℕ) → (one == other) ≡ true → one ≡ other
 same_number one other is = elim (eqb_tells one other) [
   | inl same ↦ same.1
   | inr apart ↦ absurd (let impossible : true ≡ false = sym is ∙ apart.0 in cc)
@@ -41,11 +41,11 @@ over_by closed true is = refl
 over_by true false is = absurd (let impossible : true ≡ false = is in cc)
 over_by false false is = absurd (let impossible : true ≡ false = is in cc)
 
-not_live : (live : Bool) → not live ≡ true → live ≡ true → ⊥
+pub not_live : (live : Bool) → not live ≡ true → live ≡ true → ⊥
 not_live true is lives = let impossible : false ≡ true = is in cc
 not_live false is lives = let impossible : false ≡ true = lives in cc
 
-drawn : (number last : ℕ) → nat_le number last ≡ true → last < number → ⊥
+pub drawn : (number last : ℕ) → nat_le number last ≡ true → last < number → ⊥
 drawn number last is after = grind (arith, nat_tests)
 
 not_both : (noted closed : Bool) → closed ≡ true → (noted && not closed) ≡ false

@@ -2,7 +2,7 @@
 ghost use Rattle.std.specs.Prelude.{◌≡◌, map, string_bytes};
 ghost use Rattle.host_calls.specs.Session.{IsOutside};
 ghost use Rattle.listing_text.specs.Cause.{status_of};
-ghost use Rattle.mail_trim.specs.Program.{TrimEnds, outside_at};
+ghost use Rattle.mail_trim.specs.Program.{TrimEnds, trim_outside};
 ghost use Rattle.mail_trim.specs.Words.{trim_asked};
 
 use crate::trim;
@@ -26,7 +26,7 @@ pub fn trim_program<H: Host, E: Sink>(
     ensures code { result ≡ status_of result.cause }
     ensures made_as { (E.outlet err.new).made_as ≡ (E.outlet err.old).made_as }
     ensures trims { TrimEnds (trim_asked (map string_bytes words.now))
-        (outside_at H.Host E.Sink host.old err.old) (outside_at H.Host E.Sink host.new err.new) result.cause }
+        (trim_outside H.Host E.Sink host.old err.old) (trim_outside H.Host E.Sink host.new err.new) result.cause }
 {
     let cause = answer(alloc, words, host, err);
     Status::of(cause)
@@ -37,7 +37,7 @@ fn answer<H: Host, E: Sink>(alloc: Global, words: &[String], host: &mut H, err: 
     requires { IsOutside (H.session host.old) }
     ensures made_as { (E.outlet err.new).made_as ≡ (E.outlet err.old).made_as }
     ensures trims { TrimEnds (trim_asked (map string_bytes words.now))
-        (outside_at H.Host E.Sink host.old err.old) (outside_at H.Host E.Sink host.new err.new) result }
+        (trim_outside H.Host E.Sink host.old err.old) (trim_outside H.Host E.Sink host.new err.new) result }
 {
     match ask_for_a_trim(alloc, words) {
         Ok(()) => {

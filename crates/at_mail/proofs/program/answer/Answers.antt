@@ -3,21 +3,21 @@ use Rattle.listing_text.specs.declared.cause.Cause.{Cause}
 use Rattle.at_mail.specs.Outcomes.{program_name}
 use Rattle.cause_output.specs.Saying.{IsSaid}
 use Rattle.cause_output.specs.Sinks.{sink_at}
-use Rattle.at_mail.specs.Program.{PostEnds, outside_at}
+use Rattle.at_mail.specs.Program.{PostEnds, mail_outside}
 use Rattle.at_mail.specs.Words.{post_asked}
 use Rattle.at_mail.proofs.ProgramLemmas.{unasked_ends}
 use Rattle.at_mail.proofs.program.answer.Goals as goal
 
 pub returns-in-Ok : goal.returns-in-Ok
 returns-in-Ok g c =
-    subst (λ asked. PostEnds asked (outside_at g.H.Host g.R.Readings g.E.Sink c.args.host.now c.args.readings.now c.args.err.now)
-    (outside_at g.H.Host g.R.Readings g.E.Sink c.carry_out.new.host c.carry_out.new.readings c.carry_out.new.err) c.carry_out.result)
+    subst (λ asked. PostEnds asked (mail_outside g.H.Host g.R.Readings g.E.Sink c.args.host.now c.args.readings.now c.args.err.now)
+    (mail_outside g.H.Host g.R.Readings g.E.Sink c.carry_out.new.host c.carry_out.new.readings c.carry_out.new.err) c.carry_out.result)
     c.in-Ok.ensures.asked c.carry_out.ensures
 
 pub returns-in-Err : goal.returns-in-Err
 returns-in-Err g c =
-    unasked_ends (post_asked (map string_bytes c.args.words.now)) (outside_at g.H.Host g.R.Readings g.E.Sink c.args.host.now c.args.readings.now c.args.err.now)
-    (outside_at g.H.Host g.R.Readings g.E.Sink c.args.host.now c.args.readings.now c.say_cause.new.err) c.say_cause.result c.requires c.say_cause.ensures.made_as
+    unasked_ends (post_asked (map string_bytes c.args.words.now)) (mail_outside g.H.Host g.R.Readings g.E.Sink c.args.host.now c.args.readings.now c.args.err.now)
+    (mail_outside g.H.Host g.R.Readings g.E.Sink c.args.host.now c.args.readings.now c.say_cause.new.err) c.say_cause.result c.requires c.say_cause.ensures.made_as
     c.in-Err.fault c.in-Err.ensures.asked (record {
       session = refl;
       spool = refl;
