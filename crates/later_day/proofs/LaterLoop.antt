@@ -1,17 +1,19 @@
 -- Outcomes one after another, as the events are made.
-use Rattle.std.proofs.Common.{◌≡◌, ◌+◌, ◌<◌, ◌++◌, ◌∙◌, [], ◌∷◌, ℕ, List, ap, sym, subst, refl, length, get_or, take}
-use Rattle.std.proofs.lemmas.List.{map_push, take_more}
-use Rattle.at_day.proofs.OutcomeLemmas.{no_kids}
+use Rattle.std.proofs.Common.{◌≡◌, ◌+◌, ◌<◌, ◌++◌, ◌∙◌, [], ◌∷◌, ℕ, List, ap, sym, subst, refl, length, get_or, take, drop, inl, inr}
+use Rattle.std.proofs.lemmas.List.{map_push, take-append-drop, take_more}
+use Rattle.at_day.proofs.OutcomeLemmas.{no_kids, unchanged_same}
 use Rattle.daemon_turn.specs.Daemons.{DaemonState, new_daemon}
 use Rattle.host_calls.specs.Session.{IsOutside}
 use Rattle.mail_session.specs.PostState.{PostState, new_post}
-use Rattle.memory_host.specs.Host.{memory_session}
+use Rattle.memory_host.specs.Host.{IsUnchanged, memory_session}
 use Rattle.memory_host.specs.declared.memory_host.MemoryHost.{MemoryHost}
 use Rattle.at_day.specs.declared.days.TheConstants.{LIMIT, INTERVAL}
 use Rattle.later_day.specs.declared.entry.LaterEntry.{LaterEntry}
+use Rattle.later_day.specs.declared.entry.LaterEntry.TheVariants as known
 use Rattle.later_day.specs.declared.later.Later.{Later}
-use Rattle.later_day.specs.LaterDays.{IsLaterDay}
-use Rattle.later_day.specs.LaterHappening.{IsLaterEvent, LaterHappens}
+use Rattle.later_day.specs.declared.later.Later.TheVariants.{Day, Post, Cron}
+use Rattle.later_day.specs.LaterDays.{IsLaterDay, IsLaterDayCut}
+use Rattle.later_day.specs.LaterHappening.{IsLaterEvent, IsLaterUnreported, LaterHappens}
 use Rattle.later_day.specs.LaterMachines.{LaterMachine, first_later_machine, later_machine}
 use Rattle.later_day.specs.LaterOutcomes.{AreLaterDoneOn, IsLaterDoneOn, LaterOutcome, entries_of, later_events_of, later_machine_after}
 use Rattle.later_day.specs.Laws.{LaterOutcomesKeepTheirPromise}
@@ -87,6 +89,53 @@ module _ (program : List ℕ) (events : List Later) (count : ℕ) (entries : Lis
     last_is = ap (λ (of : LaterMachine). of.at.host) so.now_is;
     keeps = law first so.outcomes so.done;
   }
+
+  -- no memory was found after them
+  pub later_cut_after : LaterOutcomesKeepTheirPromise → (left : MemoryHost) → IsUnchanged now.at.host left → IsLaterDayCut events first left
+  later_cut_after law left same = record {
+    outcomes = so.outcomes;
+    done = so.done;
+    later = drop count events;
+    events_are = ap (λ (list : List Later). list ++ drop count events) so.events_are ∙ take-append-drop count events;
+    as_left = subst (λ (at : LaterMachine). IsUnchanged at.at.host left) (sym so.now_is) same;
+    keeps = law first so.outcomes so.done;
+  }
+
+-- nor for the next one
+pub later_cut_at : LaterOutcomesKeepTheirPromise → (program : List ℕ) (events : List Later) (count : ℕ) (entries : List LaterEntry)
+    (first now : LaterMachine) → IsLaterSoFar program events count entries first now → (event : Later) → count < length events →
+    event ≡ get_or events count event → IsLaterEvent event → (left : MemoryHost) → IsLaterUnreported event now left →
+    IsLaterDayCut events first left
+later_cut_at law program events count entries first now so (Day event) inside is may left (inl same) =
+    later_cut_after program events count entries first now so law left same
+later_cut_at law program events count entries first now so (Day event) inside is may left (inr happened) =
+    later_cut_after program events (count + 1) (entries ++ known.Day happened.0 ∷ []) first happened.1
+    (one_more program events count entries first now so (Day event) inside is may (known.Day happened.0) happened.1 happened.2) law left
+    (subst (λ (host : MemoryHost). IsUnchanged happened.1.at.host host) happened.3 (unchanged_same happened.1.at.host))
+later_cut_at law program events count entries first now so Post inside is may left unreported = absurd unreported
+later_cut_at law program events count entries first now so (Cron context zone entered at) inside is may left unreported = absurd unreported
+
+-- nor for the first one
+pub later_cut_at_first : LaterOutcomesKeepTheirPromise → (program : List ℕ) (events : List Later) (host : MemoryHost) →
+    IsLaterDayCut events (first_later_machine host program) host
+later_cut_at_first law program events host = record {
+  outcomes = [];
+  done = tt;
+  later = events;
+  events_are = refl;
+  as_left = unchanged_same host;
+  keeps = law (first_later_machine host program) [] tt;
+}
+
+-- no session is on where no memory was found
+pub outside_unreported : (program : List ℕ) (event : Later) (now : LaterMachine) (left : MemoryHost) → IsLaterReady program now →
+    IsLaterUnreported event now left → IsOutside (memory_session left)
+outside_unreported program (Day event) now left ready (inl same) = subst IsOutside (sym same.session) ready.day.outside
+outside_unreported program (Day event) now left ready (inr happened) =
+    subst (λ (host : MemoryHost). IsOutside (memory_session host)) happened.3
+    (later_ready_after program now happened.1 ready (Day event) (known.Day happened.0) happened.2).day.outside
+outside_unreported program Post now left ready unreported = absurd unreported
+outside_unreported program (Cron context zone entered at) now left ready unreported = absurd unreported
 
 -- the loop of a day
 

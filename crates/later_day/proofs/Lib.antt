@@ -3,3 +3,4 @@ pub mod ReadyLemmas
 pub mod TakenLemmas
 pub mod PromiseLemmas
 pub mod LaterLoop
+pub mod UnreportedLemmas

@@ -19,8 +19,8 @@ use Rattle.day_events.specs.declared.report.EventReport.{EventReport}
 use Rattle.day_events.specs.declared.report.EventReport.TheVariants as known
 use Rattle.headline.specs.Effects.{Crashed, Effect, IsEffectOf, Partial, Untouched, Whole, steps_begun}
 use Rattle.headline.proofs.ShownEffectLemmas.{effects_are_shown}
-use Rattle.later_effects.specs.LaterEffects.{AcceptNothing, DoOneThing}
-use Rattle.later_effects.proofs.RestLemmas.{effects_leave_the_rest}
+use Rattle.later_sessions.specs.LaterEffects.{AcceptNothing, DoOneThing}
+use Rattle.later_sessions.proofs.EffectRestLemmas.{effects_leave_the_rest}
 use Rattle.at_day.specs.EventOutcomes.{AreCommandSteps, AreCommandStepsBy, AreEventSteps, AreStepsOfTurn, EventOutcome, IsCrash, IsDoneOn, IsEventEffect, is_acknowledged}
 use Rattle.at_day.specs.Machines.{Machine, spool_of}
 use Rattle.later_day.specs.Laws.{DayOutcomesPass}

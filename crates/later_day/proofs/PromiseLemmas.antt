@@ -4,8 +4,8 @@ use Rattle.std.specs.Prelude.{AllPairs}
 use Rattle.std.proofs.lemmas.List.{get_or-map, length-map}
 use Rattle.day_events.specs.declared.event.Event.{Event}
 use Rattle.day_events.specs.declared.report.EventReport.{EventReport}
-use Rattle.later_effects.specs.LaterEffects.{LaterPassFrom, LeavesTheRest}
-use Rattle.later_effects.proofs.LaterLemmas.{later_events_hand_once}
+use Rattle.later_sessions.specs.LaterEffects.{LaterPassFrom, LeavesTheRest}
+use Rattle.later_sessions.proofs.LaterLemmas.{later_events_hand_once}
 use Rattle.at_mail.specs.Once.{MailEvent, MailEvents, a_session, another, next_event, no_event}
 use Rattle.at_mail.proofs.OnceLemmas.{notices_are_handed_once}
 use Rattle.cron_session.specs.Minutes.{AcceptApart, Beside, CronEvent, CronPassFrom, CronPassed, Ended, MayAcceptAt, PassesAs}

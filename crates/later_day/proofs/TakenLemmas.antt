@@ -7,7 +7,7 @@ use Rattle.day_events.specs.declared.event.Event.{Event}
 use Rattle.day_events.specs.declared.report.EventReport.{EventReport}
 use Rattle.cron_session.specs.declared.report.CronReport.{CronReport}
 use Rattle.mail_session.specs.declared.report.PostReport.{PostReport}
-use Rattle.later_effects.specs.LaterEffects.{Beside, LaterEffect, OfTable, TakesLaterEffect}
+use Rattle.later_sessions.specs.LaterEffects.{Beside, LaterEffect, OfTable, TakesLaterEffect}
 use Rattle.later_day.specs.declared.entry.LaterEntry.{LaterEntry}
 use Rattle.later_day.specs.declared.entry.LaterEntry.TheVariants as known
 use Rattle.later_day.specs.declared.later.Later.{Later}

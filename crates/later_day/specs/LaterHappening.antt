@@ -1,5 +1,5 @@
 -- What happens on a machine where mail is sent too, and a crontab kept, and what it reports (own).
-use Rattle.std.specs.Prelude.{◌≡◌, ◌≤◌, ◌<◌, ℤ, true, List, None, All, length}
+use Rattle.std.specs.Prelude.{◌≡◌, ◌≤◌, ◌<◌, ◌⊎◌, ℤ, true, List, None, All, length}
 use Rattle.civil_minute.specs.declared.zone.Zone.{Zone}
 use Rattle.civil_minute.specs.Zone.{IsReadable}
 use Rattle.clock_range.specs.ClockRange.{IsClockSecond}
@@ -17,6 +17,8 @@ use Rattle.job_script.specs.declared.context.Context.{Context}
 use Rattle.mail_session.specs.declared.report.PostReport.{PostReport}
 use Rattle.mail_session.specs.Leaving.{PostsTo}
 use Rattle.mail_session.specs.PostState.{PostState, new_post}
+use Rattle.memory_host.specs.Host.{IsUnchanged}
+use Rattle.memory_host.specs.declared.memory_host.MemoryHost.{MemoryHost}
 use Rattle.at_day.specs.Happening.{Happens}
 use Rattle.later_day.specs.declared.entry.LaterEntry.{LaterEntry}
 use Rattle.later_day.specs.declared.entry.LaterEntry.TheVariants as known
@@ -72,3 +74,15 @@ LaterHappens Post (known.Post report) old new = IsSessionOfMail report old new
 LaterHappens (Cron context zone entries now) (known.Cron report) old new =
     IsSessionOfCron (cron_of context zone entries now) report old new
 LaterHappens _ _ old new = ⊥
+
+-- No memory was found for an event of a day or its report: the host is as it was, or as the event left it.
+abbrev pub IsUnreportedOnDay : Event → LaterMachine → MemoryHost → Type 0
+IsUnreportedOnDay event old left =
+    IsUnchanged old.at.host left
+    ⊎ ((report : EventReport) × (after : LaterMachine) × HappensOnDay event report old after × (after.at.host ≡ left))
+
+-- so of the event; a session reports it itself
+abbrev pub IsLaterUnreported : Later → LaterMachine → MemoryHost → Type 0
+IsLaterUnreported (Day event) old left = IsUnreportedOnDay event old left
+IsLaterUnreported Post old left = ⊥
+IsLaterUnreported (Cron context zone entries now) old left = ⊥

@@ -3,7 +3,7 @@
 use Rattle.std.specs.Prelude.{◌≡◌, [], ◌∷◌, List, map}
 use Rattle.headline.specs.Effects.{Effect}
 use Rattle.host_calls.specs.World.{reading}
-use Rattle.later_effects.specs.LaterEffects.{Beside, LaterEffect, LaterPassed, OfTable, TakesLaterEffect}
+use Rattle.later_sessions.specs.LaterEffects.{Beside, LaterEffect, LaterPassed, OfTable, TakesLaterEffect}
 use Rattle.later_sessions.specs.SessionsPass.{IsCronEffect}
 use Rattle.at_day.specs.EventOutcomes.{IsEventEffect}
 use Rattle.later_day.specs.declared.entry.LaterEntry.{LaterEntry}

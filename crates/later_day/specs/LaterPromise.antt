@@ -4,7 +4,7 @@
 use Rattle.std.specs.Prelude.{◌≡◌, ◌≢◌, [], ℕ, List, AllPairs}
 use Rattle.clock_range.specs.ClockRange.{minute_at}
 use Rattle.headline.specs.Headline.{Headline}
-use Rattle.later_effects.specs.LaterEffects.{only_jobs, passed_of}
+use Rattle.later_sessions.specs.LaterEffects.{only_jobs, passed_of}
 use Rattle.at_mail.specs.Once.{HasOnceSince, HasWholeNotes}
 use Rattle.spool_model.specs.JobTable.{JobTable}
 use Rattle.step_runs.specs.Current.{EachShows}

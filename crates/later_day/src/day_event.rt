@@ -5,7 +5,7 @@ ghost use Rattle.day_events.specs.Days.{is_day_event};
 ghost use Rattle.host_calls.specs.Session.{IsOutside};
 ghost use Rattle.mail_session.specs.PostState.{may_be_program};
 ghost use Rattle.memory_host.specs.Host.{memory_session};
-ghost use Rattle.later_day.specs.LaterHappening.{HappensOnDay, IsPostAfter};
+ghost use Rattle.later_day.specs.LaterHappening.{HappensOnDay, IsPostAfter, IsUnreportedOnDay};
 ghost use Rattle.later_day.specs.LaterMachines.{later_machine};
 
 use at_day::{Event, EventReport, one_event};
@@ -30,7 +30,8 @@ pub(crate) fn day_event(
     requires of_program { post.old.program ≡ program.now }
     ensures happens { IfOk result (λ report. HappensOnDay event.now report
         (later_machine host.old daemon.old post.old) (later_machine host.new daemon.new post.new)) }
-    ensures outside { OnErr result (IsOutside (memory_session host.new)) }
+    ensures unreported { OnErr result
+        (IsUnreportedOnDay event.now (later_machine host.old daemon.old post.old) host.new) }
 {
     let report = one_event(alloc, event, host, daemon)?;
     renew_post(alloc, event, program, post)?;

@@ -1,9 +1,9 @@
 //! A day on which mail is sent too: events on one machine, one after the other.
-ghost use Rattle.std.specs.Prelude.{◌≡◌, All, IfOk, IsTrue};
+ghost use Rattle.std.specs.Prelude.{◌≡◌, All, IfOk, IsTrue, OnErr};
 ghost use Rattle.host_calls.specs.Session.{IsOutside};
 ghost use Rattle.mail_session.specs.PostState.{may_be_program, new_post};
 ghost use Rattle.memory_host.specs.Host.{memory_session};
-ghost use Rattle.later_day.specs.LaterDays.{IsLaterDay};
+ghost use Rattle.later_day.specs.LaterDays.{IsLaterDay, IsLaterDayCut};
 ghost use Rattle.later_day.specs.LaterHappening.{IsLaterEvent};
 ghost use Rattle.later_day.specs.LaterMachines.{first_later_machine};
 
@@ -29,6 +29,7 @@ pub fn later_day(
     ensures outside { IsOutside (memory_session host.new) }
     ensures day { IfOk result (λ report.
         IsLaterDay events.now report (first_later_machine host.old program.now) host.new) }
+    ensures cut { OnErr result (IsLaterDayCut events.now (first_later_machine host.old program.now) host.new) }
 {
     let mut post = Post::new(alloc, program)?;
     let entries = each_event(alloc, events, program, host, &mut post)?;
@@ -50,6 +51,7 @@ fn each_event(
     ensures outside { IsOutside (memory_session host.new) }
     ensures day { IfOk result (λ entries.
         IsLaterDay events.now entries.items (first_later_machine host.old program.now) host.new) }
+    ensures cut { OnErr result (IsLaterDayCut events.now (first_later_machine host.old program.now) host.new) }
 {
     let mut daemon = Daemon::new(alloc, LIMIT, INTERVAL);
     let mut entries = Vec::new(alloc);

@@ -1,11 +1,12 @@
-//! Days on which mail is sent too, and a crontab kept: events on one machine, one after the other.
+//! Simulated runs with mail and crontabs too. The headline holds for the scripts of jobs, and no notice or minute comes
+//! twice.
 //!
 //! Its definitions are what a reader of `later_day` believes. In the order in which to read them:
 //! 1. `LaterMachines`: a machine at one moment
 //! 2. `LaterHappening`: which events may come, and what happens with each (`LaterHappens`)
 //! 3. `LaterOutcomes`: their outcomes, one after another (`AreLaterDoneOn`)
 //! 4. `LaterPromise`: the promise of outcomes (`KeepsLaterPromise`)
-//! 5. `LaterDays`: a day (`IsLaterDay`)
+//! 5. `LaterDays`: a day (`IsLaterDay`), and one for which no memory was found (`IsLaterDayCut`)
 //! 6. `Laws`: that outcomes keep the promise, and what the events of a day are among them (`DayOutcomesPass`)
 #![tactic(auto)]
 

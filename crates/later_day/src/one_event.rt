@@ -4,7 +4,7 @@ ghost use Rattle.daemon_turn.specs.Kids.{AreChildren};
 ghost use Rattle.host_calls.specs.Session.{IsOutside};
 ghost use Rattle.mail_session.specs.PostState.{may_be_program};
 ghost use Rattle.memory_host.specs.Host.{memory_session};
-ghost use Rattle.later_day.specs.LaterHappening.{IsLaterEvent, LaterHappens};
+ghost use Rattle.later_day.specs.LaterHappening.{IsLaterEvent, IsLaterUnreported, LaterHappens};
 ghost use Rattle.later_day.specs.LaterMachines.{later_machine};
 
 use crate::day_event::day_event;
@@ -32,7 +32,8 @@ pub(crate) fn one_later_event(
     requires of_program { post.old.program ≡ program.now }
     ensures happens { IfOk result (λ entry. LaterHappens event.now entry
         (later_machine host.old daemon.old post.old) (later_machine host.new daemon.new post.new)) }
-    ensures outside { OnErr result (IsOutside (memory_session host.new)) }
+    ensures unreported { OnErr result
+        (IsLaterUnreported event.now (later_machine host.old daemon.old post.old) host.new) }
 {
     match event {
         Later::Day(event) => {

@@ -1,3 +1,8 @@
+pub mod OnlyJobs
+pub mod StartedJobs
+pub mod LaterLemmas
+pub mod NoticeLemmas
+pub mod EffectRestLemmas
 pub mod NamesApart
 pub mod RestLemmas
 pub mod MailLemmas

@@ -14,8 +14,8 @@ use Rattle.mail_session.specs.Leaving.{IsIdle, IsStopped, IsWhole, MailLeaves, P
 use Rattle.mail_session.specs.Sessions.{HasPosted, IsUntouched, ShowsBeside}
 use Rattle.cron_mark.specs.Names.{mark_file}
 use Rattle.cron_session.proofs.NameLemmas.{file_beside}
-use Rattle.later_effects.specs.LaterEffects.{IsBeside, of_jobs}
-use Rattle.later_effects.proofs.NoticeLemmas.{sessions_go_beside}
+use Rattle.later_sessions.specs.LaterEffects.{IsBeside, of_jobs}
+use Rattle.later_sessions.proofs.NoticeLemmas.{sessions_go_beside}
 use Rattle.later_sessions.specs.Laws.{MailSessionsPass}
 use Rattle.later_sessions.specs.SessionsPass.{PassesMail}
 use Rattle.later_sessions.proofs.NamesApart.{mark_is_no_mail_name}

@@ -12,7 +12,7 @@ use Rattle.at_mail.specs.Once.{LeavesNotes, is_notice, notice_numbers}
 use Rattle.mail_notes.specs.Names.{mail_file}
 use Rattle.cron_mark.specs.Names.{mark_file}
 use Rattle.cron_session.proofs.NameLemmas.{file_beside}
-use Rattle.later_effects.specs.LaterEffects.{IsBesideTheStore, is_of_job, of_jobs}
+use Rattle.later_sessions.specs.LaterEffects.{IsBesideTheStore, is_of_job, of_jobs}
 use Rattle.later_sessions.specs.Laws.{BesideTheStorePass}
 use Rattle.later_sessions.proofs.NamesApart.{mail_is_no_spool_name}
 

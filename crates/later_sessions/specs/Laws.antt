@@ -6,7 +6,7 @@ use Rattle.mail_session.specs.Leaving.{PostAt, PostsTo}
 use Rattle.cron_session.specs.declared.report.CronEnd.{CronEnd}
 use Rattle.cron_session.specs.Leaving.{CronLeaves}
 use Rattle.cron_session.specs.Steps.{Cron}
-use Rattle.later_effects.specs.LaterEffects.{LeavesTheRest}
+use Rattle.later_sessions.specs.LaterEffects.{LeavesTheRest}
 use Rattle.later_sessions.specs.SessionsPass.{PassesBeside, PassesCron, PassesMail}
 
 -- each session of mail, over a host that tells its files and is alone

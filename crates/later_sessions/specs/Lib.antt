@@ -1,2 +1,4 @@
+pub mod LaterEffects
+pub mod EffectLaws
 pub mod SessionsPass
 pub mod Laws

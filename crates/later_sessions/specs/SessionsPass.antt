@@ -6,7 +6,7 @@ use Rattle.spool_model.specs.declared.job.Job.{Job}
 use Rattle.spool_model.specs.declared.step.Step.{Step}
 use Rattle.spool_model.specs.JobTable.{JobTable}
 use Rattle.headline.specs.Effects.{Crashed, Effect, Partial, Untouched, Whole}
-use Rattle.later_effects.specs.LaterEffects.{Beside, OfTable, TakesLaterEffect}
+use Rattle.later_sessions.specs.LaterEffects.{Beside, OfTable, TakesLaterEffect}
 use Rattle.at_mail.specs.Once.{IsBesideMail}
 use Rattle.cron_session.specs.declared.report.CronEnd.{CronEnd}
 use Rattle.cron_session.specs.declared.report.CronEnd.TheVariants.{Done}

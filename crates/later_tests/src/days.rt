@@ -3,9 +3,8 @@ ghost use Rattle.std.specs.Prelude.{IfOk};
 ghost use Rattle.host_calls.specs.Session.{IsOutside};
 ghost use Rattle.memory_host.specs.Host.{memory_session};
 
-use crate::events::{FIRST, at_now, cron, reboot, spool, turn};
+use crate::events::{FIRST, Step, events_of, spool};
 use crate::told::told;
-use later_day::Later;
 use memory_host::{MemoryHost, Plan};
 use std::alloc::{AllocError, Global};
 use std::process::Abort;
@@ -19,35 +18,28 @@ fn open_spool(rt: &impl Abort, alloc: Global) -> Result<MemoryHost, AllocError>
 }
 
 // Two jobs are handed over, and the machine crashes before their ends are told. No call gets through from then on, until it
-// crashes once more.
-fn first_half(rt: &impl Abort, alloc: Global) -> Result<Vec<Later>, Fail> {
-    let mut events = Vec::new(alloc);
-    events.push(at_now(alloc, FIRST)?)?;
-    events.push(cron(rt, alloc, FIRST)?)?;
-    events.push(Later::Post)?;
-    events.push(turn(FIRST))?;
-    events.push(reboot(0, Some(0)))?;
-    events.push(turn(FIRST + 60))?;
-    events.push(Later::Post)?;
-    events.push(cron(rt, alloc, FIRST + 60)?)?;
-    events.push(reboot(0, None))?;
-    Ok(events)
-}
-
-// They are given up, and the end of each is told once; the crontab has each minute once.
-fn second_half(rt: &impl Abort, alloc: Global, events: &mut Vec<Later>) -> Result<(), Fail> {
-    events.push(turn(FIRST + 60))?;
-    events.push(Later::Post)?;
-    events.push(cron(rt, alloc, FIRST + 60)?)?;
-    events.push(cron(rt, alloc, FIRST + 119)?)?;
-    events.push(Later::Post)?;
-    events.push(reboot(1, None))?;
-    events.push(Later::Post)?;
-    events.push(turn(FIRST + 120))?;
-    events.push(turn(FIRST + 180))?;
-    events.push(Later::Post)?;
-    Ok(())
-}
+// crashes once more. The jobs are given up, and the end of each is told once; the crontab has each minute once.
+const STEPS: [Step; 19] = [
+    Step::At(FIRST),
+    Step::Cron(FIRST),
+    Step::Post,
+    Step::Turn(FIRST),
+    Step::Reboot(0, Some(0)),
+    Step::Turn(FIRST + 60),
+    Step::Post,
+    Step::Cron(FIRST + 60),
+    Step::Reboot(0, None),
+    Step::Turn(FIRST + 60),
+    Step::Post,
+    Step::Cron(FIRST + 60),
+    Step::Cron(FIRST + 119),
+    Step::Post,
+    Step::Reboot(1, None),
+    Step::Post,
+    Step::Turn(FIRST + 120),
+    Step::Turn(FIRST + 180),
+    Step::Post,
+];
 
 const DAY: &str =
     "command 0\ncron done 2\npost done\nturn done 1 2\nrebooted\nturn fault\npost fault\ncron fault\nrebooted\nturn done given-up given-up\npost done 1 2\ncron done 3\ncron done\npost done\nrebooted\npost done\nturn done 3\nturn done ended\npost done 3\n";
@@ -60,8 +52,7 @@ fn tell_all(rt: &impl Abort, alloc: Global, host: &mut MemoryHost) -> Result<Str
     requires { IsOutside (memory_session host.old) }
     ensures { IsOutside (memory_session host.new) }
 {
-    let mut events = first_half(rt, alloc)?;
-    second_half(rt, alloc, &mut events)?;
+    let events = events_of(rt, alloc, &STEPS)?;
     let lines = told(rt, alloc, events.as_slice(), host)?;
     drop(events);
     Ok(lines)

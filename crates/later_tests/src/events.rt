@@ -17,7 +17,7 @@ use std::test::Fail;
 /// The first second of 2025 in UTC.
 pub const FIRST: i64 = 1_735_689_600;
 
-/// The user `ann` at home.
+// The user `ann` at home.
 fn ann(alloc: Global) -> Result<Context, AllocError> {
     Ok(Context {
         user: Text::of(alloc, "ann")?,
@@ -27,8 +27,44 @@ fn ann(alloc: Global) -> Result<Context, AllocError> {
     })
 }
 
-/// A job of `ann` is submitted for this very minute.
-pub fn at_now(alloc: Global, now: i64) -> Result<Later, AllocError> {
+/// What happens on a day: a job for this very minute, a session of a crontab, one of mail, a turn of the daemon, or a crash,
+/// after which no call gets through from the fuse on.
+#[derive(Clone, Copy)]
+pub enum Step {
+    At(i64),
+    Cron(i64),
+    Post,
+    Turn(i64),
+    Reboot(u64, Option<u64>),
+}
+
+/// The events of these steps.
+pub fn events_of(rt: &impl Abort, alloc: Global, steps: &[Step]) -> Result<Vec<Later>, Fail> {
+    let mut events = Vec::new(alloc);
+    for step in steps {
+        events.push(event_of(rt, alloc, step)?)?;
+    }
+    Ok(events)
+}
+
+fn event_of(rt: &impl Abort, alloc: Global, step: &Step) -> Result<Later, Fail> {
+    match step {
+        Step::At(now) => Ok(at_now(alloc, *now)?),
+        Step::Cron(now) => cron(rt, alloc, *now),
+        Step::Post => Ok(Later::Post),
+        Step::Turn(now) => Ok(Later::Day(Event::Turn {
+            now: *now,
+            load: Some(0),
+        })),
+        Step::Reboot(pick, fuse) => Ok(Later::Day(Event::Reboot {
+            pick: *pick,
+            fuse: *fuse,
+        })),
+    }
+}
+
+// A job of `ann` is submitted for this very minute.
+fn at_now(alloc: Global, now: i64) -> Result<Later, AllocError> {
     let mut words = Words::new(alloc);
     words.push(alloc, "at")?;
     words.push(alloc, "now")?;
@@ -43,18 +79,8 @@ pub fn at_now(alloc: Global, now: i64) -> Result<Later, AllocError> {
     }))
 }
 
-/// A turn of the daemon, under no load.
-pub fn turn(now: i64) -> Later {
-    Later::Day(Event::Turn { now, load: Some(0) })
-}
-
-/// A crash, after which no call gets through from the fuse on.
-pub fn reboot(pick: u64, fuse: Option<u64>) -> Later {
-    Later::Day(Event::Reboot { pick, fuse })
-}
-
-/// A session of a crontab, whose one entry is due in each minute.
-pub fn cron(rt: &impl Abort, alloc: Global, now: i64) -> Result<Later, Fail> {
+// A session of a crontab, whose one entry is due in each minute.
+fn cron(rt: &impl Abort, alloc: Global, now: i64) -> Result<Later, Fail> {
     let text = b"* * * * * backup\n".as_slice();
     assert!(rt; text.len() <= MAX_CRONTAB);
     let entries = read_crontab(alloc, text)?;

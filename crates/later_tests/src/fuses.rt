@@ -3,9 +3,8 @@ ghost use Rattle.std.specs.Prelude.{IfOk};
 ghost use Rattle.host_calls.specs.Session.{IsOutside};
 ghost use Rattle.memory_host.specs.Host.{memory_session};
 
-use crate::events::{FIRST, cron, fused, reboot, spool};
+use crate::events::{FIRST, Step, events_of, fused, spool};
 use crate::told::{day_on, told};
-use later_day::Later;
 use memory_host::{MemoryHost, Plan};
 use std::alloc::{AllocError, Global};
 use std::process::Abort;
@@ -30,16 +29,6 @@ fn one_end(rt: &impl Abort, alloc: Global, plan: Plan) -> Result<MemoryHost, All
     spool(rt, alloc, &files, plan)
 }
 
-// A session of mail, a crash, and two sessions more.
-fn posts(alloc: Global, pick: u64) -> Result<Vec<Later>, AllocError> {
-    let mut events = Vec::new(alloc);
-    events.push(Later::Post)?;
-    events.push(reboot(pick, None))?;
-    events.push(Later::Post)?;
-    events.push(Later::Post)?;
-    Ok(events)
-}
-
 // Of each notice that was handed over, whether a child came.
 fn children_of(alloc: Global, host: &MemoryHost) -> Result<Vec<bool>, AllocError> {
     let mut all = Vec::new(alloc);
@@ -50,32 +39,22 @@ fn children_of(alloc: Global, host: &MemoryHost) -> Result<Vec<bool>, AllocError
 }
 
 // Of each notice that was handed over in such a day, whether a child came.
-fn handed_in_day(
-    rt: &impl Abort,
-    alloc: Global,
-    fuse: u64,
-    pick: u64,
-) -> Result<Vec<bool>, AllocError> {
+fn handed_in_day(rt: &impl Abort, alloc: Global, fuse: u64, pick: u64) -> Result<Vec<bool>, Fail> {
     let mut host = one_end(rt, alloc, fused(alloc, fuse))?;
     let made = make_posts(rt, alloc, pick, &mut host);
     let children = children_of(alloc, &host);
     drop(host);
     made?;
-    children
+    Ok(children?)
 }
 
-fn make_posts(
-    rt: &impl Abort,
-    alloc: Global,
-    pick: u64,
-    host: &mut MemoryHost,
-) -> Result<(), AllocError>
+fn make_posts(rt: &impl Abort, alloc: Global, pick: u64, host: &mut MemoryHost) -> Result<(), Fail>
     requires { IsOutside (memory_session host.old) }
 {
-    let events = posts(alloc, pick)?;
-    let report = day_on(rt, alloc, events.as_slice(), host)?;
-    drop(report);
-    drop(events);
+    // a session of mail, a crash, and two sessions more
+    let steps = [Step::Post, Step::Reboot(pick, None), Step::Post, Step::Post];
+    let events = events_of(rt, alloc, &steps)?;
+    let _report = day_on(rt, alloc, events.as_slice(), host)?;
     Ok(())
 }
 
@@ -98,18 +77,7 @@ fn a_notice_whose_start_failed(rt: HostRuntime) -> Result<(), Fail> {
     Ok(())
 }
 
-// A session of a crontab, a crash, two sessions more of its minute, and one of the next.
-fn crons(rt: &impl Abort, alloc: Global, pick: u64) -> Result<Vec<Later>, Fail> {
-    let mut events = Vec::new(alloc);
-    events.push(cron(rt, alloc, FIRST)?)?;
-    events.push(reboot(pick, None))?;
-    events.push(cron(rt, alloc, FIRST + 1)?)?;
-    events.push(cron(rt, alloc, FIRST + 59)?)?;
-    events.push(cron(rt, alloc, FIRST + 60)?)?;
-    Ok(events)
-}
-
-// What such a day tells.
+// What a day tells with a session of a crontab, a crash, two sessions more of its minute, and one of the next.
 fn told_of_crons(rt: &impl Abort, alloc: Global, fuse: u64, pick: u64) -> Result<String, Fail> {
     let mut host = spool(rt, alloc, &[], fused(alloc, fuse))?;
     let lines = tell_crons(rt, alloc, pick, &mut host);
@@ -125,7 +93,14 @@ fn tell_crons(
 ) -> Result<String, Fail>
     requires { IsOutside (memory_session host.old) }
 {
-    let events = crons(rt, alloc, pick)?;
+    let steps = [
+        Step::Cron(FIRST),
+        Step::Reboot(pick, None),
+        Step::Cron(FIRST + 1),
+        Step::Cron(FIRST + 59),
+        Step::Cron(FIRST + 60),
+    ];
+    let events = events_of(rt, alloc, &steps)?;
     let lines = told(rt, alloc, events.as_slice(), host)?;
     drop(events);
     Ok(lines)

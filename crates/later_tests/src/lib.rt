@@ -1,5 +1,4 @@
-//! Days on which mail is sent too, and a crontab kept: what each event of a day tells, by examples from outside; and days
-//! with a fuse at each call.
+//! Tests of simulated runs with mail and crontabs.
 #![tactic(auto)]
 
 #[cfg(test)]

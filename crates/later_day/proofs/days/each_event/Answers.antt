@@ -2,7 +2,8 @@ use Rattle.std.proofs.Common.{◌≡◌, ◌++◌, [], ◌∷◌, ◌<◌, arith
 use Rattle.std.proofs.lemmas.List.{take_all}
 use Rattle.later_day.specs.LaterHappening.{IsLaterEvent}
 use Rattle.later_day.specs.LaterMachines.{first_later_machine, later_machine}
-use Rattle.later_day.proofs.LaterLoop.{later_day_of, later_so_far_at_first, later_so_far_more}
+use Rattle.at_day.proofs.OutcomeLemmas.{on_err, unchanged_same}
+use Rattle.later_day.proofs.LaterLoop.{later_cut_after, later_cut_at, later_day_of, later_so_far_at_first, later_so_far_more, outside_unreported}
 use Rattle.later_day.proofs.PromiseLemmas.{later_outcomes_keep_their_promise}
 use Rattle.later_day.proofs.days.each_event.Goals as goal
 
@@ -15,6 +16,28 @@ pub one_later_event-requires-clause-event : goal.one_later_event-requires-clause
 one_later_event-requires-clause-event c =
     let inside : c.loop-event.event-index < length c.args.events.now = omega arith in
     subst IsLaterEvent (sym c.event-item.is) (c.requires.events c.loop-event.event-index c.event-item.result inside)
+
+pub returns-in_err-reserve-clause-cut : goal.returns-in_err-reserve-clause-cut
+returns-in_err-reserve-clause-cut c =
+    on_err c.from_residual.result
+    (later_cut_after c.args.program.now c.args.events.now c.loop-event.event-index c.loop-event.entries.items
+    (first_later_machine c.args.host.now c.args.program.now) (later_machine c.loop-event.host c.loop-event.daemon c.loop-event.post)
+    c.loop-event.invariant later_outcomes_keep_their_promise c.loop-event.host (unchanged_same c.loop-event.host))
+
+pub returns-in_err-entry-clause-outside : goal.returns-in_err-entry-clause-outside
+returns-in_err-entry-clause-outside c =
+    outside_unreported c.args.program.now c.event-item.result (later_machine c.loop-event.host c.loop-event.daemon c.loop-event.post)
+    c.one_later_event.new.host c.loop-event.invariant.ready c.in_err-entry.ensures.unreported
+
+pub returns-in_err-entry-clause-cut : goal.returns-in_err-entry-clause-cut
+returns-in_err-entry-clause-cut c =
+    let inside : c.loop-event.event-index < length c.args.events.now = omega arith in
+    on_err c.from_residual-in_err-entry.result
+    (later_cut_at later_outcomes_keep_their_promise c.args.program.now c.args.events.now c.loop-event.event-index c.loop-event.entries.items
+    (first_later_machine c.args.host.now c.args.program.now) (later_machine c.loop-event.host c.loop-event.daemon c.loop-event.post)
+    c.loop-event.invariant c.event-item.result inside c.event-item.is
+    (subst IsLaterEvent (sym c.event-item.is) (c.requires.events c.loop-event.event-index c.event-item.result inside))
+    c.one_later_event.new.host c.in_err-entry.ensures.unreported)
 
 pub loop-event-preserved : goal.loop-event-preserved
 loop-event-preserved c =

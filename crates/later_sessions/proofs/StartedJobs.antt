@@ -18,8 +18,8 @@ use Rattle.step_runs.specs.Hands.{Hands, HandsByNow, StartNothing}
 use Rattle.headline.specs.Headline.{IsScriptOfJob}
 use Rattle.headline.proofs.GoodMoments.{good_prefix}
 use Rattle.headline.proofs.GoodTables.{IsGood, good_opening}
-use Rattle.later_effects.specs.LaterEffects.{AcceptNothing, DoOneThing, is_of_job, of_jobs}
-use Rattle.later_effects.proofs.OnlyJobs.{jobs_stay}
+use Rattle.later_sessions.specs.LaterEffects.{AcceptNothing, DoOneThing, is_of_job, of_jobs}
+use Rattle.later_sessions.proofs.OnlyJobs.{jobs_stay}
 
 -- Steps that start no job.
 

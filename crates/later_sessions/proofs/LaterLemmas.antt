@@ -11,10 +11,10 @@ use Rattle.step_runs.specs.Hands.{HandsByNow}
 use Rattle.headline.specs.Effects.{ComesUpWith, Crashed, Partial, Untouched, Whole}
 use Rattle.headline.specs.ShownEffects.{IsShownAlong, IsShownAsBefore, IsShownBegun, IsShownOnTheWay, PassShownFrom, TakesShownEffect}
 use Rattle.headline.proofs.HeadlineLemmas.{shown_events_hand_once}
-use Rattle.later_effects.specs.Laws.{LaterEventsHandOnce}
-use Rattle.later_effects.specs.LaterEffects.{Beside, DoOneThing, IsBeside, LaterEffect, LaterPassFrom, LaterPassed, OfTable, TakesLaterEffect, effect_on_table, jobs_at, of_jobs, only_jobs, passed_of}
-use Rattle.later_effects.proofs.OnlyJobs.{leaves_of_jobs, of_both}
-use Rattle.later_effects.proofs.StartedJobs.{given_are_of_jobs}
+use Rattle.later_sessions.specs.EffectLaws.{LaterEventsHandOnce}
+use Rattle.later_sessions.specs.LaterEffects.{Beside, DoOneThing, IsBeside, LaterEffect, LaterPassFrom, LaterPassed, OfTable, TakesLaterEffect, effect_on_table, jobs_at, of_jobs, only_jobs, passed_of}
+use Rattle.later_sessions.proofs.OnlyJobs.{leaves_of_jobs, of_both}
+use Rattle.later_sessions.proofs.StartedJobs.{given_are_of_jobs}
 
 before_of_jobs : (start : Moment) (image : Files) (handed : List Handed) → IsShownAsBefore start image handed →
     IsShownAsBefore (jobs_at start) image (of_jobs handed)

@@ -5,7 +5,7 @@ use Rattle.std.proofs.lemmas.List.{map-append}
 use Rattle.host_calls.specs.declared.child.Handed.{Handed}
 use Rattle.host_calls.specs.Folder.{Files}
 use Rattle.host_calls.specs.World.{AtEach, HasEachImage, LeavesOnly, Moment, World, moments}
-use Rattle.later_effects.specs.LaterEffects.{is_of_job, jobs_at, of_jobs, only_jobs}
+use Rattle.later_sessions.specs.LaterEffects.{is_of_job, jobs_at, of_jobs, only_jobs}
 
 -- what was handed over for jobs alone stays, and of what was handed over for none nothing does
 pub jobs_stay : (given : List Handed) → All (λ handed. is_of_job handed ≡ true) given → of_jobs given ≡ given

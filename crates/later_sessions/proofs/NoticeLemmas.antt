@@ -14,9 +14,9 @@ use Rattle.mail_notes.specs.declared.note.NotedJob.{NotedJob}
 use Rattle.mail_notes.specs.Hands.{Hands, HandsByNow, IsHandedFor, Mailing}
 use Rattle.mail_notes.specs.Notices.{notice_text}
 use Rattle.mail_session.specs.Sessions.{IsPosted}
-use Rattle.later_effects.specs.Laws.{SessionsGoBeside}
-use Rattle.later_effects.specs.LaterEffects.{IsBeside, is_of_job, of_jobs}
-use Rattle.later_effects.proofs.OnlyJobs.{of_first, others_go}
+use Rattle.later_sessions.specs.EffectLaws.{SessionsGoBeside}
+use Rattle.later_sessions.specs.LaterEffects.{IsBeside, is_of_job, of_jobs}
+use Rattle.later_sessions.proofs.OnlyJobs.{of_first, others_go}
 
 -- a notice begins with no header
 no_header : (program line : List ℕ) (job : NotedJob) → header_in (notice_text program job line) ≡ None
@@ -40,8 +40,8 @@ notices_are_no_jobs of (Noted job ∷ later) given (first, rest, one, hands, bot
 notices_are_no_jobs of (Dropped number ∷ later) given (first, rest, one, hands, both) =
     ap of_jobs (both ∙ ap (λ (l : List Handed). l ++ rest) one) ∙ notices_are_no_jobs of later rest hands
 
-notices_by_now : (of : Mailing) (notes : List Note) (given : List Handed) → HandsByNow of notes given → of_jobs given ≡ []
-notices_by_now of notes given by_now = elim by_now [
+notices_by_now : (of : Mailing) (notes : List Note) (image : Files) (given : List Handed) → HandsByNow of notes image given → of_jobs given ≡ []
+notices_by_now of notes image given by_now = elim by_now [
   | inl all ↦ notices_are_no_jobs of notes given all
   | inr lacks ↦ notices_are_no_jobs of lacks.earlier given lacks.hands
 ]
@@ -54,7 +54,7 @@ posted_is_beside of notes new_ones start image handed is = record {
   same = is.beside.shown;
   as_many = elim is.mail [
     | inl same ↦ ap of_jobs same.1
-    | inr holds ↦ ap of_jobs holds.grown ∙ of_first start.handed holds.given (notices_by_now of holds.prefix holds.given holds.hands)
+    | inr holds ↦ ap of_jobs holds.grown ∙ of_first start.handed holds.given (notices_by_now of holds.prefix image holds.given holds.hands)
   ];
 }
 

@@ -13,9 +13,9 @@ use Rattle.step_runs.specs.Runs.{IsAlong}
 use Rattle.whole_file.specs.Others.{LeavesOthers}
 use Rattle.whole_file.proofs.ChangesJoined.{left_alone}
 use Rattle.headline.specs.Effects.{Crashed, Partial, Untouched, Whole}
-use Rattle.later_effects.specs.Laws.{EffectsLeaveTheRest}
-use Rattle.later_effects.specs.LaterEffects.{DoOneThing, IsBesideTheStore, LeavesTheRest}
-use Rattle.later_effects.proofs.StartedJobs.{given_are_of_jobs}
+use Rattle.later_sessions.specs.EffectLaws.{EffectsLeaveTheRest}
+use Rattle.later_sessions.specs.LaterEffects.{DoOneThing, IsBesideTheStore, LeavesTheRest}
+use Rattle.later_sessions.proofs.StartedJobs.{given_are_of_jobs}
 
 -- nothing was handed over
 nothing_given : (start : Moment) (image : Files) (handed : List Handed) → LeavesOthers IsSpoolName start.folder image →

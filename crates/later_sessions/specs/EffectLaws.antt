@@ -8,7 +8,7 @@ use Rattle.headline.specs.Headline.{Headline}
 use Rattle.mail_notes.specs.declared.note.Note.{Note}
 use Rattle.mail_notes.specs.Hands.{Mailing}
 use Rattle.mail_session.specs.Sessions.{HasPosted}
-use Rattle.later_effects.specs.LaterEffects.{DoOneThing, LaterPassFrom, LaterPassed, LeavesTheRest, WentBeside, only_jobs, passed_of}
+use Rattle.later_sessions.specs.LaterEffects.{DoOneThing, LaterPassFrom, LaterPassed, LeavesTheRest, WentBeside, only_jobs, passed_of}
 
 -- the headline, of the scripts of jobs, over any events that pass from a world on whose folder shows one table in each image
 abbrev pub LaterEventsHandOnce : Type 0

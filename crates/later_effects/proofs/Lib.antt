@@ -1,5 +1,0 @@
-pub mod OnlyJobs
-pub mod StartedJobs
-pub mod LaterLemmas
-pub mod NoticeLemmas
-pub mod RestLemmas

@@ -1,2 +1,0 @@
-pub mod LaterEffects
-pub mod Laws
