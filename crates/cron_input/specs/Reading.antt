@@ -1,23 +1,15 @@
 -- The crontab of a file, as inputs give it (own).
 use Rattle.std.specs.Prelude.{◌≡◌, ◌⊎◌, ◌+◌, ◌≤◌, ◌<◌, ℕ, Bool, true, List, Result, Ok, Err, length}
 use Rattle.host_calls.specs.Causes.{Rose}
-use Rattle.host_calls.specs.declared.inputs.Inputs as inputs
-use Rattle.host_calls.specs.Inputs.{AreReadOnce, Contents, IsPrefixOf, Sources}
+use Rattle.host_calls.specs.Inputs.{AreReadOnce, IsPrefixOf}
 use Rattle.listing_text.specs.declared.cause.Cause.{Cause}
 use Rattle.listing_text.specs.declared.cause.Cause.TheVariants as cause
 use Rattle.listing_text.specs.declared.refusal.Refusal.TheVariants.{BadCrontab, TooLong}
+use Rattle.cause_output.specs.Outside.{InputAt}
 use Rattle.cause_output.specs.declared.command_error.CommandError.{CommandError}
 use Rattle.cron_text.specs.declared.crontab.TheConstants.{MAX_CRONTAB}
 use Rattle.cron_text.specs.declared.entry.CronEntry.{CronEntry}
 use Rattle.cron_text.specs.Crontab.{IsFirstBad, SpellsCrontab}
-
--- the inputs: their content, and what they tell always
-pub record InputAt : Type 0 where
-  pub contents : Contents
-  pub sources : Sources
-
-abbrev pub input_at : {I : Type 0} → inputs.Ghosts I → I → InputAt
-input_at i inputs = record { contents = i.contents inputs; sources = i.sources inputs }
 
 -- the inputs were asked once for a file
 pub record AsksFile (old new : InputAt) : Type 0 where

@@ -1,7 +1,8 @@
 //! The crontab, read from its file.
 ghost use Rattle.std.specs.Prelude.{◌≡◌, ◌≤◌, All, IfOk, length};
+ghost use Rattle.cause_output.specs.Outside.{input_at};
 ghost use Rattle.cron_text.specs.declared.crontab.TheConstants.{MAX_CRONTAB};
-ghost use Rattle.cron_input.specs.Reading.{IsOfText, ReadsEntries, input_at};
+ghost use Rattle.cron_input.specs.Reading.{IsOfText, ReadsEntries};
 
 use cause_output::CommandError;
 use cron_text::{CronFault, Entries, MAX_CRONTAB, crontabs_have_one_reading, read_crontab};

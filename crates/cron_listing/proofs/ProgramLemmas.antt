@@ -1,5 +1,6 @@
 -- What is read and put, by what came of each call.
 use Rattle.std.proofs.Common.{◌≡◌, ◌+◌, ℕ, ℤ, Bool, true, false, List, Result, Ok, Err, refl, sym, subst, inl, inr, ap}
+use Rattle.cause_output.specs.Outside.{Telling}
 use Rattle.at_words.specs.Answers.{Answers}
 use Rattle.at_words.specs.declared.fault.WordsFault.{WordsFault}
 use Rattle.at_words.specs.declared.fault.WordsFault.TheVariants.{Usage, BadQueue, Memory as NoMemory}
@@ -13,7 +14,7 @@ use Rattle.listing_text.specs.declared.cause.Cause.{Cause}
 use Rattle.listing_text.specs.declared.cause.Cause.TheVariants.{Memory}
 use Rattle.cron_listing.specs.declared.words.NextRequest.{NextRequest}
 use Rattle.cron_listing.specs.Listing.{IsListing}
-use Rattle.cron_listing.specs.Running.{Does, GivesListing, HasRead, IsListed, Lists, ListingAt, ReadAt, Telling, no_memory, the_listing}
+use Rattle.cron_listing.specs.Running.{Does, GivesListing, HasRead, IsListed, Lists, ListingAt, ReadAt, no_memory, the_listing}
 use Rattle.cron_listing.specs.inside.Adding.{GivesText}
 
 module _ (clock input : Bool) (zone : Zone) (request : NextRequest) (old new : ReadAt) where

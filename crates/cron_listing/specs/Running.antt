@@ -1,5 +1,6 @@
 -- What the program reads and puts, and how it ends (own).
 use Rattle.std.specs.Prelude.{◌≡◌, ◌⊎◌, ◌+◌, ◌≤◌, ℕ, ℤ, Bool, true, false, List, Result, Ok, Err, codes}
+use Rattle.cause_output.specs.Outside.{ClockAt, InputAt, Telling, clock_at, input_at, telling}
 use Rattle.at_words.specs.declared.fault.WordsFault.{WordsFault}
 use Rattle.cause_output.specs.Causes.{error_of, words_cause}
 use Rattle.cause_output.specs.Saying.{IsSaid}
@@ -8,8 +9,8 @@ use Rattle.cause_output.specs.declared.command_error.CommandError.{CommandError}
 use Rattle.civil_minute.specs.Zone.{is_unreadable}
 use Rattle.civil_minute.specs.declared.zone.Zone.{Zone}
 use Rattle.clock_range.specs.ClockRange.{IsClockSecond, minute_at}
-use Rattle.cron_input.specs.Clock.{ClockAt, ReadsClock, clock_at}
-use Rattle.cron_input.specs.Reading.{InputAt, ReadsEntries, input_at}
+use Rattle.cron_input.specs.Clock.{ReadsClock}
+use Rattle.cron_input.specs.Reading.{ReadsEntries}
 use Rattle.cron_text.specs.declared.entry.CronEntry.{CronEntry}
 use Rattle.host_calls.specs.Causes.{Rose}
 use Rattle.host_calls.specs.declared.inputs.Inputs as inputs
@@ -37,14 +38,9 @@ pub record ListingAt : Type 0 where
 abbrev pub listing_at : {R I O : Type 0} → readings.Ghosts R → inputs.Ghosts I → sink.Ghosts O → R → I → O → ListingAt
 listing_at r i o readings inputs out = record { read = read_at r i readings inputs; out = sink_at (o.content out) (o.outlet out) }
 
--- which of them tell what they hold
-pub record Telling : Type 0 where
-  pub clock : Bool
-  pub input : Bool
-  pub output : Bool
-
-abbrev pub telling : {R I O : Type 0} → readings.Ghosts R → inputs.Ghosts I → sink.Ghosts O → Telling
-telling r i o = record { clock = r.tells; input = i.tells; output = o.tells }
+-- which of them tell what they hold: there is no folder, and nothing is said
+abbrev pub listing_telling : {R I O : Type 0} → readings.Ghosts R → inputs.Ghosts I → sink.Ghosts O → Telling
+listing_telling r i o = telling false false r.tells i.tells o.tells false
 
 -- The clock answered a second in its range, and the file was read, with this result.
 pub record HasRead (clock input : Bool) (request : NextRequest) (old new : ReadAt) (result : Result (List CronEntry) CommandError)

@@ -3,7 +3,7 @@ ghost use Rattle.std.specs.Prelude.{◌≡◌, codes, map, string_bytes};
 ghost use Rattle.cause_output.specs.Sinks.{sink_at};
 ghost use Rattle.civil_minute.specs.Zone.{is_unreadable};
 ghost use Rattle.listing_text.specs.Cause.{status_of};
-ghost use Rattle.cron_listing.specs.Running.{IsListed, Lists, NextRuns, PutsListing, listing_at, telling};
+ghost use Rattle.cron_listing.specs.Running.{IsListed, Lists, NextRuns, PutsListing, listing_at, listing_telling};
 ghost use Rattle.cron_listing.specs.Words.{next_asked};
 
 use crate::read::read_listing;
@@ -32,7 +32,7 @@ pub fn next_program<R: Readings, I: Inputs, O: Sink, E: Sink>(
     ensures out_made { (O.outlet out.new).made_as ≡ (O.outlet out.old).made_as }
     ensures err_made { (E.outlet err.new).made_as ≡ (E.outlet err.old).made_as }
     ensures runs { NextRuns (next_asked (map string_bytes words.now))
-        (telling R.Readings I.Inputs O.Sink) E.tells zone.now
+        (listing_telling R.Readings I.Inputs O.Sink) E.tells zone.now
         (listing_at R.Readings I.Inputs O.Sink readings.old inputs.old out.old)
         (listing_at R.Readings I.Inputs O.Sink readings.new inputs.new out.new)
         (sink_at (E.content err.old) (E.outlet err.old)) (sink_at (E.content err.new) (E.outlet err.new)) result.cause }
@@ -51,7 +51,8 @@ fn carry_out<R: Readings, I: Inputs, O: Sink>(
     out: &mut O,
 ) -> Cause
     ensures out_made { (O.outlet out.new).made_as ≡ (O.outlet out.old).made_as }
-    ensures lists { Lists (next_asked (map string_bytes words.now)) (telling R.Readings I.Inputs O.Sink) zone.now
+    ensures lists { Lists (next_asked (map string_bytes words.now))
+        (listing_telling R.Readings I.Inputs O.Sink) zone.now
         (listing_at R.Readings I.Inputs O.Sink readings.old inputs.old out.old)
         (listing_at R.Readings I.Inputs O.Sink readings.new inputs.new out.new) result }
 {
@@ -71,7 +72,7 @@ fn list_unless<R: Readings, I: Inputs, O: Sink>(
     out: &mut O,
 ) -> Cause
     ensures out_made { (O.outlet out.new).made_as ≡ (O.outlet out.old).made_as }
-    ensures listed { IsListed (telling R.Readings I.Inputs O.Sink) zone.now request.now
+    ensures listed { IsListed (listing_telling R.Readings I.Inputs O.Sink) zone.now request.now
         (listing_at R.Readings I.Inputs O.Sink readings.old inputs.old out.old)
         (listing_at R.Readings I.Inputs O.Sink readings.new inputs.new out.new) result }
 {

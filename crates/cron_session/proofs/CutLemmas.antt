@@ -11,13 +11,14 @@ use Rattle.whole_file.specs.Others.{ChangesFiles}
 use Rattle.whole_file.proofs.ChangesJoined.{left_alone}
 use Rattle.spool_model.specs.declared.job.Job.{Job}
 use Rattle.spool_model.specs.JobTable.{JobTable}
+use Rattle.spool_shows.specs.Shown.{shown_by}
 use Rattle.cron_mark.specs.Names.{mark_file}
 use Rattle.cron_session.specs.declared.report.CronEnd.{CronEnd}
 use Rattle.cron_session.specs.declared.report.CronEnd.TheVariants.{Done, Busy, FileFault, Damaged, QueueFull, NumbersUsedUp, Memory}
 use Rattle.cron_session.specs.Leaving.{CronLeaves, IsIdle, IsOnTheMark, IsSpoolOrTemp, IsStopped, IsUnmarked, Submits}
 use Rattle.cron_session.specs.Minutes.{CutOff, CutSessionsPass, IsCrash, PassesAs}
 use Rattle.cron_session.specs.Steps.{Cron, minute_of, submissions}
-use Rattle.cron_session.proofs.MinuteLemmas.{IsMarkedSo, unmarked_keeps}
+use Rattle.cron_session.proofs.MinuteLemmas.{IsMarkedSo, unmarked_has_nothing_new}
 
 -- what each of the moments has, one of them has
 one_of_each : (P : Moment → Type 0) (list : List Moment) (at : Moment) → AtEach P list → AtSome (λ moment. moment ≡ at) list → P at
@@ -47,14 +48,14 @@ module _ (old during new : World) (crash : IsCrash old during new) where
 
   idle_crash : (cron : Cron) (numbers : List ℕ) → IsIdle numbers old during → IsMarkedSo cron old crash.image
   idle_crash cron numbers idle =
-      inl (unmarked_keeps old crash.image (changes_crash (IsUnmarked old.now.folder) idle.unmarked at_start))
+      inl (unmarked_has_nothing_new old crash.image (changes_crash (IsUnmarked old.now.folder) idle.unmarked at_start))
 
   submits_crash : (cron : Cron) (table : JobTable) (jobs : List Job) → Submits cron table jobs old during →
       IsMarkedSo cron old crash.image
   submits_crash cron table jobs submits =
       elim (changes_crash (IsOnTheMark (minute_of cron) table (submissions table.last jobs) old.now.folder) submits.files
       (λ image is. inl (at_start image is))) [
-        | inl before ↦ inl (unmarked_keeps old crash.image before)
+        | inl before ↦ inl (unmarked_has_nothing_new old crash.image before)
         | inr marked ↦ inr (table, jobs, submits.are, marked.come.marked)
       ]
 
@@ -72,12 +73,13 @@ module _ (old during new : World) (crash : IsCrash old during new) where
     | inr whole ↦ submits_crash cron whole.table whole.jobs whole.submits
   ]
   session_crash cron numbers Busy leaves =
-      inl (
-        crash.image,
-        crash_of (λ image handed. IsImage old.now.folder image)
-            (leaves_none (λ image handed. IsImage old.now.folder image) old during leaves.1) (λ image is. is),
-        refl,
-      )
+      inl (record {
+        from = crash.image;
+        was = crash_of (λ image handed. IsImage old.now.folder image)
+            (leaves_none (λ image handed. IsImage old.now.folder image) old during leaves.1) (λ image is. is);
+        mark = refl;
+        shows = refl;
+      })
   session_crash cron numbers (Damaged damage) leaves = idle_crash cron numbers leaves.1
   session_crash cron numbers QueueFull leaves = idle_crash cron numbers leaves.1
   session_crash cron numbers NumbersUsedUp leaves = idle_crash cron numbers leaves.1
@@ -87,8 +89,12 @@ module _ (old during new : World) (crash : IsCrash old during new) where
   passes : (cron : Cron) → IsClockSecond cron.now → IsMarkedSo cron old crash.image →
       PassesAs (CutOff cron true) old new ⊎ PassesAs (CutOff cron false) old new
   passes cron second marked = elim marked [
-    | inl before ↦ inr (λ other is.
-        (before.0, before.1, ap (λ (files : Files). finite.get files mark_file) (crash.only other is) ∙ before.2))
+    | inl before ↦ inr (λ other is. record {
+      from = before.from;
+      was = before.was;
+      mark = ap (λ (files : Files). finite.get files mark_file) (crash.only other is) ∙ before.mark;
+      shows = ap shown_by (crash.only other is) ∙ before.shows;
+    })
     | inr come ↦ inl (
       second,
       record {

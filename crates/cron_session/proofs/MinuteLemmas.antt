@@ -22,7 +22,7 @@ use Rattle.cron_session.proofs.NameLemmas.{file_beside, temp_apart}
 use Rattle.cron_session.specs.declared.report.CronEnd.{CronEnd}
 use Rattle.cron_session.specs.declared.report.CronEnd.TheVariants.{Done, Busy, FileFault, Damaged, QueueFull, NumbersUsedUp, Memory}
 use Rattle.cron_session.specs.Leaving.{CronLeaves, IsIdle, IsSpoolOrTemp, IsStopped, IsUnmarked, IsWhole}
-use Rattle.cron_session.specs.Minutes.{AcceptApart, Beside, CronEvent, CronPassFrom, CronPassed, CutOff, Ended, KeepsMark, MayAcceptAt, NoMinuteComesTwice, PassesAs, SetsMark}
+use Rattle.cron_session.specs.Minutes.{AcceptApart, Beside, CronEvent, CronPassFrom, CronPassed, CutOff, Ended, HasNothingNew, KeepsMark, MayAcceptAt, NoMinuteComesTwice, PassesAs, SetsMark, SubmitsNothing}
 use Rattle.cron_session.specs.Steps.{AreToSubmit, Cron, IsBefore, minute_of, numbers_after}
 
 -- each image of the folder has the mark of this minute or of a later one
@@ -62,10 +62,10 @@ minute_of_clock cron second = minute_in_range cron.now second
 
 -- What a session leaves of the mark.
 
--- an image has the mark of an image of before, or jobs were to be submitted and it has the mark of the minute
+-- an image has nothing new, or jobs were to be submitted and it has the mark of the minute
 abbrev pub IsMarkedSo : Cron → World → Files → Type 0
 IsMarkedSo cron old image =
-    ((from : Files) × IsImage old.now.folder from × (finite.get image mark_file ≡ finite.get from mark_file))
+    HasNothingNew old.now.folder image
     ⊎ ((table : JobTable) × (jobs : List Job) × AreToSubmit cron (reading old) table jobs
     × (finite.get image mark_file ≡ Some (mark_text (minute_of cron))))
 
@@ -74,13 +74,13 @@ mark_is_beside : ¬ (IsSpoolOrTemp mark_file)
 mark_is_beside (inl spool) = file_beside spool
 mark_is_beside (inr temp) = temp_apart (sym temp)
 
-pub unmarked_keeps : (old : World) (image : Files) → IsUnmarked old.now.folder image →
-    (from : Files) × IsImage old.now.folder from × (finite.get image mark_file ≡ finite.get from mark_file)
-unmarked_keeps old image is = (is.alone.from, is.alone.was, is.alone.others mark_file mark_is_beside)
+pub unmarked_has_nothing_new : (old : World) (image : Files) → IsUnmarked old.now.folder image → HasNothingNew old.now.folder image
+unmarked_has_nothing_new old image is =
+    record { from = is.alone.from; was = is.alone.was; mark = is.alone.others mark_file mark_is_beside; shows = is.same }
 
-idle_keeps : (numbers : List ℕ) (old new : World) → IsIdle numbers old new → KeepsMark old.now.folder new.now.folder
-idle_keeps numbers old new idle image is =
-    unmarked_keeps old image (changes_end (IsUnmarked old.now.folder) old new idle.unmarked
+idle_submits_nothing : (numbers : List ℕ) (old new : World) → IsIdle numbers old new → SubmitsNothing old.now.folder new.now.folder
+idle_submits_nothing numbers old new idle image is =
+    unmarked_has_nothing_new old image (changes_end (IsUnmarked old.now.folder) old new idle.unmarked
     (λ files was. record { alone = left_alone IsSpoolOrTemp old.now.folder files was; same = refl }) image is)
 
 whole_sets : (cron : Cron) (numbers : List ℕ) (old new : World) → IsWhole cron numbers old new → SetsMark cron old new
@@ -94,7 +94,7 @@ whole_sets cron numbers old new whole = record {
 stopped_marks : (cron : Cron) (numbers : List ℕ) (old new : World) → IsStopped cron numbers old new → (image : Files) →
     IsImage new.now.folder image → IsMarkedSo cron old image
 stopped_marks cron numbers old new stopped image is = elim (stopped.ends image is) [
-  | inl before ↦ inl (unmarked_keeps old image before.1)
+  | inl before ↦ inl (unmarked_has_nothing_new old image before.1)
   | inr come ↦ inr (stopped.table, stopped.made ++ (stopped.next ++ stopped.later), stopped.submits.are, come.marked)
 ]
 
@@ -114,7 +114,7 @@ stopped_sets cron numbers old new some stopped = record {
 either_marks : (cron : Cron) (numbers : List ℕ) (old new : World) → IsIdle numbers old new ⊎ IsStopped cron numbers old new →
     (image : Files) → IsImage new.now.folder image → IsMarkedSo cron old image
 either_marks cron numbers old new leaves image is = elim leaves [
-  | inl idle ↦ inl (idle_keeps numbers old new idle image is)
+  | inl idle ↦ inl (idle_submits_nothing numbers old new idle image is)
   | inr stopped ↦ stopped_marks cron numbers old new stopped image is
 ]
 
@@ -129,14 +129,14 @@ either_sets cron numbers old new some leaves = elim leaves [
 session_marks : (cron : Cron) (numbers : List ℕ) (old new : World) (end : CronEnd) → CronLeaves cron numbers old new end →
     (image : Files) → IsImage new.now.folder image → IsMarkedSo cron old image
 session_marks cron numbers old new Done leaves image is = elim leaves [
-  | inl quiet ↦ inl (idle_keeps numbers old new quiet.idle image is)
+  | inl quiet ↦ inl (idle_submits_nothing numbers old new quiet.idle image is)
   | inr whole ↦ inr (whole.table, whole.jobs, whole.submits.are, (whole.stands image is).0)
 ]
 session_marks cron numbers old new Busy leaves image is =
-    inl (image, subst (λ (world : World). IsImage world.now.folder image) leaves.1 is, refl)
-session_marks cron numbers old new (Damaged damage) leaves image is = inl (idle_keeps numbers old new leaves.1 image is)
-session_marks cron numbers old new QueueFull leaves image is = inl (idle_keeps numbers old new leaves.1 image is)
-session_marks cron numbers old new NumbersUsedUp leaves image is = inl (idle_keeps numbers old new leaves.1 image is)
+    inl (record { from = image; was = subst (λ (world : World). IsImage world.now.folder image) leaves.1 is; mark = refl; shows = refl })
+session_marks cron numbers old new (Damaged damage) leaves image is = inl (idle_submits_nothing numbers old new leaves.1 image is)
+session_marks cron numbers old new QueueFull leaves image is = inl (idle_submits_nothing numbers old new leaves.1 image is)
+session_marks cron numbers old new NumbersUsedUp leaves image is = inl (idle_submits_nothing numbers old new leaves.1 image is)
 session_marks cron numbers old new FileFault leaves image is = either_marks cron numbers old new leaves image is
 session_marks cron numbers old new Memory leaves image is = either_marks cron numbers old new leaves image is
 
@@ -174,6 +174,12 @@ keeps_from minute old new from keeps = record {
       (here.0, here.1, subst (λ content. IsMark content (Some here.0)) (sym before.2) here.2);
 }
 
+-- where nothing was submitted, the mark stays
+nothing_keeps : (old new : Folder) → SubmitsNothing old new → KeepsMark old new
+nothing_keeps old new nothing image is =
+    let before : HasNothingNew old image = nothing image is in
+    (before.from, before.was, before.mark)
+
 -- where it was set, each image has the mark of its minute
 sets_from : (cron : Cron) (old new : World) → IsClockSecond cron.now → SetsMark cron old new → HasMarkFrom (minute_of cron) new.now.folder
 sets_from cron old new second sets = record {
@@ -198,8 +204,8 @@ event_from : (minute : ℕ) (event : CronEvent) (old new : World) → HasMarkFro
 event_from minute (Ended cron end numbers) old new from passes = record {
   marked_in = λ image is. elim (session_marks cron numbers old new end passes.1 image is) [
     | inl before ↦
-        let here = from.marked_in before.0 before.1 in
-        (here.0, here.1, subst (λ content. IsMark content (Some here.0)) (sym before.2) here.2)
+        let here = from.marked_in before.from before.was in
+        (here.0, here.1, subst (λ content. IsMark content (Some here.0)) (sym before.mark) here.2)
     | inr come ↦
         let later : minute < minute_of cron = later_than minute cron old come.0 come.1 from come.2 in
         let least : minute ≤ minute_of cron = omega arith in
@@ -210,7 +216,8 @@ event_from minute (CutOff cron true) old new from passes =
     let later : minute < minute_of cron = later_than minute cron old passes.1.table passes.1.jobs from passes.1.are in
     let least : minute ≤ minute_of cron = omega arith in
     lower_from minute (minute_of cron) new.now.folder least (sets_from cron old new passes.0 passes.1)
-event_from minute (CutOff cron false) old new from passes = keeps_from minute old.now.folder new.now.folder from passes
+event_from minute (CutOff cron false) old new from passes =
+    keeps_from minute old.now.folder new.now.folder from (nothing_keeps old.now.folder new.now.folder passes)
 event_from minute Beside old new from passes = keeps_from minute old.now.folder new.now.folder from passes
 
 -- an event that may accept at a minute has set its mark

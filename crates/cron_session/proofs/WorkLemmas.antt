@@ -253,6 +253,7 @@ module _ (cron : Cron) (old middle : World) (kept : Kept) (recovery : ChangesFil
       since = late;
     };
     idle = idle_after old middle numbers none recovery;
+    others = recovered.others;
   }
 
   -- The mark is damaged.

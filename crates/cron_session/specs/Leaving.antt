@@ -12,6 +12,7 @@ use Rattle.spool_model.specs.declared.step.Step.{Step}
 use Rattle.spool_model.specs.JobTable.{JobTable}
 use Rattle.spool_model.specs.Steps.{AreLegal, after_steps}
 use Rattle.spool_shows.specs.Shown.{Shows, shown_by}
+use Rattle.step_runs.specs.Calls.{KeepsOthers}
 use Rattle.step_runs.specs.Current.{IsSpoolName}
 use Rattle.step_runs.specs.Made.{ShowsAfterPrefix}
 use Rattle.cron_mark.specs.Mark.{IsMarkDamage, mark_text}
@@ -63,10 +64,11 @@ pub record IsIdle (numbers : List ℕ) (old new : World) : Type 0 where
   pub none : numbers ≡ []
   pub unmarked : ChangesFiles (IsUnmarked old.now.folder) old new
 
--- The mark was there already: there was nothing to do.
+-- The mark was there already: there was nothing to do. It and all other files read as before.
 pub record IsQuiet (cron : Cron) (numbers : List ℕ) (old new : World) : Type 0 where
   pub already : IsMarkedAlready cron (reading old)
   pub idle : IsIdle numbers old new
+  pub others : KeepsOthers old.now.folder new.now.folder
 
 -- There was room for the jobs that were to be submitted, and each image of each moment is on the mark.
 pub record Submits (cron : Cron) (table : JobTable) (jobs : List Job) (old new : World) : Type 0 where

@@ -7,6 +7,7 @@ use Rattle.host_calls.specs.Folder.{Files, Folder, IsImage}
 use Rattle.host_calls.specs.World.{AtSome, Moment, World, moments, reading}
 use Rattle.spool_model.specs.declared.job.Job.{Job}
 use Rattle.spool_model.specs.JobTable.{JobTable}
+use Rattle.spool_shows.specs.Shown.{shown_by}
 use Rattle.cron_mark.specs.Mark.{mark_text}
 use Rattle.cron_mark.specs.Names.{mark_file}
 use Rattle.cron_session.specs.declared.report.CronEnd.{CronEnd}
@@ -18,6 +19,17 @@ abbrev pub KeepsMark : Folder → Folder → Type 0
 KeepsMark old new = (image : Files) → IsImage new image →
     (from : Files) × IsImage old from × (finite.get image mark_file ≡ finite.get from mark_file)
 
+-- The image has the mark that an image of before has, and shows what that one shows.
+pub record HasNothingNew (start : Folder) (image : Files) : Type 0 where
+  pub from : Files
+  pub was : IsImage start from
+  pub mark : finite.get image mark_file ≡ finite.get from mark_file
+  pub shows : shown_by image ≡ shown_by from
+
+-- no minute was marked, and no job submitted: so of each image
+abbrev pub SubmitsNothing : Folder → Folder → Type 0
+SubmitsNothing old new = (image : Files) → IsImage new image → HasNothingNew old image
+
 -- jobs were to be submitted, and each image has the mark of the minute
 pub record SetsMark (cron : Cron) (old new : World) : Type 0 where
   pub table : JobTable
@@ -26,7 +38,7 @@ pub record SetsMark (cron : Cron) (old new : World) : Type 0 where
   pub marked : (image : Files) → IsImage new.now.folder image → finite.get image mark_file ≡ Some (mark_text (minute_of cron))
 
 -- What passes: a session that ended so, and accepted these numbers; one that a crash cut off, after the mark was set or
--- before; or anything else that keeps the mark.
+-- before its first job; or anything else that keeps the mark.
 pub data CronEvent : Type 0 where
   Ended : (cron : Cron) (end : CronEnd) (numbers : List ℕ) → CronEvent
   CutOff : (cron : Cron) (marked : Bool) → CronEvent
@@ -36,7 +48,7 @@ pub data CronEvent : Type 0 where
 abbrev pub PassesAs : CronEvent → World → World → Type 0
 PassesAs (Ended cron end numbers) old new = IsClockSecond cron.now × CronLeaves cron numbers old new end
 PassesAs (CutOff cron true) old new = IsClockSecond cron.now × SetsMark cron old new
-PassesAs (CutOff cron false) old new = KeepsMark old.now.folder new.now.folder
+PassesAs (CutOff cron false) old new = SubmitsNothing old.now.folder new.now.folder
 PassesAs Beside old new = KeepsMark old.now.folder new.now.folder
 
 -- A crash at a moment of a session, after which the folder has one image of that moment alone.

@@ -1,4 +1,4 @@
-//! A session of a crontab: what is due of its entries at a minute is submitted, at most once.
+//! A session of a crontab: sets the mark, then submits what is due. No minute is submitted twice, whatever crashes.
 //!
 //! Its definitions are what a reader of `cron_session` believes. In the order in which to read them:
 //! 1. `Steps`: what is due at the minute of a session, the steps and numbers of its jobs, and when it has none

@@ -2,15 +2,18 @@
 ghost use Rattle.host_calls.specs.Session.{IsOutside};
 ghost use Rattle.memory_host.specs.Host.{memory_session};
 
-use crate::outside::{Answered, FIRST, NOW, SECOND, empty_spool, has, sessions};
+use crate::callers::ann;
+use crate::outside::{Answered, FIRST, NOW, SECOND, has, run, sessions_of, spool};
 use cron_mark::mark_name;
 use host_calls::Name;
 use memory_host::{MemoryHost, Plan};
-use std::alloc::Global;
+use std::alloc::{AllocError, Global};
 use std::test::Fail;
 
 // Two entries that are due in each minute.
 const TWO: &[u8] = b"* * * * * one\n* * * * * two\n";
+
+const ONE: &[&str] = &["atcron", "-f", "crontab", "--turns", "1"];
 
 // How far a session came: nothing, the mark, and then the number of each job and the job.
 fn how_far(host: &MemoryHost) -> Result<u32, Fail> {
@@ -40,7 +43,7 @@ fn fused(alloc: Global, fuse: u64) -> Plan {
 // A session through which no call gets from the fuse on, and a reboot with the pick: whether it was done, and how far it
 // came. A further session in its minute adds nothing, unless the minute was not marked.
 fn cut_off(alloc: Global, fuse: u64, pick: u64) -> Result<(bool, u32), Fail> {
-    let mut host = empty_spool(alloc, fused(alloc, fuse))?;
+    let mut host = spool(alloc, &[], fused(alloc, fuse))?;
     let came = came_on(alloc, pick, &mut host);
     drop(host);
     came
@@ -66,10 +69,17 @@ fn ends_well(alloc: Global, host: &mut MemoryHost) -> Result<bool, Fail>
     requires { IsOutside (memory_session host.old) }
     ensures { IsOutside (memory_session host.new) }
 {
-    let answered = sessions(alloc, TWO, "1", &[NOW, NOW], host)?;
-    let is_done = is_done(&answered);
-    drop(answered);
-    is_done
+    let answered = session(alloc, NOW, host)?;
+    is_done(&answered)
+}
+
+// A session of the two entries.
+fn session(alloc: Global, now: i64, host: &mut MemoryHost) -> Result<Answered, AllocError>
+    requires { IsOutside (memory_session host.old) }
+    ensures { IsOutside (memory_session host.new) }
+{
+    let caller = ann(alloc)?;
+    run(alloc, &sessions_of(ONE, TWO, &[now, now]), &caller, host)
 }
 
 // The program makes all of its sessions, and says of one that was cut off that it was.
@@ -102,31 +112,36 @@ fn a_session_is_cut_off_at_each_call(rt: HostRuntime) -> Result<(), Fail> {
     Ok(())
 }
 
+// A session through which no call gets from the fuse on, a reboot, and a session of the next minute: how far the first one
+// came decides under which numbers the next one submits its jobs.
+fn next_minute(alloc: Global, fuse: u64) -> Result<bool, Fail> {
+    let mut host = spool(alloc, &[], fused(alloc, fuse))?;
+    let numbered = numbers_on(alloc, &mut host);
+    drop(host);
+    numbered
+}
+
+fn numbers_on(alloc: Global, host: &mut MemoryHost) -> Result<bool, Fail>
+    requires { IsOutside (memory_session host.old) }
+{
+    let _first = session(alloc, NOW, host)?;
+    host.reboot(alloc, 1, None)?;
+    let drawn = match how_far(host)? {
+        0 | 1 => 0,
+        2 | 3 => 1,
+        _ => 2,
+    };
+    let next = session(alloc, NOW + 60, host)?;
+    let one = format!(in alloc; "a{:08x}01b9ebff", drawn + 1)?;
+    let two = format!(in alloc; "a{:08x}01b9ebff", drawn + 2)?;
+    Ok(next.code == 0 && has(host, one.as_bytes()) && has(host, two.as_bytes()))
+}
+
 // After a session that was cut off the next minute numbers on.
 #[test]
 fn the_next_minute_numbers_on(rt: HostRuntime) -> Result<(), Fail> {
-    let alloc = rt.alloc();
     for fuse in 1..60 {
-        let mut host = empty_spool(alloc, fused(alloc, fuse))?;
-        let _first = sessions(alloc, TWO, "1", &[NOW, NOW], &mut host)?;
-        host.reboot(alloc, 1, None)?;
-        let far = how_far(&host)?;
-        let next = sessions(alloc, TWO, "1", &[NOW + 60, NOW], &mut host)?;
-        assert_eq!(rt; next.code, 0);
-        let drawn = if far < 2 {
-            0
-        } else if far < 4 {
-            1
-        } else {
-            2
-        };
-        let one = format!(in alloc; "a{:08x}01b9ebff", drawn + 1)?;
-        let two = format!(in alloc; "a{:08x}01b9ebff", drawn + 2)?;
-        assert!(rt;
-            has(&host, one.as_bytes()) && has(&host, two.as_bytes()),
-            "fuse {fuse}"
-        );
-        drop(host);
+        assert!(rt; next_minute(rt.alloc(), fuse)?, "fuse {fuse}");
     }
     Ok(())
 }

@@ -1,13 +1,18 @@
-//! Crontabs, the minutes at which their entries are due, their marks, and the program that submits what is due, by examples
-//! from outside.
+//! Tests of crontabs: texts, days, commands, marks, sessions, program.
 #![tactic(auto)]
 
+#[cfg(test)]
+mod callers;
+#[cfg(test)]
+mod checks;
 #[cfg(test)]
 mod commands;
 #[cfg(test)]
 mod crontabs;
 #[cfg(test)]
 mod fuses;
+#[cfg(test)]
+mod lines;
 #[cfg(test)]
 mod listing;
 #[cfg(test)]

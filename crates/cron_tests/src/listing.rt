@@ -8,6 +8,10 @@ use std::test::Fail;
 // Fri Jan 24 2025, 08:30:13 UTC.
 const NOW: i64 = 1_737_707_413;
 
+// The lines of the crontab of `listing_of_a_crontab`.
+const LINES: &[u8] =
+    b"Mon Jan 27 08:30:00 2025\trun it\nTue Jan 28 08:30:00 2025\trun it\nnot within nine years\tnever\nFri Jan 24 08:31:00 2025\ttick\nFri Jan 24 08:32:00 2025\ttick\n";
+
 // What the program answers: its status, what it puts, and what it says.
 fn listed(
     alloc: Global,
@@ -45,17 +49,7 @@ fn listing_of_a_crontab(rt: HostRuntime) -> Result<(), Fail> {
     let (code, out, err) = listed(rt.alloc(), &words, "UTC", NOW, Some(crontab), None)?;
     assert_eq!(rt; code, 0);
     assert_eq!(rt; err.content(), b"".as_slice());
-    let mut wanted = Vec::new(rt.alloc());
-    for line in [
-        b"Mon Jan 27 08:30:00 2025\trun it\n".as_slice(),
-        b"Tue Jan 28 08:30:00 2025\trun it\n",
-        b"not within nine years\tnever\n",
-        b"Fri Jan 24 08:31:00 2025\ttick\n",
-        b"Fri Jan 24 08:32:00 2025\ttick\n",
-    ] {
-        wanted.extend_from_slice(line)?;
-    }
-    assert_eq!(rt; out.content(), wanted.as_slice());
+    assert_eq!(rt; out.content(), LINES);
     // the minute that the clock shows there, 03:30, is none of the next ones
     let zone = "EST5EDT,M3.2.0,M11.1.0";
     let (code, out, _err) = listed(rt.alloc(), &words, zone, NOW, Some(b"30 3 * * * x"), None)?;

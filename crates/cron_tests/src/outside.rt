@@ -3,11 +3,11 @@ ghost use Rattle.std.specs.Prelude.{◌<◌, IfOk};
 ghost use Rattle.host_calls.specs.Session.{IsOutside};
 ghost use Rattle.memory_host.specs.Host.{memory_session};
 
+use crate::callers::ann;
 use cause_output::Caller;
-use civil_minute::Zone;
+use cron_mark::mark_name;
 use cron_turn::cron_program;
-use host_calls::{Name, Text};
-use job_script::{Context, Variables};
+use host_calls::{Bytes, Name};
 use memory_host::{Files, ListReadings, MemoryHost, MemoryInputs, MemorySink, Plan};
 use std::alloc::{AllocError, Global};
 
@@ -28,81 +28,82 @@ pub struct Answered {
     pub rested: u64,
 }
 
-/// The user `ann`, by UTC.
-pub fn ann(alloc: Global) -> Result<Caller, AllocError>
-    ensures { IfOk result (λ caller. caller.context.umask < 512) }
-{
-    let context = Context {
-        user: Text::of(alloc, "ann")?,
-        directory: Text::of(alloc, "/home/ann")?,
-        umask: 0o022,
-        environment: Variables::new(alloc),
-    };
-    Ok(Caller {
-        context,
-        zone: Zone::Utc,
-    })
+/// What the program answered and left: the text of the mark, and whether there are two jobs.
+#[derive(Drop)]
+pub struct Left {
+    pub code: u8,
+    pub err: MemorySink,
+    pub rested: u64,
+    pub mark: Option<Bytes>,
+    pub jobs: (bool, bool),
 }
 
-/// A spool without files.
-pub fn empty_spool(alloc: Global, plan: Plan) -> Result<MemoryHost, AllocError>
-    ensures { IfOk result (λ host. IsOutside (memory_session host)) }
-{
-    MemoryHost::make(alloc, Files::new(alloc), plan)
+/// What the program is given: its words, its crontab, the seconds that the clock answers, of which the last repeats, and
+/// which put fails.
+#[derive(Clone, Copy)]
+pub struct Given<'a> {
+    pub words: &'a [&'a str],
+    pub crontab: Option<&'a [u8]>,
+    pub nows: &'a [i64; 2],
+    pub failing_err: Option<u64>,
 }
 
-/// A spool with this mark alone.
-pub fn marked_spool(alloc: Global, mark: &[u8]) -> Result<MemoryHost, AllocError>
+/// What the program is given, of these parts.
+pub fn given_of<'a>(
+    words: &'a [&'a str],
+    crontab: Option<&'a [u8]>,
+    nows: &'a [i64; 2],
+    failing_err: Option<u64>,
+) -> Given<'a> {
+    Given {
+        words,
+        crontab,
+        nows,
+        failing_err,
+    }
+}
+
+/// Sessions of the crontab, of which no put fails.
+pub fn sessions_of<'a>(words: &'a [&'a str], crontab: &'a [u8], nows: &'a [i64; 2]) -> Given<'a> {
+    given_of(words, Some(crontab), nows, None)
+}
+
+/// A spool with these files, given by their names.
+pub fn spool(alloc: Global, others: &[(&[u8], &[u8])], plan: Plan) -> Result<MemoryHost, AllocError>
     ensures { IfOk result (λ host. IsOutside (memory_session host)) }
 {
     let mut files = Files::new(alloc);
-    files.put(alloc, cron_mark::mark_name(), mark)?;
-    MemoryHost::make(alloc, files, Plan::quiet(alloc))
+    for (name, bytes) in others {
+        if let Some(name) = Name::of(name) {
+            files.put(alloc, name, bytes)?;
+        }
+    }
+    MemoryHost::make(alloc, files, plan)
 }
 
-/// Makes these sessions of the crontab, one at each of the seconds that the clock answers; the last of them repeats.
-pub fn sessions(
+/// Runs the program.
+pub fn run(
     alloc: Global,
-    crontab: &[u8],
-    turns: &str,
-    nows: &[i64; 2],
+    given: &Given<'_>,
+    caller: &Caller,
     host: &mut MemoryHost,
 ) -> Result<Answered, AllocError>
-    requires { IsOutside (memory_session host.old) }
-    ensures { IsOutside (memory_session host.new) }
-{
-    over(
-        alloc,
-        &["atcron", "-f", "crontab", "--turns", turns],
-        crontab,
-        nows,
-        host,
-    )
-}
-
-/// Does what the words ask for.
-pub fn over(
-    alloc: Global,
-    words: &[&str],
-    crontab: &[u8],
-    nows: &[i64; 2],
-    host: &mut MemoryHost,
-) -> Result<Answered, AllocError>
-    requires { IsOutside (memory_session host.old) }
+    requires umask { caller.now.context.umask < 512 }
+    requires outside { IsOutside (memory_session host.old) }
     ensures { IsOutside (memory_session host.new) }
 {
     let mut texts = Vec::new(alloc);
-    for word in words {
+    for word in given.words {
         texts.push(String::from_str(alloc, word)?)?;
     }
-    let caller = ann(alloc)?;
-    let mut readings = ListReadings::make(alloc, nows.as_slice(), &[None])?;
-    let mut inputs = MemoryInputs::make(alloc, b"", Some(crontab), false)?;
-    let mut err = MemorySink::make(alloc, None);
+    let [now, then] = *given.nows;
+    let mut readings = ListReadings::make(alloc, &[now, then], &[None])?;
+    let mut inputs = MemoryInputs::make(alloc, b"", given.crontab, false)?;
+    let mut err = MemorySink::make(alloc, given.failing_err);
     let status = cron_program(
         alloc,
         &texts,
-        &caller,
+        caller,
         host,
         &mut readings,
         &mut inputs,
@@ -113,6 +114,60 @@ pub fn over(
         err,
         rested: readings.rested(),
     })
+}
+
+/// Runs the program over a spool with these files: what it answered, and what is left, of the jobs those with these names.
+pub fn left_by(
+    alloc: Global,
+    given: &Given<'_>,
+    caller: &Caller,
+    host: MemoryHost,
+    names: (&[u8], &[u8]),
+) -> Result<Left, AllocError>
+    requires umask { caller.now.context.umask < 512 }
+    requires outside { IsOutside (memory_session host) }
+{
+    let mut host = host;
+    let answered = run(alloc, given, caller, &mut host);
+    let mark = mark_of(alloc, &host);
+    let jobs = (has(&host, names.0), has(&host, names.1));
+    drop(host);
+    let Answered { code, err, rested } = answered?;
+    Ok(Left {
+        code,
+        err,
+        rested,
+        mark: mark?,
+        jobs,
+    })
+}
+
+fn mark_of(alloc: Global, host: &MemoryHost) -> Result<Option<Bytes>, AllocError> {
+    match host.reading(&mark_name()) {
+        Some(bytes) => Ok(Some(Bytes::of(alloc, bytes)?)),
+        None => Ok(None),
+    }
+}
+
+/// The same of `ann`, over a spool with this mark or none.
+pub fn left_by_ann(
+    alloc: Global,
+    given: &Given<'_>,
+    mark: Option<&[u8]>,
+    names: (&[u8], &[u8]),
+) -> Result<Left, AllocError> {
+    let caller = ann(alloc)?;
+    let host = marked_spool(alloc, mark)?;
+    left_by(alloc, given, &caller, host, names)
+}
+
+fn marked_spool(alloc: Global, mark: Option<&[u8]>) -> Result<MemoryHost, AllocError>
+    ensures { IfOk result (λ host. IsOutside (memory_session host)) }
+{
+    match mark {
+        Some(mark) => spool(alloc, &[(b".CRON", mark)], Plan::quiet(alloc)),
+        None => spool(alloc, &[], Plan::quiet(alloc)),
+    }
 }
 
 /// Whether there is a file of the name.

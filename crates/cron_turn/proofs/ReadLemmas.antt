@@ -1,12 +1,13 @@
 -- The crontab, as its file gives it.
 use Rattle.std.proofs.Common.{ℕ, Bool, List, Err, inl, inr}
+use Rattle.cron_session.specs.Leaving.{CronAt}
+use Rattle.cause_output.specs.Outside.{InputAt, Telling, WorkAt}
 use Rattle.listing_text.specs.declared.cause.Cause.{Cause}
 use Rattle.listing_text.specs.declared.cause.Cause.TheVariants as cause
 use Rattle.listing_text.specs.declared.refusal.Refusal.{Refusal}
 use Rattle.listing_text.specs.declared.refusal.Refusal.TheVariants.{TooLong, BadCrontab}
 use Rattle.cause_output.specs.declared.command_error.CommandError.{CommandError}
-use Rattle.cron_input.specs.Reading.{AsksFile, InputAt, IsUnread, ReadsEntries, ReadsFile, StopsText}
-use Rattle.cron_turn.specs.Outside.{RunAt, Telling}
+use Rattle.cron_input.specs.Reading.{AsksFile, IsUnread, ReadsEntries, ReadsFile, StopsText}
 use Rattle.cron_turn.specs.Sessions.{StopsAtFile, StopsBefore}
 
 -- the inputs were asked once, whatever came of it
@@ -19,7 +20,7 @@ pub asked : (tells : Bool) (path : List ℕ) (old new : InputAt) (stopped : Comm
 asked tells path old new stopped (inl gave_text) = gave_text.reads.asks
 asked tells path old new stopped (inr unread) = asked_unread old new stopped.cause unread
 
-module _ (tells : Telling) (path : List ℕ) (old new : RunAt) (at : StopsAtFile tells old new) where
+module _ (tells : Telling) (path : List ℕ) (old new : WorkAt CronAt) (at : StopsAtFile tells old new) where
   -- the text was no crontab
   stops_refused : (refusal : Refusal) (bytes : List ℕ) → ReadsFile tells.input path bytes old.input new.input → StopsText bytes (cause.Refused refusal) → StopsBefore tells path old new (cause.Refused refusal)
   stops_refused TooLong bytes reads text = record { at_file = at; bytes = bytes; given = reads.given; so = text }

@@ -1,5 +1,7 @@
 -- The sessions, one after another.
 use Rattle.std.proofs.Common.{◌≡◌, ◌∙◌, ◌+◌, ◌<◌, ◌++◌, ℕ, Bool, List, [], ◌∷◌, Option, Some, None, length, refl, sym, ap, subst, inr, arith, le_refl, length-append}
+use Rattle.cron_session.specs.Leaving.{CronAt}
+use Rattle.cause_output.specs.Outside.{ClockAt, RestsBefore, RestsOn, Telling, WorkAt}
 use Rattle.host_calls.specs.Session.{IsLeft, IsOutside, Session}
 use Rattle.host_session.proofs.SessionLemmas.{counts_on, no_counts}
 use Rattle.listing_text.specs.declared.cause.Cause.{Cause}
@@ -7,17 +9,16 @@ use Rattle.listing_text.specs.declared.cause.Cause.TheVariants.{Done}
 use Rattle.cause_output.specs.declared.caller.Caller.{Caller}
 use Rattle.cron_turn.specs.declared.words.CronRequest.{CronRequest}
 use Rattle.cron_turn.specs.Items.{Item, rest_after}
-use Rattle.cron_input.specs.Clock.{ClockAt}
-use Rattle.cron_turn.specs.Outside.{RunAt, StaysSo, Telling}
+use Rattle.cron_turn.specs.Outside.{StaysSo}
 use Rattle.cron_turn.specs.Running.{EndsAfter, Serves, Works, all_made, cut_short, next_session, no_session}
-use Rattle.cron_turn.specs.Sessions.{IsMade, RestsBefore, RestsOn, Stops}
+use Rattle.cron_turn.specs.Sessions.{IsMade, Stops}
 use Rattle.cron_turn.specs.inside.Turning.{GoesOn, HasServed, Says, Turns}
 
 -- a session that is not on stays so
 pub left_so : (session : Session) → IsOutside session → IsLeft session session
 left_so session outside = record { outside = outside; children = refl; counts = no_counts session }
 
-pub stays_same : (at : RunAt) → IsOutside at.spool.session → StaysSo at at
+pub stays_same : (at : WorkAt CronAt) → IsOutside at.spool.session → StaysSo at at
 stays_same at outside = record {
   left = left_so at.spool.session outside;
   readers = refl;
@@ -28,7 +29,7 @@ stays_same at outside = record {
 }
 
 -- what stays so over two parts stays so
-pub stays_on : (old middle new : RunAt) → StaysSo old middle → StaysSo middle new → StaysSo old new
+pub stays_on : (old middle new : WorkAt CronAt) → StaysSo old middle → StaysSo middle new → StaysSo old new
 stays_on old middle new first then = record {
   left = record {
     outside = then.left.outside;
@@ -47,7 +48,7 @@ rested_readers : (tells : Bool) (rest : Option ℕ) (old new : ClockAt) → Rest
 rested_readers tells None old new rests = ap (λ clock. clock.readers) rests
 rested_readers tells (Some seconds) old new rests = rests.readers
 
-pub stays_rested : (tells : Bool) (rest : Option ℕ) (at : RunAt) (new : ClockAt) → IsOutside at.spool.session → RestsOn tells rest at.clock new
+pub stays_rested : (tells : Bool) (rest : Option ℕ) (at : WorkAt CronAt) (new : ClockAt) → IsOutside at.spool.session → RestsOn tells rest at.clock new
     → StaysSo at (record { spool = at.spool; clock = new; input = at.input; said = at.said })
 stays_rested tells rest at new outside rests = record {
   left = left_so at.spool.session outside;
@@ -58,23 +59,23 @@ stays_rested tells rest at new outside rests = record {
   said_faults = le_refl at.said.faults;
 }
 
-pub rests_before : (tells : Bool) (rest : Option ℕ) (at : RunAt) (new : ClockAt) → RestsOn tells rest at.clock new
+pub rests_before : (tells : Bool) (rest : Option ℕ) (at : WorkAt CronAt) (new : ClockAt) → RestsOn tells rest at.clock new
     → RestsBefore tells rest at (record { spool = at.spool; clock = new; input = at.input; said = at.said })
 rests_before tells rest at new rests = record { clock = rests; spool = refl; input = refl; said = refl }
 
 -- one session more, by whether another may come
-pub turned : (tells : Telling) (caller : Caller) (path : List ℕ) (next : Option ℕ) (item : Item) (old new : RunAt) (result : Option Cause) → IsMade tells caller path item old new
+pub turned : (tells : Telling) (caller : Caller) (path : List ℕ) (next : Option ℕ) (item : Item) (old new : WorkAt CronAt) (result : Option Cause) → IsMade tells caller path item old new
     → Says tells.errors item.end old.said new.said result → next ≡ Some (rest_after item.end item.now) → Turns tells caller path next old new result
 turned tells caller path next item old new None made says next_is = record { item = item; made = made; says = says; next_is = next_is }
 turned tells caller path next item old new (Some cause) made says next_is = inr (record { item = item; made = made; says = says })
 
-module _ (tells : Telling) (caller : Caller) (path : List ℕ) (first : RunAt) where
+module _ (tells : Telling) (caller : Caller) (path : List ℕ) (first : WorkAt CronAt) where
   -- no session was made
   pub none_served : (rest : Option ℕ) → rest ≡ None → HasServed tells caller path 0 rest first first
   none_served rest none = record { items = []; counted = refl; serves = subst (λ seconds. Serves tells caller path first [] seconds first) (sym none) no_session }
 
   -- one more was made
-  pub one_served : (count : ℕ) (rest next : Option ℕ) (now rested after : RunAt) → HasServed tells caller path count rest first now → RestsBefore tells.clock rest now rested
+  pub one_served : (count : ℕ) (rest next : Option ℕ) (now rested after : WorkAt CronAt) → HasServed tells caller path count rest first now → RestsBefore tells.clock rest now rested
       → GoesOn tells caller path next rested after → HasServed tells caller path (count + 1) next first after
   one_served count rest next now rested after has rests goes = record {
     items = has.items ++ goes.item ∷ [];
@@ -84,7 +85,7 @@ module _ (tells : Telling) (caller : Caller) (path : List ℕ) (first : RunAt) w
   }
 
   -- the next one ended it
-  pub served_short : (request : CronRequest) (count : ℕ) (rest : Option ℕ) (now rested after : RunAt) (cause : Cause) → request.file ≡ path → count < request.turns → HasServed tells caller path count rest first now
+  pub served_short : (request : CronRequest) (count : ℕ) (rest : Option ℕ) (now rested after : WorkAt CronAt) (cause : Cause) → request.file ≡ path → count < request.turns → HasServed tells caller path count rest first now
       → RestsBefore tells.clock rest now rested → Stops tells caller path rested after cause → Works tells caller request first after cause
   served_short request count rest now rested after cause same few has rests stops = record {
     items = has.items;
@@ -96,7 +97,7 @@ module _ (tells : Telling) (caller : Caller) (path : List ℕ) (first : RunAt) w
   }
 
   -- all were made
-  pub served_all : (request : CronRequest) (count : ℕ) (rest : Option ℕ) (now : RunAt) → request.file ≡ path → count ≡ request.turns → HasServed tells caller path count rest first now
+  pub served_all : (request : CronRequest) (count : ℕ) (rest : Option ℕ) (now : WorkAt CronAt) → request.file ≡ path → count ≡ request.turns → HasServed tells caller path count rest first now
       → Works tells caller request first now Done
   served_all request count rest now same all has = record {
     items = has.items;

@@ -1,3 +1,4 @@
+pub mod Examples
 pub mod Items
 pub mod Outside
 pub mod Running

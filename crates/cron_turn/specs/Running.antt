@@ -1,5 +1,7 @@
 -- The sessions of the program, one after another, and how it ends (own).
 use Rattle.std.specs.Prelude.{◌≡◌, ◌⊎◌, ◌<◌, ◌++◌, [], ◌∷◌, ℕ, Bool, List, Option, Some, None, Result, Ok, Err, length, if◌then◌else◌}
+use Rattle.cron_session.specs.Leaving.{CronAt}
+use Rattle.cause_output.specs.Outside.{RestsBefore, Telling, WorkAt}
 use Rattle.at_words.specs.declared.fault.WordsFault.{WordsFault}
 use Rattle.cause_output.specs.Causes.{cause_of_script, words_cause}
 use Rattle.cause_output.specs.declared.caller.Caller.{Caller}
@@ -14,14 +16,14 @@ use Rattle.listing_text.specs.declared.cause.Cause.TheVariants.{Done, Refused, I
 use Rattle.listing_text.specs.declared.refusal.Refusal.TheVariants.{BadZone}
 use Rattle.cron_turn.specs.declared.words.CronRequest.{CronRequest}
 use Rattle.cron_turn.specs.Items.{GoesOnSaying, Item, program_name, rest_after}
-use Rattle.cron_turn.specs.Outside.{RunAt, Telling}
-use Rattle.cron_turn.specs.Sessions.{IsMade, RestsBefore, Stops}
+use Rattle.cron_turn.specs.Sessions.{IsMade, Stops}
 
 -- The sessions lead from the first state to this one: each begins where the one before it ended, after a rest. So many
 -- seconds are to be rested before the next one.
-pub data Serves (tells : Telling) (caller : Caller) (path : List ℕ) (first : RunAt) : List Item → Option ℕ → RunAt → Type 0 where
+pub data Serves (tells : Telling) (caller : Caller) (path : List ℕ) (first : WorkAt CronAt)
+    : List Item → Option ℕ → WorkAt CronAt → Type 0 where
   no_session : Serves tells caller path first [] None first
-  next_session : (before : List Item) (rest : Option ℕ) (item : Item) (last rested after : RunAt)
+  next_session : (before : List Item) (rest : Option ℕ) (item : Item) (last rested after : WorkAt CronAt)
       → Serves tells caller path first before rest last
       → RestsBefore tells.clock rest last rested
       → IsMade tells caller path item rested after
@@ -30,24 +32,24 @@ pub data Serves (tells : Telling) (caller : Caller) (path : List ℕ) (first : R
 
 -- After the last of the sessions there was a rest, and one more was begun, at which it ended.
 pub record IsCutShort (tells : Telling) (caller : Caller) (path : List ℕ) (rest : Option ℕ)
-    (last new : RunAt) (cause : Cause) : Type 0 where
-  pub rested : RunAt
+    (last new : WorkAt CronAt) (cause : Cause) : Type 0 where
+  pub rested : WorkAt CronAt
   pub rests : RestsBefore tells.clock rest last rested
   pub stops : Stops tells caller path rested new cause
 
 -- Why there are no more of them: all that were asked for were made, after the last of which there is no rest; or the next
 -- one ended it.
-pub data EndsAfter (tells : Telling) (caller : Caller) (path : List ℕ) (turns count : ℕ) (rest : Option ℕ) (last : RunAt)
-    : RunAt → Cause → Type 0 where
+pub data EndsAfter (tells : Telling) (caller : Caller) (path : List ℕ) (turns count : ℕ) (rest : Option ℕ) (last : WorkAt CronAt)
+    : WorkAt CronAt → Cause → Type 0 where
   all_made : count ≡ turns → EndsAfter tells caller path turns count rest last last Done
-  cut_short : (new : RunAt) (cause : Cause) → count < turns → IsCutShort tells caller path rest last new cause
+  cut_short : (new : WorkAt CronAt) (cause : Cause) → count < turns → IsCutShort tells caller path rest last new cause
       → EndsAfter tells caller path turns count rest last new cause
 
 -- how the program works on a crontab: its sessions, and why there are no more
-pub record Works (tells : Telling) (caller : Caller) (request : CronRequest) (old new : RunAt) (cause : Cause) : Type 0 where
+pub record Works (tells : Telling) (caller : Caller) (request : CronRequest) (old new : WorkAt CronAt) (cause : Cause) : Type 0 where
   pub items : List Item
   pub rest : Option ℕ
-  pub last : RunAt
+  pub last : WorkAt CronAt
   pub serves : Serves tells caller request.file old items rest last
   pub ends : EndsAfter tells caller request.file request.turns (length items) rest last new cause
 
@@ -62,21 +64,21 @@ refused_by None zone = refused_zone zone
 abbrev pub caller_refused : Caller → Option Cause
 caller_refused caller = refused_by (first_fault caller.context) caller.zone
 
-abbrev pub WorksUnless : Option Cause → Telling → Caller → CronRequest → RunAt → RunAt → Cause → Type 0
+abbrev pub WorksUnless : Option Cause → Telling → Caller → CronRequest → WorkAt CronAt → (WorkAt CronAt) → Cause → Type 0
 WorksUnless (Some refused) tells caller request old new cause = (cause ≡ refused) × (new ≡ old)
 WorksUnless None tells caller request old new cause = Works tells caller request old new cause
 
 -- what the words ask for is done: words that ask for nothing are refused first, and then the caller
-abbrev pub Does : Result CronRequest WordsFault → Telling → Caller → RunAt → RunAt → Cause → Type 0
+abbrev pub Does : Result CronRequest WordsFault → Telling → Caller → WorkAt CronAt → (WorkAt CronAt) → Cause → Type 0
 Does (Err fault) tells caller old new cause = (cause ≡ words_cause fault) × (new ≡ old)
 Does (Ok request) tells caller old new cause = WorksUnless (caller_refused caller) tells caller request old new cause
 
 -- or the words were not read, for want of memory
-abbrev pub CarriesOut : Result CronRequest WordsFault → Telling → Caller → RunAt → RunAt → Cause → Type 0
+abbrev pub CarriesOut : Result CronRequest WordsFault → Telling → Caller → WorkAt CronAt → (WorkAt CronAt) → Cause → Type 0
 CarriesOut asked tells caller old new cause = ((cause ≡ Memory) × (new ≡ old)) ⊎ Does asked tells caller old new cause
 
 -- the line of the cause was said after all else
-pub record IsEnded (tells : Bool) (cause : Cause) (old new : RunAt) (final : Cause) : Type 0 where
+pub record IsEnded (tells : Bool) (cause : Cause) (old new : WorkAt CronAt) (final : Cause) : Type 0 where
   pub spool : new.spool ≡ old.spool
   pub clock : new.clock ≡ old.clock
   pub input : new.input ≡ old.input
@@ -84,13 +86,13 @@ pub record IsEnded (tells : Bool) (cause : Cause) (old new : RunAt) (final : Cau
 
 -- How the program runs: what the words ask for is done, and the line of its cause is said.
 pub record CronRuns (asked : Result CronRequest WordsFault) (tells : Telling) (caller : Caller)
-    (old new : RunAt) (final : Cause) : Type 0 where
+    (old new : WorkAt CronAt) (final : Cause) : Type 0 where
   pub cause : Cause
-  pub done : RunAt
+  pub done : WorkAt CronAt
   pub does : CarriesOut asked tells caller old done cause
   pub ended : IsEnded tells.errors cause done new final
 
 -- The faults of the outside come only where their counts rose; those of the folder, and that it is held, end no program.
-pub record HasRisen (old new : RunAt) (cause : Cause) : Type 0 where
+pub record HasRisenInTurns (old new : WorkAt CronAt) (cause : Cause) : Type 0 where
   pub input_fault : cause ≡ InputFault → Rose old.input.sources.input_faults new.input.sources.input_faults
   pub output_fault : cause ≡ OutputFault → Rose old.said.faults new.said.faults

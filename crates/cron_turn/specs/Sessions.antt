@@ -1,9 +1,9 @@
 -- One session of the program (own): the clock is read, then the file, and the session is made; or how the program ends
 -- there.
 use Rattle.std.specs.Prelude.{◌≡◌, ◌⊎◌, ◌+◌, ◌≤◌, ◌<◌, ℕ, ℤ, Bool, true, List, Option, Some, None, length}
+use Rattle.cause_output.specs.Outside.{Telling, WorkAt}
 use Rattle.clock_range.specs.ClockRange.{IsClockSecond}
 use Rattle.host_calls.specs.Causes.{Rose}
-use Rattle.host_calls.specs.Clock.{with_rest}
 use Rattle.host_calls.specs.Inputs.{IsPrefixOf}
 use Rattle.listing_text.specs.declared.cause.Cause.{Cause}
 use Rattle.listing_text.specs.declared.cause.Cause.TheVariants.{Refused, InputFault, Memory}
@@ -11,36 +11,18 @@ use Rattle.listing_text.specs.declared.refusal.Refusal.TheVariants.{BadClock, Ba
 use Rattle.cause_output.specs.declared.caller.Caller.{Caller}
 use Rattle.cron_text.specs.declared.crontab.TheConstants.{MAX_CRONTAB}
 use Rattle.cron_text.specs.Crontab.{SpellsCrontab}
-use Rattle.cron_input.specs.Clock.{ClockAt, ReadsClock}
+use Rattle.cron_input.specs.Clock.{ReadsClock}
 use Rattle.cron_input.specs.Reading.{AsksFile, IsBadAt, ReadsFile}
-use Rattle.cron_session.specs.Leaving.{CronsTo}
+use Rattle.cron_session.specs.Leaving.{CronAt, CronsTo}
 use Rattle.cron_session.specs.Steps.{Cron}
 use Rattle.cron_turn.specs.Items.{EndsSaying, Item}
-use Rattle.cron_turn.specs.Outside.{RunAt, Telling}
-
--- a rest of so many seconds
-pub record Rests (tells : Bool) (seconds : ℕ) (old new : ClockAt) : Type 0 where
-  pub known : tells ≡ true → new.answers ≡ with_rest seconds old.answers
-  pub readers : new.readers ≡ old.readers
-
--- a rest of the clock before a session, if it is not the first
-abbrev pub RestsOn : Bool → Option ℕ → ClockAt → ClockAt → Type 0
-RestsOn tells None old new = new ≡ old
-RestsOn tells (Some seconds) old new = Rests tells seconds old new
-
--- a rest before the next session, if it is not the first: nothing else changes
-pub record RestsBefore (tells : Bool) (rest : Option ℕ) (old new : RunAt) : Type 0 where
-  pub clock : RestsOn tells rest old.clock new.clock
-  pub spool : new.spool ≡ old.spool
-  pub input : new.input ≡ old.input
-  pub said : new.said ≡ old.said
 
 -- what the session of an item is to do
 abbrev pub cron_of : Caller → Item → Cron
 cron_of caller item = record { context = caller.context; zone = caller.zone; entries = item.entries; now = item.now }
 
 -- The session of the item was made: at the second that the clock answered, on the entries that the file spelled then.
-pub record IsMade (tells : Telling) (caller : Caller) (path : List ℕ) (item : Item) (old new : RunAt) : Type 0 where
+pub record IsMade (tells : Telling) (caller : Caller) (path : List ℕ) (item : Item) (old new : WorkAt CronAt) : Type 0 where
   pub now : IsClockSecond item.now
   pub clock : ReadsClock tells.clock item.now old.clock new.clock
   pub input : ReadsFile tells.input path item.bytes old.input new.input
@@ -49,12 +31,12 @@ pub record IsMade (tells : Telling) (caller : Caller) (path : List ℕ) (item : 
   pub session : CronsTo tells.files tells.alone (cron_of caller item) old.spool new.spool item.end item.numbers
 
 -- no session was made, and nothing was said
-pub record IsUnmade (old new : RunAt) : Type 0 where
+pub record IsUnmade (old new : WorkAt CronAt) : Type 0 where
   pub spool : new.spool ≡ old.spool
   pub said : new.said ≡ old.said
 
 -- the clock answered a second out of its range
-pub record StopsAtClock (tells : Telling) (old new : RunAt) : Type 0 where
+pub record StopsAtClock (tells : Telling) (old new : WorkAt CronAt) : Type 0 where
   pub now : ℤ
   pub out : ¬ (IsClockSecond now)
   pub clock : ReadsClock tells.clock now old.clock new.clock
@@ -62,7 +44,7 @@ pub record StopsAtClock (tells : Telling) (old new : RunAt) : Type 0 where
   pub unmade : IsUnmade old new
 
 -- the file was asked for, after the clock had answered a second in its range
-pub record StopsAtFile (tells : Telling) (old new : RunAt) : Type 0 where
+pub record StopsAtFile (tells : Telling) (old new : WorkAt CronAt) : Type 0 where
   pub now : ℤ
   pub range : IsClockSecond now
   pub clock : ReadsClock tells.clock now old.clock new.clock
@@ -70,14 +52,14 @@ pub record StopsAtFile (tells : Telling) (old new : RunAt) : Type 0 where
   pub unmade : IsUnmade old new
 
 -- and gave bytes of which this holds
-pub record StopsAtText (tells : Telling) (path : List ℕ) (IsSo : List ℕ → Type 0) (old new : RunAt) : Type 0 where
+pub record StopsAtText (tells : Telling) (path : List ℕ) (IsSo : List ℕ → Type 0) (old new : WorkAt CronAt) : Type 0 where
   pub at_file : StopsAtFile tells old new
   pub bytes : List ℕ
   pub given : tells.input ≡ true → IsPrefixOf (old.input.contents.file path) (MAX_CRONTAB + 1) bytes
   pub so : IsSo bytes
 
 -- Why no session was made: the clock, the inputs, a text that is too long or has a bad line, or want of memory.
-abbrev pub StopsBefore : Telling → List ℕ → RunAt → RunAt → Cause → Type 0
+abbrev pub StopsBefore : Telling → List ℕ → WorkAt CronAt → (WorkAt CronAt) → Cause → Type 0
 StopsBefore tells path old new (Refused BadClock) = StopsAtClock tells old new
 StopsBefore tells path old new (Refused TooLong) = StopsAtText tells path (λ bytes. MAX_CRONTAB < length bytes) old new
 StopsBefore tells path old new (Refused (BadCrontab line)) = StopsAtText tells path (IsBadAt line) old new
@@ -87,11 +69,11 @@ StopsBefore tells path old new Memory = StopsAtFile tells old new
 StopsBefore tells path old new _ = ⊥
 
 -- a session was made, and is the last one for this cause
-pub record StopsAfter (tells : Telling) (caller : Caller) (path : List ℕ) (old new : RunAt) (cause : Cause) : Type 0 where
+pub record StopsAfter (tells : Telling) (caller : Caller) (path : List ℕ) (old new : WorkAt CronAt) (cause : Cause) : Type 0 where
   pub item : Item
   pub made : IsMade tells caller path item old new
   pub says : EndsSaying tells.errors item.end old.said new.said cause
 
 -- how the program ends at one session more
-abbrev pub Stops : Telling → Caller → List ℕ → RunAt → RunAt → Cause → Type 0
+abbrev pub Stops : Telling → Caller → List ℕ → WorkAt CronAt → (WorkAt CronAt) → Cause → Type 0
 Stops tells caller path old new cause = StopsBefore tells path old new cause ⊎ StopsAfter tells caller path old new cause

@@ -2,8 +2,8 @@
 ghost use Rattle.std.specs.Prelude.{◌≡◌, ◌<◌, map, string_bytes};
 ghost use Rattle.host_calls.specs.Session.{IsOutside};
 ghost use Rattle.listing_text.specs.Cause.{status_of};
-ghost use Rattle.cron_turn.specs.Outside.{StaysSo, run_at, telling};
-ghost use Rattle.cron_turn.specs.Running.{CarriesOut, CronRuns, HasRisen, WorksUnless, caller_refused, refused_zone};
+ghost use Rattle.cron_turn.specs.Outside.{StaysSo, run_at, cron_telling};
+ghost use Rattle.cron_turn.specs.Running.{CarriesOut, CronRuns, HasRisenInTurns, WorksUnless, caller_refused, refused_zone};
 ghost use Rattle.cron_turn.specs.Words.{cron_asked};
 
 use crate::run::run;
@@ -34,10 +34,10 @@ pub fn cron_program<H: Host, R: Readings, I: Inputs, E: Sink>(
     ensures err_made { (E.outlet err.new).made_as ≡ (E.outlet err.old).made_as }
     ensures stays { StaysSo (run_at H.Host R.Readings I.Inputs E.Sink host.old readings.old inputs.old err.old)
         (run_at H.Host R.Readings I.Inputs E.Sink host.new readings.new inputs.new err.new) }
-    ensures risen { HasRisen (run_at H.Host R.Readings I.Inputs E.Sink host.old readings.old inputs.old err.old)
+    ensures risen { HasRisenInTurns (run_at H.Host R.Readings I.Inputs E.Sink host.old readings.old inputs.old err.old)
         (run_at H.Host R.Readings I.Inputs E.Sink host.new readings.new inputs.new err.new) result.cause }
     ensures runs { CronRuns (cron_asked (map string_bytes words.now))
-        (telling H.Host R.Readings I.Inputs E.Sink) caller.now
+        (cron_telling H.Host R.Readings I.Inputs E.Sink) caller.now
         (run_at H.Host R.Readings I.Inputs E.Sink host.old readings.old inputs.old err.old)
         (run_at H.Host R.Readings I.Inputs E.Sink host.new readings.new inputs.new err.new) result.cause }
 {
@@ -61,7 +61,7 @@ fn carry_out<H: Host, R: Readings, I: Inputs, E: Sink>(
     ensures stays { StaysSo (run_at H.Host R.Readings I.Inputs E.Sink host.old readings.old inputs.old err.old)
         (run_at H.Host R.Readings I.Inputs E.Sink host.new readings.new inputs.new err.new) }
     ensures does { CarriesOut (cron_asked (map string_bytes words.now))
-        (telling H.Host R.Readings I.Inputs E.Sink) caller.now
+        (cron_telling H.Host R.Readings I.Inputs E.Sink) caller.now
         (run_at H.Host R.Readings I.Inputs E.Sink host.old readings.old inputs.old err.old)
         (run_at H.Host R.Readings I.Inputs E.Sink host.new readings.new inputs.new err.new) result }
 {
@@ -87,7 +87,7 @@ fn run_unless<H: Host, R: Readings, I: Inputs, E: Sink>(
     ensures stays { StaysSo (run_at H.Host R.Readings I.Inputs E.Sink host.old readings.old inputs.old err.old)
         (run_at H.Host R.Readings I.Inputs E.Sink host.new readings.new inputs.new err.new) }
     ensures works { WorksUnless (caller_refused caller.now)
-        (telling H.Host R.Readings I.Inputs E.Sink) caller.now request.now
+        (cron_telling H.Host R.Readings I.Inputs E.Sink) caller.now request.now
         (run_at H.Host R.Readings I.Inputs E.Sink host.old readings.old inputs.old err.old)
         (run_at H.Host R.Readings I.Inputs E.Sink host.new readings.new inputs.new err.new) result }
 {

@@ -3,7 +3,7 @@ ghost use Rattle.std.specs.Prelude.{◌≡◌, ◌<◌, None};
 ghost use Rattle.civil_minute.specs.Zone.{IsReadable};
 ghost use Rattle.host_calls.specs.Session.{IsOutside};
 ghost use Rattle.job_script.specs.Check.{first_fault};
-ghost use Rattle.cron_turn.specs.Outside.{StaysSo, run_at, telling};
+ghost use Rattle.cron_turn.specs.Outside.{StaysSo, run_at, cron_telling};
 ghost use Rattle.cron_turn.specs.Running.{Works};
 
 use crate::turn::{rest_before, turn};
@@ -30,7 +30,7 @@ pub(crate) fn run<H: Host, R: Readings, I: Inputs, E: Sink>(
     ensures err_made { (E.outlet err.new).made_as ≡ (E.outlet err.old).made_as }
     ensures stays { StaysSo (run_at H.Host R.Readings I.Inputs E.Sink host.old readings.old inputs.old err.old)
         (run_at H.Host R.Readings I.Inputs E.Sink host.new readings.new inputs.new err.new) }
-    ensures works { Works (telling H.Host R.Readings I.Inputs E.Sink) caller.now request.now
+    ensures works { Works (cron_telling H.Host R.Readings I.Inputs E.Sink) caller.now request.now
         (run_at H.Host R.Readings I.Inputs E.Sink host.old readings.old inputs.old err.old)
         (run_at H.Host R.Readings I.Inputs E.Sink host.new readings.new inputs.new err.new) result }
 {

@@ -1,11 +1,10 @@
 //! One session more: the clock and the file are read, the session is made, and its end is said.
 ghost use Rattle.std.specs.Prelude.{◌≡◌, ◌<◌, None};
+ghost use Rattle.cause_output.specs.Outside.{RestsOn, clock_at};
 ghost use Rattle.civil_minute.specs.Zone.{IsReadable};
 ghost use Rattle.host_calls.specs.Session.{IsOutside};
 ghost use Rattle.job_script.specs.Check.{first_fault};
-ghost use Rattle.cron_input.specs.Clock.{clock_at};
-ghost use Rattle.cron_turn.specs.Outside.{StaysSo, run_at, telling};
-ghost use Rattle.cron_turn.specs.Sessions.{RestsOn};
+ghost use Rattle.cron_turn.specs.Outside.{StaysSo, run_at, cron_telling};
 ghost use Rattle.cron_turn.specs.inside.Turning.{Turns};
 
 use crate::item::rest_after;
@@ -47,7 +46,7 @@ pub(crate) fn turn<H: Host, R: Readings, I: Inputs, E: Sink>(
     ensures err_made { (E.outlet err.new).made_as ≡ (E.outlet err.old).made_as }
     ensures stays { StaysSo (run_at H.Host R.Readings I.Inputs E.Sink host.old readings.old inputs.old err.old)
         (run_at H.Host R.Readings I.Inputs E.Sink host.new readings.new inputs.new err.new) }
-    ensures turns { Turns (telling H.Host R.Readings I.Inputs E.Sink) caller.now path.now rest.new
+    ensures turns { Turns (cron_telling H.Host R.Readings I.Inputs E.Sink) caller.now path.now rest.new
         (run_at H.Host R.Readings I.Inputs E.Sink host.old readings.old inputs.old err.old)
         (run_at H.Host R.Readings I.Inputs E.Sink host.new readings.new inputs.new err.new) result }
 {

@@ -1,5 +1,7 @@
 -- How one session more goes, by its parts (own).
 use Rattle.std.specs.Prelude.{◌≡◌, ◌≤◌, ℕ, Bool, true, false, List, Option, Some, None, Result, Ok, Err, IsErrOf, length}
+use Rattle.cron_session.specs.Leaving.{CronAt}
+use Rattle.cause_output.specs.Outside.{Telling, WorkAt}
 use Rattle.host_calls.specs.Causes.{Rose}
 use Rattle.host_calls.specs.declared.fault.SinkFault.{SinkFault}
 use Rattle.host_calls.specs.declared.fault.SinkFault.TheVariants as sink
@@ -11,7 +13,6 @@ use Rattle.host_calls.specs.declared.damage.Damage.{Damage}
 use Rattle.cron_session.specs.declared.report.CronEnd.{CronEnd}
 use Rattle.cron_session.specs.declared.report.CronEnd.TheVariants.{Done, Busy, FileFault, Damaged, QueueFull, NumbersUsedUp, Memory}
 use Rattle.cron_turn.specs.Items.{EndsSaying, GoesOnSaying, Item, rest_after}
-use Rattle.cron_turn.specs.Outside.{RunAt, Telling}
 use Rattle.cron_turn.specs.Running.{Serves}
 use Rattle.cron_turn.specs.Sessions.{IsMade, Stops}
 
@@ -69,19 +70,20 @@ after_put end (Err sink.Failed) = Some cause.OutputFault
 after_put end (Err sink.Memory) = unless_memory end
 
 -- a session was made after which another may come, before which so many seconds are to be rested
-pub record GoesOn (tells : Telling) (caller : Caller) (path : List ℕ) (next : Option ℕ) (old new : RunAt) : Type 0 where
+pub record GoesOn (tells : Telling) (caller : Caller) (path : List ℕ) (next : Option ℕ) (old new : WorkAt CronAt) : Type 0 where
   pub item : Item
   pub made : IsMade tells caller path item old new
   pub says : GoesOnSaying tells.errors item.end old.said new.said
   pub next_is : next ≡ Some (rest_after item.end item.now)
 
 -- one session more, after the rest, by whether a further one may come
-abbrev pub Turns : Telling → Caller → List ℕ → Option ℕ → RunAt → RunAt → Option Cause → Type 0
+abbrev pub Turns : Telling → Caller → List ℕ → Option ℕ → WorkAt CronAt → (WorkAt CronAt) → Option Cause → Type 0
 Turns tells caller path next old new None = GoesOn tells caller path next old new
 Turns tells caller path next old new (Some cause) = Stops tells caller path old new cause
 
 -- so many sessions were made
-pub record HasServed (tells : Telling) (caller : Caller) (path : List ℕ) (count : ℕ) (rest : Option ℕ) (first now : RunAt) : Type 0 where
+pub record HasServed (tells : Telling) (caller : Caller) (path : List ℕ) (count : ℕ) (rest : Option ℕ)
+    (first now : WorkAt CronAt) : Type 0 where
   pub items : List Item
   pub counted : length items ≡ count
   pub serves : Serves tells caller path first items rest now

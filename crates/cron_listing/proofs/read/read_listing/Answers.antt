@@ -1,7 +1,8 @@
 use Rattle.std.proofs.Common.{◌≡◌, ◌∙◌, ◌+◌, ℕ, ℤ, List, Ok, Err, FitsSigned, ap, of_z, refl, rules, subst, sym, to_z, w64}
 use Rattle.std.proofs.lemmas.Int.{to_z-of_z}
+use Rattle.cause_output.specs.Outside.{input_at}
 use Rattle.clock_range.specs.ClockRange.{IsClockSecond, minute_at}
-use Rattle.cron_input.specs.Reading.{ReadsEntries, input_at}
+use Rattle.cron_input.specs.Reading.{ReadsEntries}
 use Rattle.cron_text.specs.declared.entry.CronEntry.{CronEntry}
 use Rattle.cron_listing.specs.Running.{bad_clock, no_entries, read_at}
 use Rattle.cron_listing.specs.inside.Adding.{GivesText}

@@ -1,11 +1,11 @@
 use Rattle.std.proofs.Common.{map, refl, string_bytes}
-use Rattle.cron_turn.specs.Outside.{run_at, telling}
+use Rattle.cron_turn.specs.Outside.{run_at, cron_telling}
 use Rattle.cron_turn.specs.Words.{cron_asked}
 use Rattle.cron_turn.proofs.ProgramLemmas.{runs_risen}
 use Rattle.cron_turn.proofs.program.cron_program.Goals as goal
 
 pub returns-clause-risen : goal.returns-clause-risen
-returns-clause-risen g c = rw c.of.ensures (runs_risen (cron_asked (map string_bytes c.args.words.now)) (telling g.H.Host g.R.Readings g.I.Inputs g.E.Sink) c.args.caller.now
+returns-clause-risen g c = rw c.of.ensures (runs_risen (cron_asked (map string_bytes c.args.words.now)) (cron_telling g.H.Host g.R.Readings g.I.Inputs g.E.Sink) c.args.caller.now
     (run_at g.H.Host g.R.Readings g.I.Inputs g.E.Sink c.args.host.now c.args.readings.now c.args.inputs.now c.args.err.now)
     (run_at g.H.Host g.R.Readings g.I.Inputs g.E.Sink c.carry_out-cause.new.host c.carry_out-cause.new.readings c.carry_out-cause.new.inputs c.carry_out-cause.new.err)
     (run_at g.H.Host g.R.Readings g.I.Inputs g.E.Sink c.carry_out-cause.new.host c.carry_out-cause.new.readings c.carry_out-cause.new.inputs c.say_cause.new.err)

@@ -1,6 +1,6 @@
 use Rattle.std.proofs.Common.{◌∙◌, None, arith, refl, sym}
-use Rattle.cron_input.specs.Clock.{clock_at}
-use Rattle.cron_turn.specs.Outside.{run_at, telling}
+use Rattle.cause_output.specs.Outside.{clock_at}
+use Rattle.cron_turn.specs.Outside.{run_at, cron_telling}
 use Rattle.cron_turn.proofs.RunLemmas.{none_served, one_served, rests_before, served_all, served_short, stays_on, stays_rested, stays_same}
 use Rattle.cron_turn.proofs.run.run.Goals as goal
 
@@ -8,13 +8,13 @@ pub loop-turn-init : goal.loop-turn-init
 loop-turn-init g c = record {
   err_made = refl;
   stays = stays_same (run_at g.H.Host g.R.Readings g.I.Inputs g.E.Sink c.args.host.now c.args.readings.now c.args.inputs.now c.args.err.now) c.requires.outside;
-  has = none_served (telling g.H.Host g.R.Readings g.I.Inputs g.E.Sink) c.args.caller.now c.as_str-path.result.now
+  has = none_served (cron_telling g.H.Host g.R.Readings g.I.Inputs g.E.Sink) c.args.caller.now c.as_str-path.result.now
       (run_at g.H.Host g.R.Readings g.I.Inputs g.E.Sink c.args.host.now c.args.readings.now c.args.inputs.now c.args.err.now) None refl;
 }
 
 pub returns-in-Some-clause-works : goal.returns-in-Some-clause-works
 returns-in-Some-clause-works g c =
-    served_short (telling g.H.Host g.R.Readings g.I.Inputs g.E.Sink) c.args.caller.now c.as_str-path.result.now
+    served_short (cron_telling g.H.Host g.R.Readings g.I.Inputs g.E.Sink) c.args.caller.now c.as_str-path.result.now
     (run_at g.H.Host g.R.Readings g.I.Inputs g.E.Sink c.args.host.now c.args.readings.now c.args.inputs.now c.args.err.now)
     c.args.request.now c.loop-turn._turn c.loop-turn.rest
     (run_at g.H.Host g.R.Readings g.I.Inputs g.E.Sink c.loop-turn.host c.loop-turn.readings c.loop-turn.inputs c.loop-turn.err)
@@ -38,7 +38,7 @@ loop-turn-preserved g c = record {
       (stays_rested g.R.Readings.tells c.loop-turn.rest (run_at g.H.Host g.R.Readings g.I.Inputs g.E.Sink c.loop-turn.host c.loop-turn.readings c.loop-turn.inputs c.loop-turn.err)
       (clock_at g.R.Readings c.rest_before.new.readings) c.loop-turn.invariant.stays.left.outside c.rest_before.ensures))
       c.turn.ensures.stays;
-  has = one_served (telling g.H.Host g.R.Readings g.I.Inputs g.E.Sink) c.args.caller.now c.as_str-path.result.now
+  has = one_served (cron_telling g.H.Host g.R.Readings g.I.Inputs g.E.Sink) c.args.caller.now c.as_str-path.result.now
       (run_at g.H.Host g.R.Readings g.I.Inputs g.E.Sink c.args.host.now c.args.readings.now c.args.inputs.now c.args.err.now)
       c.loop-turn._turn c.loop-turn.rest c.turn.new.rest
       (run_at g.H.Host g.R.Readings g.I.Inputs g.E.Sink c.loop-turn.host c.loop-turn.readings c.loop-turn.inputs c.loop-turn.err)
@@ -52,7 +52,7 @@ loop-turn-preserved g c = record {
 
 pub returns-clause-works : goal.returns-clause-works
 returns-clause-works g c =
-    served_all (telling g.H.Host g.R.Readings g.I.Inputs g.E.Sink) c.args.caller.now c.as_str-path.result.now
+    served_all (cron_telling g.H.Host g.R.Readings g.I.Inputs g.E.Sink) c.args.caller.now c.as_str-path.result.now
     (run_at g.H.Host g.R.Readings g.I.Inputs g.E.Sink c.args.host.now c.args.readings.now c.args.inputs.now c.args.err.now)
     c.args.request.now c.loop-turn._turn c.loop-turn.rest
     (run_at g.H.Host g.R.Readings g.I.Inputs g.E.Sink c.loop-turn.host c.loop-turn.readings c.loop-turn.inputs c.loop-turn.err)

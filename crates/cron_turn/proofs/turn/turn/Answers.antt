@@ -1,10 +1,10 @@
 use Rattle.std.proofs.Common.{◌≡◌, ◌∙◌, ℤ, FitsSigned, Some, ap, inl, of_z, refl, rules, subst, to_z, w64}
 use Rattle.std.proofs.lemmas.Int.{to_z-of_z}
+use Rattle.cause_output.specs.Outside.{input_at}
 use Rattle.clock_range.specs.ClockRange.{IsClockSecond}
 use Rattle.cron_session.specs.Leaving.{CronsTo}
 use Rattle.cron_turn.specs.Items.{Item, rest_after}
-use Rattle.cron_input.specs.Reading.{input_at}
-use Rattle.cron_turn.specs.Outside.{run_at, spool_at, telling}
+use Rattle.cron_turn.specs.Outside.{run_at, spool_at, cron_telling}
 use Rattle.cron_turn.proofs.ReadLemmas.{asked, stops_reading}
 use Rattle.cron_turn.proofs.RunLemmas.{turned}
 use Rattle.cron_turn.proofs.turn.turn.Goals as goal
@@ -13,7 +13,7 @@ pub returns-in-Err-clause-turns : goal.returns-in-Err-clause-turns
 returns-in-Err-clause-turns g c =
     let fits : FitsSigned w64 c.now-now.result = search rules in
     let same : to_z w64 (of_z w64 c.now-now.result) ≡ c.now-now.result = to_z-of_z w64 c.now-now.result fits in
-    inl (stops_reading (telling g.H.Host g.R.Readings g.I.Inputs g.E.Sink) c.args.path.now
+    inl (stops_reading (cron_telling g.H.Host g.R.Readings g.I.Inputs g.E.Sink) c.args.path.now
     (run_at g.H.Host g.R.Readings g.I.Inputs g.E.Sink c.args.host.now c.args.readings.now c.args.inputs.now c.args.err.now)
     (run_at g.H.Host g.R.Readings g.I.Inputs g.E.Sink c.args.host.now c.now-now.new.self c.read_entries.new.inputs c.args.err.now)
     (record {
@@ -36,7 +36,7 @@ returns-clause-turns g c =
       end = c.cron_session-report.result.end;
       numbers = c.cron_session-report.result.numbers;
     } in
-    turned (telling g.H.Host g.R.Readings g.I.Inputs g.E.Sink) c.args.caller.now c.args.path.now (Some c.rest_after.result) item
+    turned (cron_telling g.H.Host g.R.Readings g.I.Inputs g.E.Sink) c.args.caller.now c.args.path.now (Some c.rest_after.result) item
     (run_at g.H.Host g.R.Readings g.I.Inputs g.E.Sink c.args.host.now c.args.readings.now c.args.inputs.now c.args.err.now)
     (run_at g.H.Host g.R.Readings g.I.Inputs g.E.Sink c.cron_session-report.new.host c.now-now.new.self c.read_entries.new.inputs c.say.new.err)
     c.say.result
