@@ -17,7 +17,8 @@ use Rattle.listing_text.specs.Cause.{cause_line_of}
 use Rattle.listing_text.specs.declared.cause.Cause.{Cause}
 use Rattle.listing_text.specs.declared.cause.Cause.TheVariants.{Done, Refused, FileFault, InputFault, OutputFault, Busy, Memory, Damaged, StillRunning, Faulty}
 use Rattle.whole_file.proofs.OthersLemmas.{changes_none}
-use Rattle.at_account.specs.Accounting.{Accounting, IsAccounting, Leaves, OutsideAt}
+use Rattle.cause_output.specs.Outside.{OutsideAt}
+use Rattle.at_account.specs.Accounting.{Accounting, IsAccounting, Leaves}
 
 -- nothing was done
 same_session : (session : Session) → IsOutside session → IsLeft session session
@@ -39,14 +40,14 @@ module _ (asked : Result Bool WordsFault) (at : OutsideAt) (outside : IsOutside 
   refused : (fault : WordsFault) → Err fault ≡ asked → words_cause fault ≢ FileFault → words_cause fault ≢ Busy → words_cause fault ≢ OutputFault → Accounting asked at at (words_cause fault)
   refused fault is no_file no_busy no_output = record {
     left = same_session at.session outside;
-    goes_on = λ tells. goes_on_none at.spool at.spool refl;
+    goes_on = λ tells. goes_on_none at.holds.spool at.holds.spool refl;
     file_fault = λ same. absurd (no_file same);
     busy = λ same. absurd (no_busy same);
     output_fault = λ same. absurd (no_output same);
     made_as = refl;
-    unasked = λ other was. record { because = inl (ap words_cause (same_fault asked fault other is was)); session = refl; spool = refl; silent = λ tells. same_silent at.out };
+    unasked = λ other was. record { because = inl (ap words_cause (same_fault asked fault other is was)); session = refl; spool = refl; silent = λ tells. same_silent at.holds.output };
     may_end = λ show was. absurd (not_both asked fault show is was);
-    images = λ tells alone. changes_none (IsAccounting at.spool.now.folder) at.spool;
+    images = λ tells alone. changes_none (IsAccounting at.holds.spool.now.folder) at.holds.spool;
     leaves = λ show was tells alone. absurd (not_both asked fault show is was);
   }
 
@@ -54,15 +55,15 @@ module _ (asked : Result Bool WordsFault) (at : OutsideAt) (outside : IsOutside 
   unread : Accounting asked at at Memory
   unread = record {
     left = same_session at.session outside;
-    goes_on = λ tells. goes_on_none at.spool at.spool refl;
+    goes_on = λ tells. goes_on_none at.holds.spool at.holds.spool refl;
     file_fault = λ same. (let no : Memory ≡ FileFault = same in cc);
     busy = λ same. (let no : Memory ≡ Busy = same in cc);
     output_fault = λ same. (let no : Memory ≡ OutputFault = same in cc);
     made_as = refl;
-    unasked = λ other was. record { because = inr refl; session = refl; spool = refl; silent = λ tells. same_silent at.out };
+    unasked = λ other was. record { because = inr refl; session = refl; spool = refl; silent = λ tells. same_silent at.holds.output };
     may_end = λ show was. tt;
-    images = λ tells alone. changes_none (IsAccounting at.spool.now.folder) at.spool;
-    leaves = λ show was tells alone output. inl (same_silent at.out);
+    images = λ tells alone. changes_none (IsAccounting at.holds.spool.now.folder) at.holds.spool;
+    leaves = λ show was tells alone output. inl (same_silent at.holds.output);
   }
 
   pub unasked_ends : (fault : WordsFault) → Answers asked (Err fault) → Accounting asked at at (words_cause fault)
@@ -95,7 +96,7 @@ module _ (asked : Result Bool WordsFault) (old new : OutsideAt) (cause : Cause) 
     unasked = λ fault was. record { because = inr refl; session = (ends.unasked fault was).session; spool = (ends.unasked fault was).spool; silent = (ends.unasked fault was).silent };
     may_end = λ show was. tt;
     images = ends.images;
-    leaves = λ show was tells alone. no_memory_leaves show old.output old.spool new.spool old.out new.out cause undone (ends.leaves show was tells alone);
+    leaves = λ show was tells alone. no_memory_leaves show old.tells.output old.holds.spool new.holds.spool old.holds.output new.holds.output cause undone (ends.leaves show was tells alone);
   }
 
   -- the line of the cause was said, or found no memory

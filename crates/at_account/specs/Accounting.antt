@@ -3,14 +3,14 @@ use Rattle.std.specs.Prelude.{◌≡◌, ◌⊎◌, ℕ, Bool, true, List, Optio
 use Rattle.std.specs.FinMap as finite
 use Rattle.at_words.specs.declared.fault.WordsFault.{WordsFault}
 use Rattle.cause_output.specs.Causes.{words_cause}
-use Rattle.cause_output.specs.Sinks.{IsCut, IsPut, IsPutInPart, IsSilent, SinkAt, sink_at}
+use Rattle.cause_output.specs.Outside.{OutsideAt, no_inputs, no_readings, no_sink, outside_at}
+use Rattle.cause_output.specs.Sinks.{IsCut, IsPut, IsPutInPart, IsSilent, SinkAt}
 use Rattle.host_calls.specs.Causes.{Rose}
 use Rattle.host_calls.specs.declared.damage.Damage.{Damage}
 use Rattle.host_calls.specs.declared.host.Host as host
 use Rattle.host_calls.specs.declared.sink.Sink as sink
 use Rattle.host_calls.specs.Folder.{Files, Folder, IsImage, IsInNoImage, reading_of}
-use Rattle.host_calls.specs.Session.{IsLeft, Session}
-use Rattle.host_calls.specs.Sink.{Outlet}
+use Rattle.host_calls.specs.Session.{IsLeft}
 use Rattle.host_calls.specs.World.{GoesOn, World, reading}
 use Rattle.listing_text.specs.declared.cause.Cause.{Cause}
 use Rattle.listing_text.specs.declared.cause.Cause.TheVariants.{Done, Refused, FileFault, OutputFault, Busy, Memory, Damaged}
@@ -100,45 +100,29 @@ MayEnd Memory = Unit {0}
 MayEnd (Damaged damage) = Unit {0}
 MayEnd _ = ⊥
 
--- The host and the output at a moment: whether they tell what they hold, what they hold, and what each tells always.
-pub record OutsideAt : Type 0 where
-  pub files : Bool
-  pub alone : Bool
-  pub output : Bool
-  pub session : Session
-  pub spool : World
-  pub out : SinkAt
-  pub outlet : Outlet
-
-abbrev pub outside_at : {H O : Type 0} → host.Ghosts H → sink.Ghosts O → H → O → OutsideAt
-outside_at h o host out = record {
-  files = h.tells;
-  alone = h.alone;
-  output = o.tells;
-  session = h.session host;
-  spool = h.world host;
-  out = sink_at (o.content out) (o.outlet out);
-  outlet = o.outlet out;
-}
+-- all that the program is handed before it says its cause: no readings, no inputs, and nothing to say it on
+abbrev pub account_outside : {H O : Type 0} → host.Ghosts H → sink.Ghosts O → H → O → OutsideAt
+account_outside h o host out = outside_at h no_readings no_inputs o no_sink host tt tt out tt
 
 -- Words that ask for nothing are said to be wrong, or found no memory; the folder and the output are left alone.
 pub record IsUnasked (fault : WordsFault) (old new : OutsideAt) (cause : Cause) : Type 0 where
   pub because : (cause ≡ words_cause fault) ⊎ (cause ≡ Memory)
   pub session : new.session ≡ old.session
-  pub spool : new.spool ≡ old.spool
-  pub silent : old.output ≡ true → IsSilent old.out new.out
+  pub spool : new.holds.spool ≡ old.holds.spool
+  pub silent : old.tells.output ≡ true → IsSilent old.holds.output new.holds.output
 
 -- How the program ends, by what its words ask for. It starts no child and hands nothing over; each fault comes only where
 -- its count rose; what each image of each moment has; what is left; and what is put.
 pub record Accounting (asked : Result Bool WordsFault) (old new : OutsideAt) (cause : Cause) : Type 0 where
   pub left : IsLeft old.session new.session
-  pub goes_on : old.files ≡ true → GoesOn old.spool new.spool
+  pub goes_on : old.tells.files ≡ true → GoesOn old.holds.spool new.holds.spool
   pub file_fault : cause ≡ FileFault → Rose old.session.file_faults new.session.file_faults
   pub busy : cause ≡ Busy → Rose old.session.taken new.session.taken
-  pub output_fault : cause ≡ OutputFault → Rose old.outlet.sink_faults new.outlet.sink_faults
-  pub made_as : new.outlet.made_as ≡ old.outlet.made_as
+  pub output_fault : cause ≡ OutputFault → Rose old.out.sink_faults new.out.sink_faults
+  pub made_as : new.out.made_as ≡ old.out.made_as
   pub unasked : (fault : WordsFault) → asked ≡ Err fault → IsUnasked fault old new cause
   pub may_end : (show : Bool) → asked ≡ Ok show → MayEnd cause
-  pub images : old.files ≡ true → old.alone ≡ true → ChangesFiles (IsAccounting old.spool.now.folder) old.spool new.spool
-  pub leaves : (show : Bool) → asked ≡ Ok show → old.files ≡ true → old.alone ≡ true →
-      Leaves show old.output old.spool new.spool old.out new.out cause
+  pub images : old.tells.files ≡ true → old.tells.alone ≡ true →
+      ChangesFiles (IsAccounting old.holds.spool.now.folder) old.holds.spool new.holds.spool
+  pub leaves : (show : Bool) → asked ≡ Ok show → old.tells.files ≡ true → old.tells.alone ≡ true →
+      Leaves show old.tells.output old.holds.spool new.holds.spool old.holds.output new.holds.output cause

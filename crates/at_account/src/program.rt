@@ -3,7 +3,7 @@ ghost use Rattle.std.specs.Prelude.{◌≡◌, IsTrue, codes, map, string_bytes}
 ghost use Rattle.cause_output.specs.Sinks.{EndsLine, sink_at};
 ghost use Rattle.host_calls.specs.Session.{IsOutside};
 ghost use Rattle.listing_text.specs.Cause.{status_of};
-ghost use Rattle.at_account.specs.Accounting.{Accounting, outside_at};
+ghost use Rattle.at_account.specs.Accounting.{Accounting, account_outside};
 ghost use Rattle.at_account.specs.Words.{account_asked};
 
 use crate::session::account;
@@ -28,7 +28,7 @@ pub fn account_program<H: Host, O: Sink, E: Sink>(
     requires { IsOutside (H.session host.old) }
     ensures code { result ≡ status_of result.cause }
     ensures accounting { Accounting (account_asked (map string_bytes words.now))
-        (outside_at H.Host O.Sink host.old out.old) (outside_at H.Host O.Sink host.new out.new) result.cause }
+        (account_outside H.Host O.Sink host.old out.old) (account_outside H.Host O.Sink host.new out.new) result.cause }
     ensures says { IsTrue E.tells → EndsLine (codes "ataccount") result.cause
         (sink_at (E.content err.old) (E.outlet err.old)) (sink_at (E.content err.new) (E.outlet err.new)) }
     ensures made_as { (E.outlet err.new).made_as ≡ (E.outlet err.old).made_as }
@@ -41,7 +41,7 @@ pub fn account_program<H: Host, O: Sink, E: Sink>(
 fn carry_out<H: Host, O: Sink>(alloc: Global, words: &[String], host: &mut H, out: &mut O) -> Cause
     requires { IsOutside (H.session host.old) }
     ensures { Accounting (account_asked (map string_bytes words.now))
-        (outside_at H.Host O.Sink host.old out.old) (outside_at H.Host O.Sink host.new out.new) result }
+        (account_outside H.Host O.Sink host.old out.old) (account_outside H.Host O.Sink host.new out.new) result }
 {
     match asks_to_show(alloc, words) {
         Ok(show) => account(alloc, show, host, out),

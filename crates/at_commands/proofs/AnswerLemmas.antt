@@ -21,7 +21,8 @@ use Rattle.cause_output.specs.declared.caller.Caller.{Caller}
 use Rattle.cause_output.specs.declared.command_error.CommandError.{CommandError}
 use Rattle.cause_output.specs.Causes.{cause_in, error_of}
 use Rattle.command_rules.specs.Checks.{Check, check_of, is_before, of_lock}
-use Rattle.command_rules.specs.Ends.{Ends, Holding, KeepsOrder, Telling, holding, telling, StopsBeforeLock}
+use Rattle.command_rules.specs.Ends.{Ends, KeepsOrder, StopsBeforeLock}
+use Rattle.cause_output.specs.Outside.{Holding, Telling, holding, telling}
 use Rattle.command_rules.specs.Found.{Finds, Found, answers_read}
 use Rattle.at_commands.specs.inside.Carrying.{AreSessionSteps, Carries, Finding, IsSessionLine, IsSessionText}
 use Rattle.command_rules.specs.Requested.{Prints, Says, next_number, passes_of, scripts_of}

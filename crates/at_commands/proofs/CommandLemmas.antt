@@ -13,12 +13,13 @@ use Rattle.listing_text.specs.declared.cause.Cause.{Cause}
 use Rattle.listing_text.specs.declared.cause.Cause.TheVariants.{Refused, FileFault, InputFault, OutputFault, Busy, Memory, StillRunning}
 use Rattle.listing_text.specs.declared.refusal.Refusal.TheVariants.{BadQueue, Usage}
 use Rattle.cause_output.specs.declared.caller.Caller.{Caller}
-use Rattle.command_rules.specs.Ends.{Ends, FailsToPrint, Holding, KeepsOrder, Reaches, Telling, StopsBeforeLock}
+use Rattle.command_rules.specs.Ends.{Ends, FailsToPrint, KeepsOrder, Reaches, StopsBeforeLock}
+use Rattle.cause_output.specs.Outside.{Holding, OutsideAt, Telling}
 use Rattle.command_rules.specs.Found.{Asked}
 use Rattle.cause_output.specs.Sinks.{NotesBy, SinkAt}
 use Rattle.command_rules.specs.Verdict.{verdict_of}
 use Rattle.serving.specs.Outside.{EndsOutside}
-use Rattle.at_commands.specs.Outside.{HasRisen, OutsideAt}
+use Rattle.at_commands.specs.Outside.{HasRisenAsked}
 use Rattle.cause_output.specs.Causes.{words_cause}
 use Rattle.at_commands.proofs.UnreadLemmas.{ends_at_words}
 use Rattle.at_commands.proofs.LateLemmas.{any_memory}
@@ -118,7 +119,7 @@ words_final fault final either = elim either [
 ]
 
 pub words_risen : (fault : WordsFault) (final : Cause) → (final ≡ words_cause fault) ⊎ (final ≡ Memory) → (asked : Asked) (old new : OutsideAt) →
-    HasRisen asked old new final
+    HasRisenAsked asked old new final
 words_risen fault final either asked old new = record {
   file_fault = λ same. absurd (subst (λ (of : Cause). IsOfWords of) same (words_final fault final either));
   busy = λ same. absurd (subst (λ (of : Cause). IsOfWords of) same (words_final fault final either));

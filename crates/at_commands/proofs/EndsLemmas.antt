@@ -18,7 +18,8 @@ use Rattle.spool_shows.specs.Shown.{shown_by}
 use Rattle.step_runs.specs.Attempts.{Achieves}
 use Rattle.cause_output.specs.declared.caller.Caller.{Caller}
 use Rattle.command_rules.specs.Checks.{Check, ComesUpTo, check_of, is_before, of_lock, place_of}
-use Rattle.command_rules.specs.Ends.{Ends, Holding, IsNoRefusal, KeepsOrder, Reaches, Telling}
+use Rattle.command_rules.specs.Ends.{Ends, IsNoRefusal, KeepsOrder, Reaches}
+use Rattle.cause_output.specs.Outside.{Holding, Telling}
 use Rattle.command_rules.specs.Found.{Asked, Finds, Found, allow_file, answers_read, deny_file, is_listing}
 use Rattle.at_commands.specs.inside.Carrying.{AreSessionSteps, Carries, Finding, IsSessionLine, IsSessionText}
 use Rattle.command_rules.specs.Requested.{AreAskedSteps, AreNoSteps, IsAskedLine, IsAskedText}

@@ -16,7 +16,7 @@ use Rattle.spool_model.specs.Users.{IsUserName}
 use Rattle.cause_output.specs.declared.caller.Caller.{Caller}
 use Rattle.cause_output.specs.declared.command_error.CommandError.{CommandError}
 use Rattle.command_rules.specs.Checks.{Check, is_before, of_input, of_lock, of_variables, of_zone, place_of}
-use Rattle.command_rules.specs.Ends.{holding, telling}
+use Rattle.cause_output.specs.Outside.{holding, telling}
 use Rattle.command_rules.specs.Found.{FindsInput, Found, answers_read, found_of}
 use Rattle.at_commands.specs.inside.Carrying.{Finding, IsSessionLine}
 use Rattle.command_rules.specs.Requested.{IsAcceptedLine}

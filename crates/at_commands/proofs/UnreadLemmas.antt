@@ -14,7 +14,8 @@ use Rattle.spool_model.specs.JobTable.{JobTable}
 use Rattle.spool_shows.specs.Shown.{shown_by}
 use Rattle.cause_output.specs.declared.caller.Caller.{Caller}
 use Rattle.command_rules.specs.Checks.{Check, ComesUpTo, check_of, is_before, of_access, of_clock, of_date, of_directory, of_folder, of_input, of_jobs, of_length, of_lists, of_lock, of_number, of_output, of_room, of_spelling, of_steps, of_user, of_variables, of_words, of_zone}
-use Rattle.command_rules.specs.Ends.{Ends, Holding, KeepsOrder, Reaches, Telling}
+use Rattle.command_rules.specs.Ends.{Ends, KeepsOrder, Reaches}
+use Rattle.cause_output.specs.Outside.{Holding, Telling}
 use Rattle.command_rules.specs.Found.{Asked, Finds, Found, allow_file, answers_read, deny_file, found_of}
 use Rattle.command_rules.specs.Requested.{AreAskedSteps, IsAskedLine, IsAskedText}
 use Rattle.cause_output.specs.Sinks.{IsSilent, NotesBy, SinkAt}

@@ -1,59 +1,24 @@
--- All that a command is handed, at a moment, and what a command leaves of it (own).
+-- What a command leaves of all that it is handed (own).
 use Rattle.std.specs.Prelude.{◌≡◌, ◌≢◌, ℕ, true, false, List, Err}
 use Rattle.at_words.specs.declared.fault.WordsFault.{WordsFault}
 use Rattle.cause_output.specs.declared.caller.Caller.{Caller}
-use Rattle.command_rules.specs.Ends.{Ends, FailsToPrint, Holding, StopsBeforeLock, Telling, holding, telling}
+use Rattle.command_rules.specs.Ends.{Ends, FailsToPrint, StopsBeforeLock}
+use Rattle.cause_output.specs.Outside.{HasRisen, OutsideAt, Telling, telling}
 use Rattle.command_rules.specs.Found.{Asked, is_submission}
-use Rattle.cause_output.specs.Sinks.{SinkAt, sink_at}
-use Rattle.daemon_turn.specs.Daemons.{DaemonState}
-use Rattle.host_calls.specs.Causes.{Rose}
-use Rattle.host_calls.specs.Clock.{Readers}
-use Rattle.host_calls.specs.declared.host.Host as host
-use Rattle.host_calls.specs.declared.inputs.Inputs as inputs
-use Rattle.host_calls.specs.declared.readings.Readings as readings
-use Rattle.host_calls.specs.declared.sink.Sink as sink
-use Rattle.host_calls.specs.Inputs.{AreReadAtMostOnce, Sources}
-use Rattle.host_calls.specs.Session.{IsLeft, Session}
-use Rattle.host_calls.specs.Sink.{Outlet}
+use Rattle.cause_output.specs.Sinks.{SinkAt}
+use Rattle.host_calls.specs.Inputs.{AreReadAtMostOnce}
+use Rattle.host_calls.specs.Session.{IsLeft}
 use Rattle.host_calls.specs.World.{GoesOn}
 use Rattle.listing_text.specs.declared.cause.Cause.{Cause}
-use Rattle.listing_text.specs.declared.cause.Cause.TheVariants.{Busy, FileFault, InputFault, OutputFault, StillRunning}
-use Rattle.serving.specs.Serves.{ServeAt, ServeTelling, serve_at, serve_telling}
+use Rattle.listing_text.specs.declared.cause.Cause.TheVariants.{StillRunning}
+use Rattle.serving.specs.Outside.{served_at}
 use Rattle.at_commands.specs.Served.{ServesAnew, WhereServed}
 
--- The host, the readings, the inputs and the two sinks at a moment: which of them tell what they hold, what they hold, and
--- what each of them tells always.
-pub record OutsideAt : Type 0 where
-  pub tells : Telling
-  pub holds : Holding
-  pub session : Session
-  pub readers : Readers
-  pub sources : Sources
-  pub out : Outlet
-  pub err : Outlet
-
-abbrev pub outside_at : {H R I O E : Type 0} → host.Ghosts H → readings.Ghosts R → inputs.Ghosts I → sink.Ghosts O → sink.Ghosts E →
-    H → R → I → O → E → OutsideAt
-outside_at h r i o e host readings inputs out err = record {
-  tells = telling h.tells h.alone r.tells i.tells o.tells e.tells;
-  holds = holding (h.world host) (r.answers readings) (i.contents inputs) (sink_at (o.content out) (o.outlet out))
-      (sink_at (e.content err) (e.outlet err));
-  session = h.session host;
-  readers = r.readers readings;
-  sources = i.sources inputs;
-  out = o.outlet out;
-  err = e.outlet err;
-}
-
--- each fault comes only where its count rose
-pub record HasRisen (asked : Asked) (old new : OutsideAt) (cause : Cause) : Type 0 where
-  pub file_fault : cause ≡ FileFault → Rose old.session.file_faults new.session.file_faults
-  pub busy : cause ≡ Busy → Rose old.session.taken new.session.taken
-  pub input_fault : cause ≡ InputFault → Rose old.sources.input_faults new.sources.input_faults
-  pub output_fault : cause ≡ OutputFault → FailsToPrint asked old.out new.out old.err new.err
+-- each fault comes only where its count rose: that of the output, on the sink that is printed on
+abbrev pub HasRisenAsked : Asked → OutsideAt → OutsideAt → Cause → Type 0
+HasRisenAsked asked old new cause = HasRisen (FailsToPrint asked old.out new.out old.err new.err) old new cause
 
 -- How a command ends that asks for no daemon: it starts no child and hands nothing over; its verdict and order, what each
--- crash on the way and each image of the end show, and what is printed and said. No load is read, and it does not end while
 -- crash on the way and each image of the end show, and what is printed and said. No load is read, and it does not end while
 -- jobs still run. Words that ask for nothing leave the session alone, and so does all else that stops before the lock.
 pub record EndsUnserved (Notes : Cause → (List ℕ → Type 0) → SinkAt → SinkAt → Type 0) (asked : Asked) (caller : Caller)
@@ -66,12 +31,9 @@ pub record EndsUnserved (Notes : Cause → (List ℕ → Type 0) → SinkAt → 
   pub unasked : (fault : WordsFault) → asked ≡ Err fault → new.session ≡ old.session
   pub before_lock : StopsBeforeLock cause → new.session ≡ old.session
 
--- what is served with, once the daemon keeps this
-abbrev pub served_at : OutsideAt → DaemonState → ServeAt
-served_at at daemon = serve_at at.session at.holds.spool daemon at.holds.answers at.readers
-
-abbrev pub telling_served : Telling → ServeTelling
-telling_served tells = serve_telling tells.files tells.alone tells.clock tells.output tells.errors
+-- what serving is told of: it is handed no inputs
+abbrev pub telling_served : Telling → Telling
+telling_served tells = telling tells.files tells.alone tells.clock false tells.output tells.errors
 
 -- where a daemon is asked for, one without kids serves: its turns, what is printed and said of them, and its cause
 abbrev pub ServesAsked : Asked → OutsideAt → OutsideAt → Cause → Type 0

@@ -1,14 +1,15 @@
 //! The command: what its words ask for, done.
-ghost use Rattle.std.specs.Prelude.{◌≡◌, ◌<◌, ◌≤◌, Ok, map, string_bytes};
+ghost use Rattle.std.specs.Prelude.{◌≡◌, ◌<◌, ◌≤◌, Ok, map, string_bytes, false};
 ghost use Rattle.at_words.specs.Queues.{HasQueueLetter};
 ghost use Rattle.at_words.specs.Requests.{request_of};
 ghost use Rattle.host_calls.specs.Session.{IsOutside};
 ghost use Rattle.listing_text.specs.Cause.{status_of};
 ghost use Rattle.cause_output.specs.Sinks.{NotesBy, SaysBy, sink_at};
 ghost use Rattle.daemon_turn.specs.Daemons.{new_daemon};
-ghost use Rattle.serving.specs.Outside.{EndsOutside, HasRisenServing, StaysMadeServing, work_at};
-ghost use Rattle.serving.specs.Serves.{serve_at, serve_telling};
-ghost use Rattle.at_commands.specs.Outside.{EndsUnserved, HasRisen, ServesAsked, StaysMade, outside_at};
+ghost use Rattle.serving.specs.Outside.{EndsOutside, HasRisenServing, StaysMadeServing, serving_outside};
+ghost use Rattle.serving.specs.Serves.{serve_at};
+ghost use Rattle.at_commands.specs.Outside.{EndsUnserved, HasRisenAsked, ServesAsked, StaysMade};
+ghost use Rattle.cause_output.specs.Outside.{outside_at, telling};
 ghost use Rattle.at_commands.specs.Served.{IsNotServed, ServesAnew};
 ghost use Rattle.at_commands.specs.Tools.{name_of, name_or_at, tool_name_of};
 
@@ -43,7 +44,7 @@ pub fn command<H: Host, R: Readings, I: Inputs, O: Sink, E: Sink>(
     ensures session { EndsOutside (H.session host.old) (H.session host.new) }
 
     // Each fault comes only where its count rose.
-    ensures faults { HasRisen (request_of (map string_bytes words.now))
+    ensures faults { HasRisenAsked (request_of (map string_bytes words.now))
         (outside_at H.Host R.Readings I.Inputs O.Sink E.Sink host.old readings.old inputs.old out.old err.old)
         (outside_at H.Host R.Readings I.Inputs O.Sink E.Sink host.new readings.new inputs.new out.new err.new) result.cause }
 
@@ -105,16 +106,16 @@ fn serve_anew<H: Host, R: Readings, O: Sink, E: Sink>(
     ensures code { result ≡ status_of result.cause }
     ensures session { EndsOutside (H.session host.old) (H.session host.new) }
     ensures faults { HasRisenServing
-        (work_at H.Host R.Readings O.Sink E.Sink (new_daemon limit interval) host.old readings.old out.old err.old)
-        (work_at H.Host R.Readings O.Sink E.Sink (new_daemon limit interval) host.new readings.new out.new err.new) result.cause }
-    ensures serves { ServesAnew (serve_telling H.tells H.alone R.tells O.tells E.tells) limit interval once turns
+        (serving_outside H.Host R.Readings O.Sink E.Sink host.old readings.old out.old err.old)
+        (serving_outside H.Host R.Readings O.Sink E.Sink host.new readings.new out.new err.new) result.cause }
+    ensures serves { ServesAnew (telling H.tells H.alone R.tells false O.tells E.tells) limit interval once turns
         (λ daemon. serve_at (H.session host.old) (H.world host.old) daemon (R.answers readings.old) (R.readers readings.old))
         (λ daemon. serve_at (H.session host.new) (H.world host.new) daemon (R.answers readings.new) (R.readers readings.new))
         (sink_at (O.content out.old) (O.outlet out.old)) (sink_at (O.content out.new) (O.outlet out.new))
         (sink_at (E.content err.old) (E.outlet err.old)) (sink_at (E.content err.new) (E.outlet err.new)) result.cause }
     ensures made { StaysMadeServing
-        (work_at H.Host R.Readings O.Sink E.Sink (new_daemon limit interval) host.old readings.old out.old err.old)
-        (work_at H.Host R.Readings O.Sink E.Sink (new_daemon limit interval) host.new readings.new out.new err.new) }
+        (serving_outside H.Host R.Readings O.Sink E.Sink host.old readings.old out.old err.old)
+        (serving_outside H.Host R.Readings O.Sink E.Sink host.new readings.new out.new err.new) }
 {
     let mut daemon = Daemon::new(alloc, limit, interval);
     serve(alloc, &mut daemon, turns, once, host, readings, out, err)
@@ -137,7 +138,7 @@ fn answer<H: Host, R: Readings, I: Inputs, O: Sink, E: Sink>(
     requires letter { HasQueueLetter asked }
     requires tool { IsNotServed (Ok asked) }
     ensures code { result ≡ status_of result.cause }
-    ensures faults { HasRisen (Ok asked)
+    ensures faults { HasRisenAsked (Ok asked)
         (outside_at H.Host R.Readings I.Inputs O.Sink E.Sink host.old readings.old inputs.old out.old err.old)
         (outside_at H.Host R.Readings I.Inputs O.Sink E.Sink host.new readings.new inputs.new out.new err.new) result.cause }
     ensures ends { EndsUnserved (SaysBy tool.now) (Ok asked) caller.now
@@ -166,7 +167,7 @@ fn carry_out<H: Host, R: Readings, I: Inputs, O: Sink, E: Sink>(
     requires umask { caller.now.context.umask < 512 }
     requires letter { HasQueueLetter asked }
     requires tool { IsNotServed (Ok asked) }
-    ensures faults { HasRisen (Ok asked)
+    ensures faults { HasRisenAsked (Ok asked)
         (outside_at H.Host R.Readings I.Inputs O.Sink E.Sink host.old readings.old inputs.old out.old err.old)
         (outside_at H.Host R.Readings I.Inputs O.Sink E.Sink host.new readings.new inputs.new out.new err.new) result }
     ensures ends { EndsUnserved NotesBy (Ok asked) caller.now

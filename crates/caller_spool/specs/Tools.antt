@@ -9,6 +9,7 @@ asks_lists At = true
 asks_lists Batch = true
 asks_lists Atq = true
 asks_lists Atrm = true
+asks_lists Atstat = true
 asks_lists _ = false
 
 -- the first word of the tool names its spool

@@ -20,11 +20,14 @@ pub fn caller_by(
     zone: Option<&str>,
     umask: u16,
 ) -> Result<Caller, AllocError>
+    /// A job has the variables of the process with `PWD`, `LOGNAME` and `TZ` set; its user, directory and umask are
+    /// those set.
     ensures environment { IfOk result (λ caller.
         caller.context.environment ≡ job_variables settings variables.now) }
     ensures user { IfOk result (λ caller. caller.context.user ≡ settings.user) }
     ensures directory { IfOk result (λ caller. caller.context.directory ≡ settings.directory) }
     ensures umask { IfOk result (λ caller. caller.context.umask ≡ umask) }
+    /// Times are read in the zone of the rule that is set, or else of `TZ`.
     ensures zone { IfOk result (λ caller. IsZoneOf (zone_text settings.zone (option_copied zone.entry)) caller.zone) }
 {
     let environment = job_variables(alloc, variables, &settings)?;

@@ -51,6 +51,7 @@ fn status_of_process(rt: &HostRuntime) -> Vec<u8> {
 }
 
 fn umask_by(status: &[u8]) -> u16
+    /// The umask is below 512.
     ensures { result < 512 }
 {
     match str::from_utf8(status) {

@@ -1,6 +1,5 @@
-//! Who calls, and which spool is meant: the user of the process, what a job takes over of the environment, and the lists of
-//! the machine; the spool that words, variables or the home directory name, which is made where it is the caller's own, and
-//! whether a tool may work on it.
+//! Asks the system who calls and which spool is meant; creates the user's own spool. No tool works on a spool with
+//! links next to it, and only atcheck on another user's.
 #![tactic(auto)]
 
 mod caller_with;

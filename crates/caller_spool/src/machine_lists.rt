@@ -31,10 +31,11 @@ pub fn may_call(rt: &HostRuntime, tool: ToolName, user: &CallingUser) -> bool {
 
 // Whether the lists of the machine say who may call the tool.
 fn asks_lists(tool: ToolName) -> bool
+    /// The tools that submit, list, show or remove jobs consult the lists of the machine.
     ensures { result ≡ asks_lists tool }
 {
     matches!(
         tool,
-        ToolName::At | ToolName::Batch | ToolName::Atq | ToolName::Atrm
+        ToolName::At | ToolName::Batch | ToolName::Atq | ToolName::Atrm | ToolName::Atstat
     )
 }

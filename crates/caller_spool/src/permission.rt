@@ -36,6 +36,7 @@ pub fn may_work_on(
 
 // Whether a tool may work on a spool. The checker reads, also that of another user.
 fn may_work(tool: ToolName, found: SpoolOwner) -> bool
+    /// No tool works on a spool next to which there is a link, and only `atcheck` on another user's.
     ensures { result ≡ may_work tool found }
 {
     !found.has_links && (found.is_caller || tool == ToolName::Atcheck)

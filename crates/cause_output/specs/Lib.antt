@@ -1,5 +1,6 @@
 pub mod Causes
 pub mod Ends
+pub mod Outside
 pub mod Putting
 pub mod Saying
 pub mod Sinks

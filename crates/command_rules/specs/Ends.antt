@@ -15,6 +15,7 @@ use Rattle.cause_output.specs.declared.caller.Caller.{Caller}
 use Rattle.command_rules.specs.Checks.{Check, ComesUpTo, check_of, is_before, of_input, of_lock, of_folder, of_output}
 use Rattle.command_rules.specs.Found.{AreInFolder, Asked, Finds, Found, answers_read, is_listing}
 use Rattle.command_rules.specs.Requested.{AreAskedSteps, IsAskedLine, IsAskedText}
+use Rattle.cause_output.specs.Outside.{Holding, Telling}
 use Rattle.cause_output.specs.Sinks.{HasBytes, PrintsBy, SinkAt}
 use Rattle.command_rules.specs.Spool.{SpoolEnds}
 use Rattle.command_rules.specs.Verdict.{verdict_of}
@@ -65,31 +66,6 @@ Reaches FileFault check = IsOfSpool check
 Reaches (Damaged damage) check = check ≡ of_folder
 Reaches Memory check = Unit {0}
 Reaches _ check = ⊥
-
--- which of the objects that a command is handed tell what they hold
-pub record Telling : Type 0 where
-  pub files : Bool
-  pub alone : Bool
-  pub clock : Bool
-  pub input : Bool
-  pub output : Bool
-  pub errors : Bool
-
-abbrev pub telling : Bool → Bool → Bool → Bool → Bool → Bool → Telling
-telling files alone clock input output errors =
-    record { files = files; alone = alone; clock = clock; input = input; output = output; errors = errors }
-
--- what those objects hold at a moment
-pub record Holding : Type 0 where
-  pub spool : World
-  pub answers : Answers
-  pub contents : Contents
-  pub output : SinkAt
-  pub errors : SinkAt
-
-abbrev pub holding : World → Answers → Contents → SinkAt → SinkAt → Holding
-holding spool answers contents output errors =
-    record { spool = spool; answers = answers; contents = contents; output = output; errors = errors }
 
 -- How a command ends that was asked for so: over what it found outside, which is what was told, and over how far it came.
 -- The output of a listing can fail only where it has a line. What is said to the caller is a parameter: before the line of

@@ -11,7 +11,8 @@ use Rattle.spool_model.specs.JobTable.{JobTable}
 use Rattle.spool_model.specs.Steps.{after_steps}
 use Rattle.spool_shows.specs.Shown.{shown_by}
 use Rattle.cause_output.specs.declared.caller.Caller.{Caller}
-use Rattle.command_rules.specs.Ends.{Ends, Holding, Telling}
+use Rattle.command_rules.specs.Ends.{Ends}
+use Rattle.cause_output.specs.Outside.{Holding, Telling}
 use Rattle.command_rules.specs.Found.{Asked}
 use Rattle.command_rules.specs.Requested.{AreAskedSteps, OrNone}
 use Rattle.cause_output.specs.Sinks.{SinkAt}

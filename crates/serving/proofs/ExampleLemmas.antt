@@ -8,6 +8,7 @@ use Rattle.host_calls.specs.declared.child.Child.{Child}
 use Rattle.host_calls.specs.declared.child.Ending.TheVariants.{Exit}
 use Rattle.host_calls.specs.Clock.{Readers, with_load, with_now, with_rest}
 use Rattle.host_calls.specs.World.{World}
+use Rattle.cause_output.specs.Outside.{ClockAt}
 use Rattle.cause_output.specs.Sinks.{IsSilent}
 use Rattle.listing_text.specs.declared.cause.Cause.{Cause}
 use Rattle.listing_text.specs.declared.cause.Cause.TheVariants as cause
@@ -87,7 +88,7 @@ held world at = record {
 two_turns : (once : Bool) (one other : Item) (start between rested end : ServeAt) → Served known once [] one start between → ends_after once (Some one) between.spool.daemon.kids ≡ false
     → RestsAfter true once (Some one) between rested → Served known once (one ∷ []) other rested end → Serves known once start (one ∷ other ∷ []) end
 two_turns once one other start between rested end first goes_on rests second =
-    next_turn (one ∷ []) other between rested end (next_turn [] one start start between no_turn refl refl first) goes_on rests second
+    next_turn (one ∷ []) other between rested end (next_turn [] one start start between no_turn refl (record { clock = refl; spool = refl }) first) goes_on rests second
 
 -- The readings.
 
@@ -101,7 +102,7 @@ a_minute_later : IsClockSecond minute_later
 a_minute_later = second_is minute_later refl
 
 -- the load was read
-answered : (now : ℤ) (load : ℕ) (end : TurnEnd) (steps : List TurnStep) (old new : ServeAt) → new.answers ≡ with_load (Some load) (with_now now old.answers) → new.readers ≡ old.readers
+answered : (now : ℤ) (load : ℕ) (end : TurnEnd) (steps : List TurnStep) (old new : ClockAt) → new.answers ≡ with_load (Some load) (with_now now old.answers) → new.readers ≡ old.readers
     → AnswersTurn true (record { now = now; load = Some load; end = end; steps = steps }) old new
 answered now load end steps old new answers readers = record {
   known = λ tells. answers;
@@ -156,7 +157,7 @@ handed world rested = served_with world (first_child ∷ []) 0 (first_kid ∷ []
 hands_over : (world : World) (once : Bool) → Served known once [] (handed_at midnight) (opening world) (handed world 0)
 hands_over world once = record {
   now = at_midnight;
-  read = answered midnight 42 Done _ (opening world) (handed world 0) refl refl;
+  read = answered midnight 42 Done _ (opening world).clock (handed world 0).clock refl refl;
   turn = turned world _ 0 [] (first_child ∷ []) [] (first_kid ∷ []) _ one_kid one_order;
 }
 
@@ -164,11 +165,10 @@ hands_over world once = record {
 abbrev ended_with : ℤ → Option ℕ → ℕ → Item
 ended_with now load code = record { now = now; load = load; end = Done; steps = Ended 1 (Exit code) ∷ [] }
 
-rests : (once : Bool) (item : Item) (seconds : ℕ) (old new : ServeAt) → next_rest once item.end item.now ≡ seconds → new.answers ≡ with_rest seconds old.answers → new.readers ≡ old.readers
+rests : (once : Bool) (item : Item) (seconds : ℕ) (old new : ServeAt) → next_rest once item.end item.now ≡ seconds → new.clock.answers ≡ with_rest seconds old.clock.answers → new.clock.readers ≡ old.clock.readers
     → new.spool ≡ old.spool → RestsAfter true once (Some item) old new
 rests once item seconds old new is answers readers spool = record {
-  known = λ tells. subst (λ (count : ℕ). new.answers ≡ with_rest count old.answers) (sym is) answers;
-  readers = readers;
+  clock = record { known = λ tells. subst (λ (count : ℕ). new.clock.answers ≡ with_rest count old.clock.answers) (sym is) answers; readers = readers };
   spool = spool;
 }
 
@@ -194,7 +194,7 @@ until_alone world =
     let end : ServeAt = served_with world (first_child ∷ []) 0 [] (midnight ∷ second_later ∷ []) (Some 42 ∷ Some 42 ∷ []) 1 0 in
     let second : Served known true (handed_at midnight ∷ []) (ended_with second_later (Some 42) 0) (handed world 1) end = record {
       now = a_second_later;
-      read = answered second_later 42 Done _ (handed world 1) end refl refl;
+      read = answered second_later 42 Done _ (handed world 1).clock end.clock refl refl;
       turn = turned world _ 0 (first_child ∷ []) [] (first_kid ∷ []) [] _ (no_kids (first_child ∷ [])) no_order;
     } in
     serves_twice world true (handed_at midnight) (ended_with second_later (Some 42) 0) end
@@ -213,7 +213,7 @@ still_running world =
     let end : ServeAt = served_with world (first_child ∷ []) 0 (first_kid ∷ []) (midnight ∷ second_later ∷ []) (Some 42 ∷ Some 42 ∷ []) 1 0 in
     let second : Served known true (handed_at midnight ∷ []) idle (handed world 1) end = record {
       now = a_second_later;
-      read = answered second_later 42 Done _ (handed world 1) end refl refl;
+      read = answered second_later 42 Done _ (handed world 1).clock end.clock refl refl;
       turn = turned world _ 0 (first_child ∷ []) [] (first_kid ∷ []) (first_kid ∷ []) _ one_kid one_order;
     } in
     serves_twice world true (handed_at midnight) idle end
@@ -235,10 +235,10 @@ unfolding digits
 taken_first world =
     let end : ServeAt = served_with world (first_child ∷ []) 1 (first_kid ∷ []) (midnight ∷ second_later ∷ []) (Some 42 ∷ Some 42 ∷ []) 1 0 in
     let first : Served known false [] taken (opening world) (refused world 0) =
-    record { now = at_midnight; read = answered midnight 42 Busy _ (opening world) (refused world 0) refl refl; turn = held world _ } in
+    record { now = at_midnight; read = answered midnight 42 Busy _ (opening world).clock (refused world 0).clock refl refl; turn = held world _ } in
     let second : Served known false (taken ∷ []) (handed_at second_later) (refused world 1) end = record {
       now = a_second_later;
-      read = answered second_later 42 Done _ (refused world 1) end refl refl;
+      read = answered second_later 42 Done _ (refused world 1).clock end.clock refl refl;
       turn = turned world _ 1 [] (first_child ∷ []) [] (first_kid ∷ []) _ one_kid one_order;
     } in
     serves_twice world false taken (handed_at second_later) end

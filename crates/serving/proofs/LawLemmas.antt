@@ -15,12 +15,13 @@ use Rattle.daemon_turn.proofs.LawLemmas.{readings_stay_good, turns_are_done}
 use Rattle.serving.specs.Items.{Item, first_end, last_item}
 use Rattle.serving.specs.Laws.{IsLastInRange, IsServedWell, ServingIsDone}
 use Rattle.serving.specs.Outcomes.{Stop, StopsBy, at_a_line, at_the_clock, at_the_end, damage_outcome, end_outcome, kids_outcome, last_outcome, outcome_by, turns_outcome}
-use Rattle.serving.specs.Serves.{ServeAt, Served, Serves, ServeTelling, next_turn, no_turn}
+use Rattle.serving.specs.Serves.{ServeAt, Served, Serves, next_turn, no_turn}
+use Rattle.cause_output.specs.Outside.{Telling}
 use Rattle.serving.specs.Serving.{SaysOutcome}
 use Rattle.serving.specs.declared.outcome.Outcome.{Outcome}
 use Rattle.serving.specs.declared.outcome.Outcome.TheVariants.{OfTurn, Own}
 use Rattle.serving.proofs.OutcomeLemmas.{stops_spool}
-use Rattle.serving.proofs.ServeLemmas.{rested_spool, serves_counts}
+use Rattle.serving.proofs.ServeLemmas.{serves_counts}
 
 -- each of the turns was done, or found no memory
 abbrev pub AreWell : List Item → Type 0
@@ -45,7 +46,7 @@ pub record GoWell (items : List Item) (at : DaemonAt) : Type 0 where
   pub well : AreWell items
   pub good : ReadsGood at
 
-module _ (tells : ServeTelling) (once : Bool) (first : ServeAt) (known : tells.files ≡ true) (alone : tells.alone ≡ true) (opening : ReadsGood first.spool) where
+module _ (tells : Telling) (once : Bool) (first : ServeAt) (known : tells.files ≡ true) (alone : tells.alone ≡ true) (opening : ReadsGood first.spool) where
   served_well : (before : List Item) (item : Item) (rested after : ServeAt) → Served tells once before item rested after → ReadsGood rested.spool
       → IsSound rested.spool.session after.spool.session → GoWell (item ∷ []) after.spool
   served_well before item rested after served good sound = record {
@@ -56,7 +57,7 @@ module _ (tells : ServeTelling) (once : Bool) (first : ServeAt) (known : tells.f
   pub go_well : (items : List Item) (last : ServeAt) → Serves tells once first items last → IsSound first.spool.session last.spool.session → GoWell items last.spool
   go_well _ _ no_turn sound = record { well = tt; good = opening }
   go_well _ _ (next_turn before item last rested after serves goes_on rests served) sound =
-      let same : rested.spool ≡ last.spool = rested_spool tells.clock once (last_item before) last rested rests in
+      let same : rested.spool ≡ last.spool = rests.spool in
       let counts : KeepsCounts last.spool.session after.spool.session = subst (λ (spool : DaemonAt). KeepsCounts spool.session after.spool.session) same served.turn.counts in
       let up_to : KeepsCounts first.spool.session last.spool.session = serves_counts tells once first before last serves in
       let earlier : GoWell before last.spool = go_well before last serves (record {
@@ -105,11 +106,11 @@ last_well (item ∷ []) other well rest = damage_well item.end other well.0 rest
 last_well (item ∷ next ∷ items) other well rest = last_well (next ∷ items) other well.1 rest
 
 stop_well : (stop : Stop) (tells once : Bool) (turns : ℕ) (items : List Item) (last new : ServeAt) (kids : List Kid) (output_failed : Bool) → tells ≡ true
-    → StopsBy stop tells once turns items last new → AreWell items → ¬ (output_failed ≡ true) → IsLastInRange new.answers → IsWellFor (outcome_by stop once items kids output_failed)
+    → StopsBy stop tells once turns items last new → AreWell items → ¬ (output_failed ≡ true) → IsLastInRange new.clock.answers → IsWellFor (outcome_by stop once items kids output_failed)
 stop_well at_the_end tells once turns items last new kids output_failed known stops well unfailed range =
     last_well items (turns_outcome once (first_end items) kids output_failed) well (turns_well once items kids output_failed well unfailed)
 stop_well at_the_clock tells once turns items last new kids output_failed known stops well unfailed range =
-    absurd (stops.2.out (range stops.2.now stops.2.rested.answers (stops.2.known known)))
+    absurd (stops.2.out (range stops.2.now stops.2.rested.clock.answers (stops.2.known known)))
 stop_well at_a_line tells once turns items last new kids output_failed known stops well unfailed range = tt
 
 said_well : (tells : Bool) (outcome : Outcome) (before beyond : SinkAt) (final : Cause) → SaysOutcome tells outcome before beyond final → IsWellFor outcome → IsServedWell final

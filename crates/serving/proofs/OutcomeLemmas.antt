@@ -12,12 +12,13 @@ use Rattle.host_session.specs.declared.turn_end.TurnEnd.{TurnEnd}
 use Rattle.host_session.specs.declared.turn_end.TurnEnd.TheVariants.{Done, Busy, FileFault, Damaged, Memory}
 use Rattle.serving.specs.Items.{Item, ends_after, first_end, is_last, last_item}
 use Rattle.serving.specs.Outcomes.{Stop, StopsBy, at_a_line, at_the_clock, at_the_end, damage_outcome, end_outcome, kids_outcome, last_outcome, outcome_by, output_outcome, turns_outcome}
-use Rattle.serving.specs.Serves.{ServeAt, ServeTelling}
+use Rattle.serving.specs.Serves.{ServeAt}
+use Rattle.cause_output.specs.Outside.{Telling}
 use Rattle.serving.specs.Serving.{SaysOutcome}
 use Rattle.serving.specs.declared.outcome.Outcome.{Outcome}
 use Rattle.serving.specs.declared.outcome.Outcome.TheVariants.{OfTurn, Own}
 use Rattle.serving.specs.inside.Progressing.{HasEnded}
-use Rattle.serving.proofs.ServeLemmas.{RoseFirst, rested_spool, rose_first}
+use Rattle.serving.proofs.ServeLemmas.{RoseFirst, rose_first}
 
 -- what the outside has to have done where serving comes to a cause
 abbrev pub IsCaused : Cause → Session → Session → SinkAt → SinkAt → Type 0
@@ -88,10 +89,10 @@ said_caused tells (Own of) final before after old new was is (inr says) caused =
 pub stops_spool : (stop : Stop) (tells once : Bool) (turns : ℕ) (items : List Item) (last now : ServeAt) → StopsBy stop tells once turns items last now → now.spool ≡ last.spool
 stops_spool at_the_end tells once turns items last now stops = ap (λ (at : ServeAt). at.spool) stops.1
 stops_spool at_the_clock tells once turns items last now stops =
-    stops.2.spool ∙ rested_spool tells once (last_item items) last stops.2.rested stops.2.rests
+    stops.2.spool ∙ stops.2.rests.spool
 stops_spool at_a_line tells once turns items last now stops = ap (λ (at : ServeAt). at.spool) stops
 
-pub ended_caused : (tells : ServeTelling) (once : Bool) (turns : ℕ) (first now : ServeAt) (out_first out_now err_first err_now err_end : SinkAt) (outcome : Outcome) (final : Cause)
+pub ended_caused : (tells : Telling) (once : Bool) (turns : ℕ) (first now : ServeAt) (out_first out_now err_first err_now err_end : SinkAt) (outcome : Outcome) (final : Cause)
     → HasEnded tells once turns first now out_first out_now err_first err_now outcome → SaysOutcome tells.errors outcome err_now err_end final
     → IsCaused final first.spool.session now.spool.session out_first out_now
 ended_caused tells once turns first now out_first out_now err_first err_now err_end outcome final ended says =

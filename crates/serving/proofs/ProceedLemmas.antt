@@ -17,7 +17,8 @@ use Rattle.cause_output.proofs.EndLemmas.{silent_same}
 use Rattle.cause_output.proofs.PutLemmas.{nothing_put}
 use Rattle.serving.specs.Lines.{SaysEnds, daemon_name, step_lines, turn_lines}
 use Rattle.serving.specs.Outcomes.{at_a_line, at_the_clock, at_the_end, damage_outcome, last_outcome, turns_outcome}
-use Rattle.serving.specs.Serves.{AnswersTurn, RestsAfter, ServeAt, Served, Serves, StopsAtClock, ServeTelling, next_turn, no_turn}
+use Rattle.serving.specs.Serves.{AnswersTurn, RestsAfter, ServeAt, Served, Serves, StopsAtClock, next_turn, no_turn}
+use Rattle.cause_output.specs.Outside.{Telling}
 use Rattle.serving.specs.Serving.{Prints, SaysOutcome, Serving}
 use Rattle.serving.specs.declared.outcome.Outcome.{Outcome}
 use Rattle.serving.specs.declared.outcome.Outcome.TheVariants.{Own}
@@ -28,7 +29,7 @@ use Rattle.serving.proofs.ServeLemmas.{but_last_more, first_more, last_more, lin
 use Rattle.serving.proofs.SinkLemmas.{ends_more, ends_silent}
 
 -- nothing was served yet
-pub nothing_served : (tells : ServeTelling) (once : Bool) (made : Progress) (at : ServeAt) (out err : SinkAt) → made ≡ record { first = None; rest = 0; output_failed = false }
+pub nothing_served : (tells : Telling) (once : Bool) (made : Progress) (at : ServeAt) (out err : SinkAt) → made ≡ record { first = None; rest = 0; output_failed = false }
     → HasServed tells once [] made at at out out err err
 nothing_served tells once made at out err same =
     subst (λ (of : Progress). HasServed tells once [] of at at out out err err) (sym same) (record {
@@ -40,7 +41,7 @@ nothing_served tells once made at out err same =
       says = λ known. silent_same err err refl;
     })
 
-module _ (tells : ServeTelling) (once : Bool) (items : List Item) (made : Progress) (first now : ServeAt) (out_first out_now err_first err_now : SinkAt)
+module _ (tells : Telling) (once : Bool) (items : List Item) (made : Progress) (first now : ServeAt) (out_first out_now err_first err_now : SinkAt)
     (has : HasServed tells once items made first now out_first out_now err_first err_now) where
   -- the clock went out of range
   pub ended_at_clock : (after : ServeAt) (turns : ℕ) → length items < turns → StopsAtClock tells.clock once (last_item items) now after
@@ -160,7 +161,7 @@ module _ (tells : ServeTelling) (once : Bool) (items : List Item) (made : Progre
   }
 
 -- serving, with its last line
-pub serving_of : (tells : ServeTelling) (once : Bool) (turns : ℕ) (first now : ServeAt) (out_first out_now err_first err_now err_end : SinkAt) (outcome : Outcome) (final : Cause)
+pub serving_of : (tells : Telling) (once : Bool) (turns : ℕ) (first now : ServeAt) (out_first out_now err_first err_now err_end : SinkAt) (outcome : Outcome) (final : Cause)
     → HasEnded tells once turns first now out_first out_now err_first err_now outcome → SaysOutcome tells.errors outcome err_now err_end final
     → Serving tells once turns first now out_first out_now err_first err_end final
 serving_of tells once turns first now out_first out_now err_first err_now err_end outcome final ended says = record {
@@ -178,19 +179,19 @@ serving_of tells once turns first now out_first out_now err_first err_now err_en
 }
 
 -- a turn that was made, as its calls answered
-pub answers_turn : (tells : Bool) (item : Item) (spool_old spool_new : DaemonAt) (was between is : Answers) (had next has : Readers) → (tells ≡ true → between ≡ with_now item.now was)
+pub answers_turn : (tells : Bool) (item : Item) (was between is : Answers) (had next has : Readers) → (tells ≡ true → between ≡ with_now item.now was)
     → next ≡ had → (tells ≡ true → is ≡ with_load item.load between) → has.made_as ≡ next.made_as → next.load_faults ≤ has.load_faults
     → (item.load ≡ None → Rose next.load_faults has.load_faults)
-    → AnswersTurn tells item (record { spool = spool_old; answers = was; readers = had }) (record { spool = spool_new; answers = is; readers = has })
-answers_turn tells item spool_old spool_new was between is had next has now same load made later unread = record {
+    → AnswersTurn tells item (record { answers = was; readers = had }) (record { answers = is; readers = has })
+answers_turn tells item was between is had next has now same load made later unread = record {
   known = λ known. load known ∙ ap (λ (answers : Answers). with_load item.load answers) (now known);
   made_as = made ∙ ap (λ (readers : Readers). readers.made_as) same;
   later = subst (λ (readers : Readers). readers.load_faults ≤ has.load_faults) same later;
   unread = λ none. subst (λ (readers : Readers). Rose readers.load_faults has.load_faults) same (unread none);
 }
 
-pub served_by : (tells : ServeTelling) (once : Bool) (items : List Item) (first : Option TurnEnd) (item : Item) (old new : ServeAt) (mode : Mode) (second : ℤ) → first ≡ first_end items
-    → mode ≡ mode_by once first → second ≡ item.now → IsClockSecond item.now → AnswersTurn tells.clock item old new
+pub served_by : (tells : Telling) (once : Bool) (items : List Item) (first : Option TurnEnd) (item : Item) (old new : ServeAt) (mode : Mode) (second : ℤ) → first ≡ first_end items
+    → mode ≡ mode_by once first → second ≡ item.now → IsClockSecond item.now → AnswersTurn tells.clock item old.clock new.clock
     → TurnsTo tells.files tells.alone (record { now = second; load = item.load; mode = mode }) old.spool new.spool item.end item.steps → Served tells once items item old new
 served_by tells once items first item old new mode second begun of_mode same range read turn = record {
   now = range;

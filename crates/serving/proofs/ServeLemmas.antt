@@ -2,7 +2,7 @@
 use Rattle.std.proofs.Common.{◌≡◌, ◌+◌, ◌≤◌, ℕ, Bool, true, false, List, [], ◌∷◌, ◌++◌, length, refl, sym, ap, subst, ◌∙◌, append-nil, append_assoc, arith}
 use Rattle.std.specs.Prelude.{Option, Some, None}
 use Rattle.host_calls.specs.Causes.{Rose}
-use Rattle.host_calls.specs.Clock.{Answers, Readers, with_rest}
+use Rattle.host_calls.specs.Clock.{Answers, Readers}
 use Rattle.host_calls.specs.Session.{KeepsCounts, Session}
 use Rattle.host_calls.specs.World.{World}
 use Rattle.daemon_turn.specs.Daemons.{DaemonState}
@@ -14,8 +14,9 @@ use Rattle.host_session.specs.declared.turn_end.TurnEnd.TheVariants.{Done, Busy,
 use Rattle.host_session.proofs.SessionLemmas.{counts_on, no_counts}
 use Rattle.serving.specs.Items.{Item, but_last, first_end, last_item, mode_after}
 use Rattle.serving.specs.Lines.{step_lines, turn_lines}
-use Rattle.serving.specs.Serves.{RestsAfter, ServeAt, Served, Serves, ServeTelling, no_turn, next_turn, serve_at}
-use Rattle.serving.specs.inside.Progressing.{IsRest, RestsBefore, first_or, mode_by}
+use Rattle.serving.specs.Serves.{RestsAfter, ServeAt, Served, Serves, no_turn, next_turn, rest_of, serve_at}
+use Rattle.cause_output.specs.Outside.{RestsOn, Telling}
+use Rattle.serving.specs.inside.Progressing.{IsRest, first_or, mode_by, rest_if}
 
 -- The list of turns with one more.
 
@@ -52,28 +53,21 @@ mode_same once items first same = ap (λ (end : Option TurnEnd). mode_by once en
   by_items true [] = refl
   by_items true (item ∷ of) = refl
 
+-- the rest that is kept is that after the last turn
+rest_same : (once : Bool) (seconds : ℕ) (items : List Item) → IsRest once (last_item items) seconds → rest_if (first_end items) seconds ≡ rest_of once (last_item items)
+rest_same once seconds [] rest = refl
+rest_same once seconds (item ∷ []) rest = ap Some rest
+rest_same once seconds (item ∷ other ∷ items) rest = rest_same once seconds (other ∷ items) rest
+
 module _ (tells once : Bool) (session : Session) (world : World) (daemon : DaemonState) (was is : Answers) (had has : Readers) (seconds : ℕ) where
-  rests_last : (items : List Item) → IsRest once (last_item items) seconds → RestsBefore tells (first_end items) seconds was is had has
+  pub rests_after : (items : List Item) (first : Option TurnEnd) → first ≡ first_end items → IsRest once (last_item items) seconds
+      → RestsOn tells (rest_if first seconds) (record { answers = was; readers = had }) (record { answers = is; readers = has })
       → RestsAfter tells once (last_item items) (serve_at session world daemon was had) (serve_at session world daemon is has)
-  rests_last [] rest rests =
-      ap (λ (answers : Answers). serve_at session world daemon answers has) rests.0 ∙ ap (λ (readers : Readers). serve_at session world daemon was readers) rests.1
-  rests_last (item ∷ []) rest rests = record {
-    known = λ tell. subst (λ (some : ℕ). is ≡ with_rest some was) rest (rests.0 tell);
-    readers = rests.1;
+  rests_after items first same rest rests = record {
+    clock = subst (λ (of : Option ℕ). RestsOn tells of (record { answers = was; readers = had }) (record { answers = is; readers = has }))
+        (ap (λ (end : Option TurnEnd). rest_if end seconds) same ∙ rest_same once seconds items rest) rests;
     spool = refl;
   }
-  rests_last (item ∷ other ∷ items) rest rests = rests_last (other ∷ items) rest rests
-
-  pub rests_after : (items : List Item) (first : Option TurnEnd) → first ≡ first_end items → IsRest once (last_item items) seconds
-      → RestsBefore tells first seconds was is had has
-      → RestsAfter tells once (last_item items) (serve_at session world daemon was had) (serve_at session world daemon is has)
-  rests_after items first same rest rests =
-      rests_last items rest (subst (λ (end : Option TurnEnd). RestsBefore tells end seconds was is had has) same rests)
-
--- the spool stays while it rests
-pub rested_spool : (tells once : Bool) (last : Option Item) (old new : ServeAt) → RestsAfter tells once last old new → new.spool ≡ old.spool
-rested_spool tells once None old new same = ap (λ (at : ServeAt). at.spool) same
-rested_spool tells once (Some item) old new rests = rests.spool
 
 -- Counts and children from turn to turn.
 
@@ -84,12 +78,12 @@ pub children_then : (old middle new : List Child) → KeepsChildren old middle �
 children_then old middle new first second =
     (first.0 ++ second.0, second.1 ∙ ap (λ (before : List Child). before ++ second.0) first.1 ∙ append_assoc old first.0 second.0)
 
-module _ (tells : ServeTelling) (once : Bool) (first : ServeAt) where
+module _ (tells : Telling) (once : Bool) (first : ServeAt) where
   pub serves_counts : (items : List Item) (last : ServeAt) → Serves tells once first items last → KeepsCounts first.spool.session last.spool.session
   serves_counts _ _ no_turn = no_counts first.spool.session
   serves_counts _ _ (next_turn before item last rested after serves goes_on rests served) =
       counts_on first.spool.session last.spool.session after.spool.session (serves_counts before last serves)
-      (subst (λ (spool : DaemonAt). KeepsCounts spool.session after.spool.session) (rested_spool tells.clock once (last_item before) last rested rests) served.turn.counts)
+      (subst (λ (spool : DaemonAt). KeepsCounts spool.session after.spool.session) rests.spool served.turn.counts)
 
 -- Why the first turn ended so.
 
@@ -113,7 +107,7 @@ rose_wider (Some FileFault) first old middle new before beyond rose =
 rose_wider (Some (Damaged damage)) first old middle new before beyond rose = tt
 rose_wider (Some Memory) first old middle new before beyond rose = tt
 
-module _ (tells : ServeTelling) (once : Bool) (first : ServeAt) where
+module _ (tells : Telling) (once : Bool) (first : ServeAt) where
   rose_served : (before : List Item) (item : Item) (old new : ServeAt) → Served tells once before item old new → RoseFirst (Some item.end) old.spool.session new.spool.session
   rose_served before item old new served = by_end item.end served.turn.busy served.turn.fault where
     by_end : (end : TurnEnd) → (end ≡ Busy → Rose old.spool.session.taken new.spool.session.taken)
@@ -129,11 +123,11 @@ module _ (tells : ServeTelling) (once : Bool) (first : ServeAt) where
       → RoseFirst (first_end (before ++ item ∷ [])) first.spool.session after.spool.session
   rose_more [] item last rested after rose counts rests served =
       rose_wider (Some item.end) first.spool.session rested.spool.session after.spool.session after.spool.session
-      (subst (λ (spool : DaemonAt). KeepsCounts first.spool.session spool.session) (sym (rested_spool tells.clock once None last rested rests)) counts)
+      (subst (λ (spool : DaemonAt). KeepsCounts first.spool.session spool.session) (sym rests.spool) counts)
       (no_counts after.spool.session) (rose_served [] item rested after served)
   rose_more (head ∷ before) item last rested after rose counts rests served =
       rose_wider (Some head.end) first.spool.session first.spool.session last.spool.session after.spool.session (no_counts first.spool.session)
-      (subst (λ (spool : DaemonAt). KeepsCounts spool.session after.spool.session) (rested_spool tells.clock once (last_item (head ∷ before)) last rested rests) served.turn.counts)
+      (subst (λ (spool : DaemonAt). KeepsCounts spool.session after.spool.session) rests.spool served.turn.counts)
       rose
 
   pub rose_first : (items : List Item) (last : ServeAt) → Serves tells once first items last → RoseFirst (first_end items) first.spool.session last.spool.session

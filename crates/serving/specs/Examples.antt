@@ -8,12 +8,13 @@ use Rattle.listing_text.specs.declared.cause.Cause.TheVariants as cause
 use Rattle.cause_output.specs.Sinks.{SinkAt}
 use Rattle.daemon_turn.specs.declared.kid.Kid.{Kid}
 use Rattle.daemon_turn.specs.Daemons.{DaemonState}
-use Rattle.serving.specs.Serves.{ServeAt, ServeTelling, serve_at, serve_telling}
+use Rattle.serving.specs.Serves.{ServeAt, serve_at}
+use Rattle.cause_output.specs.Outside.{Telling, telling}
 use Rattle.serving.specs.Serving.{Serving}
 
 -- all but the files is told
-abbrev pub known : ServeTelling
-known = serve_telling false false true true true
+abbrev pub known : Telling
+known = telling false false true false true true
 
 -- the child of the first job
 abbrev pub first_child : Child

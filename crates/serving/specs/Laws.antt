@@ -9,7 +9,8 @@ use Rattle.listing_text.specs.declared.cause.Cause.{Cause}
 use Rattle.listing_text.specs.declared.cause.Cause.TheVariants.{Done, Memory, StillRunning}
 use Rattle.cause_output.specs.Sinks.{SinkAt}
 use Rattle.step_runs.specs.Good.{IsGood}
-use Rattle.serving.specs.Serves.{ServeAt, ServeTelling}
+use Rattle.serving.specs.Serves.{ServeAt}
+use Rattle.cause_output.specs.Outside.{Telling}
 use Rattle.serving.specs.Serving.{Serving}
 
 -- the cause is no fault of the outside, no damage and no refusal
@@ -26,11 +27,11 @@ IsLastInRange answers = (now : ℤ) (earlier : Answers) → answers ≡ with_now
 -- Where the reading shows a table, no count of files, of taken locks or of the output rose, and the clock's last answer is
 -- in its range, serving is done, or kids are left, or it finds no memory.
 abbrev pub ServingIsDone : Type 0
-ServingIsDone = (tells : ServeTelling) (once : Bool) (turns : ℕ) (old new : ServeAt)
+ServingIsDone = (tells : Telling) (once : Bool) (turns : ℕ) (old new : ServeAt)
     (out_old out_new err_old err_new : SinkAt) (cause : Cause) →
     Serving tells once turns old new out_old out_new err_old err_new cause →
     tells.files ≡ true → tells.alone ≡ true → tells.clock ≡ true →
     IsGood (reading old.spool.world) →
     ¬ (Rose old.spool.session.taken new.spool.session.taken) →
     ¬ (Rose old.spool.session.file_faults new.spool.session.file_faults) →
-    ¬ (Rose out_old.faults out_new.faults) → IsLastInRange new.answers → IsServedWell cause
+    ¬ (Rose out_old.faults out_new.faults) → IsLastInRange new.clock.answers → IsServedWell cause

@@ -7,7 +7,8 @@ use Rattle.cause_output.specs.Saying.{IsSaid}
 use Rattle.serving.specs.Items.{Item, but_last}
 use Rattle.serving.specs.Lines.{SaysEnds, daemon_name, turn_lines}
 use Rattle.serving.specs.Outcomes.{Stop, StopsBy, at_a_line, at_the_clock, at_the_end, outcome_by}
-use Rattle.serving.specs.Serves.{ServeAt, Serves, ServeTelling}
+use Rattle.serving.specs.Serves.{ServeAt, Serves}
+use Rattle.cause_output.specs.Outside.{Telling}
 use Rattle.serving.specs.declared.outcome.Outcome.{Outcome}
 use Rattle.serving.specs.declared.outcome.Outcome.TheVariants.{OfTurn, Own}
 
@@ -41,7 +42,7 @@ SaysOutcome tells (Own cause) old new final = IsSaid daemon_name tells cause old
 
 -- How serving ends: its turns, and no more than were asked for, lead from the state at its start to that at its end; their
 -- lines are printed and their ends said, one after the other; and the cause is what it came to.
-pub record Serving (tells : ServeTelling) (once : Bool) (turns : ℕ) (old new : ServeAt)
+pub record Serving (tells : Telling) (once : Bool) (turns : ℕ) (old new : ServeAt)
     (out_old out_new err_old err_new : SinkAt) (cause : Cause) : Type 0 where
   pub items : List Item
   pub last : ServeAt

@@ -1,12 +1,13 @@
 //! One turn of serving: the readings are asked, the turn is made, and what it did is printed and said.
-ghost use Rattle.std.specs.Prelude.{◌≡◌, List};
+ghost use Rattle.std.specs.Prelude.{◌≡◌, List, false};
 ghost use Rattle.cause_output.specs.Sinks.{SinkAt, sink_at};
 ghost use Rattle.cause_output.specs.Ends.{SaysEndOr};
 ghost use Rattle.daemon_turn.specs.Kids.{AreChildren, KeepsChildren};
 ghost use Rattle.host_calls.specs.Session.{IsOutside, KeepsCounts};
 ghost use Rattle.serving.specs.Items.{Item};
 ghost use Rattle.serving.specs.Lines.{daemon_name, step_lines};
-ghost use Rattle.serving.specs.Serves.{ServeAt, serve_at, serve_telling};
+ghost use Rattle.serving.specs.Serves.{ServeAt, serve_at};
+ghost use Rattle.cause_output.specs.Outside.{telling};
 ghost use Rattle.serving.specs.inside.Progressing.{HasServed, PrintsMore, Proceeds};
 
 use crate::Outcome;
@@ -42,11 +43,11 @@ pub(crate) fn next_turn<H: Host, R: Readings, O: Sink, E: Sink>(
     ensures out_made { (O.outlet out.new).made_as ≡ (O.outlet out.old).made_as }
     ensures errors_made { (E.outlet err.new).made_as ≡ (E.outlet err.old).made_as }
     ensures proceeds { (items : List Item) (first : ServeAt) (out_first err_first : SinkAt) →
-        HasServed (serve_telling H.tells H.alone R.tells O.tells E.tells) once items progress.old first
+        HasServed (telling H.tells H.alone R.tells false O.tells E.tells) once items progress.old first
         (serve_at (H.session host.old) (H.world host.old) daemon.old (R.answers readings.old) (R.readers readings.old))
         out_first (sink_at (O.content out.old) (O.outlet out.old))
         err_first (sink_at (E.content err.old) (E.outlet err.old))
-        → Proceeds (serve_telling H.tells H.alone R.tells O.tells E.tells) once items progress.new first
+        → Proceeds (telling H.tells H.alone R.tells false O.tells E.tells) once items progress.new first
         (serve_at (H.session host.new) (H.world host.new) daemon.new (R.answers readings.new) (R.readers readings.new))
         out_first (sink_at (O.content out.new) (O.outlet out.new))
         err_first (sink_at (E.content err.new) (E.outlet err.new)) result }

@@ -1,9 +1,10 @@
 //! How far serving has come.
 ghost use Rattle.std.specs.Prelude.{◌≡◌, false, None};
 ghost use Rattle.clock_range.specs.ClockRange.{IsClockSecond};
+ghost use Rattle.cause_output.specs.Outside.{RestsOn, clock_at};
 ghost use Rattle.serving.specs.Items.{next_rest};
 ghost use Rattle.serving.specs.Outcomes.{end_outcome, kids_outcome, output_outcome, turns_outcome};
-ghost use Rattle.serving.specs.inside.Progressing.{RestsBefore, first_or, mode_by, outcome_if};
+ghost use Rattle.serving.specs.inside.Progressing.{first_or, mode_by, outcome_if, rest_if};
 
 use crate::Outcome;
 use crate::serve_loop::{LONGEST_REST, SHORT_REST};
@@ -45,8 +46,8 @@ impl Progress {
 
     // Rests before the next turn. There is no rest before the first.
     pub(crate) fn rest<R: Readings>(&self, readings: &mut R)
-        ensures { RestsBefore R.tells self.now.first self.now.rest (R.answers readings.old) (R.answers readings.new)
-            (R.readers readings.old) (R.readers readings.new) }
+        ensures { RestsOn R.tells (rest_if self.now.first self.now.rest)
+            (clock_at R.Readings readings.old) (clock_at R.Readings readings.new) }
     {
         match &self.first {
             Some(_) => readings.rest(self.rest),

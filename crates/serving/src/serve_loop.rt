@@ -1,11 +1,12 @@
 //! The loop of turns.
-ghost use Rattle.std.specs.Prelude.{◌≡◌, ◌≤◌};
+ghost use Rattle.std.specs.Prelude.{◌≡◌, ◌≤◌, false};
 ghost use Rattle.cause_output.specs.Sinks.{sink_at};
 ghost use Rattle.daemon_turn.specs.Kids.{AreChildren, KeepsChildren};
 ghost use Rattle.host_calls.specs.Session.{IsOutside, KeepsCounts};
 ghost use Rattle.listing_text.specs.Cause.{status_of};
-ghost use Rattle.serving.specs.Outside.{EndsOutside, HasRisenServing, IsServed, StaysMadeServing, work_at};
-ghost use Rattle.serving.specs.Serves.{serve_at, serve_telling};
+ghost use Rattle.serving.specs.Outside.{EndsOutside, HasRisenServing, IsServed, StaysMadeServing, serving_outside};
+ghost use Rattle.serving.specs.Serves.{serve_at};
+ghost use Rattle.cause_output.specs.Outside.{telling};
 ghost use Rattle.serving.specs.inside.Progressing.{HasEnded};
 
 use crate::Outcome;
@@ -45,18 +46,18 @@ pub fn serve<H: Host, R: Readings, O: Sink, E: Sink>(
 
     // Each fault comes only where its count rose.
     ensures faults { HasRisenServing
-        (work_at H.Host R.Readings O.Sink E.Sink daemon.old host.old readings.old out.old err.old)
-        (work_at H.Host R.Readings O.Sink E.Sink daemon.new host.new readings.new out.new err.new) result.cause }
+        (serving_outside H.Host R.Readings O.Sink E.Sink host.old readings.old out.old err.old)
+        (serving_outside H.Host R.Readings O.Sink E.Sink host.new readings.new out.new err.new) result.cause }
 
     // The turns and the rests between them, what is printed and said of them, and the cause.
-    ensures serving { IsServed once turns
-        (work_at H.Host R.Readings O.Sink E.Sink daemon.old host.old readings.old out.old err.old)
-        (work_at H.Host R.Readings O.Sink E.Sink daemon.new host.new readings.new out.new err.new) result.cause }
+    ensures serving { IsServed once turns daemon.old daemon.new
+        (serving_outside H.Host R.Readings O.Sink E.Sink host.old readings.old out.old err.old)
+        (serving_outside H.Host R.Readings O.Sink E.Sink host.new readings.new out.new err.new) result.cause }
 
     // What the others were made as stays.
     ensures made { StaysMadeServing
-        (work_at H.Host R.Readings O.Sink E.Sink daemon.old host.old readings.old out.old err.old)
-        (work_at H.Host R.Readings O.Sink E.Sink daemon.new host.new readings.new out.new err.new) }
+        (serving_outside H.Host R.Readings O.Sink E.Sink host.old readings.old out.old err.old)
+        (serving_outside H.Host R.Readings O.Sink E.Sink host.new readings.new out.new err.new) }
 {
     let outcome = make_turns(alloc, daemon, turns, once, host, readings, out, err);
     Status::of(say_outcome(alloc, outcome, err))
@@ -82,7 +83,7 @@ fn make_turns<H: Host, R: Readings, O: Sink, E: Sink>(
     ensures readers_made { (R.readers readings.new).made_as ≡ (R.readers readings.old).made_as }
     ensures out_made { (O.outlet out.new).made_as ≡ (O.outlet out.old).made_as }
     ensures errors_made { (E.outlet err.new).made_as ≡ (E.outlet err.old).made_as }
-    ensures ends { HasEnded (serve_telling H.tells H.alone R.tells O.tells E.tells) once turns
+    ensures ends { HasEnded (telling H.tells H.alone R.tells false O.tells E.tells) once turns
         (serve_at (H.session host.old) (H.world host.old) daemon.old (R.answers readings.old) (R.readers readings.old))
         (serve_at (H.session host.new) (H.world host.new) daemon.new (R.answers readings.new) (R.readers readings.new))
         (sink_at (O.content out.old) (O.outlet out.old)) (sink_at (O.content out.new) (O.outlet out.new))

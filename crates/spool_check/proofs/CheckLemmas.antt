@@ -1,6 +1,7 @@
 -- Visits of folders, and what is left in them.
 use Rattle.std.proofs.Common.{◌≡◌, ◌≤◌, ◌++◌, [], ◌∷◌, ℕ, Bool, true, List, take, length, arith, refl, sym, ap, subst, ◌∙◌, inl, inr, append-nil}
 use Rattle.std.specs.Prelude.{Result, Ok, Err, IfOk, IfErr, IsErr, IsErrAnd, false}
+use Rattle.cause_output.specs.Outside.{FolderAt, StreamAt}
 use Rattle.at_words.specs.Answers.{Answers}
 use Rattle.at_words.specs.declared.fault.WordsFault.{WordsFault}
 use Rattle.at_words.specs.declared.fault.WordsFault.TheVariants as words
@@ -29,7 +30,7 @@ use Rattle.whole_file.specs.Others.{ChangesFiles}
 use Rattle.whole_file.proofs.OthersLemmas.{changes_none}
 use Rattle.spool_check.specs.Checking.{Checks, Does, FindsBy, IsChecked, IsSalvaged, MayEnd, PrintsBy, Writes, WritesBy, WritesWhere}
 use Rattle.spool_check.specs.inside.Looking.{IsOfLooking, IsOfSaving, IsOfTelling, Tells, cause_by, salvage_cause}
-use Rattle.spool_check.specs.Outside.{FolderAt, HasRisen, OutsideAt, StreamAt, Visit, handed}
+use Rattle.spool_check.specs.Outside.{HasRisenInEither, FoldersAt, Visit, handed}
 use Rattle.spool_check.specs.Telling.{fault_lines, verdict_of}
 
 -- Visits.
@@ -325,14 +326,14 @@ tells_no_lock tells list was is (Ok verdict) told = λ same. (verdict_no_fault l
 tells_no_lock tells list was is (Err stopped) told = telling_no_lock stopped.cause told.stopped
 
 -- the words could not be read, or ask for nothing
-unread : (asked : Result Bool WordsFault) (old : OutsideAt) → Does asked old old Memory
+unread : (asked : Result Bool WordsFault) (old : FoldersAt) → Does asked old old Memory
 unread (Ok salvage) old = record {
   visit = visit_none old.from;
   checks = look_stopped salvage old.from.tells old.from.world old.from.world old.to old.out Memory (λ told. leaves_same old.from.world) tt;
 }
 unread (Err fault) old = (refl, inr refl)
 
-pub does_nothing : (asked : Result Bool WordsFault) (old : OutsideAt) (fault : WordsFault) → Answers asked (Err fault) → Does asked old old (words_cause fault)
+pub does_nothing : (asked : Result Bool WordsFault) (old : FoldersAt) (fault : WordsFault) → Answers asked (Err fault) → Does asked old old (words_cause fault)
 does_nothing asked old words.Usage answers = subst (λ (of : Result Bool WordsFault). Does of old old (words_cause words.Usage)) answers (refl, inl refl)
 does_nothing asked old words.BadQueue answers = subst (λ (of : Result Bool WordsFault). Does of old old (words_cause words.BadQueue)) answers (refl, inl refl)
 does_nothing asked old words.Memory answers = unread asked old

@@ -1,5 +1,6 @@
 -- What the checker leaves (own): the lines of the faults, what is written into the new folder, and how it ends.
 use Rattle.std.specs.Prelude.{◌≡◌, ◌≢◌, ◌⊎◌, [], ℕ, Bool, true, false, List, Result, Ok, Err, codes}
+use Rattle.cause_output.specs.Outside.{FolderAt, StreamAt}
 use Rattle.at_words.specs.declared.fault.WordsFault.{WordsFault}
 use Rattle.cause_output.specs.Saying.{IsSaid}
 use Rattle.cause_output.specs.Causes.{words_cause}
@@ -15,7 +16,7 @@ use Rattle.spool_faults.specs.Faults.{faults_of}
 use Rattle.spool_faults.specs.Listed.{LeavesFolder}
 use Rattle.spool_salvage.specs.Salvaging.{HasSalvage, IsRefused, IsSalvaging, is_spool}
 use Rattle.whole_file.specs.Others.{ChangesFiles}
-use Rattle.spool_check.specs.Outside.{FolderAt, OutsideAt, StreamAt, Visit}
+use Rattle.spool_check.specs.Outside.{FoldersAt, Visit}
 use Rattle.spool_check.specs.Telling.{fault_lines}
 
 -- What is put on the output, by the cause: all lines where every fault was told, else a prefix of them.
@@ -88,18 +89,18 @@ pub record Checks (salvage tells : Bool) (first last : World) (to_old to_new : F
   pub writes : WritesWhere salvage tells (reading first) to_old to_new cause
 
 -- Such a visit, of the folder that is checked.
-pub record IsChecked (salvage : Bool) (old new : OutsideAt) (cause : Cause) : Type 0 where
+pub record IsChecked (salvage : Bool) (old new : FoldersAt) (cause : Cause) : Type 0 where
   pub visit : Visit old.from new.from
   pub checks : Checks salvage old.from.tells visit.first visit.last old.to new.to old.out new.out cause
 
 -- What was done, by what the words ask for. Where they ask for nothing nothing was touched, and the cause says so, unless no
 -- memory was found to read them.
-abbrev pub Does : Result Bool WordsFault → OutsideAt → OutsideAt → Cause → Type 0
+abbrev pub Does : Result Bool WordsFault → FoldersAt → FoldersAt → Cause → Type 0
 Does (Ok salvage) old new cause = IsChecked salvage old new cause
 Does (Err fault) old new cause = (new ≡ old) × ((cause ≡ words_cause fault) ⊎ (cause ≡ Memory))
 
 -- How the checker ends: what it did, and the line of its cause, which is said under its name.
-pub record Ends (asked : Result Bool WordsFault) (old new : OutsideAt) (err_old err_new : StreamAt) (final : Cause) : Type 0 where
+pub record Ends (asked : Result Bool WordsFault) (old new : FoldersAt) (err_old err_new : StreamAt) (final : Cause) : Type 0 where
   pub cause : Cause
   pub does : Does asked old new cause
   pub says : IsSaid (codes "atcheck") err_old.tells cause err_old.sink err_new.sink final

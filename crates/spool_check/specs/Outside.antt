@@ -1,44 +1,24 @@
 -- The folders and the streams that the checker is handed, at a moment (own).
-use Rattle.std.specs.Prelude.{◌≡◌, ◌⊎◌, ℕ, Bool, true, List}
-use Rattle.cause_output.specs.Sinks.{SinkAt, sink_at}
+use Rattle.std.specs.Prelude.{◌≡◌, ◌⊎◌, true}
+use Rattle.cause_output.specs.Outside.{FolderAt, StreamAt, folder_at, stream_at}
 use Rattle.host_calls.specs.Causes.{Rose}
 use Rattle.host_calls.specs.declared.host.Host as host
 use Rattle.host_calls.specs.declared.sink.Sink as sink
-use Rattle.host_calls.specs.Session.{Session}
 use Rattle.host_calls.specs.World.{GoesOn, World}
 use Rattle.listing_text.specs.declared.cause.Cause.{Cause}
 use Rattle.listing_text.specs.declared.cause.Cause.TheVariants.{Busy, FileFault, OutputFault}
 
--- a folder: whether its host tells its files, whether nobody else changes it, and what the host tells of it
-pub record FolderAt : Type 0 where
-  pub tells : Bool
-  pub alone : Bool
-  pub session : Session
-  pub world : World
-
-abbrev pub folder_at : {H : Type 0} → host.Ghosts H → H → FolderAt
-folder_at g of = record { tells = g.tells; alone = g.alone; session = g.session of; world = g.world of }
-
--- a stream: whether it tells what was put on it, that, and what it was made as
-pub record StreamAt : Type 0 where
-  pub tells : Bool
-  pub sink : SinkAt
-  pub made_as : List ℕ
-
-abbrev pub stream_at : {O : Type 0} → sink.Ghosts O → O → StreamAt
-stream_at g of = record { tells = g.tells; sink = sink_at (g.content of) (g.outlet of); made_as = (g.outlet of).made_as }
-
--- all that the checker is handed
-pub record OutsideAt : Type 0 where
+-- all that the checker is handed: the folder that is checked, the one that is written, and what is printed on
+pub record FoldersAt : Type 0 where
   pub from : FolderAt
   pub to : FolderAt
   pub out : StreamAt
 
-abbrev pub handed : FolderAt → FolderAt → StreamAt → OutsideAt
+abbrev pub handed : FolderAt → FolderAt → StreamAt → FoldersAt
 handed from to out = record { from = from; to = to; out = out }
 
-abbrev pub outside_at : {H G O : Type 0} → host.Ghosts H → host.Ghosts G → sink.Ghosts O → H → G → O → OutsideAt
-outside_at h g o from to out = handed (folder_at h from) (folder_at g to) (stream_at o out)
+abbrev pub folders_at : {H G O : Type 0} → host.Ghosts H → host.Ghosts G → sink.Ghosts O → H → G → O → FoldersAt
+folders_at h g o from to out = handed (folder_at h from) (folder_at g to) (stream_at o out)
 
 -- A visit of a folder: a session began and ended. Others may have changed the folder before it began and after it ended,
 -- and nobody where it is nobody else's.
@@ -51,7 +31,7 @@ pub record Visit (old new : FolderAt) : Type 0 where
 
 -- A fault of a file, or a lock that was taken, comes only where the count of the one folder or the other rose, and a
 -- fault of the output where its count rose.
-pub record HasRisen (old new : OutsideAt) (cause : Cause) : Type 0 where
+pub record HasRisenInEither (old new : FoldersAt) (cause : Cause) : Type 0 where
   pub file_fault : cause ≡ FileFault →
       Rose old.from.session.file_faults new.from.session.file_faults ⊎ Rose old.to.session.file_faults new.to.session.file_faults
   pub busy : cause ≡ Busy →

@@ -1,9 +1,9 @@
 //! Looking at the folder that is checked.
 ghost use Rattle.std.specs.Prelude.{◌≡◌, IfErr, IfOk};
+ghost use Rattle.cause_output.specs.Outside.{folder_at};
 ghost use Rattle.cause_output.specs.Causes.{cause_in};
 ghost use Rattle.host_calls.specs.Session.{IsLeft, IsOutside};
 ghost use Rattle.spool_check.specs.inside.Looking.{IsOfLooking, Looks, Rises};
-ghost use Rattle.spool_check.specs.Outside.{folder_at};
 
 use cause_output::CommandError;
 use host_calls::Host;

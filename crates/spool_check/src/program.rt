@@ -1,11 +1,12 @@
 //! The checker as a program.
 ghost use Rattle.std.specs.Prelude.{◌≡◌, false, map, string_bytes};
+ghost use Rattle.cause_output.specs.Outside.{FolderAt, folder_at, stream_at};
 ghost use Rattle.cause_output.specs.Sinks.{sink_at};
 ghost use Rattle.host_calls.specs.Session.{IsLeft, IsOutside};
 ghost use Rattle.listing_text.specs.Cause.{status_of};
 ghost use Rattle.spool_check.specs.Checking.{Does, Ends, IsChecked};
 ghost use Rattle.spool_check.specs.inside.Looking.{Tells, cause_by};
-ghost use Rattle.spool_check.specs.Outside.{FolderAt, HasRisen, folder_at, handed, outside_at, stream_at};
+ghost use Rattle.spool_check.specs.Outside.{HasRisenInEither, handed, folders_at};
 ghost use Rattle.spool_check.specs.Words.{check_asked};
 
 use crate::look::look;
@@ -37,11 +38,11 @@ pub fn check_program<H: Host, G: Host, O: Sink, E: Sink>(
     ensures to { IsLeft (G.session to.old) (G.session to.new) }
     ensures out_made { (O.outlet out.new).made_as ≡ (O.outlet out.old).made_as }
     ensures err_made { (E.outlet err.new).made_as ≡ (E.outlet err.old).made_as }
-    ensures risen { HasRisen (outside_at H.Host G.Host O.Sink from.old to.old out.old)
-        (outside_at H.Host G.Host O.Sink from.new to.new out.new) result.cause }
+    ensures risen { HasRisenInEither (folders_at H.Host G.Host O.Sink from.old to.old out.old)
+        (folders_at H.Host G.Host O.Sink from.new to.new out.new) result.cause }
     ensures ends { Ends (check_asked (map string_bytes words.now))
-        (outside_at H.Host G.Host O.Sink from.old to.old out.old)
-        (outside_at H.Host G.Host O.Sink from.new to.new out.new)
+        (folders_at H.Host G.Host O.Sink from.old to.old out.old)
+        (folders_at H.Host G.Host O.Sink from.new to.new out.new)
         (stream_at E.Sink err.old) (stream_at E.Sink err.new) result.cause }
 {
     let cause = carry_out(alloc, words, from, to, out);
@@ -61,11 +62,11 @@ fn carry_out<H: Host, G: Host, O: Sink>(
     ensures from { IsLeft (H.session from.old) (H.session from.new) }
     ensures to { IsLeft (G.session to.old) (G.session to.new) }
     ensures made_as { (O.outlet out.new).made_as ≡ (O.outlet out.old).made_as }
-    ensures risen { HasRisen (outside_at H.Host G.Host O.Sink from.old to.old out.old)
-        (outside_at H.Host G.Host O.Sink from.new to.new out.new) result }
+    ensures risen { HasRisenInEither (folders_at H.Host G.Host O.Sink from.old to.old out.old)
+        (folders_at H.Host G.Host O.Sink from.new to.new out.new) result }
     ensures does { Does (check_asked (map string_bytes words.now))
-        (outside_at H.Host G.Host O.Sink from.old to.old out.old)
-        (outside_at H.Host G.Host O.Sink from.new to.new out.new) result }
+        (folders_at H.Host G.Host O.Sink from.old to.old out.old)
+        (folders_at H.Host G.Host O.Sink from.new to.new out.new) result }
 {
     match asks_to_salvage(alloc, words) {
         Ok(salvage) => check(alloc, salvage, from, to, out),
@@ -85,10 +86,10 @@ fn check<H: Host, G: Host, O: Sink>(
     ensures from { IsLeft (H.session from.old) (H.session from.new) }
     ensures to { IsLeft (G.session to.old) (G.session to.new) }
     ensures made_as { (O.outlet out.new).made_as ≡ (O.outlet out.old).made_as }
-    ensures risen { HasRisen (outside_at H.Host G.Host O.Sink from.old to.old out.old)
-        (outside_at H.Host G.Host O.Sink from.new to.new out.new) result }
-    ensures checked { IsChecked salvage (outside_at H.Host G.Host O.Sink from.old to.old out.old)
-        (outside_at H.Host G.Host O.Sink from.new to.new out.new) result }
+    ensures risen { HasRisenInEither (folders_at H.Host G.Host O.Sink from.old to.old out.old)
+        (folders_at H.Host G.Host O.Sink from.new to.new out.new) result }
+    ensures checked { IsChecked salvage (folders_at H.Host G.Host O.Sink from.old to.old out.old)
+        (folders_at H.Host G.Host O.Sink from.new to.new out.new) result }
 {
     if salvage {
         cause_of(check_and_save(alloc, from, to, out))
@@ -111,7 +112,7 @@ fn list<H: Host, O: Sink>(alloc: Global, from: &mut H, out: &mut O) -> Result<Ca
     requires { IsOutside (H.session from.old) }
     ensures left { IsLeft (H.session from.old) (H.session from.new) }
     ensures made_as { (O.outlet out.new).made_as ≡ (O.outlet out.old).made_as }
-    ensures risen { (to : FolderAt) → HasRisen
+    ensures risen { (to : FolderAt) → HasRisenInEither
         (handed (folder_at H.Host from.old) to (stream_at O.Sink out.old))
         (handed (folder_at H.Host from.new) to (stream_at O.Sink out.new)) (cause_by result) }
     ensures checked { (to : FolderAt) → IsChecked false

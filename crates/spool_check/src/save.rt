@@ -1,11 +1,12 @@
 //! Saving what can be saved of the folder that is checked.
 ghost use Rattle.std.specs.Prelude.{◌≡◌, true, IfErr, IsTrue};
+ghost use Rattle.cause_output.specs.Outside.{folder_at, stream_at};
 ghost use Rattle.cause_output.specs.Causes.{cause_in, error_of};
 ghost use Rattle.host_calls.specs.Session.{IsInside, IsLeft, IsOutside, StaysInside};
 ghost use Rattle.host_calls.specs.World.{reading};
 ghost use Rattle.spool_check.specs.Checking.{Checks, IsChecked, Writes};
 ghost use Rattle.spool_check.specs.inside.Looking.{IsOfSaving, RisesOfBoth, cause_by, salvage_cause};
-ghost use Rattle.spool_check.specs.Outside.{HasRisen, folder_at, outside_at, stream_at};
+ghost use Rattle.spool_check.specs.Outside.{HasRisenInEither, folders_at};
 ghost use Rattle.spool_faults.specs.Plan.{IsPlanOf};
 
 use crate::tell::tell;
@@ -29,10 +30,10 @@ pub(crate) fn check_and_save<H: Host, G: Host, O: Sink>(
     ensures from { IsLeft (H.session from.old) (H.session from.new) }
     ensures to { IsLeft (G.session to.old) (G.session to.new) }
     ensures made_as { (O.outlet out.new).made_as ≡ (O.outlet out.old).made_as }
-    ensures risen { HasRisen (outside_at H.Host G.Host O.Sink from.old to.old out.old)
-        (outside_at H.Host G.Host O.Sink from.new to.new out.new) (cause_by result) }
-    ensures checked { IsChecked true (outside_at H.Host G.Host O.Sink from.old to.old out.old)
-        (outside_at H.Host G.Host O.Sink from.new to.new out.new) (cause_by result) }
+    ensures risen { HasRisenInEither (folders_at H.Host G.Host O.Sink from.old to.old out.old)
+        (folders_at H.Host G.Host O.Sink from.new to.new out.new) (cause_by result) }
+    ensures checked { IsChecked true (folders_at H.Host G.Host O.Sink from.old to.old out.old)
+        (folders_at H.Host G.Host O.Sink from.new to.new out.new) (cause_by result) }
 {
     from.enter(alloc)?;
     let ended = tell_and_save(alloc, from, to, out);
@@ -52,8 +53,8 @@ fn tell_and_save<H: Host, G: Host, O: Sink>(
     ensures from { StaysInside (H.session from.old) (H.session from.new) }
     ensures to { IsLeft (G.session to.old) (G.session to.new) }
     ensures made_as { (O.outlet out.new).made_as ≡ (O.outlet out.old).made_as }
-    ensures risen { HasRisen (outside_at H.Host G.Host O.Sink from.old to.old out.old)
-        (outside_at H.Host G.Host O.Sink from.new to.new out.new) (cause_by result) }
+    ensures risen { HasRisenInEither (folders_at H.Host G.Host O.Sink from.old to.old out.old)
+        (folders_at H.Host G.Host O.Sink from.new to.new out.new) (cause_by result) }
     ensures checks { Checks true H.tells (H.world from.old) (H.world from.new)
         (folder_at G.Host to.old) (folder_at G.Host to.new)
         (stream_at O.Sink out.old) (stream_at O.Sink out.new) (cause_by result) }

@@ -6,7 +6,8 @@ use Rattle.host_calls.specs.Inputs.{Contents}
 use Rattle.host_calls.specs.World.{World}
 use Rattle.listing_text.specs.declared.cause.Cause.{Cause}
 use Rattle.cause_output.specs.declared.caller.Caller.{Caller}
-use Rattle.command_rules.specs.Ends.{Ends, holding, telling}
+use Rattle.command_rules.specs.Ends.{Ends}
+use Rattle.cause_output.specs.Outside.{holding, telling}
 use Rattle.cause_output.specs.Sinks.{NotesBy, SinkAt}
 
 -- which of a host, a clock, inputs and a sink tell what they hold

@@ -1,6 +1,5 @@
 -- How far serving has come, and one turn more (own).
 use Rattle.std.specs.Prelude.{◌≡◌, ◌<◌, ◌≤◌, ◌++◌, [], ◌∷◌, ℕ, Bool, true, false, List, Option, Some, None, length, if◌then◌else◌}
-use Rattle.host_calls.specs.Clock.{Answers, Readers, with_rest}
 use Rattle.cause_output.specs.Sinks.{SinkAt}
 use Rattle.daemon_turn.specs.declared.kid.Kid.{Kid}
 use Rattle.daemon_turn.specs.declared.mode.Mode.{Mode}
@@ -9,7 +8,8 @@ use Rattle.host_session.specs.declared.turn_end.TurnEnd.{TurnEnd}
 use Rattle.serving.specs.Items.{Item, ends_after, first_end, is_last, last_item, next_rest}
 use Rattle.serving.specs.Lines.{SaysEnds, turn_lines}
 use Rattle.serving.specs.Outcomes.{Stop, StopsBy, at_a_line, at_the_end, damage_outcome, outcome_by, turns_outcome}
-use Rattle.serving.specs.Serves.{ServeAt, Serves, ServeTelling}
+use Rattle.serving.specs.Serves.{ServeAt, Serves}
+use Rattle.cause_output.specs.Outside.{Telling}
 use Rattle.serving.specs.Serving.{Prints, said_of}
 use Rattle.serving.specs.declared.outcome.Outcome.{Outcome}
 use Rattle.serving.specs.declared.progress.Progress.{Progress}
@@ -30,12 +30,10 @@ abbrev pub outcome_if : Bool → TurnEnd → Option TurnEnd → List Kid → Boo
 outcome_if once end first kids output_failed =
     if is_last once end kids then Some (damage_outcome end (turns_outcome once first kids output_failed)) else None
 
--- a rest before the next turn, if it is not the first
-abbrev pub RestsBefore : Bool → Option TurnEnd → ℕ → Answers → Answers → Readers → Readers → Type 0
-RestsBefore tells None seconds answers_old answers_new readers_old readers_new =
-    (answers_new ≡ answers_old) × (readers_new ≡ readers_old)
-RestsBefore tells (Some end) seconds answers_old answers_new readers_old readers_new =
-    (tells ≡ true → answers_new ≡ with_rest seconds answers_old) × (readers_new ≡ readers_old)
+-- the rest before the next turn: none before the first one
+abbrev pub rest_if : Option TurnEnd → ℕ → Option ℕ
+rest_if None seconds = None
+rest_if (Some end) seconds = Some seconds
 
 -- these are the seconds of the rest after the last turn
 abbrev pub IsRest : Bool → Option Item → ℕ → Type 0
@@ -55,7 +53,7 @@ PrintsMore tells text cut_old cut_new old new found =
     → Prints tells (stop_where found) cut_new (before ++ text) start new
 
 -- These turns were made, and a further one is to come.
-pub record HasServed (tells : ServeTelling) (once : Bool) (items : List Item) (made : Progress) (first now : ServeAt)
+pub record HasServed (tells : Telling) (once : Bool) (items : List Item) (made : Progress) (first now : ServeAt)
     (out_first out_now err_first err_now : SinkAt) : Type 0 where
   pub serves : Serves tells once first items now
   pub goes_on : ends_after once (last_item items) now.spool.daemon.kids ≡ false
@@ -65,7 +63,7 @@ pub record HasServed (tells : ServeTelling) (once : Bool) (items : List Item) (m
   pub says : tells.errors ≡ true → SaysEnds items err_first err_now
 
 -- Serving ended, and came to this.
-pub record HasEnded (tells : ServeTelling) (once : Bool) (turns : ℕ) (first now : ServeAt)
+pub record HasEnded (tells : Telling) (once : Bool) (turns : ℕ) (first now : ServeAt)
     (out_first out_now err_first err_now : SinkAt) (outcome : Outcome) : Type 0 where
   pub items : List Item
   pub last : ServeAt
@@ -79,7 +77,7 @@ pub record HasEnded (tells : ServeTelling) (once : Bool) (turns : ℕ) (first no
   pub comes : outcome ≡ outcome_by stop once items last.spool.daemon.kids output_failed
 
 -- One turn more was made, or serving ended.
-abbrev pub Proceeds : ServeTelling → Bool → List Item → Progress → ServeAt → ServeAt
+abbrev pub Proceeds : Telling → Bool → List Item → Progress → ServeAt → ServeAt
     → SinkAt → SinkAt → SinkAt → SinkAt → Option Outcome → Type 0
 Proceeds tells once items made first now out_first out_now err_first err_now None =
     (item : Item) × HasServed tells once (items ++ item ∷ []) made first now out_first out_now err_first err_now

@@ -1,5 +1,6 @@
 -- The parts of a check (own).
 use Rattle.std.specs.Prelude.{◌≡◌, ◌⊎◌, ◌≤◌, Bool, true, List, Result, Ok, Err, IfErr, IfOk}
+use Rattle.cause_output.specs.Outside.{FolderAt}
 use Rattle.cause_output.specs.declared.command_error.CommandError.{CommandError}
 use Rattle.cause_output.specs.Sinks.{SinkAt}
 use Rattle.host_calls.specs.Causes.{Rose}
@@ -15,7 +16,7 @@ use Rattle.spool_faults.specs.Listed.{LeavesFolder}
 use Rattle.spool_salvage.specs.declared.fault.SalvageFault.{SalvageFault}
 use Rattle.spool_salvage.specs.declared.fault.SalvageFault.TheVariants as fault
 use Rattle.spool_check.specs.Checking.{PrintsBy}
-use Rattle.spool_check.specs.Outside.{FolderAt, Visit}
+use Rattle.spool_check.specs.Outside.{Visit}
 use Rattle.spool_check.specs.Telling.{fault_lines, verdict_of}
 
 -- the cause of an answer: the one that it gives, or that stopped it

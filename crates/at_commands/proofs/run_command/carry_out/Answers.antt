@@ -1,5 +1,5 @@
 use Rattle.std.proofs.Common.{ap, refl}
-use Rattle.command_rules.specs.Ends.{holding, telling}
+use Rattle.cause_output.specs.Outside.{holding, telling}
 use Rattle.cause_output.specs.Sinks.{sink_at}
 use Rattle.host_calls.specs.Clock.{Readers}
 use Rattle.at_commands.proofs.CommandLemmas.{ends_not_running, make_ends, read_never}

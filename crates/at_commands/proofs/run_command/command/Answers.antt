@@ -1,16 +1,16 @@
-use Rattle.std.proofs.Common.{subst, ap, ◌∙◌, List, ℕ, map, refl, string_bytes}
+use Rattle.std.proofs.Common.{subst, ap, ◌∙◌, List, ℕ, map, refl, string_bytes, false}
 use Rattle.std.specs.Prelude.{◌≡◌, Err, Option}
 use Rattle.at_words.specs.Answers.{Answers}
 use Rattle.at_words.specs.Requests.{request_by, request_of}
 use Rattle.at_words.specs.Tools.{tool_of_words}
 use Rattle.at_words.specs.declared.fault.WordsFault.{WordsFault}
 use Rattle.at_words.specs.declared.tool.Tool.{Tool}
-use Rattle.command_rules.specs.Ends.{holding, telling}
+use Rattle.cause_output.specs.Outside.{holding, telling}
 use Rattle.cause_output.specs.Sinks.{sink_at}
 use Rattle.listing_text.specs.declared.cause.Cause.{Cause}
 use Rattle.listing_text.specs.declared.cause.Cause.TheVariants.{Memory}
 use Rattle.cause_output.specs.Saying.{IsSaid}
-use Rattle.serving.specs.Serves.{serve_at, serve_telling}
+use Rattle.serving.specs.Serves.{serve_at}
 use Rattle.cause_output.specs.Causes.{words_cause}
 use Rattle.at_commands.specs.Tools.{tool_name_of}
 use Rattle.at_commands.proofs.AtdLemmas.{nothing_served, words_served}
@@ -67,7 +67,7 @@ returns-in-Err-clause-ends g c = rw c.of.ensures (λ unserved. record {
 pub returns-in-Err-clause-serves : goal.returns-in-Err-clause-serves
 returns-in-Err-clause-serves g c = rw c.of.ensures
     (words_served (request_of (map string_bytes c.args.words.now)) c.in-Err.fault _ (asked_by _ _ _ c.tool_of-named.ensures.tool c.in-Err.ensures.asked) (λ limit interval once turns is wanting.
-    nothing_served (serve_telling g.H.Host.tells g.H.Host.alone g.R.Readings.tells g.O.Sink.tells g.E.Sink.tells) limit interval once turns
+    nothing_served (telling g.H.Host.tells g.H.Host.alone g.R.Readings.tells false g.O.Sink.tells g.E.Sink.tells) limit interval once turns
     (λ daemon. serve_at (g.H.Host.session c.args.host.now) (g.H.Host.world c.args.host.now) daemon (g.R.Readings.answers c.args.readings.now) (g.R.Readings.readers c.args.readings.now))
     (sink_at (g.O.Sink.content c.args.out.now) (g.O.Sink.outlet c.args.out.now)) (sink_at (g.E.Sink.content c.args.err.now) (g.E.Sink.outlet c.args.err.now))
     (sink_at (g.E.Sink.content c.say_cause.new.err) (g.E.Sink.outlet c.say_cause.new.err)) c.say_cause.result

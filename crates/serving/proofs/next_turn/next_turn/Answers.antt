@@ -1,11 +1,12 @@
-use Rattle.std.proofs.Common.{◌≡◌, ℤ, FitsSigned, refl, rules, w64, to_z, of_z, sym, subst, ap, ◌∙◌, Bool, true}
+use Rattle.std.proofs.Common.{◌≡◌, ℤ, FitsSigned, refl, rules, w64, to_z, of_z, sym, subst, ap, ◌∙◌, Bool, true, false}
 use Rattle.std.proofs.lemmas.Int.{to_z-of_z}
 use Rattle.std.specs.Prelude.{IsTrue}
 use Rattle.clock_range.specs.ClockRange.{IsClockSecond}
 use Rattle.cause_output.specs.Sinks.{sink_at}
 use Rattle.serving.specs.Items.{Item, next_rest}
 use Rattle.serving.specs.Lines.{step_lines}
-use Rattle.serving.specs.Serves.{ServeAt, serve_at, serve_telling}
+use Rattle.serving.specs.Serves.{ServeAt, serve_at}
+use Rattle.cause_output.specs.Outside.{telling}
 use Rattle.serving.specs.inside.Progressing.{PrintsMore}
 use Rattle.serving.proofs.ProceedLemmas.{answers_turn, ended_at_clock, ended_at_line, proceeds, served_by}
 use Rattle.serving.proofs.ServeLemmas.{rests_after}
@@ -18,7 +19,7 @@ returns-then-not-is_clock_second-clause-proceeds g c items first out_first err_f
     let after : ServeAt = serve_at (g.H.Host.session c.args.host.now) (g.H.Host.world c.args.host.now) c.args.daemon.now (g.R.Readings.answers c.now-now.new.self) (g.R.Readings.readers c.now-now.new.self) in
     let fits : FitsSigned w64 c.now-now.result = search rules in
     let same : to_z w64 (of_z w64 c.now-now.result) ≡ c.now-now.result = to_z-of_z w64 c.now-now.result fits in
-    ended_at_clock (serve_telling g.H.Host.tells g.H.Host.alone g.R.Readings.tells g.O.Sink.tells g.E.Sink.tells) c.args.once items c.args.progress.now first was
+    ended_at_clock (telling g.H.Host.tells g.H.Host.alone g.R.Readings.tells false g.O.Sink.tells g.E.Sink.tells) c.args.once items c.args.progress.now first was
     out_first (sink_at (g.O.Sink.content c.args.out.now) (g.O.Sink.outlet c.args.out.now)) err_first (sink_at (g.E.Sink.content c.args.err.now) (g.E.Sink.outlet c.args.err.now))
     has after turns few (record {
       now = c.now-now.result;
@@ -41,15 +42,15 @@ returns-then-not-tell-clause-proceeds g c items first out_first err_first has tu
     let same : to_z w64 (of_z w64 c.now-now.result) ≡ c.now-now.result = to_z-of_z w64 c.now-now.result fits in
     let range : IsClockSecond c.now-now.result = subst IsClockSecond same (c.is_clock_second.ensures.fact.0 c.if-not-is_clock_second.false) in
     let item : Item = record { now = c.now-now.result; load = c.load-load.result; end = c.turn-report.result.end; steps = c.turn-report.result.steps } in
-    ended_at_line (serve_telling g.H.Host.tells g.H.Host.alone g.R.Readings.tells g.O.Sink.tells g.E.Sink.tells) c.args.once items c.args.progress.now first was
+    ended_at_line (telling g.H.Host.tells g.H.Host.alone g.R.Readings.tells false g.O.Sink.tells g.E.Sink.tells) c.args.once items c.args.progress.now first was
     out_first (sink_at (g.O.Sink.content c.args.out.now) (g.O.Sink.outlet c.args.out.now)) err_first (sink_at (g.E.Sink.content c.args.err.now) (g.E.Sink.outlet c.args.err.now))
     has item rested after
     (rests_after g.R.Readings.tells c.args.once (g.H.Host.session c.args.host.now) (g.H.Host.world c.args.host.now) c.args.daemon.now
     (g.R.Readings.answers c.args.readings.now) (g.R.Readings.answers c.rest.new.readings) (g.R.Readings.readers c.args.readings.now) (g.R.Readings.readers c.rest.new.readings)
     c.args.progress.now.rest items c.args.progress.now.first has.begun has.rest c.rest.ensures)
-    (served_by (serve_telling g.H.Host.tells g.H.Host.alone g.R.Readings.tells g.O.Sink.tells g.E.Sink.tells) c.args.once items c.args.progress.now.first item rested after c.mode.result
+    (served_by (telling g.H.Host.tells g.H.Host.alone g.R.Readings.tells false g.O.Sink.tells g.E.Sink.tells) c.args.once items c.args.progress.now.first item rested after c.mode.result
     (to_z w64 (of_z w64 c.now-now.result)) has.begun c.mode.ensures same range
-    (answers_turn g.R.Readings.tells item rested.spool after.spool (g.R.Readings.answers c.rest.new.readings) (g.R.Readings.answers c.now-now.new.self) (g.R.Readings.answers c.load-load.new.self)
+    (answers_turn g.R.Readings.tells item (g.R.Readings.answers c.rest.new.readings) (g.R.Readings.answers c.now-now.new.self) (g.R.Readings.answers c.load-load.new.self)
     (g.R.Readings.readers c.rest.new.readings) (g.R.Readings.readers c.now-now.new.self) (g.R.Readings.readers c.load-load.new.self)
     c.now-now.ensures.known c.now-now.ensures.same c.load-load.ensures.known c.load-load.ensures.made_as c.load-load.ensures.later c.load-load.ensures.cause)
     c.turn-report.ensures)
@@ -65,15 +66,15 @@ returns-clause-proceeds g c items first out_first err_first has =
     let same : to_z w64 (of_z w64 c.now-now.result) ≡ c.now-now.result = to_z-of_z w64 c.now-now.result fits in
     let range : IsClockSecond c.now-now.result = subst IsClockSecond same (c.is_clock_second.ensures.fact.0 c.if-not-is_clock_second.false) in
     let item : Item = record { now = c.now-now.result; load = c.load-load.result; end = c.turn-report.result.end; steps = c.turn-report.result.steps } in
-    proceeds (serve_telling g.H.Host.tells g.H.Host.alone g.R.Readings.tells g.O.Sink.tells g.E.Sink.tells) c.args.once items c.args.progress.now first was
+    proceeds (telling g.H.Host.tells g.H.Host.alone g.R.Readings.tells false g.O.Sink.tells g.E.Sink.tells) c.args.once items c.args.progress.now first was
     out_first (sink_at (g.O.Sink.content c.args.out.now) (g.O.Sink.outlet c.args.out.now)) err_first (sink_at (g.E.Sink.content c.args.err.now) (g.E.Sink.outlet c.args.err.now))
     has item rested after
     (rests_after g.R.Readings.tells c.args.once (g.H.Host.session c.args.host.now) (g.H.Host.world c.args.host.now) c.args.daemon.now
     (g.R.Readings.answers c.args.readings.now) (g.R.Readings.answers c.rest.new.readings) (g.R.Readings.readers c.args.readings.now) (g.R.Readings.readers c.rest.new.readings)
     c.args.progress.now.rest items c.args.progress.now.first has.begun has.rest c.rest.ensures)
-    (served_by (serve_telling g.H.Host.tells g.H.Host.alone g.R.Readings.tells g.O.Sink.tells g.E.Sink.tells) c.args.once items c.args.progress.now.first item rested after c.mode.result
+    (served_by (telling g.H.Host.tells g.H.Host.alone g.R.Readings.tells false g.O.Sink.tells g.E.Sink.tells) c.args.once items c.args.progress.now.first item rested after c.mode.result
     (to_z w64 (of_z w64 c.now-now.result)) has.begun c.mode.ensures same range
-    (answers_turn g.R.Readings.tells item rested.spool after.spool (g.R.Readings.answers c.rest.new.readings) (g.R.Readings.answers c.now-now.new.self) (g.R.Readings.answers c.load-load.new.self)
+    (answers_turn g.R.Readings.tells item (g.R.Readings.answers c.rest.new.readings) (g.R.Readings.answers c.now-now.new.self) (g.R.Readings.answers c.load-load.new.self)
     (g.R.Readings.readers c.rest.new.readings) (g.R.Readings.readers c.now-now.new.self) (g.R.Readings.readers c.load-load.new.self)
     c.now-now.ensures.known c.now-now.ensures.same c.load-load.ensures.known c.load-load.ensures.made_as c.load-load.ensures.later c.load-load.ensures.cause)
     c.turn-report.ensures)

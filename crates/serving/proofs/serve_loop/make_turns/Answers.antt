@@ -1,7 +1,8 @@
-use Rattle.std.proofs.Common.{refl, ◌∙◌, [], ◌∷◌, ◌++◌, length, ◌≡◌, ◌+◌, arith}
+use Rattle.std.proofs.Common.{refl, ◌∙◌, [], ◌∷◌, ◌++◌, length, ◌≡◌, ◌+◌, arith, false}
 use Rattle.cause_output.specs.Sinks.{sink_at}
 use Rattle.host_session.proofs.SessionLemmas.{counts_on, no_counts}
-use Rattle.serving.specs.Serves.{serve_at, serve_telling}
+use Rattle.serving.specs.Serves.{serve_at}
+use Rattle.cause_output.specs.Outside.{telling}
 use Rattle.serving.proofs.ProceedLemmas.{ended_made, nothing_served}
 use Rattle.serving.proofs.ServeLemmas.{children_same, children_then, one_longer}
 use Rattle.serving.proofs.serve_loop.make_turns.Goals as goal
@@ -17,7 +18,7 @@ loop-turn-init g c = record {
   errors_made = refl;
   items = [];
   all = refl;
-  has = nothing_served (serve_telling g.H.Host.tells g.H.Host.alone g.R.Readings.tells g.O.Sink.tells g.E.Sink.tells) c.args.once c.new-progress.result
+  has = nothing_served (telling g.H.Host.tells g.H.Host.alone g.R.Readings.tells false g.O.Sink.tells g.E.Sink.tells) c.args.once c.new-progress.result
       (serve_at (g.H.Host.session c.args.host.now) (g.H.Host.world c.args.host.now) c.args.daemon.now (g.R.Readings.answers c.args.readings.now) (g.R.Readings.readers c.args.readings.now))
       (sink_at (g.O.Sink.content c.args.out.now) (g.O.Sink.outlet c.args.out.now)) (sink_at (g.E.Sink.content c.args.err.now) (g.E.Sink.outlet c.args.err.now)) c.new-progress.ensures;
 }
@@ -93,7 +94,7 @@ returns-clause-errors_made g c = c.loop-turn.invariant.errors_made
 
 pub returns-clause-ends : goal.returns-clause-ends
 returns-clause-ends g c =
-    ended_made (serve_telling g.H.Host.tells g.H.Host.alone g.R.Readings.tells g.O.Sink.tells g.E.Sink.tells) c.args.once c.loop-turn.invariant.items c.loop-turn.progress _ _ _ _ _ _
+    ended_made (telling g.H.Host.tells g.H.Host.alone g.R.Readings.tells false g.O.Sink.tells g.E.Sink.tells) c.args.once c.loop-turn.invariant.items c.loop-turn.progress _ _ _ _ _ _
     c.loop-turn.invariant.has c.args.turns c.outcome.result
     (let before : length c.loop-turn.invariant.items ≡ c.loop-turn._turn = c.loop-turn.invariant.all in omega arith)
     (rw c.kids.ensures.kids at c.outcome.ensures)

@@ -1,9 +1,10 @@
-use Rattle.std.proofs.Common.{◌≡◌, List, length}
+use Rattle.std.proofs.Common.{◌≡◌, List, length, false}
 use Rattle.cause_output.specs.Sinks.{sink_at}
 use Rattle.daemon_turn.specs.Kids.{AreChildren, KeepsChildren}
 use Rattle.host_calls.specs.Session.{IsOutside, KeepsCounts}
 use Rattle.serving.specs.Items.{Item}
-use Rattle.serving.specs.Serves.{serve_at, serve_telling}
+use Rattle.serving.specs.Serves.{serve_at}
+use Rattle.cause_output.specs.Outside.{telling}
 use Rattle.serving.specs.inside.Progressing.{HasServed}
 use Rattle.serving.proofs.serve_loop.make_turns.Given as goal
 
@@ -18,7 +19,7 @@ invariant-loop-turn g l = record {
   errors_made : (g.E.Sink.outlet l.err).made_as ≡ (g.E.Sink.outlet l.fn.err).made_as;
   items : List Item;
   all : length items ≡ l._turn;
-  has : HasServed (serve_telling g.H.Host.tells g.H.Host.alone g.R.Readings.tells g.O.Sink.tells g.E.Sink.tells) l.once items l.progress
+  has : HasServed (telling g.H.Host.tells g.H.Host.alone g.R.Readings.tells false g.O.Sink.tells g.E.Sink.tells) l.once items l.progress
       (serve_at (g.H.Host.session l.fn.host) (g.H.Host.world l.fn.host) l.fn.daemon (g.R.Readings.answers l.fn.readings) (g.R.Readings.readers l.fn.readings))
       (serve_at (g.H.Host.session l.host) (g.H.Host.world l.host) l.daemon (g.R.Readings.answers l.readings) (g.R.Readings.readers l.readings))
       (sink_at (g.O.Sink.content l.fn.out) (g.O.Sink.outlet l.fn.out)) (sink_at (g.O.Sink.content l.out) (g.O.Sink.outlet l.out))

@@ -17,7 +17,7 @@ returns-clause-faults g c = rw c.of.ensures (
     let risen = risen_by c.say_outcome.result _ _ (sink_at (g.O.Sink.content c.args.out.now) (g.O.Sink.outlet c.args.out.now))
     (sink_at (g.O.Sink.content c.make_turns-outcome.new.out) (g.O.Sink.outlet c.make_turns-outcome.new.out))
     (ended_caused _ _ _ _ _ _ _ _ _ _ c.make_turns-outcome.result c.say_outcome.result c.make_turns-outcome.ensures.ends c.say_outcome.ensures.says) in
-    record { file_fault = risen.0; busy = risen.1; output_fault = risen.2; no_input_fault = risen.3 })
+    record { file_fault = risen.0; busy = risen.1; input_fault = λ is. absurd (risen.3 is); output_fault = risen.2 })
 
 pub returns-clause-serving : goal.returns-clause-serving
 returns-clause-serving g c = rw c.of.ensures (serving_of _ _ _ _ _ _ _ _ _ _ c.make_turns-outcome.result c.say_outcome.result c.make_turns-outcome.ensures.ends c.say_outcome.ensures.says)

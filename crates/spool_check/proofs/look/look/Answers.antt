@@ -1,8 +1,8 @@
 use Rattle.std.proofs.Common.{◌≡◌}
+use Rattle.cause_output.specs.Outside.{folder_at}
 use Rattle.spool_faults.specs.declared.survey.Survey.{Survey}
 use Rattle.spool_faults.specs.Faults.{faults_of}
 use Rattle.host_calls.specs.World.{reading}
-use Rattle.spool_check.specs.Outside.{folder_at}
 use Rattle.spool_check.proofs.CheckLemmas.{leaves_same, not_ok, visit_made, visit_refused}
 use Rattle.spool_check.proofs.look.look.Goals as goal
 

@@ -1,5 +1,5 @@
+use Rattle.cause_output.specs.Outside.{folder_at, stream_at}
 use Rattle.spool_check.specs.inside.Looking.{cause_by}
-use Rattle.spool_check.specs.Outside.{folder_at, stream_at}
 use Rattle.spool_check.proofs.CheckLemmas.{entry_stop, leaves_same, look_stopped, visit_made, visit_refused}
 use Rattle.std.proofs.Common.{true}
 use Rattle.spool_check.proofs.save.check_and_save.Goals as goal

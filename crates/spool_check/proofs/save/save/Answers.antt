@@ -1,7 +1,7 @@
 use Rattle.std.proofs.Common.{ap}
 use Rattle.std.specs.Prelude.{Err}
+use Rattle.cause_output.specs.Outside.{folder_at}
 use Rattle.host_calls.specs.World.{reading}
-use Rattle.spool_check.specs.Outside.{folder_at}
 use Rattle.spool_check.proofs.CheckLemmas.{entry_writes, filled_writes, unfilled_writes, visit_made}
 use Rattle.spool_check.proofs.save.save.Goals as goal
 

@@ -1,4 +1,5 @@
 use Rattle.std.proofs.Common.{◌≡◌, true, sym, subst, ap, ◌∙◌}
+use Rattle.cause_output.specs.Outside.{folder_at, stream_at}
 use Rattle.host_calls.specs.Folder.{Files}
 use Rattle.host_calls.specs.World.{World, reading}
 use Rattle.listing_text.specs.declared.cause.Cause.{Cause}
@@ -6,7 +7,6 @@ use Rattle.listing_text.specs.declared.cause.Cause.TheVariants.{Done}
 use Rattle.spool_faults.specs.Listed.{LeavesFolder}
 use Rattle.spool_check.specs.Checking.{Checks, Writes}
 use Rattle.spool_check.specs.inside.Looking.{cause_by}
-use Rattle.spool_check.specs.Outside.{folder_at, stream_at}
 use Rattle.spool_check.proofs.CheckLemmas.{host_stop, look_stopped, save_done, save_stopped, stop_by, tell_done, tell_stopped}
 use Rattle.spool_check.proofs.save.tell_and_save.Goals as goal
 
