@@ -1,5 +1,6 @@
-//! Accounts over the real outside: the spool folder that the first word names, and the standard streams of the process.
-//! Without a folder it is asked for nothing, and makes none.
+//! Main of ataccount, without a launcher.
+//!
+//! Without a directory in its words it does nothing, and creates none.
 #![tactic(auto)]
 
 use process_input::held_streams;

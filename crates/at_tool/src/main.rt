@@ -1,5 +1,6 @@
-//! The tools over the real outside: the spool folder that `ATSPOOL` names, the clock and the load of the machine, and
-//! the standard streams of the process. A day that `atday` makes leaves the folder alone.
+//! Main of the commands, without a launcher.
+//!
+//! `atday` leaves the spool alone.
 #![tactic(auto)]
 
 use process_input::held_streams;

@@ -1,5 +1,6 @@
-//! The checker over the real outside: the spool folder that the first word names, the new folder that the second one
-//! names, and the standard streams of the process. Without a spool folder it is asked for nothing, and makes none.
+//! Main of atcheck, without a launcher.
+//!
+//! Without a directory in its words it does nothing, and creates none.
 #![tactic(auto)]
 
 use process_input::held_streams;

@@ -1,4 +1,4 @@
-//! The installed program: each tool by its name, after what it takes from the process that called it is set.
+//! Main of the installed program.
 #![tactic(auto)]
 
 use launcher::{called_as, run};

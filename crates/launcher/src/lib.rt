@@ -1,6 +1,5 @@
-//! The launcher: the program of the tool by whose name the process was called, over the spool that is meant. Beside it the
-//! launcher prints what a tool is, says what to do after a refusal, asks the machine for an atd, and keeps a second atd from a
-//! spool.
+//! Runs the tool by its name on the caller's spool; prints help, version and hints; one `atd` a spool; requests an
+//! `atd` after a submission. The exit status is that of a cause.
 #![tactic(auto)]
 
 mod after_submission;
@@ -20,6 +19,7 @@ mod send_program;
 mod spool_trouble;
 mod start;
 mod tool_called;
+mod tool_end;
 
 pub use start::run;
 pub use tool_called::called_as;

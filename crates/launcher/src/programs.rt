@@ -1,20 +1,23 @@
 //! Each tool over its spool, by the program that has it.
 ghost use Rattle.std.specs.Prelude.{◌≡◌, ◌<◌, IfOk};
 ghost use Rattle.std.specs.Path.{IsAbsolute};
+ghost use Rattle.caller_environment.specs.declared.tool_name.ToolName.TheVariants.{Atstat};
 ghost use Rattle.listing_text.specs.Cause.{status_of};
+ghost use Rattle.launcher.specs.ToolEnds.{IsEndOf};
 
 use crate::note_trims::{asks_for_trim, trim_at_start};
 use crate::one_daemon::{DaemonLock, daemon_lock};
 use crate::refusal::refused;
+use crate::tool_end::ToolEnd;
 use caller_environment::ToolName;
 use caller_spool::{Invoker, SpoolPaths};
 use cause_output::Caller;
 use host_calls::{Name, Text};
-use listing_text::{Cause, Refusal, Status};
+use listing_text::{Cause, Status};
 use process_input::take_folder;
 use real_programs::{
-    RealClock, account_over, at_over, check_over, cron_over, post_over, real_clock, trim_over,
-    watching_clock,
+    RealClock, account_over, at_over, check_over, cron_over, post_over, real_clock, stat_over,
+    trim_over, watching_clock,
 };
 use sequence_file::sequence_name;
 use start_journal::journal_name;
@@ -30,20 +33,35 @@ pub fn answer_of(
     invoker: &Invoker,
     spool: Text,
     paths: &Option<SpoolPaths>,
-) -> Result<Status, AllocError>
-    ensures code { IfOk result (λ status. status ≡ status_of status.cause) }
+) -> Result<ToolEnd, AllocError>
+    ensures { IfOk result (IsEndOf tool) }
 {
-    match tool {
+    let status = match tool {
+        ToolName::Atstat => return states_over(rt, words, &invoker.caller, spool),
         ToolName::At | ToolName::Batch | ToolName::Atq | ToolName::Atrm | ToolName::Atday => {
-            commands_over(rt, words, &invoker.caller, spool)
+            commands_over(rt, words, &invoker.caller, spool)?
         }
-        ToolName::Atd => daemon_over(rt, words, &invoker.caller, spool, paths),
-        ToolName::Atpost => mail_over(rt, words, spool, paths),
-        ToolName::Atcron => crontab_over(rt, words, &invoker.caller, spool, paths),
-        ToolName::Ataccount => account_over(rt, words, spool, Waits::Napping),
-        ToolName::Atcheck => checker_over(rt, words, spool),
-        ToolName::Atstat => Ok(refused(rt, tool, Cause::Refused(Refusal::Usage))),
-    }
+        ToolName::Atd => daemon_over(rt, words, &invoker.caller, spool, paths)?,
+        ToolName::Atpost => mail_over(rt, words, spool, paths)?,
+        ToolName::Atcron => crontab_over(rt, words, &invoker.caller, spool, paths)?,
+        ToolName::Ataccount => account_over(rt, words, spool, Waits::Napping)?,
+        ToolName::Atcheck => checker_over(rt, words, spool)?,
+    };
+    Ok(ToolEnd::By(status.cause))
+}
+
+// The same of atstat.
+fn states_over(
+    rt: &HostRuntime,
+    words: &[String],
+    caller: &Caller,
+    spool: Text,
+) -> Result<ToolEnd, AllocError>
+    ensures { IfOk result (IsEndOf Atstat) }
+{
+    let mut clock = real_clock(rt)?;
+    let status = stat_over(rt, words, caller, spool, Waits::Napping, &mut clock)?;
+    Ok(ToolEnd::of(status))
 }
 
 /// The same of a tool that submits, lists, shows or removes jobs, or makes a day.

@@ -1,7 +1,7 @@
 //! What the program does by the words of its process.
-ghost use Rattle.std.specs.Prelude.{◌≡◌, IfOk};
-ghost use Rattle.launcher.specs.ExitCodes.{IsExitCode};
-ghost use Rattle.listing_text.specs.Cause.{status_of};
+ghost use Rattle.std.specs.Prelude.{IfOk};
+ghost use Rattle.launcher.specs.ExitCodes.{IsExitCode, IsExitCodeOf};
+ghost use Rattle.launcher.specs.ToolEnds.{IsEndOf};
 
 use crate::after_submission::{after_submission, is_submission};
 use crate::clock_mark::warn_of_mark;
@@ -11,22 +11,21 @@ use crate::refusal::refused;
 use crate::say_hint::say_hint;
 use crate::self_description::{describe, description_asked};
 use crate::send_program::unusable_program;
+use crate::tool_end::ToolEnd;
 use caller_environment::{ToolName, take_tool};
 use caller_spool::{
-    Invoker, LISTS, ToolSpool, invoker_of, make_own, may_call, may_save_into, may_work_on,
-    paths_of, spool_of,
+    CallingUser, Invoker, LISTS, ToolSpool, invoker_of, make_own, may_call, may_save_into,
+    may_work_on, paths_of, spool_of,
 };
 use cause_output::Caller;
 use host_calls::Text;
-use listing_text::{Cause, Refusal, Status};
+use listing_text::{Cause, Refusal};
 use process_input::{StartupError, caller_of, words_of};
 use real_programs::next_over;
 use std::alloc::AllocError;
 
 /// Does what the words of this process ask for. Answers the exit status.
-pub fn run(rt: &HostRuntime) -> Result<u8, StartupError>
-    ensures { IfOk result IsExitCode }
-{
+pub fn run(rt: &HostRuntime) -> Result<u8, StartupError> {
     let mut words = words_of(rt)?;
     let Some(tool) = take_tool(&mut words) else {
         return Ok(no_tool(rt));
@@ -44,17 +43,17 @@ fn no_tool(rt: &HostRuntime) -> u8
 
 // Does what the words of this tool ask for.
 fn run_tool(rt: &HostRuntime, tool: ToolName, words: &mut Vec<String>) -> Result<u8, AllocError>
-    ensures { IfOk result IsExitCode }
+    ensures { IfOk result (IsExitCodeOf tool) }
 {
     if let Some(asked) = description_asked(words) {
-        return describe(rt, tool, asked);
+        return Ok(describe(rt, tool, asked)?);
     }
     if tool == ToolName::Atday {
-        return make_day(rt, words);
+        return Ok(make_day(rt, words)?);
     }
     let invoker = invoker_of(rt)?;
     if tool == ToolName::Atcron && asks_for_next(words) {
-        return list_next(rt, words, &invoker.caller);
+        return Ok(list_next(rt, words, &invoker.caller)?);
     }
     let spool = spool_of(rt, tool, words, &invoker.user)?;
     run_over(rt, tool, words, &invoker, &spool)
@@ -90,7 +89,7 @@ fn run_over(
     invoker: &Invoker,
     spool: &ToolSpool,
 ) -> Result<u8, AllocError>
-    ensures { IfOk result IsExitCode }
+    ensures { IfOk result (IsExitCodeOf tool) }
 {
     let user = &invoker.user;
     if !may_call(rt, tool, user) {
@@ -101,12 +100,26 @@ fn run_over(
     if tool == ToolName::Atpost && refuses_program(rt, words) {
         return Ok(exit_code_of(&Cause::Refused(Refusal::Usage)));
     }
-    let status = status_over(rt, tool, words, invoker, spool)?;
-    if status.cause.is_done() && is_submission(rt, tool, words) {
+    let ended = end_over(rt, tool, words, invoker, spool)?;
+    if let ToolEnd::By(cause) = &ended {
+        follow(rt, tool, words, cause, user, spool)?;
+    }
+    Ok(ended.code(tool))
+}
+
+// What follows the end of a tool for this cause: a submission that was accepted asks for an atd, and a refusal has a hint.
+fn follow(
+    rt: &HostRuntime,
+    tool: ToolName,
+    words: &[String],
+    cause: &Cause,
+    user: &CallingUser,
+    spool: &ToolSpool,
+) -> Result<(), AllocError> {
+    if cause.is_done() && is_submission(rt, tool, words) {
         after_submission(rt, tool, user, spool)?;
     }
-    say_hint(rt, tool, &status.cause, user, spool, spool.path.as_str())?;
-    Ok(exit_code_of(&status.cause))
+    say_hint(rt, tool, cause, user, spool, spool.path.as_str())
 }
 
 // Says so where the program of notices can't be executed.
@@ -121,31 +134,38 @@ fn refuses_program(rt: &HostRuntime, words: &[String]) -> bool {
 }
 
 // The same, where neither the lists of the machine nor the words refuse it.
-fn status_over(
+fn end_over(
     rt: &HostRuntime,
     tool: ToolName,
     words: &mut Vec<String>,
     invoker: &Invoker,
     spool: &ToolSpool,
-) -> Result<Status, AllocError>
-    ensures code { IfOk result (λ status. status ≡ status_of status.cause) }
+) -> Result<ToolEnd, AllocError>
+    ensures { IfOk result (IsEndOf tool) }
 {
     let user = &invoker.user;
     if !make_own(rt, user, spool) {
-        return Ok(refused(rt, tool, Cause::FileFault));
+        return Ok(faulted(rt, tool));
     }
     let paths = paths_of(rt, spool.path.as_str())?;
     if let Some(paths) = &paths {
         if !may_work_on(rt, tool, user, paths) {
-            return Ok(refused(rt, tool, Cause::FileFault));
+            return Ok(faulted(rt, tool));
         }
     }
     if tool == ToolName::Atcheck && !may_save_into(rt, words, user)? {
-        return Ok(refused(rt, tool, Cause::FileFault));
+        return Ok(faulted(rt, tool));
     }
     if tool == ToolName::Atcron {
         warn_of_mark(rt, spool.path.as_str())?;
     }
     let path = Text::of(rt.alloc(), spool.path.as_str())?;
     answer_of(rt, tool, words, invoker, path, &paths)
+}
+
+// Says that the tool may not use its spool.
+fn faulted(rt: &HostRuntime, tool: ToolName) -> ToolEnd
+    ensures { IsEndOf tool result }
+{
+    ToolEnd::By(refused(rt, tool, Cause::FileFault).cause)
 }

@@ -3,7 +3,7 @@ ghost use Rattle.std.specs.Prelude.{◌≡◌, IfOk, IsTrue, codes, map, string_
 ghost use Rattle.cause_output.specs.Sinks.{EndsLine, sink_at};
 ghost use Rattle.host_calls.specs.Session.{IsOutside};
 ghost use Rattle.listing_text.specs.Cause.{status_of};
-ghost use Rattle.at_account.specs.Accounting.{Accounting, outside_at};
+ghost use Rattle.at_account.specs.Accounting.{Accounting, account_outside};
 ghost use Rattle.at_account.specs.Words.{account_asked};
 
 use crate::folders::{RealFolder, existing_folder};
@@ -27,7 +27,7 @@ pub fn account_answer<W: Witness + Drop>(
 ) -> Status
     requires { IsOutside (⟦<RealFolder<W> as Host>⟧.session folder.old) }
     ensures code { result ≡ status_of result.cause }
-    ensures accounting { let at = outside_at ⟦<RealFolder<W> as Host>⟧ ⟦<RealOutput as Sink>⟧ in
+    ensures accounting { let at = account_outside ⟦<RealFolder<W> as Host>⟧ ⟦<RealOutput as Sink>⟧ in
         Accounting (account_asked (map string_bytes words.now))
         (at folder.old output.old) (at folder.new output.new) result.cause }
     ensures says { let e = ⟦<RealErrors as Sink>⟧ in IsTrue e.tells → EndsLine (codes "ataccount") result.cause

@@ -1,6 +1,7 @@
 //! The tools over the real things: `at`, `batch`, `atq`, `atrm`, `atd` and `atday`.
 ghost use Rattle.std.specs.Prelude.{◌≡◌, ◌<◌, IfOk, map, string_bytes, true};
-ghost use Rattle.at_commands.specs.Outside.{HasRisen, ServesAsked, StaysMade, outside_at};
+ghost use Rattle.at_commands.specs.Outside.{HasRisenAsked, ServesAsked, StaysMade};
+ghost use Rattle.cause_output.specs.Outside.{outside_at};
 ghost use Rattle.at_commands.specs.Served.{IsNotServed};
 ghost use Rattle.at_words.specs.Requests.{request_of};
 ghost use Rattle.host_calls.specs.Session.{IsOutside};
@@ -21,7 +22,7 @@ use unix_host::Waits;
 use witnessed_host::{InputWitness, Silent, Witness};
 
 // Where jobs lie if no variable names another folder.
-const SPOOL: &str = "/var/spool/atjobs";
+pub(crate) const SPOOL: &str = "/var/spool/atjobs";
 
 /// Does what the words of the tools ask for over the real things. What the folder holds is what the one witness knows of
 /// it, and what the input holds what the other one knows; the clock and the two outputs tell what they answered and took.
@@ -45,7 +46,7 @@ pub fn at_answer<W: Witness + Drop, V: InputWitness + Drop>(
     // Each fault comes only where its count rose.
     ensures faults { let at = outside_at ⟦<RealFolder<W> as Host>⟧ ⟦<RealClock as Readings>⟧
         ⟦<RealInput<V> as Inputs>⟧ ⟦<RealOutput as Sink>⟧ ⟦<RealErrors as Sink>⟧ in
-        HasRisen (request_of (map string_bytes words.now))
+        HasRisenAsked (request_of (map string_bytes words.now))
         (at folder.old clock.old input.old output.old errors.old)
         (at folder.new clock.new input.new output.new errors.new) result.cause }
 

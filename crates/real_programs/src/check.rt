@@ -1,9 +1,10 @@
 //! The checker over the real things.
 ghost use Rattle.std.specs.Prelude.{◌≡◌, IfOk, map, string_bytes};
+ghost use Rattle.cause_output.specs.Outside.{stream_at};
 ghost use Rattle.host_calls.specs.Session.{IsLeft, IsOutside};
 ghost use Rattle.listing_text.specs.Cause.{status_of};
 ghost use Rattle.spool_check.specs.Checking.{Ends};
-ghost use Rattle.spool_check.specs.Outside.{HasRisen, outside_at, stream_at};
+ghost use Rattle.spool_check.specs.Outside.{HasRisenInEither, folders_at};
 ghost use Rattle.spool_check.specs.Words.{check_asked};
 
 use crate::folders::{RealFolder, existing_folder, new_folder};
@@ -36,9 +37,9 @@ pub fn check_answer<W: Witness + Drop, G: Host>(
         (o.outlet output.new).made_as ≡ (o.outlet output.old).made_as }
     ensures err_made { let e = ⟦<RealErrors as Sink>⟧ in
         (e.outlet errors.new).made_as ≡ (e.outlet errors.old).made_as }
-    ensures risen { let at = outside_at ⟦<RealFolder<W> as Host>⟧ G.Host ⟦<RealOutput as Sink>⟧ in
-        HasRisen (at folder.old to.old output.old) (at folder.new to.new output.new) result.cause }
-    ensures ends { let at = outside_at ⟦<RealFolder<W> as Host>⟧ G.Host ⟦<RealOutput as Sink>⟧ in
+    ensures risen { let at = folders_at ⟦<RealFolder<W> as Host>⟧ G.Host ⟦<RealOutput as Sink>⟧ in
+        HasRisenInEither (at folder.old to.old output.old) (at folder.new to.new output.new) result.cause }
+    ensures ends { let at = folders_at ⟦<RealFolder<W> as Host>⟧ G.Host ⟦<RealOutput as Sink>⟧ in
         let said = stream_at ⟦<RealErrors as Sink>⟧ in
         Ends (check_asked (map string_bytes words.now)) (at folder.old to.old output.old)
         (at folder.new to.new output.new) (said errors.old) (said errors.new) result.cause }

@@ -2,8 +2,8 @@
 ghost use Rattle.std.specs.Prelude.{◌≡◌, ◌<◌, IfOk, map, string_bytes};
 ghost use Rattle.host_calls.specs.Session.{IsOutside};
 ghost use Rattle.listing_text.specs.Cause.{status_of};
-ghost use Rattle.cron_turn.specs.Outside.{StaysSo, run_at, telling};
-ghost use Rattle.cron_turn.specs.Running.{CronRuns, HasRisen};
+ghost use Rattle.cron_turn.specs.Outside.{StaysSo, run_at, cron_telling};
+ghost use Rattle.cron_turn.specs.Running.{CronRuns, HasRisenInTurns};
 ghost use Rattle.cron_turn.specs.Words.{cron_asked};
 
 use crate::folders::{RealFolder, existing_folder};
@@ -38,12 +38,12 @@ pub fn cron_answer<W: Witness + Drop, V: InputWitness + Drop>(
         StaysSo (at folder.old clock.old input.old errors.old) (at folder.new clock.new input.new errors.new) }
     ensures risen { let at = run_at ⟦<RealFolder<W> as Host>⟧ ⟦<RealClock as Readings>⟧ ⟦<RealInput<V> as Inputs>⟧
         ⟦<RealErrors as Sink>⟧ in
-        HasRisen (at folder.old clock.old input.old errors.old) (at folder.new clock.new input.new errors.new)
+        HasRisenInTurns (at folder.old clock.old input.old errors.old) (at folder.new clock.new input.new errors.new)
         result.cause }
     ensures runs { let at = run_at ⟦<RealFolder<W> as Host>⟧ ⟦<RealClock as Readings>⟧ ⟦<RealInput<V> as Inputs>⟧
         ⟦<RealErrors as Sink>⟧ in
         CronRuns (cron_asked (map string_bytes words.now))
-        (telling ⟦<RealFolder<W> as Host>⟧ ⟦<RealClock as Readings>⟧ ⟦<RealInput<V> as Inputs>⟧ ⟦<RealErrors as Sink>⟧)
+        (cron_telling ⟦<RealFolder<W> as Host>⟧ ⟦<RealClock as Readings>⟧ ⟦<RealInput<V> as Inputs>⟧ ⟦<RealErrors as Sink>⟧)
         caller.now (at folder.old clock.old input.old errors.old)
         (at folder.new clock.new input.new errors.new) result.cause }
 {

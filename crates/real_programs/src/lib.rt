@@ -1,6 +1,7 @@
-//! The programs over the real things. A spool folder lies on a disk, beside a witness; the clock and the streams are those
-//! of the machine and the process, and tell what they answered and took. For each program `.._answer` says what it promises
-//! there, `.._over` is it with nobody beside the folder, and `run_..` does what the words of a process ask for.
+//! Each program on the real directory, clock and streams. All clauses of the program hold, for every witness.
+//!
+//! For each program `.._answer` takes any witness of the directory, `.._over` has one that disputes nothing, and `run_..`
+//! does what the words of a process request. The clock and the streams record what they returned and accepted.
 #![tactic(auto)]
 
 mod account;
@@ -11,6 +12,7 @@ mod exit;
 mod folders;
 mod next;
 mod post;
+mod stat;
 mod streams;
 mod trim;
 
@@ -22,6 +24,7 @@ pub use exit::exit_code;
 pub use folders::{RealFolder, existing_folder, new_folder, spool_folder};
 pub use next::{next_answer, next_over};
 pub use post::{post_answer, post_over, run_post};
+pub use stat::{run_stat, stat_answer, stat_exit_code, stat_over};
 pub use streams::{
     RealClock, RealErrors, RealInput, RealOutput, real_clock, real_errors, real_input, real_output,
     watching_clock,

@@ -2,7 +2,7 @@
 ghost use Rattle.std.specs.Prelude.{◌≡◌, IfOk, map, string_bytes};
 ghost use Rattle.cause_output.specs.Sinks.{sink_at};
 ghost use Rattle.listing_text.specs.Cause.{status_of};
-ghost use Rattle.cron_listing.specs.Running.{NextRuns, listing_at, telling};
+ghost use Rattle.cron_listing.specs.Running.{NextRuns, listing_at, listing_telling};
 ghost use Rattle.cron_listing.specs.Words.{next_asked};
 
 use crate::streams::{
@@ -34,7 +34,7 @@ pub fn next_answer<V: InputWitness + Drop>(
     ensures runs { let e = ⟦<RealErrors as Sink>⟧ in
         let at = listing_at ⟦<RealClock as Readings>⟧ ⟦<RealInput<V> as Inputs>⟧ ⟦<RealOutput as Sink>⟧ in
         NextRuns (next_asked (map string_bytes words.now))
-        (telling ⟦<RealClock as Readings>⟧ ⟦<RealInput<V> as Inputs>⟧ ⟦<RealOutput as Sink>⟧) e.tells zone.now
+        (listing_telling ⟦<RealClock as Readings>⟧ ⟦<RealInput<V> as Inputs>⟧ ⟦<RealOutput as Sink>⟧) e.tells zone.now
         (at clock.old input.old output.old) (at clock.new input.new output.new)
         (sink_at (e.content errors.old) (e.outlet errors.old)) (sink_at (e.content errors.new) (e.outlet errors.new))
         result.cause }

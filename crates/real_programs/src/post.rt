@@ -2,7 +2,7 @@
 ghost use Rattle.std.specs.Prelude.{◌≡◌, IfOk, map, string_bytes};
 ghost use Rattle.host_calls.specs.Session.{IsOutside};
 ghost use Rattle.listing_text.specs.Cause.{status_of};
-ghost use Rattle.at_mail.specs.Program.{PostEnds, outside_at};
+ghost use Rattle.at_mail.specs.Program.{PostEnds, mail_outside};
 ghost use Rattle.at_mail.specs.Words.{post_asked};
 
 use crate::folders::{RealFolder, existing_folder};
@@ -26,7 +26,7 @@ pub fn post_answer<W: Witness + Drop>(
 ) -> Status
     requires { IsOutside (⟦<RealFolder<W> as Host>⟧.session folder.old) }
     ensures code { result ≡ status_of result.cause }
-    ensures posts { let at = outside_at ⟦<RealFolder<W> as Host>⟧ ⟦<RealClock as Readings>⟧ ⟦<RealErrors as Sink>⟧ in
+    ensures posts { let at = mail_outside ⟦<RealFolder<W> as Host>⟧ ⟦<RealClock as Readings>⟧ ⟦<RealErrors as Sink>⟧ in
         PostEnds (post_asked (map string_bytes words.now))
         (at folder.old clock.old errors.old) (at folder.new clock.new errors.new) result.cause }
 {

@@ -2,7 +2,7 @@
 ghost use Rattle.std.specs.Prelude.{◌≡◌, IfOk, map, string_bytes};
 ghost use Rattle.host_calls.specs.Session.{IsOutside};
 ghost use Rattle.listing_text.specs.Cause.{status_of};
-ghost use Rattle.mail_trim.specs.Program.{TrimEnds, outside_at};
+ghost use Rattle.mail_trim.specs.Program.{TrimEnds, trim_outside};
 ghost use Rattle.mail_trim.specs.Words.{trim_asked};
 
 use crate::folders::{RealFolder, existing_folder};
@@ -26,7 +26,7 @@ pub fn trim_answer<W: Witness + Drop>(
     ensures code { result ≡ status_of result.cause }
     ensures made_as { let e = ⟦<RealErrors as Sink>⟧ in
         (e.outlet errors.new).made_as ≡ (e.outlet errors.old).made_as }
-    ensures trims { let at = outside_at ⟦<RealFolder<W> as Host>⟧ ⟦<RealErrors as Sink>⟧ in
+    ensures trims { let at = trim_outside ⟦<RealFolder<W> as Host>⟧ ⟦<RealErrors as Sink>⟧ in
         TrimEnds (trim_asked (map string_bytes words.now))
         (at folder.old errors.old) (at folder.new errors.new) result.cause }
 {

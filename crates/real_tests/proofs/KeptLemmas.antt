@@ -14,8 +14,8 @@ use Rattle.host_calls.specs.declared.fault.HostFault.{HostFault}
 use Rattle.host_calls.specs.declared.fault.HostFault.TheVariants.{Failed, Memory}
 use Rattle.host_calls.specs.declared.fault.StartFault.{StartFault}
 use Rattle.host_calls.specs.declared.fault.StartFault.TheVariants.{Failed as NoStart, Memory as NoMemory}
-use Rattle.host_calls.specs.Folder.{Folder, Files, IsImage, reading_of}
-use Rattle.host_calls.specs.World.{FileCall, HandsOver, IsWithin, LeavesOnly, Moment, Outcome, StartCall, StartOutcome, WithinCall, World}
+use Rattle.host_calls.specs.Folder.{Folder, Files, reading_of}
+use Rattle.host_calls.specs.World.{FileCall, IsWithin, LeavesOnly, Outcome, StartCall, StartOutcome, WithinCall}
 use Rattle.memory_host.specs.Host.{memory_world}
 use Rattle.memory_host.specs.declared.memory_host.MemoryHost.{MemoryHost}
 use Rattle.std.specs.declared.snapshot.Snapshot.{Snapshot}

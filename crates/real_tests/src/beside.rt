@@ -2,7 +2,7 @@
 ghost use Rattle.host_calls.specs.Session.{IsOutside};
 
 use crate::sessions::{Beside, rounds_beside};
-use crate::spools::{clear, fresh_spool, kept_folder, line};
+use crate::spools::{KeptFolder, clear, fresh_spool, kept_folder, line};
 use crate::tally::Tally;
 use host_calls::Host;
 use std::test::Fail;
@@ -19,6 +19,22 @@ const PHASES: [(&str, u32); 4] = [
     ("rmdir \"$1.lock\"", 2),
 ];
 
+// How many of so many rounds went well, to which this was done to the folder before.
+fn phase<H: Host>(
+    rt: &HostRuntime,
+    program: Beside,
+    path: &str,
+    phase: (&str, u32),
+    before: u32,
+    folder: &mut H,
+) -> Result<u32, Fail>
+    requires { IsOutside (H.session folder.old) }
+    ensures { IsOutside (H.session folder.new) }
+{
+    line(rt, phase.0, path)?;
+    Ok(rounds_beside(rt.alloc(), program, before, phase.1, folder)?)
+}
+
 // How many rounds of each phase went well.
 fn phases<H: Host>(
     rt: &HostRuntime,
@@ -31,11 +47,9 @@ fn phases<H: Host>(
 {
     let mut wells = Vec::new(rt.alloc());
     let mut before: u32 = 0;
-    for phase in PHASES {
-        let (text, count) = phase;
-        line(rt, text, path)?;
-        wells.push(rounds_beside(rt.alloc(), program, before, count, folder)?)?;
-        before = before.saturating_add(count);
+    for one in PHASES {
+        wells.push(phase(rt, program, path, one, before, folder)?)?;
+        before = before.saturating_add(one.1);
     }
     Ok(wells)
 }
@@ -48,27 +62,35 @@ struct Compared {
     after: Tally,
 }
 
-// The program over a folder of its own.
-fn compared_over(rt: &HostRuntime, program: Beside, name: &str) -> Result<Compared, Fail> {
-    let path = fresh_spool(rt, name)?;
-    let Some(mut folder) = kept_folder(rt, path.as_str())? else {
-        return Err(Fail::from("no model"));
-    };
-    let wells = phases(rt, program, path.as_str(), &mut folder)?;
+// The program over this folder.
+fn compare(
+    rt: &HostRuntime,
+    program: Beside,
+    path: &str,
+    folder: &mut KeptFolder,
+) -> Result<Compared, Fail>
+    requires { IsOutside (⟦<KeptFolder as Host>⟧.session folder.old) }
+{
+    let wells = phases(rt, program, path, folder)?;
     let alone = folder.witness().tally();
-    line(rt, "echo 1 >\"$1/stranger\"", path.as_str())?;
-    let _ = rounds_beside(rt.alloc(), program, 100, 2, &mut folder)?;
+    line(rt, "echo 1 >\"$1/stranger\"", path)?;
+    let _ = rounds_beside(rt.alloc(), program, 100, 2, folder)?;
     let after = folder.witness().tally();
-    clear(rt, path.as_str())?;
-    println!(rt;
-        "{name}: {} answers compared, {} disputed",
-        alone.compared, alone.disputes
-    )?;
     Ok(Compared {
         wells,
         alone,
         after,
     })
+}
+
+// The program over a folder of its own.
+fn compared_over(rt: &HostRuntime, program: Beside, name: &str) -> Result<Compared, Fail> {
+    let path = fresh_spool(rt, name)?;
+    let mut folder = kept_folder(rt, path.as_str())?;
+    let compared = compare(rt, program, path.as_str(), &mut folder)?;
+    drop(folder);
+    clear(rt, path.as_str())?;
+    Ok(compared)
 }
 
 #[test]
@@ -77,6 +99,7 @@ fn no_answer_beside_the_commands_is_disputed(rt: HostRuntime) -> Result<(), Fail
         (Beside::Mail, "mail", 0),
         (Beside::Crontab, "crontab", 0),
         (Beside::Account, "account", 0),
+        (Beside::States, "states", 2),
         (Beside::Check, "check", 2),
     ] {
         let compared = compared_over(&rt, program, name)?;
@@ -85,9 +108,8 @@ fn no_answer_beside_the_commands_is_disputed(rt: HostRuntime) -> Result<(), Fail
             [24, without_files, 0, 2].as_slice(),
             "{name}"
         );
-        assert_eq!(rt; compared.alone.disputes, 0, "{name}");
-        assert!(rt; compared.alone.compared >= 1000, "{name}");
-        assert!(rt; compared.after.disputes > 0, "{name}");
+        let stranger = compared.after.disputes > 0;
+        assert!(rt; compared.alone.is_undisputed(1000) && stranger, "{name}");
     }
     Ok(())
 }

@@ -1,5 +1,4 @@
-//! The programs over real folders, beside a witness who knows what they hold: what the folder answers is compared with the
-//! folder model, call by call.
+//! Tests of each program on real directories, compared with a model.
 #![tactic(auto)]
 
 mod asked;

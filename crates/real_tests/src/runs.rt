@@ -1,47 +1,55 @@
 //! What a real folder answers, compared with the model.
+ghost use Rattle.std.specs.Prelude.{◌<◌};
 ghost use Rattle.host_calls.specs.Session.{IsOutside};
 
 use crate::commands::rounds;
 use crate::spools::{KeptFolder, clear, fresh_spool, kept_folder, line};
+use crate::tally::Tally;
 use host_calls::Host;
 use std::test::Fail;
 
-#[test]
-fn no_answer_of_a_spool_is_disputed(rt: HostRuntime) -> Result<(), Fail> {
-    let path = fresh_spool(&rt, "alone")?;
-    let mut folder = kept_folder(&rt, path.as_str())?.expect(&rt, "a model");
-    let well = rounds(rt.alloc(), 0, 30, &mut folder);
+// How many of some rounds went well, and what the witness counted up to their end.
+#[derive(Clone, Copy, Debug)]
+struct Played {
+    well: u32,
+    tally: Tally,
+}
+
+// So many rounds over this folder, after so many others.
+fn play(rt: &HostRuntime, before: u32, count: u32, folder: &mut KeptFolder) -> Result<Played, Fail>
+    requires outside { IsOutside (⟦<KeptFolder as Host>⟧.session folder.old) }
+    requires few { before < 1000000 }
+    requires few_more { count < 1000 }
+    ensures { IsOutside (⟦<KeptFolder as Host>⟧.session folder.new) }
+{
+    let well = rounds(rt.alloc(), before, count, folder)?;
     let tally = folder.witness().tally();
+    Ok(Played { well, tally })
+}
+
+// So many rounds over a folder of its own, and three more after a stranger put a file.
+fn played_over(rt: &HostRuntime, path: &str, count: u32) -> Result<(Played, Played), Fail>
+    requires { count < 1000 }
+{
+    let mut folder = kept_folder(rt, path)?;
+    let alone = play(rt, 0, count, &mut folder)?;
+    line(rt, "echo 1 >\"$1/stranger\"", path)?;
+    let after = play(rt, count, 3, &mut folder)?;
     drop(folder);
-    clear(&rt, path.as_str())?;
-    println!(rt;
-        "{} answers compared, {} disputed",
-        tally.compared, tally.disputes
-    )?;
-    assert_eq!(rt; well, Ok(30));
-    assert_eq!(rt; tally.disputes, 0);
-    assert!(rt; tally.compared >= 5000);
-    Ok(())
+    Ok((alone, after))
 }
 
 #[test]
-fn a_file_of_a_stranger_is_disputed(rt: HostRuntime) -> Result<(), Fail> {
-    let path = fresh_spool(&rt, "shared")?;
-    let mut folder = kept_folder(&rt, path.as_str())?.expect(&rt, "a model");
-    let before = rounds(rt.alloc(), 0, 3, &mut folder);
-    let agreed = folder.witness().tally();
-    line(&rt, "echo 1 >\"$1/stranger\"", path.as_str())?;
-    let after = rounds(rt.alloc(), 3, 3, &mut folder);
-    let tally = folder.witness().tally();
-    drop(folder);
+fn no_answer_of_a_spool_is_disputed_but_of_a_file_of_a_stranger(
+    rt: HostRuntime,
+) -> Result<(), Fail> {
+    let path = fresh_spool(&rt, "alone")?;
+    let (alone, after) = played_over(&rt, path.as_str(), 30)?;
     clear(&rt, path.as_str())?;
-    println!(rt;
-        "{} answers compared, {} disputed",
-        tally.compared, tally.disputes
-    )?;
-    assert_eq!(rt; before, Ok(3));
-    assert_eq!(rt; agreed.disputes, 0);
-    assert_eq!(rt; after, Ok(0));
-    assert!(rt; tally.disputes > 0);
+    assert!(rt;
+        alone.well == 30 && alone.tally.is_undisputed(5000),
+        "{alone:?}"
+    );
+    assert!(rt; after.well == 0 && after.tally.disputes > 0, "{after:?}");
     Ok(())
 }

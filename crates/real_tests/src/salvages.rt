@@ -4,6 +4,7 @@ ghost use Rattle.host_calls.specs.Session.{IsOutside};
 use crate::commands::NOW;
 use crate::sessions::{Beside, rounds_beside, saved_status};
 use crate::spools::{clear, fresh_spool, kept_folder, line};
+use crate::tally::Tally;
 use host_calls::Host;
 use std::test::Fail;
 
@@ -14,32 +15,31 @@ struct Saved {
     disputed: bool,
 }
 
-fn of(code: u8, disputed: bool) -> Saved {
-    Saved { code, disputed }
+// What a salvage into the fresh folder at this path answers.
+fn saved_at<H: Host>(rt: &HostRuntime, path: &str, from: &mut H) -> Result<Saved, Fail>
+    requires { IsOutside (H.session from.old) }
+    ensures { IsOutside (H.session from.new) }
+{
+    let mut to = kept_folder(rt, path)?;
+    let code = saved_status(rt.alloc(), &["atcheck", "--salvage"], NOW, from, &mut to);
+    let disputed = to.witness().tally().disputes > 0;
+    drop(to);
+    Ok(Saved {
+        code: code?,
+        disputed,
+    })
 }
 
-// What a salvage into a fresh folder answers, to which this was done before.
+// The same, where this was done to the folder before.
 fn saved_into<H: Host>(rt: &HostRuntime, text: &str, from: &mut H) -> Result<Saved, Fail>
     requires { IsOutside (H.session from.old) }
     ensures { IsOutside (H.session from.new) }
 {
     let path = fresh_spool(rt, "saved")?;
     line(rt, text, path.as_str())?;
-    let Some(mut to) = kept_folder(rt, path.as_str())? else {
-        return Err(Fail::from("no model"));
-    };
-    let words = ["atcheck", "--salvage"];
-    let code = saved_status(rt.alloc(), &words, NOW, from, &mut to)?;
-    let tally = to.witness().tally();
+    let saved = saved_at(rt, path.as_str(), from)?;
     clear(rt, path.as_str())?;
-    println!(rt;
-        "new folder: {} answers compared, {} disputed",
-        tally.compared, tally.disputes
-    )?;
-    Ok(Saved {
-        code,
-        disputed: tally.disputes > 0,
-    })
+    Ok(saved)
 }
 
 // The same of each of these.
@@ -54,35 +54,44 @@ fn each_saved<H: Host>(rt: &HostRuntime, texts: &[&str], from: &mut H) -> Result
     Ok(saves)
 }
 
+// What was done to a fresh folder, and what a salvage into it is to answer then.
+const TEXTS: [&str; 5] = [
+    ":",
+    "mkdir \"$1/.TMP\"",
+    "echo 1 >\"$1/stranger\"",
+    "touch \"$1/.SEQ\"",
+    ":",
+];
+
+const WANTED: [(u8, bool); 5] = [(0, false), (2, false), (2, true), (2, true), (0, false)];
+
+// How many of twelve rounds over this folder went well, and what salvages of it answer.
+fn salvages<H: Host>(rt: &HostRuntime, from: &mut H) -> Result<(u32, Vec<Saved>), Fail>
+    requires { IsOutside (H.session from.old) }
+    ensures { IsOutside (H.session from.new) }
+{
+    let well = rounds_beside(rt.alloc(), Beside::Crontab, 0, 12, from)?;
+    Ok((well, each_saved(rt, &TEXTS, from)?))
+}
+
+// The same over the folder at this path, and what its witness counted.
+fn salvages_of(rt: &HostRuntime, path: &str) -> Result<((u32, Vec<Saved>), Tally), Fail> {
+    let mut from = kept_folder(rt, path)?;
+    let seen = salvages(rt, &mut from)?;
+    let tally = from.witness().tally();
+    drop(from);
+    Ok((seen, tally))
+}
+
 #[test]
 fn no_answer_of_a_salvage_is_disputed(rt: HostRuntime) -> Result<(), Fail> {
     let path = fresh_spool(&rt, "from")?;
-    let mut from = kept_folder(&rt, path.as_str())?.expect(&rt, "a model");
-    let well = rounds_beside(rt.alloc(), Beside::Crontab, 0, 12, &mut from)?;
-    let texts = [
-        ":",
-        "mkdir \"$1/.TMP\"",
-        "echo 1 >\"$1/stranger\"",
-        "touch \"$1/.SEQ\"",
-        ":",
-    ];
-    let saves = each_saved(&rt, &texts, &mut from)?;
-    let tally = from.witness().tally();
+    let ((well, saves), tally) = salvages_of(&rt, path.as_str())?;
     clear(&rt, path.as_str())?;
-    println!(rt;
-        "from: {} answers compared, {} disputed",
-        tally.compared, tally.disputes
-    )?;
-    let wanted = [
-        of(0, false),
-        of(2, false),
-        of(2, true),
-        of(2, true),
-        of(0, false),
-    ];
-    assert_eq!(rt; well, 12);
-    assert_eq!(rt; saves.as_slice(), wanted.as_slice());
-    assert_eq!(rt; tally.disputes, 0);
-    assert!(rt; tally.compared >= 500);
+    assert!(rt; well == 12 && tally.is_undisputed(500), "{well} {tally:?}");
+    assert_eq!(rt; saves.len(), WANTED.len());
+    for (saved, (code, disputed)) in saves.iter().zip(WANTED) {
+        assert_eq!(rt; *saved, Saved { code, disputed });
+    }
     Ok(())
 }

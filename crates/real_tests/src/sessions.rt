@@ -1,10 +1,11 @@
-//! Sessions of mail, of a crontab, of accounts and of the checker over a folder.
+//! Sessions of mail, of a crontab, of accounts, of states and of the checker over a folder.
 ghost use Rattle.host_calls.specs.Session.{IsOutside};
 
 use crate::commands::{NOW, ann, status, texts};
 use crate::environment::environment_at;
 use at_account::account_program;
 use at_mail::post_program;
+use at_stat::stat_program;
 use cron_turn::cron_program;
 use host_calls::Host;
 use memory_host::{Files, MemoryHost, MemorySink, Plan};
@@ -17,6 +18,7 @@ pub enum Beside {
     Mail,
     Crontab,
     Account,
+    States,
     Check,
 }
 
@@ -34,6 +36,7 @@ fn session<H: Host>(
         Beside::Mail => mail(alloc, now, host),
         Beside::Crontab => crontab(alloc, now, host),
         Beside::Account => account(alloc, now, host),
+        Beside::States => states(alloc, now, host),
         Beside::Check => check(alloc, now, host),
     }
 }
@@ -79,6 +82,25 @@ fn account<H: Host>(alloc: Global, now: i64, host: &mut H) -> Result<u8, AllocEr
     let words = texts(alloc, &["ataccount", "--show"])?;
     let mut around = environment_at(alloc, now)?;
     let status = account_program(alloc, &words, host, &mut around.out, &mut around.err);
+    Ok(status.code)
+}
+
+fn states<H: Host>(alloc: Global, now: i64, host: &mut H) -> Result<u8, AllocError>
+    requires { IsOutside (H.session host.old) }
+    ensures { IsOutside (H.session host.new) }
+{
+    let words = texts(alloc, &["atstat"])?;
+    let caller = ann(alloc)?;
+    let mut around = environment_at(alloc, now)?;
+    let status = stat_program(
+        alloc,
+        &words,
+        &caller,
+        host,
+        &mut around.readings,
+        &mut around.out,
+        &mut around.err,
+    );
     Ok(status.code)
 }
 

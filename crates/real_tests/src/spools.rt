@@ -1,12 +1,12 @@
 //! A real folder and its model: a spool that has an empty list of users who may not use `at`, and no other file.
-ghost use Rattle.std.specs.Prelude.{◌≡◌, true, IfOk, IfSome};
+ghost use Rattle.std.specs.Prelude.{◌≡◌, true, IfOk};
 ghost use Rattle.host_calls.specs.Session.{IsOutside};
 
 use crate::keeping::Keeping;
 use host_calls::{Host, Name, Text};
 use memory_host::{Files, MemoryHost, Plan};
 use real_programs::{RealFolder, existing_folder};
-use std::alloc::{AllocError, Global};
+use std::alloc::Global;
 use std::process;
 use std::process::Command;
 use std::test::Fail;
@@ -41,30 +41,28 @@ pub fn clear(rt: &HostRuntime, path: &str) -> Result<(), Fail> {
     line(rt, "rm -rf \"$1\" \"$1.out\" \"$1.lock\"", path)
 }
 
-/// The folder, beside one who knows that it is such a spool; none where the model can't be made.
-pub fn kept_folder(rt: &HostRuntime, path: &str) -> Result<Option<KeptFolder>, Fail>
-    ensures { IfOk result (λ made. IfSome made (λ folder. IsOutside (⟦<KeptFolder as Host>⟧.session folder))) }
+/// The folder, beside one who knows that it is such a spool.
+pub fn kept_folder(rt: &HostRuntime, path: &str) -> Result<KeptFolder, Fail>
+    ensures { IfOk result (λ folder. IsOutside (⟦<KeptFolder as Host>⟧.session folder)) }
 {
     let alloc = rt.alloc();
-    let Some(model) = model(alloc)? else {
-        return Ok(None);
-    };
+    let keeping = Keeping::new(alloc, model(alloc)?);
     let spool = Text::of(alloc, path)?;
-    let keeping = Keeping::new(alloc, model);
-    Ok(Some(existing_folder(rt, spool, Waits::Asking, keeping)?))
+    Ok(existing_folder(rt, spool, Waits::Asking, keeping)?)
+}
+
+// The files of such a spool.
+fn files(alloc: Global) -> Result<Files, Fail> {
+    let mut files = Files::new(alloc);
+    files.put(alloc, Name::of(b"at.deny").ok_or("a name")?, b"")?;
+    Ok(files)
 }
 
 // The model of such a spool, within a session.
-fn model(alloc: Global) -> Result<Option<MemoryHost>, AllocError>
-    ensures { IfOk result (λ made. IfSome made (λ model. model.is_inside ≡ true)) }
+fn model(alloc: Global) -> Result<MemoryHost, Fail>
+    ensures { IfOk result (λ model. model.is_inside ≡ true) }
 {
-    let mut files = Files::new(alloc);
-    if let Some(name) = Name::of(b"at.deny") {
-        files.put(alloc, name, b"")?;
-    }
-    let mut model = MemoryHost::make(alloc, files, Plan::quiet(alloc))?;
-    match model.enter(alloc) {
-        Ok(()) => Ok(Some(model)),
-        Err(_) => Ok(None),
-    }
+    let mut model = MemoryHost::make(alloc, files(alloc)?, Plan::quiet(alloc))?;
+    model.enter(alloc)?;
+    Ok(model)
 }

@@ -5,13 +5,18 @@ ghost use Rattle.real_tests.specs.Kept.{verdict};
 use host_calls::HostFault;
 
 /// The answers that were compared, and those among them that were disputed.
-#[derive(Clone, Copy)]
+#[derive(Clone, Copy, Debug)]
 pub struct Tally {
     pub compared: u64,
     pub disputes: u64,
 }
 
 impl Tally {
+    /// Whether at least so many answers were compared, and none of them disputed.
+    pub fn is_undisputed(&self, least: u64) -> bool {
+        self.compared >= least && self.disputes == 0
+    }
+
     /// Counts an answer by whether it is as it should be.
     pub fn count(&mut self, agrees: bool)
         ensures disputed { agrees ≡ true → self.new.disputes ≡ self.old.disputes }

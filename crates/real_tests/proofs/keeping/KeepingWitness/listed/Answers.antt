@@ -1,4 +1,4 @@
-use Rattle.std.proofs.Common.{rules, ◌≡◌, ◌∙◌, sym, List, ℕ}
+use Rattle.std.proofs.Common.{rules}
 use Rattle.std.proofs.lemmas.Slice.Eq.{bytes_eq-Decides, slice_eq-Decides}
 use Rattle.real_tests.proofs.keeping.KeepingWitness.listed.Goals as goal
 use Rattle.real_tests.proofs.keeping.KeepingWitness.listed.Goals.{in-Ok, in-Err}

@@ -1,0 +1,23 @@
+-- How a tool ends (own).
+use Rattle.std.specs.Prelude.{◌≡◌, ℕ, Some, None}
+use Rattle.at_stat.specs.declared.status.StatStatus.{StatStatus}
+use Rattle.caller_environment.specs.declared.tool_name.ToolName.{ToolName}
+use Rattle.caller_environment.specs.declared.tool_name.ToolName.TheVariants.{Atstat}
+use Rattle.listing_text.specs.Cause.{code_of}
+use Rattle.launcher.specs.declared.tool_end.ToolEnd.{ToolEnd}
+use Rattle.launcher.specs.declared.tool_end.ToolEnd.TheVariants.{By, WithCode}
+
+-- the exit status
+abbrev pub code_of_end : ToolEnd → ℕ
+code_of_end (By cause) = code_of cause
+code_of_end (WithCode code) = code
+
+-- the tool may end so: atstat alone ends with a status that is no cause's
+abbrev pub IsEndOf : ToolName → ToolEnd → Type 0
+IsEndOf tool (By cause) = Unit {0}
+IsEndOf tool (WithCode code) = tool ≡ Atstat
+
+-- atstat ended so with this status
+abbrev pub IsEndBy : StatStatus → ToolEnd → Type 0
+IsEndBy status (By cause) = status.cause ≡ Some cause
+IsEndBy status (WithCode code) = (status.cause ≡ None) × (status.code ≡ code)
