@@ -1,13 +1,12 @@
-//! Sessions of the program over a spool in memory.
+//! Sessions of the program over a spool in memory: as many records as there may be, and a crash.
 ghost use Rattle.std.specs.Prelude.{IfOk};
 ghost use Rattle.host_calls.specs.Session.{IsOutside};
 ghost use Rattle.memory_host.specs.Host.{memory_session};
 
+use crate::folders::{named, texts};
 use at_account::{account_name, account_program};
-use host_calls::Name;
 use memory_host::{Files, MemoryHost, MemorySink, Plan};
 use std::alloc::{AllocError, Global};
-use std::process::Abort;
 use std::test::Fail;
 
 // The text of a job of `ann`.
@@ -21,37 +20,38 @@ struct Answered {
     err: MemorySink,
 }
 
-// A spool whose number `last` was drawn last, with a pending job of that number, and this file of accounts.
-fn spool(
-    rt: &impl Abort,
-    alloc: Global,
-    last: u32,
-    accounts: &[u8],
-    plan: Plan,
-) -> Result<MemoryHost, AllocError>
-    ensures { IfOk result (λ host. IsOutside (memory_session host)) }
-{
+impl Answered {
+    // Whether it answered this, and nothing else.
+    fn is(&self, code: u8, out: &[u8], err: &[u8]) -> bool {
+        self.code == code && self.out.content() == out && self.err.content() == err
+    }
+}
+
+// The files of a spool whose number `last` was drawn last, with a pending job of that number, and this file of accounts.
+fn files(alloc: Global, last: u32, accounts: &[u8]) -> Result<Files, Fail> {
     let mut files = Files::new(alloc);
     let sequence = format!(in alloc; "{last:08x}\n")?;
+    files.put(alloc, named(".SEQ")?, sequence.as_bytes())?;
     let job = format!(in alloc; "a{last:08x}01b968a0")?;
-    files.put(
-        alloc,
-        Name::of(b".SEQ").expect(rt, "a name"),
-        sequence.as_bytes(),
-    )?;
-    files.put(alloc, Name::of(job.as_bytes()).expect(rt, "a name"), JOB)?;
+    files.put(alloc, named(job.as_str())?, JOB)?;
     files.put(alloc, account_name(), accounts)?;
-    MemoryHost::make(alloc, files, plan)
+    Ok(files)
+}
+
+// The spool of these files, where no call gets through from the fuse on.
+fn spool(alloc: Global, last: u32, accounts: &[u8], fuse: Option<u64>) -> Result<MemoryHost, Fail>
+    ensures { IfOk result (λ host. IsOutside (memory_session host)) }
+{
+    let mut plan = Plan::quiet(alloc);
+    plan.fuse = fuse;
+    Ok(MemoryHost::make(alloc, files(alloc, last, accounts)?, plan)?)
 }
 
 fn session(alloc: Global, words: &[&str], host: &mut MemoryHost) -> Result<Answered, AllocError>
     requires { IsOutside (memory_session host.old) }
     ensures { IsOutside (memory_session host.new) }
 {
-    let mut texts = Vec::new(alloc);
-    for word in words {
-        texts.push(String::from_str(alloc, word)?)?;
-    }
+    let texts = texts(alloc, words)?;
     let mut out = MemorySink::make(alloc, None);
     let mut err = MemorySink::make(alloc, None);
     let status = account_program(alloc, &texts, host, &mut out, &mut err);
@@ -60,22 +60,6 @@ fn session(alloc: Global, words: &[&str], host: &mut MemoryHost) -> Result<Answe
         out,
         err,
     })
-}
-
-#[test]
-fn no_room_for_a_record(rt: HostRuntime) -> Result<(), Fail> {
-    let alloc = rt.alloc();
-    let accounts = records(alloc, 100_000)?;
-    let mut host = spool(&rt, alloc, 50_002, accounts.as_slice(), Plan::quiet(alloc))?;
-    let answered = session(alloc, &["ataccount", "--show"], &mut host)?;
-    assert_eq!(rt; answered.code, 1);
-    assert_eq!(rt;
-        answered.err.content(),
-        b"ataccount: accounts full\n".as_slice()
-    );
-    assert_eq!(rt; answered.out.content(), b"".as_slice());
-    assert_eq!(rt; host.reading(&account_name()), Some(accounts.as_slice()));
-    Ok(())
 }
 
 // So many records: of jobs that were seen and removed, the first of them also started if the count is odd.
@@ -94,118 +78,30 @@ fn records(alloc: Global, count: u32) -> Result<Vec<u8>, AllocError> {
     Ok(text)
 }
 
-// The status of a session over so many records, with a job that none of them names, and how long the file is then.
-fn count_beside(
-    rt: &impl Abort,
-    alloc: Global,
-    count: u32,
-) -> Result<(u8, Option<usize>), AllocError> {
+// A session over so many records, with a job that none of them names: whether it is refused with nothing shown and the file
+// as it was, and how long the file is then.
+fn beside(alloc: Global, count: u32) -> Result<(bool, Option<usize>), Fail> {
     let accounts = records(alloc, count)?;
-    let mut host = spool(rt, alloc, 50_002, accounts.as_slice(), Plan::quiet(alloc))?;
-    let answered = session(alloc, &["ataccount"], &mut host)?;
-    Ok((
-        answered.code,
-        host.reading(&account_name()).map(|file| file.len()),
-    ))
+    let mut host = spool(alloc, 50_002, accounts.as_slice(), None)?;
+    let answered = session(alloc, &["ataccount", "--show"], &mut host);
+    let file = host.reading(&account_name());
+    let is_same = file == Some(accounts.as_slice());
+    let length = file.map(|file| file.len());
+    drop(host);
+    let is_refused = answered?.is(1, b"", b"ataccount: accounts full\n");
+    Ok((is_refused && is_same, length))
 }
 
+// A pair takes 28 bytes, the three of the first job 39, and the new one 17.
 #[test]
 fn the_last_record_that_has_room(rt: HostRuntime) -> Result<(), Fail> {
-    // A pair takes 28 bytes, the three of the first job 39, and the new one 17.
-    assert_eq!(rt;
-        count_beside(&rt, rt.alloc(), 99_999)?,
-        (0, Some(39 + 49_998 * 28 + 17))
-    );
-    assert_eq!(rt;
-        count_beside(&rt, rt.alloc(), 100_000)?,
-        (1, Some(50_000 * 28))
-    );
-    assert_eq!(rt;
-        count_beside(&rt, rt.alloc(), 100_001)?,
-        (1, Some(39 + 49_999 * 28))
-    );
-    Ok(())
-}
-
-#[test]
-fn a_damaged_file_of_accounts(rt: HostRuntime) -> Result<(), Fail> {
-    let alloc = rt.alloc();
-    let cases: [(&[u8], &[u8]); 7] = [
-        (b"A 00000001 a ann", b"ataccount: .ACC damaged at 0\n"),
-        (
-            b"A 00000001 a ann\nS 00000001\nS 00000001\n",
-            b"ataccount: .ACC damaged at 28\n",
-        ),
-        (
-            b"A 00000001 a ann\nF 00000002\n",
-            b"ataccount: .ACC damaged at 17\n",
-        ),
-        (
-            b"A 00000001 a ann\nN 0000001\n",
-            b"ataccount: .ACC damaged at 17\n",
-        ),
-        (
-            b"A 00000001 a ann\nI 00000001 \n",
-            b"ataccount: .ACC damaged at 17\n",
-        ),
-        (
-            b"A 00000001 a ann\nR 00000001\nL 00000001\n",
-            b"ataccount: .ACC damaged at 28\n",
-        ),
-        (b"\n", b"ataccount: .ACC damaged at 0\n"),
-    ];
-    for (accounts, line) in cases {
-        let mut host = spool(&rt, alloc, 7, accounts, Plan::quiet(alloc))?;
-        let answered = session(alloc, &["ataccount", "--show"], &mut host)?;
-        assert_eq!(rt; answered.code, 7);
-        assert_eq!(rt; answered.err.content(), line);
-        assert_eq!(rt; answered.out.content(), b"".as_slice());
-        assert_eq!(rt; host.reading(&account_name()), Some(accounts));
-    }
-    Ok(())
-}
-
-#[test]
-fn a_number_that_was_closed_lives_again(rt: HostRuntime) -> Result<(), Fail> {
-    let alloc = rt.alloc();
-    let accounts = b"A 00000007 a ann\nR 00000007\n".as_slice();
-    let mut host = spool(&rt, alloc, 7, accounts, Plan::quiet(alloc))?;
-    let answered = session(alloc, &["ataccount", "--show"], &mut host)?;
-    assert_eq!(rt; answered.code, 0);
-    assert_eq!(rt; answered.out.content(), b"ann a 1 0 0 0 0 1 0\n".as_slice());
-    assert_eq!(rt; host.reading(&account_name()), Some(accounts));
-    Ok(())
-}
-
-#[test]
-fn a_job_is_seen_and_then_lost(rt: HostRuntime) -> Result<(), Fail> {
-    let alloc = rt.alloc();
-    let accounts = b"A 00000003 b bob\nS 00000003\n".as_slice();
-    let mut host = spool(&rt, alloc, 7, accounts, Plan::quiet(alloc))?;
-    let answered = session(alloc, &["ataccount"], &mut host)?;
-    assert_eq!(rt; answered.code, 0);
-    assert_eq!(rt; answered.out.content(), b"".as_slice());
-    let expected = b"A 00000003 b bob\nS 00000003\nL 00000003\nA 00000007 a ann\n".as_slice();
-    assert_eq!(rt; host.reading(&account_name()), Some(expected));
-    Ok(())
-}
-
-#[test]
-fn words_that_ask_for_nothing(rt: HostRuntime) -> Result<(), Fail> {
-    let alloc = rt.alloc();
-    let cases: [&[&str]; 5] = [
-        &[],
-        &["ataccount", "--shown"],
-        &["ataccount", "--show", "--show"],
-        &["ataccount", "show"],
-        &["ataccount", "--show=yes"],
-    ];
-    for words in cases {
-        let mut host = spool(&rt, alloc, 7, b"", Plan::quiet(alloc))?;
-        let answered = session(alloc, words, &mut host)?;
-        assert_eq!(rt; answered.code, 1);
-        assert_eq!(rt; answered.err.content(), b"ataccount: usage\n".as_slice());
-        assert_eq!(rt; host.reading(&account_name()), Some(b"".as_slice()));
+    for (count, is_refused, length) in [
+        (99_999, false, 39 + 49_998 * 28 + 17),
+        (100_000, true, 50_000 * 28),
+        (100_001, true, 39 + 49_999 * 28),
+    ] {
+        let seen = beside(rt.alloc(), count)?;
+        assert_eq!(rt; seen, (is_refused, Some(length)), "{count}");
     }
     Ok(())
 }
@@ -213,6 +109,8 @@ fn words_that_ask_for_nothing(rt: HostRuntime) -> Result<(), Fail> {
 const OLD: &[u8] = b"A 00000003 b bob\nS 00000003\n";
 
 const NEW: &[u8] = b"A 00000003 b bob\nS 00000003\nL 00000003\nA 00000007 a ann\n";
+
+const SHOWN: &[u8] = b"ann a 1 0 0 0 0 0 0\nbob b 1 1 0 0 0 0 1\n";
 
 // Whether the file of accounts is the new one; it is to be that or the old one.
 fn is_new(host: &MemoryHost) -> Result<bool, Fail> {
@@ -222,22 +120,23 @@ fn is_new(host: &MemoryHost) -> Result<bool, Fail> {
     Ok(is_new)
 }
 
-// A session through which no call gets from the fuse on, and a reboot with the pick: the session's status, whether the file
-// is the new one, and what the next session shows.
-fn cut_off(
-    rt: &impl Abort,
-    alloc: Global,
-    fuse: u64,
-    pick: u64,
-) -> Result<(u8, bool, Answered), Fail> {
-    let mut plan = Plan::quiet(alloc);
-    plan.fuse = Some(fuse);
-    let mut host = spool(rt, alloc, 7, OLD, plan)?;
-    let first = session(alloc, &["ataccount"], &mut host)?;
+// A session, a reboot with the pick, and the next session, which is to show both jobs: whether the first is done, and whether
+// the file is the new one after the reboot.
+fn over_a_reboot(alloc: Global, pick: u64, host: &mut MemoryHost) -> Result<(bool, bool), Fail>
+    requires { IsOutside (memory_session host.old) }
+{
+    let is_done = session(alloc, &["ataccount"], host)?.code == 0;
     host.reboot(alloc, pick, None)?;
-    let is_new = is_new(&host)?;
-    let next = session(alloc, &["ataccount", "--show"], &mut host)?;
-    Ok((first.code, is_new, next))
+    let is_new = is_new(host)?;
+    let next = session(alloc, &["ataccount", "--show"], host)?;
+    next.is(0, SHOWN, b"").then_some(()).ok_or("both jobs")?;
+    Ok((is_done, is_new))
+}
+
+// The same, where no call of the first session gets through from the fuse on.
+fn cut_off(alloc: Global, fuse: u64, pick: u64) -> Result<(bool, bool), Fail> {
+    let mut host = spool(alloc, 7, OLD, Some(fuse))?;
+    over_a_reboot(alloc, pick, &mut host)
 }
 
 // A session has fifteen host calls.
@@ -245,14 +144,9 @@ fn cut_off(
 fn a_file_of_accounts_is_the_old_one_or_the_new_one(rt: HostRuntime) -> Result<(), Fail> {
     for fuse in 1..17 {
         for pick in [0, 1, u64::MAX] {
-            let (code, is_new, next) = cut_off(&rt, rt.alloc(), fuse, pick)?;
-            assert_eq!(rt; code == 0, fuse == 16, "fuse {fuse}, pick {pick}");
-            assert!(rt; is_new || code != 0, "fuse {fuse}, pick {pick}");
-            assert_eq!(rt; next.code, 0);
-            assert_eq!(rt;
-                next.out.content(),
-                b"ann a 1 0 0 0 0 0 0\nbob b 1 1 0 0 0 0 1\n".as_slice()
-            );
+            let (is_done, is_new) = cut_off(rt.alloc(), fuse, pick)?;
+            let is_right = is_done == (fuse == 16) && (is_new || !is_done);
+            assert!(rt; is_right, "fuse {fuse}, pick {pick}");
         }
     }
     Ok(())

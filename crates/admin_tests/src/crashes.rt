@@ -3,7 +3,7 @@ ghost use Rattle.std.specs.Prelude.{IfOk};
 ghost use Rattle.host_calls.specs.Session.{IsOutside};
 ghost use Rattle.memory_host.specs.Host.{memory_session};
 
-use crate::folders::{JOB, check, folder, named};
+use crate::folders::{JOB, code_of, folder, named};
 use memory_host::MemoryHost;
 use std::alloc::Global;
 use std::test::Fail;
@@ -25,7 +25,7 @@ fn damaged(alloc: Global) -> Result<MemoryHost, Fail>
 fn cut_off(alloc: Global, fuse: u64, pick: u64) -> Result<(u8, bool), Fail> {
     let mut from = damaged(alloc)?;
     let mut to = folder(alloc, &[], Some(fuse))?;
-    let code = check(alloc, &["atcheck", "--salvage"], &mut from, &mut to)?.code;
+    let code = code_of(alloc, &["atcheck", "--salvage"], &mut from, &mut to)?;
     to.reboot(alloc, pick, None)?;
     let stands = to.reading(&named(".SEQ")?).is_some();
     if stands {

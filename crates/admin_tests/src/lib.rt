@@ -1,5 +1,5 @@
-//! The programs of an administrator over folders in memory, by examples from outside: what the checker finds, what it saves
-//! and what a crash leaves of that; files of accounts, and sessions that count.
+//! The programs of an administrator over folders in memory, beside what scenarios say: what a crash leaves of a salvage and
+//! of a file of accounts, a target that holds a spool, many jobs and many records; files of accounts.
 #![tactic(auto)]
 
 #[cfg(test)]
@@ -7,10 +7,10 @@ mod account_lines;
 #[cfg(test)]
 mod account_sessions;
 #[cfg(test)]
-mod checks;
-#[cfg(test)]
 mod crashes;
 #[cfg(test)]
 mod folders;
 #[cfg(test)]
 mod many;
+#[cfg(test)]
+mod targets;

@@ -12,7 +12,8 @@ use Rattle.at_commands.proofs.ServedLemmas.{not_served}
 use Rattle.day_events.specs.Days.{is_day_tool}
 use Rattle.cause_output.specs.declared.caller.Caller.{Caller}
 use Rattle.command_rules.specs.Checks.{Check}
-use Rattle.command_rules.specs.Ends.{Ends, FailsToPrint, Holding, holding}
+use Rattle.command_rules.specs.Ends.{Ends, FailsToPrint}
+use Rattle.cause_output.specs.Outside.{Holding, holding}
 use Rattle.command_rules.specs.Found.{Asked, answers_read}
 use Rattle.cause_output.specs.Sinks.{SaysBy, SinkAt, sink_at}
 use Rattle.host_calls.specs.Causes.{Rose}

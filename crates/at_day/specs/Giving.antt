@@ -4,7 +4,8 @@ use Rattle.at_commands.specs.Tools.{tool_name_of}
 use Rattle.at_words.specs.Requests.{request_of}
 use Rattle.cause_output.specs.declared.caller.Caller.{Caller}
 use Rattle.command_rules.specs.Checks.{Check, is_before, of_variables}
-use Rattle.command_rules.specs.Ends.{Ends, Holding, holding, Telling, telling}
+use Rattle.command_rules.specs.Ends.{Ends}
+use Rattle.cause_output.specs.Outside.{Holding, holding, Telling, telling}
 use Rattle.command_rules.specs.Found.{Asked, is_submission}
 use Rattle.cause_output.specs.Sinks.{SaysBy, SinkAt}
 use Rattle.host_calls.specs.Causes.{Rose}

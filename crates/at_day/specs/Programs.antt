@@ -1,7 +1,7 @@
 -- The program (own): every tool, and beside them the days that are made from a number.
 use Rattle.std.specs.Prelude.{◌≡◌, ◌≢◌, ◌⊎◌, ℕ, Bool, true, false, List, Option, Some, None, Ok, Err, codes}
 use Rattle.std.specs.List.{concat}
-use Rattle.at_commands.specs.Outside.{OutsideAt}
+use Rattle.cause_output.specs.Outside.{OutsideAt}
 use Rattle.at_commands.specs.Tools.{tool_name_of}
 use Rattle.at_words.specs.declared.fault.WordsFault.{WordsFault}
 use Rattle.at_words.specs.declared.fault.WordsFault.TheVariants as words

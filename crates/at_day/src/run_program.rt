@@ -1,6 +1,7 @@
 //! The program: what its words ask for, done.
 ghost use Rattle.std.specs.Prelude.{◌≡◌, ◌<◌, codes, false, map, string_bytes, true};
-ghost use Rattle.at_commands.specs.Outside.{HasRisen, ServesAsked, StaysMade, outside_at};
+ghost use Rattle.at_commands.specs.Outside.{HasRisenAsked, ServesAsked, StaysMade};
+ghost use Rattle.cause_output.specs.Outside.{outside_at};
 ghost use Rattle.at_commands.specs.Served.{IsNotServed};
 ghost use Rattle.at_words.specs.declared.tool_request.ToolRequest.TheVariants as request;
 ghost use Rattle.at_words.specs.Requests.{request_of};
@@ -42,7 +43,7 @@ pub fn program<H: Host, R: Readings, I: Inputs, O: Sink, E: Sink>(
     ensures session { EndsOutside (H.session host.old) (H.session host.new) }
 
     // Each fault comes only where its count rose.
-    ensures faults { HasRisen (request_of (map string_bytes words.now))
+    ensures faults { HasRisenAsked (request_of (map string_bytes words.now))
         (outside_at H.Host R.Readings I.Inputs O.Sink E.Sink host.old readings.old inputs.old out.old err.old)
         (outside_at H.Host R.Readings I.Inputs O.Sink E.Sink host.new readings.new inputs.new out.new err.new) result.cause }
 

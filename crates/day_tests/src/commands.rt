@@ -4,6 +4,7 @@ use crate::memory::{NOW, answer, made_in_memory};
 use crate::texts::texts;
 use host_calls::Name;
 use memory_host::Plan;
+use std::alloc::Global;
 use std::test::Fail;
 
 // What a job's text has besides the commands, for `ann`.
@@ -17,24 +18,23 @@ cd '/home/ann' || {
 }
 ";
 
+// The status of `at now` with so many bytes of commands, and how long the job's text is.
+fn of_length(alloc: Global, count: usize) -> Result<(u8, Option<usize>), Fail> {
+    let words = texts(alloc, &["at", "now"])?;
+    let name = Name::of(b"a0000000101b968a0").ok_or("a name")?;
+    let input = vec![in alloc; b'x'; count]?;
+    let mut memory = made_in_memory(alloc, NOW, &input, Plan::quiet(alloc))?;
+    let answered = answer(alloc, &words, &mut memory);
+    let length = memory.host.reading(&name).map(|text| text.len());
+    drop(memory);
+    Ok((answered?, length))
+}
+
 #[test]
 fn longest_commands(rt: HostRuntime) -> Result<(), Fail> {
-    let alloc = rt.alloc();
-    let words = texts(alloc, &["at", "now"])?;
-    let name = Name::of(b"a0000000101b968a0").expect(&rt, "a name");
-    for (count, code) in [(1_048_576, 0), (1_048_577, 1)] {
-        let input = vec![in alloc; b'x'; count]?;
-        let mut memory = made_in_memory(alloc, NOW, &input, Plan::quiet(alloc))?;
-        let answered = answer(alloc, &words, &mut memory);
-        let length = memory.host.reading(&name).map(|text| text.len());
-        drop(memory);
-        assert_eq!(rt; answered, Ok(code));
-        let expected = if code == 0 {
-            Some(CONTEXT.len() + count)
-        } else {
-            None
-        };
-        assert_eq!(rt; length, expected);
+    let longest = Some(CONTEXT.len() + 1_048_576);
+    for (count, wanted) in [(1_048_576, (0, longest)), (1_048_577, (1, None))] {
+        assert_eq!(rt; of_length(rt.alloc(), count)?, wanted);
     }
     Ok(())
 }

@@ -15,10 +15,8 @@ use std::test::Fail;
 
 const SCRIPT: &[u8] = b"#!/bin/sh\n# at user=ann mail=0\necho hi\n";
 
-// A folder in which so many jobs of `ann` are pending, with the numbers from 1 on.
-fn crowd(alloc: Global, count: u32) -> Result<MemoryHost, AllocError>
-    ensures { IfOk result (λ host. IsOutside (memory_session host)) }
-{
+// The files of a folder in which so many jobs of `ann` are pending, with the numbers from 1 on.
+fn files(alloc: Global, count: u32) -> Result<Files, AllocError> {
     let mut files = Files::new(alloc);
     put(alloc, &mut files, b"at.deny", b"")?;
     put(
@@ -31,7 +29,14 @@ fn crowd(alloc: Global, count: u32) -> Result<MemoryHost, AllocError>
         let name = format!(in alloc; "a{number:05x}01b968a0")?;
         put(alloc, &mut files, name.as_bytes(), SCRIPT)?;
     }
-    MemoryHost::make(alloc, files, Plan::quiet(alloc))
+    Ok(files)
+}
+
+// The folder of these files.
+fn crowd(alloc: Global, count: u32) -> Result<MemoryHost, AllocError>
+    ensures { IfOk result (λ host. IsOutside (memory_session host)) }
+{
+    MemoryHost::make(alloc, files(alloc, count)?, Plan::quiet(alloc))
 }
 
 fn put(alloc: Global, files: &mut Files, name: &[u8], bytes: &[u8]) -> Result<(), AllocError> {
@@ -69,25 +74,31 @@ fn status(
     Ok(status.code)
 }
 
+// The statuses of commands one after another over a folder of so many jobs.
+fn statuses(
+    alloc: Global,
+    commands: &[&[&str]],
+    host: &mut MemoryHost,
+    err: &mut MemorySink,
+) -> Result<Vec<u8>, AllocError>
+    requires { IsOutside (memory_session host.old) }
+{
+    let mut inputs = CountingInputs::new();
+    let mut statuses = Vec::new(alloc);
+    for words in commands {
+        statuses.extend_from_slice(&[status(alloc, words, host, &mut inputs, err)?])?;
+    }
+    Ok(statuses)
+}
+
 #[test]
 fn ten_thousand_jobs_and_one_less(rt: HostRuntime) -> Result<(), Fail> {
-    let alloc = rt.alloc();
-    let mut host = crowd(alloc, 10_000)?;
-    let mut inputs = CountingInputs::new();
-    let mut err = MemorySink::make(alloc, None);
-    assert_eq!(rt;
-        status(alloc, &["at", "now"], &mut host, &mut inputs, &mut err),
-        Ok(1)
-    );
-    assert_eq!(rt;
-        status(alloc, &["atrm", "5"], &mut host, &mut inputs, &mut err),
-        Ok(0)
-    );
-    assert_eq!(rt;
-        status(alloc, &["at", "now"], &mut host, &mut inputs, &mut err),
-        Ok(0)
-    );
+    let commands: [&[&str]; 3] = [&["at", "now"], &["atrm", "5"], &["at", "now"]];
+    let mut err = MemorySink::make(rt.alloc(), None);
+    let mut host = crowd(rt.alloc(), 10_000)?;
+    let statuses = statuses(rt.alloc(), &commands, &mut host, &mut err);
     drop(host);
+    assert_eq!(rt; statuses?.as_slice(), [1, 0, 0].as_slice());
     assert_eq!(rt;
         err.content(),
         b"at: queue full\njob 10001 at Wed Jan  1 00:00:00 2025\n".as_slice()

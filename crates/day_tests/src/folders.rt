@@ -4,11 +4,16 @@ use process_input::take_folder;
 use std::alloc::{AllocError, Global};
 use std::test::Fail;
 
-// The folder in these words, and how many words are left.
-fn taken(alloc: Global, words: &[&str]) -> Result<(Option<String>, usize), AllocError> {
+// Whether this folder is taken from these words, and so many words are left.
+fn is_taken(
+    alloc: Global,
+    words: &[&str],
+    wanted: Option<&str>,
+    left: usize,
+) -> Result<bool, AllocError> {
     let mut words = texts(alloc, words)?;
     let folder = take_folder(&mut words);
-    Ok((folder, words.len()))
+    Ok(folder.as_deref() == wanted && words.len() == left)
 }
 
 #[test]
@@ -23,9 +28,10 @@ fn the_folder_is_the_word_after_the_name(rt: HostRuntime) -> Result<(), Fail> {
         (&["atcheck", ""], Some(""), 1),
     ];
     for (words, folder, left) in cases {
-        let (found, count) = taken(rt.alloc(), words)?;
-        assert_eq!(rt; found.as_deref(), folder);
-        assert_eq!(rt; count, left);
+        assert!(rt;
+            is_taken(rt.alloc(), words, folder, left)?,
+            "{folder:?} of {left}"
+        );
     }
     Ok(())
 }

@@ -1,20 +1,16 @@
 //! Days and commands, tried in memory: a made day with each call failing, the machine stopping, each lock taken; and what
-//! no scenario writes down: many jobs, long commands, two batch jobs of a day, how often commands are
-//! read, and the folder that a program names first.
+//! no scenario writes down: many jobs, long commands, how often commands are read, and the folder that a
+//! program names first.
 #![tactic(auto)]
 
 #[cfg(test)]
 mod ann;
-#[cfg(test)]
-mod batches;
 #[cfg(test)]
 mod commands;
 #[cfg(test)]
 mod counting_inputs;
 #[cfg(test)]
 mod crowd;
-#[cfg(test)]
-mod days;
 #[cfg(test)]
 mod folders;
 #[cfg(test)]

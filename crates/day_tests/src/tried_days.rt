@@ -1,5 +1,5 @@
 //! Made days for tests: one made at once, and one whose events happen one by one.
-ghost use Rattle.std.specs.Prelude.{◌≤◌, IfOk, OnOk};
+ghost use Rattle.std.specs.Prelude.{IfOk, OnOk};
 ghost use Rattle.host_calls.specs.Session.{IsOutside};
 ghost use Rattle.memory_host.specs.Host.{memory_session};
 ghost use Rattle.at_day.specs.Days.{IsReady};
@@ -7,7 +7,6 @@ ghost use Rattle.at_day.specs.Machines.{machine};
 
 use crate::tried_rules::Seen;
 use at_day::{INTERVAL, LIMIT, day, one_event, spool_of_day};
-use at_words::MAX_EVENTS;
 use daemon_turn::Daemon;
 use day_events::{Event, EventReport, Events, Made, are_day_events, is_day_event, make_events};
 use memory_host::{MemoryHost, Plan};
@@ -18,30 +17,15 @@ use std::process::Abort;
 /// How many events the day has that is tried.
 pub const EVENTS: usize = 32;
 
-/// Its events.
+/// Its events. No test rests on which they are, so no clause says it, and no proof computes them.
 pub fn events(alloc: Global) -> Result<Events, AllocError> {
-    events_up_to(alloc, EVENTS as u32)
+    let Made { events, .. } = make_events(alloc, EVENTS as u32)?;
+    Ok(events)
 }
 
 /// The plan of its host, by which nothing fails.
 pub fn plan(alloc: Global) -> Result<Plan, AllocError> {
-    plan_up_to(alloc, EVENTS as u32)
-}
-
-/// The events of the made day of so many. No test rests on which they are, so no clause says it, and no proof computes
-/// them.
-pub fn events_up_to(alloc: Global, count: u32) -> Result<Events, AllocError>
-    requires { count ≤ MAX_EVENTS }
-{
-    let Made { events, .. } = make_events(alloc, count)?;
-    Ok(events)
-}
-
-/// The plan of the host of the made day of so many events.
-pub fn plan_up_to(alloc: Global, count: u32) -> Result<Plan, AllocError>
-    requires { count ≤ MAX_EVENTS }
-{
-    let Made { plan, .. } = make_events(alloc, count)?;
+    let Made { plan, .. } = make_events(alloc, EVENTS as u32)?;
     Ok(plan)
 }
 
@@ -59,22 +43,10 @@ pub fn day_by(
     events: &[Event],
     plan: Plan,
 ) -> Result<Seen, AllocError> {
-    let mut host = spool(alloc, plan)?;
-    day_on(rt, alloc, events, &mut host)
-}
-
-/// The day of these events on this host.
-pub fn day_on(
-    rt: &impl Abort,
-    alloc: Global,
-    events: &[Event],
-    host: &mut MemoryHost,
-) -> Result<Seen, AllocError>
-    requires { IsOutside (memory_session host.old) }
-{
     assert!(rt; are_day_events(events));
-    let report = day(alloc, events, host)?;
-    Ok(Seen::of(host, report.events.as_slice(), report.counts))
+    let mut host = spool(alloc, plan)?;
+    let report = day(alloc, events, &mut host)?;
+    Ok(Seen::of(&host, report.events.as_slice(), report.counts))
 }
 
 /// A day on its way: its host and daemon, and what its events reported so far.

@@ -10,8 +10,6 @@ use std::alloc::{AllocError, Global};
 /// What is seen of a day after its last event.
 #[derive(Clone, Copy)]
 pub struct Seen {
-    /// How many events reported.
-    pub reported: usize,
     /// What the recovery after them counts, where it does.
     pub counts: Option<Counts>,
     /// How many calls were made, with those of the recovery.
@@ -32,7 +30,6 @@ impl Seen {
         counts: Result<Counts, StoreFault>,
     ) -> Seen {
         Seen {
-            reported: reports.len(),
             counts: counts.ok(),
             calls: host.calls(),
             has_fault: reports.iter().any(is_fault),

@@ -10,12 +10,16 @@ pub enum Event {
     Run(Vec<String>),
     /// A call of the program that counts jobs, with all its words.
     Account(Vec<String>),
+    /// A call of the program that shows what became of jobs, with all its words.
+    Stat(Vec<String>),
     /// A call of the program that mails ends of jobs, with all its words.
     Post(Vec<String>),
     /// A call of the program of a crontab, with all its words.
     Cron(Vec<String>),
     /// A call of the checker, with all its words.
     Check(Vec<String>),
+    /// The same, after which the machine goes on in the folder of what was saved.
+    Salvage(Vec<String>),
     /// A new daemon without kids, with this limit of the load and this interval between batch starts.
     Daemon(u32, u32),
     /// One full turn of the daemon, at this second and with this load.
@@ -33,9 +37,11 @@ pub fn event_of(alloc: Global, word: &[u8], rest: &[Vec<u8>]) -> Result<Event, W
     match word {
         b"run" => Ok(Event::Run(texts(alloc, rest)?)),
         b"account" => Ok(Event::Account(texts(alloc, rest)?)),
+        b"stat" => Ok(Event::Stat(texts(alloc, rest)?)),
         b"post" => Ok(Event::Post(texts(alloc, rest)?)),
         b"cron" => Ok(Event::Cron(texts(alloc, rest)?)),
         b"check" => Ok(Event::Check(texts(alloc, rest)?)),
+        b"salvage" => Ok(Event::Salvage(texts(alloc, rest)?)),
         b"daemon" => {
             let (limit, interval) = two(rest)?;
             Ok(Event::Daemon(number(limit)?, number(interval)?))

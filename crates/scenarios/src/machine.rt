@@ -9,8 +9,9 @@ use crate::printed::{counts_line, show_asked, show_handed, show_run, show_turn};
 use crate::settings::Settings;
 use crate::transcript::Transcript;
 use at_account::account_program;
-use at_day::{day, program};
+use at_day::{INTERVAL, LIMIT, day, program};
 use at_mail::post_program;
+use at_stat::stat_program;
 use clock_range::is_clock_second;
 use cron_turn::cron_program;
 use daemon_turn::{Daemon, Mode};
@@ -28,13 +29,13 @@ pub struct Machine {
 }
 
 impl Machine {
-    /// The machine of this host, with a daemon that has the limit and the interval which `atd` has at first.
+    /// The machine of this host, with a daemon that has the limit and the interval of a day, which `atd` has at first.
     pub fn new(alloc: Global, host: MemoryHost) -> Machine
         requires { IsOutside (memory_session host) }
     {
         Machine {
             host,
-            daemon: Daemon::new(alloc, 150, 60),
+            daemon: Daemon::new(alloc, LIMIT, INTERVAL),
         }
     }
 
@@ -49,9 +50,11 @@ impl Machine {
         match event {
             Event::Run(words) => Ok(self.run(alloc, &words, settings, transcript)?),
             Event::Account(words) => Ok(self.account(alloc, &words, settings, transcript)?),
+            Event::Stat(words) => Ok(self.stat(alloc, &words, settings, transcript)?),
             Event::Post(words) => Ok(self.post(alloc, &words, settings, transcript)?),
             Event::Cron(words) => Ok(self.cron(alloc, &words, settings, transcript)?),
             Event::Check(words) => Ok(self.check(alloc, &words, settings, transcript)?),
+            Event::Salvage(words) => Ok(self.salvage(alloc, &words, settings, transcript)?),
             Event::Daemon(limit, interval) => {
                 self.daemon = Daemon::new(alloc, limit, interval);
                 Ok(())
@@ -129,6 +132,30 @@ impl Machine {
         show_run(alloc, "account", status.code, out, err, 0, transcript)
     }
 
+    // Shows what became of the jobs, as the words ask for it.
+    fn stat(
+        &mut self,
+        alloc: Global,
+        words: &[String],
+        settings: &Settings,
+        transcript: &mut Transcript,
+    ) -> Result<(), AllocError> {
+        let mut readings = settings.readings(alloc)?;
+        let mut out = settings.out(alloc);
+        let mut err = settings.err(alloc);
+        let status = stat_program(
+            alloc,
+            words,
+            &settings.caller,
+            &mut self.host,
+            &mut readings,
+            &mut out,
+            &mut err,
+        );
+        let (out, err, rested) = (out.content(), err.content(), readings.rested());
+        show_run(alloc, "stat", status.code, out, err, rested, transcript)
+    }
+
     // Makes sessions of mail, as the words ask for it.
     fn post(
         &mut self,
@@ -190,6 +217,33 @@ impl Machine {
         drop(target);
         let (out, err) = (out.content(), err.content());
         show_run(alloc, "check", status.code, out, err, 0, transcript)
+    }
+
+    // Saves what the folder has into one of its own, as the words ask for it, goes on in that one with a new daemon, and
+    // prints its files.
+    fn salvage(
+        &mut self,
+        alloc: Global,
+        words: &[String],
+        settings: &Settings,
+        transcript: &mut Transcript,
+    ) -> Result<(), AllocError> {
+        let mut target = MemoryHost::make(alloc, Files::new(alloc), Plan::quiet(alloc))?;
+        let mut out = settings.out(alloc);
+        let mut err = settings.err(alloc);
+        let status = check_program(
+            alloc,
+            words,
+            &mut self.host,
+            &mut target,
+            &mut out,
+            &mut err,
+        );
+        self.host = target;
+        self.daemon = Daemon::new(alloc, self.daemon.limit(), self.daemon.interval());
+        let (out, err) = (out.content(), err.content());
+        show_run(alloc, "salvage", status.code, out, err, 0, transcript)?;
+        self.show_files(alloc, transcript)
     }
 
     // Prints what a day without events counts.

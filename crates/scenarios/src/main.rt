@@ -1,4 +1,5 @@
-//! Runs scenarios: cases of the tools and of the daemon as text, over a spool in memory.
+//! Runs cases written as text: calls, turns, faults, crashes, reboots; parses them and prints what happened. The gate
+//! compares the output with lines written by hand.
 #![tactic(auto)]
 
 mod event;

@@ -1,7 +1,11 @@
-//! The real host, tried: its calls on real folders, locks and children. What their clauses say is proved in unix_host;
-//! what a folder holds, and what the system is asked for, is shown here.
+//! Tests of the real host: directories, locks, children.
+//!
+//! What the clauses of its calls say is proved in unix_host; what a directory contains, and what the system is called
+//! for, is tested here.
 #![tactic(auto)]
 
+#[cfg(test)]
+mod calls;
 #[cfg(test)]
 mod folders;
 #[cfg(test)]
@@ -12,6 +16,8 @@ mod kept;
 mod locks;
 #[cfg(test)]
 mod refusing;
+#[cfg(test)]
+mod spools;
 #[cfg(test)]
 mod syncs;
 #[cfg(test)]

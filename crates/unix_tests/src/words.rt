@@ -6,20 +6,20 @@ ghost use Rattle.unix_host.specs.UnixHost.{session_of};
 use host_calls::{Host, HostFault, Name, Text};
 use std::alloc::{AllocError, Global};
 use std::fs::File;
-use std::process;
-use std::process::{Abort, Command, Processes};
+use std::process::{Command, Processes};
 use std::rt::Runtime;
 use std::test::Fail;
+use std::{io, process};
 use unix_host::UnixHost;
 
 /// What a line of the shell prints, whose `$1` is the path.
-pub fn line(rt: &HostRuntime, text: &str, path: &str) -> Result<Vec<u8>, Fail> {
+pub fn line(rt: &HostRuntime, text: &str, path: &str) -> io::Result<Vec<u8>> {
     let mut shell = Command::new(rt.alloc(), "/bin/sh")?;
     printed(rt, &mut shell, &["-c", text, "sh", path])
 }
 
 // What a command prints with these words.
-fn printed(rt: &HostRuntime, command: &mut Command, words: &[&str]) -> Result<Vec<u8>, Fail> {
+fn printed(rt: &HostRuntime, command: &mut Command, words: &[&str]) -> io::Result<Vec<u8>> {
     command.args(words)?;
     Ok(command.output(rt)?.stdout)
 }
@@ -57,8 +57,9 @@ pub fn host_over<R: Runtime<File = File> + Processes>(
     UnixHost::make(outside, alloc, spool)
 }
 
-pub fn named(rt: &impl Abort, text: &str) -> Name {
-    Name::of(text.as_bytes()).expect(rt, "a name")
+/// The name of a file.
+pub fn named(text: &str) -> Result<Name, HostFault> {
+    Name::of(text.as_bytes()).ok_or(HostFault::Failed)
 }
 
 /// Begins a session.

@@ -1,5 +1,5 @@
 use Rattle.host_calls.specs.Session.{StaysInside}
-use Rattle.unix_tests.proofs.jobs.awaited.Given as goal
+use Rattle.unix_tests.proofs.calls.awaited.Given as goal
 
 -- a question starts no child and ends no session
 abbrev pub invariant-loop : goal.invariant-loop
