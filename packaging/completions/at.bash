@@ -1,4 +1,4 @@
-# Completions of at, batch, atq, atrm, atd, atday, ataccount, atpost, atcron, atcrontab, atcheck, atsalvage, atout, atwhen and atusers for bash.
+# Completions of at, batch, atq, atrm, atstat, atd, atday, ataccount, atpost, atcron, atcrontab, atcheck, atsalvage, atout, atwhen and atusers for bash.
 
 _coefhird_jobs() { atq 2>/dev/null | cut -f 1; }
 
@@ -77,6 +77,15 @@ _coefhird_atrm() {
     mapfile -t COMPREPLY < <(compgen -W "$(_coefhird_jobs) $(_coefhird_alone)" -- "${COMP_WORDS[COMP_CWORD]}")
 }
 
+_coefhird_atstat() {
+    COMPREPLY=()
+    case ${COMP_WORDS[COMP_CWORD-1]} in
+        -q) mapfile -t COMPREPLY < <(compgen -W "$(_coefhird_queues)" -- "${COMP_WORDS[COMP_CWORD]}") ;;
+        --turns) ;;
+        *) mapfile -t COMPREPLY < <(compgen -W "-q -w --json --turns $(_coefhird_jobs) $(_coefhird_alone)" -- "${COMP_WORDS[COMP_CWORD]}") ;;
+    esac
+}
+
 _coefhird_atd() {
     COMPREPLY=()
     case ${COMP_WORDS[COMP_CWORD-1]} in
@@ -151,6 +160,7 @@ complete -F _coefhird_at at
 complete -F _coefhird_batch batch
 complete -F _coefhird_atq atq
 complete -F _coefhird_atrm atrm
+complete -F _coefhird_atstat atstat
 complete -F _coefhird_atd atd
 complete -F _coefhird_atday atday
 complete -F _coefhird_ataccount ataccount

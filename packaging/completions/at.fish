@@ -1,4 +1,4 @@
-# Completions of at, batch, atq, atrm, atd, atday, ataccount, atpost, atcron, atcrontab, atcheck, atsalvage, atout and atwhen for fish.
+# Completions of at, batch, atq, atrm, atstat, atd, atday, ataccount, atpost, atcron, atcrontab, atcheck, atsalvage, atout and atwhen for fish.
 
 function __coefhird_jobs
     atq 2>/dev/null
@@ -38,7 +38,7 @@ function __coefhird_time
 end
 
 # What each tool takes as its only word.
-for tool in at batch atq atrm atd atday ataccount atpost atcron atcrontab atcheck atsalvage atout atwhen
+for tool in at batch atq atrm atstat atd atday ataccount atpost atcron atcrontab atcheck atsalvage atout atwhen
     complete -c $tool -n 'test (count (commandline -opc)) = 1' -l help -d 'print what it is for'
     complete -c $tool -n 'test (count (commandline -opc)) = 1' -l version -d 'print its version'
 end
@@ -72,6 +72,12 @@ complete -c atq -f
 complete -c atq -s q -x -a '(__coefhird_queues)' -d 'show this queue alone'
 
 complete -c atrm -f -a '(__coefhird_jobs)'
+
+complete -c atstat -f -a '(__coefhird_jobs)'
+complete -c atstat -l json -d 'print each line as a JSON object'
+complete -c atstat -s q -x -a '(__coefhird_queues)' -d 'show this queue alone'
+complete -c atstat -l turns -x -d 'look so many times and end'
+complete -c atstat -s w -d 'wait until the jobs have finished'
 
 complete -c atd -f
 complete -c atd -s b -x -d 'seconds between two starts in batch queues'
