@@ -1,4 +1,4 @@
-/* Runs commands so many times, one of each in turn, and writes what each run took.
+/* Runs commands so many times, one of each in a round, in an order drawn anew for each round, and writes what each run took.
  *
  *   measure COUNT FIRST INPUT WORD .. [-- WORD .. [-- ..]]
  *
@@ -55,29 +55,46 @@ static int run(char **words, const char *input, double *wall, double *cpu) {
     return WIFEXITED(status) ? WEXITSTATUS(status) : 128 + WTERMSIG(status);
 }
 
+enum { MOST_WORDS = 64, MOST_COMMANDS = 16 };
+
+/* Runs the command that begins at this word, in the round of this number. Whether it may count. */
+static int sample(char **words, int count, int from, int place, char *number) {
+    char *command[MOST_WORDS];
+    int length = 0;
+    for (; from < count && strcmp(words[from], "--") != 0 && length < MOST_WORDS - 1; from++)
+        command[length++] = strcmp(words[from], "%") == 0 ? number : words[from];
+    command[length] = NULL;
+    double wall, cpu;
+    int status = run(command, words[3], &wall, &cpu);
+    if (status != 0 && status != 1) {
+        fprintf(stderr, "measure: %s ended with %d\n", command[0], status);
+        return 0;
+    }
+    printf("%d %.0f %.0f\n", place, wall, cpu);
+    return 1;
+}
+
 int main(int count, char **words) {
     if (count < 5) return 2;
     int times = atoi(words[1]), first = atoi(words[2]);
+    int begins[MOST_COMMANDS] = {4}, order[MOST_COMMANDS] = {0}, commands = 1;
+    for (int word = 4; word < count; word++)
+        if (strcmp(words[word], "--") == 0 && commands < MOST_COMMANDS) {
+            order[commands] = commands;
+            begins[commands++] = word + 1;
+        }
     settle_environment();
+    srandom((unsigned)time(NULL) ^ (unsigned)getpid());
     for (int round = 0; round < times; round++) {
         char number[16];
         snprintf(number, sizeof number, "%d", first + round);
-        int place = 0;
-        for (int from = 4; from < count; place++) {
-            char *command[64];
-            int length = 0;
-            for (; from < count && strcmp(words[from], "--") != 0 && length < 63; from++)
-                command[length++] = strcmp(words[from], "%") == 0 ? number : words[from];
-            command[length] = NULL;
-            from++;
-            double wall, cpu;
-            int status = run(command, words[3], &wall, &cpu);
-            if (status != 0 && status != 1) {
-                fprintf(stderr, "measure: %s ended with %d\n", command[0], status);
-                return 1;
-            }
-            printf("%d %.0f %.0f\n", place, wall, cpu);
+        for (int left = commands; left > 1; left--) {
+            int taken = (int)(random() % left), kept = order[left - 1];
+            order[left - 1] = order[taken];
+            order[taken] = kept;
         }
+        for (int turn = 0; turn < commands; turn++)
+            if (!sample(words, count, begins[order[turn]], order[turn], number)) return 1;
     }
     return 0;
 }

@@ -3,7 +3,7 @@ how many of them the outputs are there."""
 import glob, os, resource, subprocess, sys, time
 
 spool, prefix, past, outputs = sys.argv[1], sys.argv[2], int(sys.argv[3]), int(sys.argv[4])
-WAITING, KEPT, FULL = 100, 10000, 100000
+WAITING, KEPT, FULL, RUNS = 100, 10000, 100000, 15
 MINUTE = 28928160  # of the first job; one each minute and a half or so
 environment = {'ATSPOOL': spool, 'LOGNAME': 'root', 'HOME': '/root', 'PWD': '/', 'TZ': 'UTC', 'PATH': '/usr/bin:/bin'}
 SCRIPT = ("#!/bin/sh\n# at user=root mail=0\numask 0022\n"
@@ -44,8 +44,8 @@ def slots(done):
         yield '-' + '.' * 30 + '\n'
 
 
-def make(jobs):
-    """A spool in which so many jobs are over and as many as WAITING wait."""
+def make(jobs, noted):
+    """A spool in which so many jobs are over and as many as WAITING wait. Whether atpost and ataccount saw those that are over."""
     os.makedirs(spool, 0o700)
     done, live = range(1, jobs + 1), range(past + 1, past + 1 + WAITING)
     for number in live:
@@ -53,6 +53,8 @@ def make(jobs):
     write('.SEQ', '%08x\n' % (past + WAITING))
     write('at.deny', '')
     write('.JRN', ''.join(slots(done[-KEPT:])))
+    if not noted:
+        done, jobs = [], 0
     write('.MAIL', ''.join(notes(done, live)))
     counted = min(jobs, (FULL - WAITING - 1000) // 3)
     write('.ACC', ''.join(records(range(jobs - counted + 1, jobs + 1), live)))
@@ -68,11 +70,11 @@ def make_outputs(jobs):
             os.utime(path, (old, old))
 
 
-def apart(function, jobs):
+def apart(function, *words):
     """In a process of its own: the memory of this one would be counted with each program that it starts."""
     child = os.fork()
     if child == 0:
-        function(jobs)
+        function(*words)
         os._exit(0)
     if os.waitpid(child, 0)[1] != 0:
         sys.exit('no spool could be made')
@@ -106,30 +108,41 @@ def measure(state):
     for what, call in calls.items():
         if what != 'at':
             run(*call)  # (what is new is noted first)
-        found = [run(*call) for _ in range(5)]
+        found = [run(*call) for _ in range(RUNS)]
         print('| %s | %s | %.1f | %.1f | %.1f |' % (
             what, state, min(f[0] for f in found), min(f[1] for f in found), max(f[2] for f in found)))
         sys.stdout.flush()
+
+
+def clear():
+    subprocess.run(['rm', '-r', '--'] + glob.glob(spool + '*'), check=True)
 
 
 def size(name):
     return os.path.getsize(os.path.join(spool, name))
 
 
+def output_count():
+    return sum(1 for _ in os.scandir(spool + '.out'))
+
+
 print('(what measures has %.1f MB itself, which each program has at least here)' % (resource.getrusage(resource.RUSAGE_SELF).ru_maxrss / 1024))
 print('| call | spool | ms of processor time | ms of wall time | MB |\n|---|---|---|---|---|')
-apart(make, 0)
+apart(make, 0, True)
 measure('new')
-subprocess.run(['rm', '-r', '--'] + glob.glob(spool + '*'), check=True)
+clear()
+apart(make, past, False)
+measure('a used journal')
+clear()
 since = time.monotonic()
-apart(make, past)
+apart(make, past, True)
 apart(make_outputs, outputs)
 print('made in %d s: .JRN %d, .MAIL %d, .ACC %d bytes, %d outputs' % (
-    time.monotonic() - since, size('.JRN'), size('.MAIL'), size('.ACC'), len(os.listdir(spool + '.out'))))
+    time.monotonic() - since, size('.JRN'), size('.MAIL'), size('.ACC'), output_count()))
 measure('a year later')
 print('rotate: %d ms of processor time, %d ms' % run('rotate', ['--now'])[:2])
 print('counts: %s' % open(glob.glob(spool + '.accounts/*.counts')[0]).read().strip())
-os.rename(os.path.join(spool, '.MAIL'), spool + '.MAIL.1')
-print('trim: %d ms of processor time, %d ms; %d outputs stay' % (run('trim', [])[:2] + (len(os.listdir(spool + '.out')),)))
-measure('after the rotation')
+print('atpost --trim: %d ms of processor time, %d ms' % run('atpost', [spool, '--trim'])[:2])
+print('trim: %d ms of processor time, %d ms; %d outputs stay' % (run('trim', [])[:2] + (output_count(),)))
+measure('after trim and rotation')
 print('then .MAIL %d, .ACC %d bytes' % (size('.MAIL'), size('.ACC')))

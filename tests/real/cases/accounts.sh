@@ -64,7 +64,7 @@ case_account_to_a_closed_pipe() {
 
 # After each kill the account is as it was or as it is to be, and no count falls.
 case_account_that_is_killed() {
-  opened; measured
+  needs_disk; opened; measured
   round=0
   while [ $round -lt 20 ] || { [ $cut -lt 5 ] && [ $round -lt 400 ]; }; do
     round=$((round + 1))

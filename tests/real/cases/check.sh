@@ -86,7 +86,7 @@ case_check_damages() {
 # A salvage that is killed leaves a folder without its last number, which shows no job, or the whole salvage; the next one
 # goes into a folder of its own.
 case_check_salvage_that_is_killed() {
-  day_of_jobs
+  needs_disk; day_of_jobs
   printf 0 >"$spool/.SEQ"; measured; span=$((span + 8))
   names="$(basename "$(file_of 2)") $(basename "$(file_of 3)")" marks='S00000001 E00000001 R00000004'
   round=0 parts=0
@@ -222,9 +222,9 @@ case_check_into_a_pipe_that_nobody_reads() {
   for number in $(seq 2 5001); do printf '%s/a%08x01e187e0\n' "$spool" "$number"; done | xargs -n 1000 touch
   mkfifo pipe; exec 3<>pipe
   (becomes "$bin/atcheck" "$spool" >pipe 2>err_of_check </dev/null) & local child=$!
-  for _ in $(seq 100); do [ -n "$(timeout 0.1 head -c 1 <&3)" ] && break; sleep 0.1; done
+  for _ in $(seq 600); do [ -n "$(timeout 0.1 head -c 1 <&3)" ] && break; sleep 0.1; done
   kill -0 "$child" 2>/dev/null || fail 'its lines fit into the pipe'
-  status=0; printf true | bare timeout 5 "$bin/at" -t 203001010000 2>err || status=$?
+  status=0; printf true | bare timeout 60 "$bin/at" -t 203001010000 2>err || status=$?
   [ "$status $(cat err)" = "7 at: $(basename "$(file_of 2)") damaged at 0" ] || fail "at beside it: $status, $(cat err)"
   kill -9 "$child"; wait "$child" 2>/dev/null
   exec 3>&-
@@ -235,7 +235,11 @@ case_check_many_jobs() {
   opened
   with 'true' at -t 203001010000; took 1
   job=$(file_of 1)
-  for number in $(seq 2 10000); do printf '%s/a%08x%s\n' "$spool" "$number" "${job: -8}"; done | xargs -n 1000 sh -c 'job=$0; for file; do cp "$job" "$file"; done' "$job"
+  text=$(cat "$job")
+  for number in $(seq 2 10000); do
+    printf -v file '%s/a%08x%s' "$spool" "$number" "${job: -8}"
+    printf '%s\n' "$text" >"$file"
+  done
   printf '%08x\n' 10000 >"$spool/.SEQ"
   time_of() { ( TIMEFORMAT='%U %S'; time bare "$@" >/dev/null 2>&1 </dev/null ) 2>&1 | awk '{ printf "%d", ($1 + $2) * 1000 }'; }
   user=root; time_of "$bin/atq" >/dev/null

@@ -1,7 +1,17 @@
 # The daemon. Each case is skipped as long as atd does not serve.
 
 # Waits until the file is there.
-awaits() { for _ in $(seq 200); do [ -e "$1" ] && return; sleep 0.05; done; fail "there is no $1"; }
+awaits() { for _ in $(seq 400); do [ -e "$1" ] && return; sleep 0.05; done; fail "there is no $1"; }
+# The same for what it writes.
+awaits_text() { for _ in $(seq 400); do [ -s "$1" ] && return; sleep 0.05; done; fail "there is nothing in $1"; }
+# Waits for an atd that works on the spool: it has the lock of the outputs, which a look here must not take.
+awaits_atd() {
+  for _ in $(seq 400); do
+    [ -d "$spool.out" ] && grep -q ":$(stat -c %i "$spool.out") " /proc/locks && return
+    sleep 0.05
+  done
+  fail "no atd works on $spool"
+}
 # What the one job of this number wrote.
 output_of() { cat "$spool.out/"?"$(printf %08x "$1")"????????; }
 
@@ -111,7 +121,7 @@ case_a_daemon_that_is_killed() {
   call atd -s </dev/null
   ended 0 $'job 1 interrupted\n' ''
   with '' atq; ended 0 '' ''
-  sleep 0.3
+  awaits ran; sleep 0.3
   [ "$(wc -l <ran)" = 1 ] || fail 'the job ran twice'
 }
 
@@ -128,4 +138,19 @@ case_outputs_of_atd_that_fail() {
   printf '0000g\n' >spool/.SEQ
   call atd -s </dev/null
   refused 7 'atd: .SEQ damaged at 4'
+}
+
+# At a limit of processes no child can be made: each job that is due is done, is told as not started, and does not come again.
+steps_of_failed_starts() {
+  home=$PWD/home
+  for job in 1 2; do login "$door/at" now <<<"echo >>'$PWD/home/ran'" 2>err || fail "at: $(cat err)"; done
+  status=0; second prlimit --nproc=1:1 env -i HOME="$home" TZ=UTC "$door/atd" -s >out 2>err </dev/null || status=$?
+  ended 0 $'job 1 handed over\njob 1 not started\njob 2 handed over\njob 2 not started\n' ''
+  status=0; login "$door/atd" -s >out 2>err </dev/null || status=$?
+  ended 0 '' ''
+  login "$door/atq" >out; [ ! -s out ] && [ ! -e home/ran ] || fail "they ran, or wait: $(cat out)"
+}
+case_starts_at_a_limit_of_processes() {
+  command -v prlimit >/dev/null || skip 'there is no prlimit'
+  needs_atd; doored; apart steps_of_failed_starts
 }

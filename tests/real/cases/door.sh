@@ -144,8 +144,8 @@ case_door_zone_files() {
 500|TZif2|$(printf 'E%.0s' $(seq 62))5EST
 END
   rm zone_file; mkfifo zone_file
-  begun=$SECONDS; zoned; refused 1 'at: bad TZ'
-  [ $((SECONDS - begun)) -lt 10 ] || fail 'it waits for a named pipe'
+  # (knock ends what waits)
+  zoned; refused 1 'at: bad TZ'
 }
 
 # Debian's desktops and servers have no TZ, and a link at /etc/localtime.
@@ -247,13 +247,14 @@ at 830|1|at: bad time at byte 0
 at -f none now|3|at: input fault
 atrm 7|1|atrm: no such job 7
 atd -b x|1|atd: usage
+atstat --turns 2|1|atstat: usage
 atday|1|atday: usage
 END
   extra=(ATSPOOL="$PWD/none/spool" TZ=UTC); hand '' at noon tomorrow; refused 2 'at: spool fault'
   extra=(ATSPOOL="$spool" TZ=UTC); hand true at -q c -m noon tomorrow; took 1
   knock at -c 1; cmp -s out "$(file_of 1)" || fail 'what is shown is not the job'
   knock atday --make 8; [ "$status" = 0 ] && [ "$(head -n 1 out)" = 'events 8' ] || fail "atday says $(cat out err)"
-  for tool in at batch atq atrm atd atday ataccount atpost atcron atcheck atout atwhen atcrontab atsalvage; do
+  for tool in at batch atq atrm atstat atd atday ataccount atpost atcron atcheck atout atwhen atcrontab atsalvage; do
     knock "$tool" --help; [ "$status" = 0 ] && grep -q "^$tool" out && tail -n 1 out | grep -qE '^man [18] (at|batch)' && [ ! -s err ] || fail "$tool --help says $(cat out err)"
     knock "$tool" --version; [ "$status" = 0 ] && [ "$(head -n 1 out)" = "$tool (Coefhird) $(cat "$here/../../VERSION")" ] || fail "$tool --version says $(cat out err)"
   done
@@ -282,7 +283,12 @@ case_door_outputs_and_times() {
   knock atout 1; ended 0 $'one\ntwo\n' ''
   knock atout 01; ended 0 $'one\ntwo\n' ''
   ln -s spool link; ATSPOOL=$PWD/link "$door/atout" 1 >out 2>err || fail "by a link: $(cat err)"
-  [ "$(timeout 1 env ATSPOOL="$spool" "$door/atout" -f 1)" = $'one\ntwo' ] || fail 'atout -f prints another'
+  # (it follows the file until it is ended)
+  ATSPOOL=$spool "$door/atout" -f 1 >followed & follower=$!
+  for _ in $(seq 400); do [ "$(wc -l <followed)" -lt 2 ] || break; sleep 0.05; done
+  kill -0 "$follower" || fail 'atout -f ends by itself'
+  kill "$follower"; wait "$follower" 2>/dev/null
+  [ "$(cat followed)" = $'one\ntwo' ] || fail "atout -f prints $(cat followed)"
   for words in '' '-f' 'x' '1 2'; do
     # shellcheck disable=SC2086
     knock atout $words; refused 1 'atout: usage'
@@ -292,14 +298,49 @@ case_door_outputs_and_times() {
   knock atq; ended 0 '' ''
 }
 
+# The scripts call no program of the caller's PATH.
+case_door_scripts_and_the_path() {
+  doored; opened
+  mkdir fakes debians
+  for tool in $(compgen -c | sort -u | grep -xE 'awk|basename|cat|chmod|cp|cut|date|dirname|find|flock|getent|grep|head|id|ls|mkdir|mktemp|mv|od|realpath|rm|runuser|sed|sort|stat|sync|tail|touch|tr|wc|xargs'); do
+    printf '#!/bin/sh\n: >%q/called\nexit 9\n' "$PWD" >"fakes/$tool"
+  done
+  chmod 755 fakes/*
+  printf '#!/bin/sh\n# atrun uid=%s gid=%s\n# mail root 0\numask 22\ntrue\n' "$(id -u)" "$(id -g)" >debians/a0000201e187e0; chmod 700 debians/a0000201e187e0
+  hostile() { env -i PATH="$PWD/fakes:/usr/bin:/bin" HOME="$PWD" SENDMAIL=/bin/true ATSPOOL="$spool" TZ=UTC "$@" >said 2>&1 </dev/null; }
+  hostile sh -c 'cat'; [ -e called ] || fail 'nothing is called by this PATH'
+  rm called
+  extra=("ATSPOOL=$spool" TZ=UTC)
+  hand true at -q b -t 203001010000
+  while read -r words; do
+    # shellcheck disable=SC2086
+    hostile "$place/pre/"$words
+    [ ! -e called ] || fail "$words calls a program of the caller: $(cat said)"
+  done <<END
+bin/atwhen noon jan 24, 2030
+bin/atout 1
+bin/atcrontab -l
+bin/atcrontab --next 1
+sbin/atsalvage
+sbin/atsalvage --yes
+libexec/coefhird/from-debian-at $PWD/debians
+libexec/coefhird/from-cron /dev/null
+libexec/coefhird/send ann
+libexec/coefhird/rotate --now
+libexec/coefhird/trim
+libexec/coefhird/weekly
+bin/atusers atq
+END
+}
+
 # A submission that is killed before its commands ended is none; as many commands as may be are one.
 case_door_commands_that_do_not_come_whole() {
   doored; opened
   export ATSPOOL=$spool TZ=UTC
-  { sleep 0.6; echo true; } | "$door/at" -t 203001010000 >out 2>err &
+  { until [ -e killed ]; do sleep 0.05; done; echo true; } | "$door/at" -t 203001010000 >out 2>err &
   sleep 0.2
-  kill -9 "$!"; wait "$!" 2>/dev/null
-  sleep 0.8
+  kill -9 "$!"
+  : >killed; wait
   [ -z "$(find spool -name 'a0*')" ] || fail 'a submission that was killed before its commands ended is a job'
   head -c 1048576 /dev/zero | tr '\0' '#' | "$door/at" -t 203001010000 2>err || fail "as many as may be: $(cat err)"
   [ "$(tail -c 1048576 "$(file_of 1)" | tr -d '#' | wc -c)" = 0 ] || fail 'the commands are others'

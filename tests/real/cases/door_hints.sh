@@ -16,6 +16,7 @@ case_door_hints() {
   done <<END
 $spool|UTC|at </dev/null|at: usage|at --help
 $spool|UTC|atq 1|atq: usage|atq --help
+$spool|UTC|atstat --turns 2|atstat: usage|atstat --help
 $spool|UTC|atcheck x y z|atcheck: usage|atcheck --help
 $spool|UTC|at 830 </dev/null|at: bad time at byte 0|8:15 tomorrow
 $spool|UTC|at noon feb 30 </dev/null|at: no such day|8:15 tomorrow
@@ -26,6 +27,7 @@ $spool|Mars/Base|at now </dev/null|at: bad TZ|Europe/Berlin
 $spool|UTC|at -q ab now </dev/null|at: bad queue|one letter
 $spool|UTC|at -f $PWD/none now|at: input fault|the file of the commands
 $spool|UTC|atrm 7|atrm: no such job 7|atq
+$spool|UTC|atstat -w 7|atstat: no such job 7|atq
 $spool|UTC|atcheck $PWD/empty $PWD/used --salvage|atcheck: target not empty|a directory
 $PWD/full|UTC|ataccount|ataccount: accounts full|ataccount(8)
 $PWD/used|UTC|at -t 203001010000 </dev/null|at: job numbers used up|atjobs(5)
@@ -118,7 +120,7 @@ steps_of_no_daemon() {
   [ "$(head -n 1 said)" = 'job 1 at Tue Jan  1 00:00:00 2030' ] && [ "$(wc -l <said)" = 2 ] && tail -n 1 said | grep -q 'setsid -f atd' || fail "it says: $(cat said)"
   login TZ=UTC "$door/at" -t 203001010000 <<<true 2>err; [ "$(cat err)" = 'job 2 at Tue Jan  1 00:00:00 2030' ] || fail "it says: $(cat err)"
   (exec setpriv --reuid=$number --regid=$number --clear-groups env -i LOGNAME=$second HOME="$home" TZ=UTC "$door/atd") >/dev/null 2>&1 </dev/null &
-  sleep 1
+  spool=$PWD/home/.local/state/coefhird/jobs awaits_atd
   typed "echo true | $door/at -t 203001010000" second
   kill $!
   [ "$(cat said)" = 'job 3 at Tue Jan  1 00:00:00 2030' ] || fail "beside a daemon it says: $(cat said)"

@@ -3,9 +3,11 @@
 # A spool in which so many jobs wait.
 filled() { # count, name
   opened "${2:-spool}"
+  local digits
   for ((made = 1; made <= $1; made++)); do
+    printf -v digits %08x "$made"
     printf '#!/bin/sh\n# at user=%s mail=0\numask 0022\ncd '\''/'\'' || {\n\techo '\''Execution directory inaccessible'\'' >&2\n\texit 1\n}\ntrue\n' "$me" \
-      >"$spool/a$(printf %08x "$made")0fffffff"
+      >"$spool/a${digits}0fffffff"
   done
   printf '%08x\n' "$1" >"$spool/.SEQ"
   export ATSPOOL=$spool TZ=UTC
@@ -45,9 +47,9 @@ case_door_twenty_at_once() {
 # Neither a producer that calls at itself, nor a reader that does, nor a pipe that is long in coming, holds up anyone.
 case_door_pipes_that_wait() {
   doored; filled 2000
-  (echo true; "$door/at" -l 1 >&2) 2>err | timeout 20 "$door/at" -t 203001010000 2>said || fail "a producer that calls at: $(cat said err)"
+  (echo true; "$door/at" -l 1 >&2) 2>err | timeout 120 "$door/at" -t 203001010000 2>said || fail "a producer that calls at: $(cat said err)"
   # (these lines are more than a pipe holds)
-  timeout 20 "$door/atq" | { printf true | "$door/at" -t 203001010000 2>>said; wc -l >lines; } || fail "a reader that calls at: $(cat said)"
+  timeout 120 "$door/atq" | { printf true | "$door/at" -t 203001010000 2>>said; wc -l >lines; } || fail "a reader that calls at: $(cat said)"
   # Whichever of the two has its turn first.
   case $(cat lines) in 2001 | 2002) ;; *) fail "it reads $(cat lines) lines" ;; esac
   mkfifo late fifo
@@ -56,8 +58,8 @@ case_door_pipes_that_wait() {
   cat late | "$door/at" -t 203001010000 2>slow &
   "$door/at" -f fifo -t 203001010000 2>slow_too &
   sleep 0.3
-  printf true | timeout 20 "$door/at" -t 203001010000 2>>said || fail "beside pipes that are slow: $(cat said)"
-  timeout 20 "$door/atrm" 1 2>>said || fail "beside pipes that are slow: $(cat said)"
+  printf true | timeout 120 "$door/at" -t 203001010000 2>>said || fail "beside pipes that are slow: $(cat said)"
+  timeout 120 "$door/atrm" 1 2>>said || fail "beside pipes that are slow: $(cat said)"
   [ ! -s slow ] && [ ! -s slow_too ] || fail "the slow ones say $(cat slow slow_too)"
   echo true >late; echo true >fifo
   wait
@@ -69,11 +71,11 @@ case_door_a_long_turn() {
   doored; filled 1
   ln -s spool link
   : >>"$spool.lock"
-  (flock 9; sleep 1; : >freed) 9<"$spool.lock" &
-  sleep 0.2
+  (flock 9; : >held; sleep 1; : >freed) 9<"$spool.lock" &
+  awaits held
   ATSPOOL=$PWD/link "$door/atq" >out; [ -e freed ] || fail 'a caller does not wait for the lock'
-  (flock 9; sleep 11) 9<"$spool.lock" &
-  sleep 0.2
+  (flock 9; : >again; sleep 11) 9<"$spool.lock" &
+  awaits again
   "$door/atrm" 1 2>said || fail "it says $(cat said)"
   wait
 }
@@ -89,7 +91,7 @@ case_door_a_daemon_in_a_crowd() {
         || cat "said_$submitter" >>failed
     done) &
   done
-  timeout 120 "$door/atd" --turns 20 >served 2>said </dev/null; status=$?
+  timeout 300 "$door/atd" --turns 20 >served 2>said </dev/null; status=$?
   : >over; wait
   [ "$status" = 0 ] && [ ! -s said ] && [ ! -s served ] || fail "atd ends with $status: $(sort said | uniq -c; head -n 3 served)"
   [ ! -e failed ] || fail "callers are refused: $(sort failed | uniq -c)"
@@ -106,7 +108,7 @@ case_door_one_atd() {
   awaits begun
   for words in "$spool:" "$spool:-s" "$PWD/link:-s" "$spool/.:-s" "./spool//:-s --turns 1"; do
     # shellcheck disable=SC2086
-    status=0; ATSPOOL=${words%%:*} timeout 5 "$door/atd" ${words#*:} >out 2>err </dev/null || status=$?
+    status=0; ATSPOOL=${words%%:*} timeout 60 "$door/atd" ${words#*:} >out 2>err </dev/null || status=$?
     refused 5 'atd: spool busy'
   done
   kill -9 $first; wait $first 2>/dev/null
@@ -125,7 +127,7 @@ case_door_an_atd_of_its_own_group() {
   "$door/at" now <commands 2>err || fail "no job: $(cat err)"
   setsid bash -c 'setsid -f "$1" >/dev/null </dev/null; sleep 30' _ "$door/atd" 2>said &
   shell=$!
-  awaits begun; sleep 0.1
+  awaits_text begun; sleep 0.1
   daemon=$(cat begun)
   trap 'kill "$daemon" 2>/dev/null; : >go' EXIT
   kill -INT -- -$shell; kill -HUP -- -$shell; kill -KILL -- -$shell; wait $shell 2>/dev/null

@@ -30,7 +30,7 @@ steps_of_other_owners() {
   listed() { find home -printf '%p %u %m %s %T@\n' | sort; }
   listed >before
   extra=(ATSPOOL="$spool" TZ=UTC)
-  for words in 'at -t 203001010000' 'batch' 'atq' 'atrm 1' 'atd -s' 'ataccount' 'atpost --send /bin/true --turns 1' 'atcron -f /dev/null --turns 1'; do
+  for words in 'at -t 203001010000' 'batch' 'atq' 'atrm 1' 'atstat' 'atd -s' 'ataccount' 'atpost --send /bin/true --turns 1' 'atcron -f /dev/null --turns 1'; do
     # shellcheck disable=SC2086
     knock ${words%% *} ${words#"${words%% *}"} <commands; refused 2 "${words%% *}: spool fault"
   done
@@ -56,7 +56,7 @@ steps_of_other_owners() {
       esac
       chown -h $number:$number "$spool.$beside"; [ $what != root ] || chown 0:0 "$spool.$beside"
       ls "$spool" >before
-      for words in 'at -t 203001010000' 'atq' 'atrm 1' 'atd -s'; do
+      for words in 'at -t 203001010000' 'atq' 'atrm 1' 'atstat' 'atd -s'; do
         # shellcheck disable=SC2086
         status=0; login "$door/${words%% *}" ${words#"${words%% *}"} <commands >out 2>err || status=$?
         refused 2 "${words%% *}: spool fault"
@@ -123,7 +123,7 @@ steps_of_machine_lists() {
     rm -f /etc/at.allow /etc/at.deny
     [ "$allow" = - ] || printf '%s\n' $allow >/etc/at.allow
     [ "$deny" = - ] || printf '%s\n' $deny >/etc/at.deny
-    for words in 'at -t 203001010000' batch atq 'atrm 99'; do
+    for words in 'at -t 203001010000' batch atq atstat 'atrm 99'; do
       tool=${words%% *}
       # shellcheck disable=SC2086
       status=0; login "$door/$tool" ${words#"$tool"} <<<true >out 2>err || status=$?

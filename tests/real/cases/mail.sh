@@ -16,10 +16,10 @@ WORDS
 # A session, which says nothing and ends well, and the notices that it handed over.
 posts() { call atpost "$spool" --send "$PWD/deliver" --turns 1 </dev/null; ended 0 '' ''; told; }
 
-# Waits until no notice is being read any more, 5 seconds at most.
+# Waits until no notice is being read any more, 30 seconds at most.
 told() {
   local round
-  for round in $(seq 50); do
+  for round in $(seq 300); do
     pgrep -f "$spool/mail[.]" >/dev/null || return 0
     sleep 0.1
   done
@@ -70,7 +70,7 @@ case_mail_of_each_end() {
   posts
   # (the one that sleeps is given up by the next atd)
   (becomes "$bin/atd" --turns 1 >/dev/null 2>&1) & wait $!
-  sleep 0.3; turns
+  awaits_text sleeper; awaits_text "$spool.out/$(basename "$(file_of 2)")"; sleep 0.3; turns
   kill "$(cat sleeper)" 2>/dev/null
   posts
   grep -qx 'job 1 exit 3\|job 1 interrupted' messages/ben.1.* || fail "of an end: $(cat messages/ben.1.*)"
@@ -123,10 +123,12 @@ case_mail_refused() {
 
 # Twenty kills of sessions that have notices to send: no job has two messages, and each that came is whole.
 case_mail_of_sessions_that_are_killed() {
-  needs_atd; delivering
-  span=80 cut=0 batch=-1
+  needs_disk; needs_atd; delivering
+  cut=0 batch=-1
   while [ $batch -lt 4 ] || { [ $cut -lt 5 ] && [ $batch -lt 40 ]; }; do
     batch=$((batch + 1))
+    # (a session takes longer on a busy machine)
+    span=$((80 << batch % 4))
     for _ in $(seq 4); do with 'echo hi' at now; done
     posts; turns
     for _ in $(seq 4); do killed /dev/null said atpost "$spool" --send "$PWD/deliver" --turns 1; done
@@ -139,6 +141,32 @@ case_mail_of_sessions_that_are_killed() {
   [ -z "$twice" ] || fail "jobs with two messages: $twice"
   for message in messages/*; do [ "$(tail -n 1 "$message")" = hi ] || fail "$message is not whole"; done
   [ "$(ls messages | wc -l)" -gt 0 ] || fail 'no message came'
+}
+
+# Kills of trims while notices wait and a job lives: the notes are the old ones, or those that a trim keeps of them. Each notice
+# is sent by the next session, once.
+case_mail_of_trims_that_are_killed() {
+  needs_atd; delivering
+  with 'true' at -t 203001010000; took 1
+  measured
+  local round=0 old=0 new=0
+  while [ $round -lt 10 ] || { [ $cut -lt 5 ] || [ $old -lt 1 ] || [ $new -lt 1 ]; } && [ $round -lt 90 ]; do
+    round=$((round + 1))
+    for _ in 1 2 3; do with 'echo hi' at now; done
+    posts; turns
+    cp "$spool/.MAIL" before
+    awk 'NR == FNR { if ($1 != "N") done[$2]; next } !($2 in done)' before before >after
+    cmp -s before after && [ $round -gt 1 ] && fail "round $round: there is nothing to trim"
+    bin=$door killed /dev/null said atpost "$spool" --trim
+    if cmp -s before "$spool/.MAIL"; then old=$((old + 1)); elif cmp -s after "$spool/.MAIL"; then new=$((new + 1)); else
+      fail "round $round: the notes are $(cat "$spool/.MAIL"), before $(cat before)"
+    fi
+    posts; came $((round * 3))
+    [ ! -e "$spool/.MTMP" ] || fail 'a temporary file stays'
+  done
+  [ $cut -ge 5 ] && [ $old -ge 1 ] && [ $new -ge 1 ] || fail "of $round trims $cut were cut off in the midst, $old left the notes and $new trimmed them"
+  twice=$(ls messages | cut -d . -f 2 | sort | uniq -d)
+  [ -z "$twice" ] || fail "jobs with two messages: $twice"
 }
 
 # What sends the mail, by the file of the machine, and as a reader of mail without a subject line would call it.

@@ -35,3 +35,26 @@ case_mains_with_closed_streams() {
   printf 0 >"$spool/.SEQ"
   each_over "$spool" says_into_no_file
 }
+
+# While one of them waits for the lock, a directory has the place of each stream that it was given closed, so no file that it
+# opens later has one.
+holds_the_places() {
+  local child place
+  (becomes "$bin/$1" "${@:2}" >&- 2>&- <&- 9<&-) & child=$!
+  for _ in $(seq 100); do
+    [ -z "$(find "/proc/$child/fd" -lname "$spool.lock" 2>/dev/null)" ] || break
+    sleep 0.1
+  done
+  for place in 0 1 2; do
+    [ "$(readlink "/proc/$child/fd/$place")" = / ] || fail "$1: $(readlink "/proc/$child/fd/$place" || echo nothing) is in place $place"
+  done
+  kill -9 "$child"; wait "$child" 2>/dev/null
+}
+case_mains_hold_the_places_of_closed_streams() {
+  command -v flock >/dev/null || skip 'there is no flock'
+  opened
+  with 'true' at -t 203001010000; took 1
+  exec 9<"$spool.lock"; flock 9
+  each_over "$spool" holds_the_places
+  exec 9<&-
+}

@@ -22,15 +22,19 @@ serves() {
   (exec env -i PATH=/usr/bin:/bin "${extra[@]}" "$@" "$door/atd" >served 2>said </dev/null) &
   daemon=$!
   trap 'kill "$daemon" 2>/dev/null' EXIT
+  awaits_atd
+  # (of the locks that are traced the first is the one that it keeps, and the second that of its first turn)
+  if [ $# -gt 0 ]; then awaits_turns 2; fi
   sleep 1.5
 }
-counted_turns() { grep -c 'flock(.*LOCK_EX.* = 0' calls; }
+counted_turns() { grep -cs 'flock(.*LOCK_EX.* = 0' calls; }
+awaits_turns() { for _ in $(seq 400); do [ "$(counted_turns)" -lt "$1" ] || return 0; sleep 0.05; done; fail "there are $(counted_turns) turns, not $1"; }
 needs_strace() { strace -o probe.calls true 2>/dev/null || skip 'strace does not trace here'; }
 
-# Waits three seconds at most for what a job writes as it starts, in milliseconds since 1970.
+# Waits twenty seconds at most, which no rest of a minute is, for what a job writes as it starts, in milliseconds since 1970.
 awaits_start() {
-  for _ in $(seq 60); do [ ! -s started ] || return 0; sleep 0.05; done
-  fail 'the job did not start within three seconds'
+  for _ in $(seq 400); do [ ! -s started ] || return 0; sleep 0.05; done
+  fail 'the job did not start within twenty seconds'
 }
 
 case_at_now_starts_at_once() {
@@ -52,7 +56,7 @@ case_long_a_job_starts_at_its_minute() {
   sleep $((minute - $(date +%s)))
   awaits_start
   late=$(($(cat started) - minute * 1000))
-  [ "$late" -ge 0 ] && [ "$late" -lt 3000 ] || fail "the job started $late ms after its minute"
+  [ "$late" -ge 0 ] && [ "$late" -lt 10000 ] || fail "the job started $late ms after its minute"
 }
 
 # However many submissions there are, atd makes one turn a second, and one more where a minute ends.
@@ -61,7 +65,7 @@ case_a_flood_of_submissions() {
   serves strace -D -f -e trace=flock -o "$PWD/calls"
   from=$(counted_turns) begun=$(date +%s%3N)
   for _ in $(seq 40); do hand true at -t 203001010000; done
-  sleep 1.5
+  awaits_turns $((from + 1)); sleep 1.5
   turns=$(($(counted_turns) - from)) seconds=$((($(date +%s%3N) - begun) / 1000 + 1))
   [ "$turns" -ge 1 ] && [ "$turns" -le $((seconds + 1)) ] || fail "$turns turns in $seconds seconds"
 }
@@ -71,12 +75,35 @@ case_long_a_rest_that_no_submission_ends() {
   needs_strace; needs_atd; doored; opened
   extra=(ATSPOOL="$spool" TZ=UTC)
   hand true at -t 203001010000; took 1
-  [ $(($(date +%s) % 60)) -lt 40 ] || sleep 21
   serves strace -D -f -e trace=flock -o "$PWD/calls"
-  from=$(counted_turns)
-  knock atq; knock atrm 1
-  sleep 5
-  [ "$(counted_turns)" = "$from" ] || fail "$(($(counted_turns) - from)) turns within a minute"
-  sleep $((61 - $(date +%s) % 60))
+  # (within one minute, which a busy machine may be too slow for)
+  for _ in 1 2 3 4 5; do
+    [ $(($(date +%s) % 60)) -lt 40 ] || sleep $((62 - $(date +%s) % 60))
+    minute=$(($(date +%s) / 60)) from=$(counted_turns)
+    knock atq; knock atrm 1
+    sleep 5
+    found=$(counted_turns)
+    [ $(($(date +%s) / 60)) != "$minute" ] || break
+  done
+  [ "$found" = "$from" ] || fail "$((found - from)) turns within a minute"
+  sleep $((60 - $(date +%s) % 60))
+  awaits_turns $((from + 1)); sleep 1
   [ "$(counted_turns)" = $((from + 1)) ] || fail "$(($(counted_turns) - from)) turns at the end of a minute"
+}
+
+# Turns begin at the same second of each minute, whatever a turn takes: so a batch job starts in each, with 60 seconds from one
+# to the next. The clock is told, so that this takes no twenty minutes. With 61 seconds only every second turn starts one.
+case_a_batch_job_in_each_turn() {
+  command -v cc >/dev/null || skip 'there is no cc'
+  needs_atd; doored
+  cc -shared -fPIC -o clock.so "$here/told_clock.c" || fail 'the clock is not compiled'
+  for row in 60:20 61:10; do
+    opened "spool_${row%:*}"
+    extra=(ATSPOOL="$spool" TZ=UTC)
+    for job in $(seq 20); do hand true batch; took "$job"; done
+    extra+=(LD_PRELOAD="$PWD/clock.so")
+    knock atd -l 999 -b "${row%:*}" --turns 20
+    [ "$status" = 0 ] && [ ! -s err ] || fail "with ${row%:*} seconds atd ends with $status: $(cat err)"
+    [ "$(grep -c '^job [0-9]* handed over$' out)" = "${row#*:}" ] || fail "with ${row%:*} seconds 20 turns start $(grep -c 'handed over$' out) batch jobs"
+  done
 }

@@ -87,7 +87,8 @@ case_account_split_that_is_killed() {
     setsid env -i ATSPOOL="$spool" "$libexec/rotate" --now >/dev/null 2>&1 </dev/null &
     child=$!
     until [ -e "$spool.accounts/next" ] || ! kill -0 $child 2>/dev/null; do :; done
-    sleep "0.0$((RANDOM % 6))"
+    # (a step takes longer on a busy machine)
+    sleep "$(printf '0.%02d' $((RANDOM % (6 + round))))"
     kill -9 -- -$child 2>/dev/null; wait $child 2>/dev/null
     # (cut off before the account was replaced, or after it)
     [ ! -e "$spool.accounts/next" ] || if cmp -s account "$spool/.ACC"; then old=$((old + 1)); else new=$((new + 1)); fi
@@ -137,7 +138,7 @@ case_outputs_trimmed() {
   with "echo \$\$ >'$PWD/sleeper'; exec sleep 60" at now; took 5
   call atpost "$spool" --send /bin/true --turns 1 </dev/null; ended 0 '' ''
   (becomes "$bin/atd" --turns 1 >/dev/null 2>&1) & wait $!
-  for round in $(seq 50); do [ ! -s sleeper ] || break; sleep 0.1; done
+  awaits_text sleeper
   trap 'kill "$(cat sleeper)" 2>/dev/null' EXIT
   running=$(basename "$(file_of 5)")
   [ -e "$spool.out/$running" ] && [ -e "$spool/$running" ] || fail 'the job that runs has no output'
@@ -157,14 +158,30 @@ case_outputs_trimmed() {
   call atd -s </dev/null; [ "$status" = 0 ] || fail "atd: $(cat err)"
   [ ! -e "$spool/$running" ] || fail 'the job that ran has its file'
   call atpost "$spool" --send /bin/true --turns 1 </dev/null; ended 0 '' ''
-  sleep 0.5; call atpost "$spool" --send /bin/true --turns 1 </dev/null; ended 0 '' ''
+  told; call atpost "$spool" --send /bin/true --turns 1 </dev/null; ended 0 '' ''
   touch -d '2 days ago' "$spool.out"/*; trims
   [ -e "$spool.out/$running" ] || fail 'the output of a process that goes on is removed'
   [ "$(output_of 2)" = hi ] || fail 'an output is removed'
-  kill "$(cat sleeper)"; for round in $(seq 50); do kill -0 "$(cat sleeper)" 2>/dev/null || break; sleep 0.1; done
+  kill "$(cat sleeper)"; for round in $(seq 200); do kill -0 "$(cat sleeper)" 2>/dev/null || break; sleep 0.1; done
   rm -f "$spool/mail.00000002"; trims
   printf '%s\n' "$(cd "$spool.out" && ls ?00000002* ?00000003*)" notes .hidden mail.1 a00000001 | sort >want
   ls -A "$spool.out" | sort | cmp -s - want || fail "at the end there stay $(ls -A "$spool.out"), not $(cat want)"
+}
+
+# The notes of jobs that are done go as an atpost starts, unless it is to make a number of sessions; those that wait stay.
+case_notes_trimmed_at_the_start() {
+  needs_atd; doored; opened
+  with 'true' at -m now; took 1
+  with 'true' at -m -t 203001010000; took 2
+  call atpost "$spool" --send /bin/true --turns 1 </dev/null; ended 0 '' ''
+  call atd -s </dev/null; [ "$status" = 0 ] || fail "atd: $(cat err)"
+  call atpost "$spool" --send /bin/true --turns 1 </dev/null; ended 0 '' ''
+  told; knock atpost "$spool" --send /bin/true --turns 1 </dev/null; ended 0 '' ''
+  [ "$(cut -d ' ' -f 1,2 "$spool/.MAIL")" = $'N 00000001\nN 00000002\nS 00000001' ] || fail "the notes are $(cat "$spool/.MAIL")"
+  (exec env -i PATH=/usr/bin:/bin TZ=UTC "$place/pre/sbin/atpost" "$spool" --send /bin/true >/dev/null 2>said </dev/null) & post=$!
+  for _ in $(seq 400); do [ "$(wc -l <"$spool/.MAIL")" != 1 ] || break; sleep 0.05; done
+  kill "$post" || fail "atpost is gone: $(cat said)"
+  [ "$(cut -d ' ' -f 1,2 "$spool/.MAIL")" = 'N 00000002' ] && [ ! -s said ] || fail "the notes are $(cat "$spool/.MAIL" said)"
 }
 
 # Half a minute of all programs, and a judge that finds what is altered afterwards.
