@@ -5,8 +5,8 @@ use Rattle.std.specs.Str.{bytes_eq}
 use Rattle.blanks.specs.Blanks.{after_blanks, before_blanks}
 
 -- the name that a line tells: the line without the blanks at both its ends (own)
-abbrev pub name_in : List ℕ → List ℕ
-name_in line = before_blanks (after_blanks line)
+abbrev pub name_in_list_line : List ℕ → List ℕ
+name_in_list_line line = before_blanks (after_blanks line)
 
 -- the lines of a list: what stands between newlines or the ends of the text
 abbrev pub lines_of : List ℕ → List (List ℕ)
@@ -14,7 +14,7 @@ lines_of list = slice_split (λ byte. byte == 10) list
 
 -- some line of the list tells the name
 abbrev pub is_listed : List ℕ → List ℕ → Bool
-is_listed list user = list_any (λ line. bytes_eq (name_in line) user) (lines_of list)
+is_listed list user = list_any (λ line. bytes_eq (name_in_list_line line) user) (lines_of list)
 
 -- The lists permit the user. With at.allow those may whom it lists; else with at.deny those whom it
 -- doesn't; without both lists nobody may.

@@ -1,6 +1,6 @@
 //! The lists of users.
 ghost use Rattle.std.specs.Prelude.{◌≡◌, option_copied};
-ghost use Rattle.access_lists.specs.Access.{is_listed, may_use, name_in};
+ghost use Rattle.access_lists.specs.Access.{is_listed, may_use, name_in_list_line};
 
 use blanks::{after_blanks, before_blanks};
 use spool_model::UserName;
@@ -31,7 +31,7 @@ fn is_listed(list: &[u8], user: &[u8]) -> bool
 
 // The name that a line tells.
 fn name_of(line: &[u8]) -> &[u8]
-    ensures { result.now ≡ name_in line.now }
+    ensures { result.now ≡ name_in_list_line line.now }
 {
     before_blanks(after_blanks(line))
 }

@@ -3,7 +3,7 @@ use Rattle.std.proofs.Common.{◌≡◌, true, false, List, [], ◌++◌, sym, s
 use Rattle.std.specs.List.Sorted.{IsStrictlySortedBy}
 use Rattle.record_lines.specs.Lines.{AreLegalAfter}
 use Rattle.record_lines.proofs.FileLemmas.{legal_both}
-use Rattle.accounts.specs.Records.{MayCome}
+use Rattle.accounts.specs.Records.{IsRecordAllowed}
 use Rattle.accounts.specs.declared.record.AccountRecord.{AccountRecord}
 use Rattle.accounts.specs.declared.line.AccountLine.{AccountLine}
 use Rattle.accounts.specs.Totals.{AreTotals, IsAccount, owner_cmp}
@@ -25,7 +25,7 @@ no_account records lines none no_lines = subst (λ r. IsAccount r lines) (sym no
 }))
 
 -- new records came after the old ones
-pub grown : (old new all : List AccountRecord) (lines : List AccountLine) → all ≡ old ++ new → AreLegalAfter MayCome [] old → AreLegalAfter MayCome old new
+pub grown : (old new all : List AccountRecord) (lines : List AccountLine) → all ≡ old ++ new → AreLegalAfter IsRecordAllowed [] old → AreLegalAfter IsRecordAllowed old new
     → AreTotals (old ++ new) lines → IsAccount all lines
 grown old new all lines is first second totals =
-    subst (λ r. IsAccount r lines) (sym is) (record { in_turn = legal_both MayCome [] old new first second; totals = totals })
+    subst (λ r. IsAccount r lines) (sym is) (record { in_turn = legal_both IsRecordAllowed [] old new first second; totals = totals })

@@ -16,17 +16,17 @@ use Rattle.std.proofs.lemmas.List.Elements.{filter-append}
 use Rattle.record_lines.specs.Lines.{AreLegalAfter}
 use Rattle.record_lines.proofs.FileLemmas.{legal_both}
 use Rattle.record_lines.proofs.SayingLemmas.{none_says}
-use Rattle.accounts.specs.declared.ledger.Standing.{Standing}
+use Rattle.accounts.specs.declared.ledger.RecordState.{RecordState}
 use Rattle.accounts.specs.declared.news.KnownJob.{KnownJob}
 use Rattle.accounts.specs.declared.record.AccountEvent.{AccountEvent}
 use Rattle.accounts.specs.declared.record.AccountRecord.{AccountRecord}
 use Rattle.accounts.specs.News.{closing_event, events_by, news_of, records_of, seen_event, start_event}
-use Rattle.accounts.specs.Records.{MayCome, is_closed, is_named, is_seeing, is_seen, is_started, names}
-use Rattle.accounts.specs.Standings.{StandsAt}
+use Rattle.accounts.specs.Records.{IsRecordAllowed, has_closing_record, has_record_of, is_seeing, is_seen, has_start_record, is_account_record_of}
+use Rattle.accounts.specs.Standings.{IsRecordStateAt}
 use Rattle.accounts.proofs.LegalLemmas.{news_legal}
 use Rattle.accounts.proofs.NewsLemmas.{events_told}
 use Rattle.accounts.proofs.StandingLemmas.{stands_else}
-use Rattle.accounts.specs.Observing.{AreByNumber, AreNewsBy}
+use Rattle.accounts.specs.Observing.{AreRecordsByNumber, AreNewsBy}
 use Rattle.accounts.specs.inside.Gathering.{news_of_all}
 use Rattle.accounts.specs.inside.Knowing.{Jobs, Known, Knows, job_at}
 
@@ -64,7 +64,7 @@ pub less_from : (least number : ℕ) (records : List AccountRecord) → least �
 less_from least number [] below from = tt
 less_from least number (one ∷ later) below from = (let above = from.0 in omega arith, less_from least number later below from.1)
 
-by_number_both : (number : ℕ) (xs ys : List AccountRecord) → AreOf number xs → AreFrom number ys → AreByNumber ys → AreByNumber (xs ++ ys)
+by_number_both : (number : ℕ) (xs ys : List AccountRecord) → AreOf number xs → AreFrom number ys → AreRecordsByNumber ys → AreRecordsByNumber (xs ++ ys)
 by_number_both number [] ys first second by_number = by_number
 by_number_both number (x ∷ xs) ys first second by_number =
     (subst (λ n. AreFrom n (xs ++ ys)) (sym first.0) (from_both number xs ys first.1 second), by_number_both number xs ys first.1 second by_number)
@@ -77,8 +77,8 @@ one_of number (Some event) = (refl, tt)
 news_of_number : (before : List AccountRecord) (number : ℕ) (known : Option KnownJob) → AreOf number (news_of before number known)
 news_of_number before number known =
     let seen = is_seen number before in
-    let started = is_started number before in
-    let closed = is_closed number before in
+    let started = has_start_record number before in
+    let closed = has_closing_record number before in
     of_both number (records_of number (seen_event seen known) ++ records_of number (start_event seen started closed known)) (records_of number (closing_event seen closed known))
     (of_both number (records_of number (seen_event seen known)) (records_of number (start_event seen started closed known))
     (one_of number (seen_event seen known)) (one_of number (start_event seen started closed known)))
@@ -96,7 +96,7 @@ news_above before least (one ∷ later) above rise =
     (from_both one.0 (news_of before one.0 one.1) (news_of_all before later) (news_of_number before one.0 one.1)
     (less_from one.0 (one.0 + 1) (news_of_all before later) (omega arith) (news_above before one.0 later rise.0 rise.1)))
 
-pub all_by_number : (before : List AccountRecord) (known : List Known) → Rise known → AreByNumber (news_of_all before known)
+pub all_by_number : (before : List AccountRecord) (known : List Known) → Rise known → AreRecordsByNumber (news_of_all before known)
 all_by_number before [] rise = tt
 all_by_number before (one ∷ later) rise =
     by_number_both one.0 (news_of before one.0 one.1) (news_of_all before later) (news_of_number before one.0 one.1)
@@ -104,23 +104,23 @@ all_by_number before (one ∷ later) rise =
     (all_by_number before later rise.1)
 
 -- records of one number, of those of it and of another
-all_named : (number : ℕ) (records : List AccountRecord) → AreOf number records → filter (names number) records ≡ records
+all_named : (number : ℕ) (records : List AccountRecord) → AreOf number records → filter (is_account_record_of number) records ≡ records
 all_named number [] are = refl
 all_named number (one ∷ later) are =
-    let here : names number one ≡ true = (let same = are.0 in grind (arith, nat_tests)) in
-    ap (λ b. cond b (one ∷ filter (names number) later) (filter (names number) later)) here ∙ ap (λ rest. one ∷ rest) (all_named number later are.1)
+    let here : is_account_record_of number one ≡ true = (let same = are.0 in grind (arith, nat_tests)) in
+    ap (λ b. cond b (one ∷ filter (is_account_record_of number) later) (filter (is_account_record_of number) later)) here ∙ ap (λ rest. one ∷ rest) (all_named number later are.1)
 
-none_named : (number other : ℕ) (records : List AccountRecord) → (other == number) ≡ false → AreOf other records → filter (names number) records ≡ []
+none_named : (number other : ℕ) (records : List AccountRecord) → (other == number) ≡ false → AreOf other records → filter (is_account_record_of number) records ≡ []
 none_named number other [] apart are = refl
 none_named number other (one ∷ later) apart are =
-    let here : names number one ≡ false = ap (λ n. n == number) are.0 ∙ apart in
-    ap (λ b. cond b (one ∷ filter (names number) later) (filter (names number) later)) here ∙ none_named number other later apart are.1
+    let here : is_account_record_of number one ≡ false = ap (λ n. n == number) are.0 ∙ apart in
+    ap (λ b. cond b (one ∷ filter (is_account_record_of number) later) (filter (is_account_record_of number) later)) here ∙ none_named number other later apart are.1
 
-pub none_from : (number : ℕ) (records : List AccountRecord) → AreFrom (number + 1) records → filter (names number) records ≡ []
+pub none_from : (number : ℕ) (records : List AccountRecord) → AreFrom (number + 1) records → filter (is_account_record_of number) records ≡ []
 none_from number [] are = refl
 none_from number (one ∷ later) are =
-    let here : names number one ≡ false = (let above = are.0 in grind (arith, nat_tests)) in
-    ap (λ b. cond b (one ∷ filter (names number) later) (filter (names number) later)) here ∙ none_from number later are.1
+    let here : is_account_record_of number one ≡ false = (let above = are.0 in grind (arith, nat_tests)) in
+    ap (λ b. cond b (one ∷ filter (is_account_record_of number) later) (filter (is_account_record_of number) later)) here ∙ none_from number later are.1
 
 -- what is new of the entry under a number
 abbrev news_at : List AccountRecord → ℕ → Option (Option KnownJob) → List AccountRecord
@@ -131,31 +131,31 @@ at_number : (number other : ℕ) → is_at (nat_cmp number) other ≡ (other == 
 at_number number other = grind (arith, nat_tests)
 
 filtered : (before : List AccountRecord) (known : List Known) (number : ℕ) → Rise known
-    → filter (names number) (news_of_all before known) ≡ news_at before number (lookup (is_at (nat_cmp number)) known)
+    → filter (is_account_record_of number) (news_of_all before known) ≡ news_at before number (lookup (is_at (nat_cmp number)) known)
 filtered before [] number rise = refl
 filtered before (one ∷ later) number rise = by_test (one.0 == number) refl (filtered before later number rise.1) where
-  parts : filter (names number) (news_of_all before (one ∷ later)) ≡ filter (names number) (news_of before one.0 one.1) ++ filter (names number) (news_of_all before later)
-  parts = filter-append (names number) (news_of before one.0 one.1) (news_of_all before later)
+  parts : filter (is_account_record_of number) (news_of_all before (one ∷ later)) ≡ filter (is_account_record_of number) (news_of before one.0 one.1) ++ filter (is_account_record_of number) (news_of_all before later)
+  parts = filter-append (is_account_record_of number) (news_of before one.0 one.1) (news_of_all before later)
 
   by_test : (here : Bool) → (one.0 == number) ≡ here
-      → filter (names number) (news_of_all before later) ≡ news_at before number (lookup (is_at (nat_cmp number)) later)
-      → filter (names number) (news_of_all before (one ∷ later)) ≡ news_at before number (lookup (is_at (nat_cmp number)) (one ∷ later))
+      → filter (is_account_record_of number) (news_of_all before later) ≡ news_at before number (lookup (is_at (nat_cmp number)) later)
+      → filter (is_account_record_of number) (news_of_all before (one ∷ later)) ≡ news_at before number (lookup (is_at (nat_cmp number)) (one ∷ later))
   by_test true is others =
       let same : one.0 ≡ number = eqb-true one.0 number is in
-      let rest : filter (names number) (news_of_all before later) ≡ [] = none_from number (news_of_all before later) (subst (λ n. AreFrom (n + 1) (news_of_all before later)) same (news_above before one.0 later rise.0 rise.1)) in
-      let first : filter (names number) (news_of before one.0 one.1) ≡ news_of before number one.1 =
-      ap (λ n. filter (names number) (news_of before n one.1)) same ∙ all_named number (news_of before number one.1) (news_of_number before number one.1) in
-      parts ∙ ap (λ r. filter (names number) (news_of before one.0 one.1) ++ r) rest ∙ append-nil _ ∙ first
+      let rest : filter (is_account_record_of number) (news_of_all before later) ≡ [] = none_from number (news_of_all before later) (subst (λ n. AreFrom (n + 1) (news_of_all before later)) same (news_above before one.0 later rise.0 rise.1)) in
+      let first : filter (is_account_record_of number) (news_of before one.0 one.1) ≡ news_of before number one.1 =
+      ap (λ n. filter (is_account_record_of number) (news_of before n one.1)) same ∙ all_named number (news_of before number one.1) (news_of_number before number one.1) in
+      parts ∙ ap (λ r. filter (is_account_record_of number) (news_of before one.0 one.1) ++ r) rest ∙ append-nil _ ∙ first
       ∙ sym (ap (λ b. news_at before number (cond b (Some one.1) (lookup (is_at (nat_cmp number)) later))) (at_number number one.0 ∙ is))
   by_test false is others =
-      parts ∙ ap (λ r. r ++ filter (names number) (news_of_all before later)) (none_named number one.0 (news_of before one.0 one.1) is (news_of_number before one.0 one.1))
+      parts ∙ ap (λ r. r ++ filter (is_account_record_of number) (news_of_all before later)) (none_named number one.0 (news_of before one.0 one.1) is (news_of_number before one.0 one.1))
       ∙ others
       ∙ sym (ap (λ b. news_at before number (cond b (Some one.1) (lookup (is_at (nat_cmp number)) later))) (at_number number one.0 ∙ is))
 
 -- nothing is new of a number that no record names and the table doesn't have
-pub nothing_new : (before : List AccountRecord) (number : ℕ) → is_named number before ≡ false → news_of before number None ≡ []
+pub nothing_new : (before : List AccountRecord) (number : ℕ) → has_record_of number before ≡ false → news_of before number None ≡ []
 nothing_new before number none =
-    ap (λ seen. events_by number seen (is_started number before) (is_closed number before) None) (none_says (names number) (λ one. is_seeing one.event) before none)
+    ap (λ seen. events_by number seen (has_start_record number before) (has_closing_record number before) None) (none_says (is_account_record_of number) (λ one. is_seeing one.event) before none)
 
 pub are_news : (before : List AccountRecord) (known : ℕ → Option KnownJob) (jobs : Jobs) (news : List AccountRecord) → tree.IsOrdered nat_cmp jobs → Knows before known jobs
     → news ≡ news_of_all before jobs.entries → AreNewsBy before known news
@@ -165,33 +165,33 @@ are_news before known jobs news ordered knows is = subst (AreNewsBy before known
 
   by_job : (number : ℕ) (job : Option (Option KnownJob)) → job_at jobs number ≡ job → news_at before number job ≡ news_of before number (known number)
   by_job number (Some job) found = ap (news_of before number) (sym (ap (λ j. unwrap_or j None) found) ∙ knows.each number)
-  by_job number None found = by_test (is_named number before) refl where
-    by_test : (named : Bool) → is_named number before ≡ named → [] ≡ news_of before number (known number)
+  by_job number None found = by_test (has_record_of number before) refl where
+    by_test : (named : Bool) → has_record_of number before ≡ named → [] ≡ news_of before number (known number)
     by_test true named = absurd (let there : is_some (job_at jobs number) ≡ true = knows.named number named in let absent : is_some (job_at jobs number) ≡ false = ap is_some found in cc)
     by_test false named = sym (ap (news_of before number) (sym (knows.each number) ∙ ap (λ j. unwrap_or j None) found) ∙ nothing_new before number named)
 
-  each : (number : ℕ) → filter (names number) (news_of_all before jobs.entries) ≡ news_of before number (known number)
+  each : (number : ℕ) → filter (is_account_record_of number) (news_of_all before jobs.entries) ≡ news_of before number (known number)
   each number = filtered before jobs.entries number rise ∙ by_job number (job_at jobs number) refl
 
 -- records of another number leave how a job stands
-stands_after : (records news : List AccountRecord) (number other : ℕ) (standing : Option Standing) → (other == number) ≡ false → AreOf other news
-    → StandsAt records number standing → StandsAt (records ++ news) number standing
-stands_after records [] number other standing apart are stands = subst (λ r. StandsAt r number standing) (sym (append-nil records)) stands
+stands_after : (records news : List AccountRecord) (number other : ℕ) (standing : Option RecordState) → (other == number) ≡ false → AreOf other news
+    → IsRecordStateAt records number standing → IsRecordStateAt (records ++ news) number standing
+stands_after records [] number other standing apart are stands = subst (λ r. IsRecordStateAt r number standing) (sym (append-nil records)) stands
 stands_after records (one ∷ later) number other standing apart are stands =
-    subst (λ r. StandsAt r number standing) (append_assoc records (one ∷ []) later)
+    subst (λ r. IsRecordStateAt r number standing) (append_assoc records (one ∷ []) later)
     (stands_after (records ++ one ∷ []) later number other standing apart are.1
     (stands_else records number standing one (ap (λ n. n == number) are.0 ∙ apart) stands))
 
 -- each job of the entries stands so
-abbrev AllStand : List AccountRecord → (ℕ → Option Standing) → List Known → Type 0
-AllStand records standings known = AllByRecursion (λ (one : Known). StandsAt records one.0 (standings one.0)) known
+abbrev AllStand : List AccountRecord → (ℕ → Option RecordState) → List Known → Type 0
+AllStand records standings known = AllByRecursion (λ (one : Known). IsRecordStateAt records one.0 (standings one.0)) known
 
-all_stand : (records : List AccountRecord) (standings : ℕ → Option Standing) (known : List Known) → ((number : ℕ) → StandsAt records number (standings number))
+all_stand : (records : List AccountRecord) (standings : ℕ → Option RecordState) (known : List Known) → ((number : ℕ) → IsRecordStateAt records number (standings number))
     → AllStand records standings known
 all_stand records standings [] stand = tt
 all_stand records standings (one ∷ later) stand = (stand one.0, all_stand records standings later stand)
 
-stand_after : (records news : List AccountRecord) (standings : ℕ → Option Standing) (other : ℕ) (known : List Known) → AreAbove other known → AreOf other news
+stand_after : (records news : List AccountRecord) (standings : ℕ → Option RecordState) (other : ℕ) (known : List Known) → AreAbove other known → AreOf other news
     → AllStand records standings known → AllStand (records ++ news) standings known
 stand_after records news standings other [] above are stand = tt
 stand_after records news standings other (one ∷ later) above are stand =
@@ -199,21 +199,21 @@ stand_after records news standings other (one ∷ later) above are stand =
     (stands_after records news one.0 other (standings one.0) apart are stand.0, stand_after records news standings other later above.1 are stand.1)
 
 -- what is new may come, one job after the other
-legal_after : (before so_far : List AccountRecord) (standings : ℕ → Option Standing) (known : List Known) → Rise known
-    → ((number : ℕ) → StandsAt before number (standings number)) → AllStand so_far standings known → AreLegalAfter MayCome so_far (news_of_all before known)
+legal_after : (before so_far : List AccountRecord) (standings : ℕ → Option RecordState) (known : List Known) → Rise known
+    → ((number : ℕ) → IsRecordStateAt before number (standings number)) → AllStand so_far standings known → AreLegalAfter IsRecordAllowed so_far (news_of_all before known)
 legal_after before so_far standings [] rise first stand = tt
 legal_after before so_far standings (one ∷ later) rise first stand =
     let same : news_of so_far one.0 one.1 ≡ news_of before one.0 one.1 =
     events_told so_far one.0 (standings one.0) one.1 stand.0 ∙ sym (events_told before one.0 (standings one.0) one.1 (first one.0)) in
-    legal_both MayCome so_far (news_of before one.0 one.1) (news_of_all before later)
-    (subst (AreLegalAfter MayCome so_far) same (news_legal so_far one.0 (standings one.0) one.1 stand.0))
+    legal_both IsRecordAllowed so_far (news_of before one.0 one.1) (news_of_all before later)
+    (subst (AreLegalAfter IsRecordAllowed so_far) same (news_legal so_far one.0 (standings one.0) one.1 stand.0))
     (legal_after before (so_far ++ news_of before one.0 one.1) standings later rise.1 first
     (stand_after so_far (news_of before one.0 one.1) standings one.0 later rise.0 (news_of_number before one.0 one.1) stand.1))
 
-pub news_in_turn : (before : List AccountRecord) (standings : ℕ → Option Standing) (jobs : Jobs) (news : List AccountRecord) → tree.IsOrdered nat_cmp jobs
-    → ((number : ℕ) → StandsAt before number (standings number)) → news ≡ news_of_all before jobs.entries → AreLegalAfter MayCome before news
+pub news_in_turn : (before : List AccountRecord) (standings : ℕ → Option RecordState) (jobs : Jobs) (news : List AccountRecord) → tree.IsOrdered nat_cmp jobs
+    → ((number : ℕ) → IsRecordStateAt before number (standings number)) → news ≡ news_of_all before jobs.entries → AreLegalAfter IsRecordAllowed before news
 news_in_turn before standings jobs news ordered stand is =
-    subst (AreLegalAfter MayCome before) (sym is) (legal_after before before standings jobs.entries (rises jobs.entries ordered) stand (all_stand before standings jobs.entries stand))
+    subst (AreLegalAfter IsRecordAllowed before) (sym is) (legal_after before before standings jobs.entries (rises jobs.entries ordered) stand (all_stand before standings jobs.entries stand))
 
 -- one job more is gathered
 pub gathered_more : (before all news more : List AccountRecord) (number : ℕ) (job : Option KnownJob) (now later : List Known) → now ≡ (number, job) ∷ later

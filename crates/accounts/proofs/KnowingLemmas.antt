@@ -11,8 +11,8 @@ use Rattle.std.proofs.lemmas.List.{map-append, take_all, take_more}
 use Rattle.std.proofs.lemmas.Map.{update_all_push}
 use Rattle.accounts.specs.declared.news.KnownJob.{KnownJob}
 use Rattle.accounts.specs.declared.record.AccountRecord.{AccountRecord}
-use Rattle.accounts.specs.News.{known_of}
-use Rattle.accounts.specs.Records.{is_named, names}
+use Rattle.accounts.specs.News.{known_job}
+use Rattle.accounts.specs.Records.{has_record_of, is_account_record_of}
 use Rattle.spool_model.specs.declared.decided.Decided.{Decided}
 use Rattle.spool_model.specs.declared.entry.Entry.TheVariants.{Live, Done}
 use Rattle.spool_model.specs.declared.row.Row.{Row}
@@ -98,7 +98,7 @@ module _ (before : List AccountRecord) (rows : List Row) (decided : List Decided
       let held : entry_at table made.0.number ≡ Some (Done made.0.fate) = done.each made.0 (contained decided made.0 made.1) in
       let same : made.0.number ≡ number = ap (λ (o : Known). o.0) made.2 ∙ at_same one.0 number here in
       let value : one.1 ≡ (decided_known made.0).1 = sym (ap (λ (o : Known). o.1) made.2) in
-      value ∙ sym (ap (option_map known_of) held) ∙ ap (known_in table) same
+      value ∙ sym (ap (option_map known_job) held) ∙ ap (known_in table) same
 
   row_is_known : (number : ℕ) (one : Known) → Has (map row_known rows) one → at one.0 number ≡ true → IsKnown number (Some one.1)
   row_is_known number one has here =
@@ -106,13 +106,13 @@ module _ (before : List AccountRecord) (rows : List Row) (decided : List Decided
       let held : entry_at table made.0.number ≡ Some (row_entry made.0).1 = live.each made.0 (contained rows made.0 made.1) in
       let same : made.0.number ≡ number = ap (λ (o : Known). o.0) made.2 ∙ at_same one.0 number here in
       let value : one.1 ≡ (row_known made.0).1 = sym (ap (λ (o : Known). o.1) made.2) in
-      value ∙ sym (ap (option_map known_of) held) ∙ ap (known_in table) same
+      value ∙ sym (ap (option_map known_job) held) ∙ ap (known_in table) same
 
   -- a number that the table doesn't have
   record_is_known : (number : ℕ) → entry_at table number ≡ None → (one : Known) → Has (map record_known before) one → IsKnown number (Some one.1)
   record_is_known number absent one has =
       let made : (first : AccountRecord) × Has before first × (record_known first ≡ one) = made_has record_known before one has in
-      sym (ap (λ (o : Known). o.1) made.2) ∙ sym (ap (option_map known_of) absent)
+      sym (ap (λ (o : Known). o.1) made.2) ∙ sym (ap (option_map known_job) absent)
 
   each_known : (number : ℕ) → IsKnown number (job_at all number)
   each_known number = by_entry (entry_at table number) refl where
@@ -139,7 +139,7 @@ module _ (before : List AccountRecord) (rows : List Row) (decided : List Decided
         (found (IsKnown number) (job_at with_records) (map row_known rows) number
         (subst (IsKnown number) (sym (records_put number))
         (found (IsKnown number) (job_at none) (map record_known before) number
-        (subst (IsKnown number) (sym (empty number)) (sym (ap (option_map known_of) is)))
+        (subst (IsKnown number) (sym (empty number)) (sym (ap (option_map known_job) is)))
         (λ one has here. record_is_known number is one has)))
         (row_is_known number)))
         (done_known number))
@@ -148,9 +148,9 @@ module _ (before : List AccountRecord) (rows : List Row) (decided : List Decided
   abbrev IsThere : Option (Option KnownJob) → Type 0
   IsThere job = is_some job ≡ true
 
-  each_named : (number : ℕ) → is_named number before ≡ true → IsThere (job_at all number)
+  each_named : (number : ℕ) → has_record_of number before ≡ true → IsThere (job_at all number)
   each_named number is =
-      let one : (first : AccountRecord) × Has before first × (names number first ≡ true) = one_passes (names number) before is in
+      let one : (first : AccountRecord) × Has before first × (is_account_record_of number first ≡ true) = one_passes (is_account_record_of number) before is in
       subst IsThere (sym (decided_put number))
       (found IsThere (job_at with_rows) (map decided_known decided) number
       (subst IsThere (sym (rows_put number))

@@ -4,15 +4,15 @@ use Rattle.std.specs.Prelude.{◌&&◌, ◌==◌}
 use Rattle.std.proofs.lemmas.Bool.{and_parts}
 use Rattle.std.proofs.lemmas.Bool.Decides.{nat_tests}
 use Rattle.record_lines.specs.Lines.{AreLegalAfter}
-use Rattle.accounts.specs.declared.ledger.Standing.{Standing}
+use Rattle.accounts.specs.declared.ledger.RecordState.{RecordState}
 use Rattle.accounts.specs.declared.news.KnownJob.{KnownJob}
 use Rattle.accounts.specs.declared.news.KnownJob.TheVariants.{Done, Live}
 use Rattle.accounts.specs.declared.record.AccountEvent.{AccountEvent}
 use Rattle.accounts.specs.declared.record.AccountRecord.{AccountRecord}
 use Rattle.accounts.specs.declared.record.Owner.{Owner}
 use Rattle.accounts.specs.News.{closing_event, fate_is_handed_over, news_of, records_of, said_by, seen_event, start_event}
-use Rattle.accounts.specs.Records.{MayCome}
-use Rattle.accounts.specs.Standings.{StandsAt, may_follow, standing_after}
+use Rattle.accounts.specs.Records.{IsRecordAllowed}
+use Rattle.accounts.specs.Standings.{IsRecordStateAt, event_may_follow, record_state_after}
 use Rattle.accounts.proofs.NewsLemmas.{events_told}
 use Rattle.accounts.proofs.StandingLemmas.{stands_here, told_by}
 
@@ -26,18 +26,18 @@ one_of None = []
 one_of (Some event) = event ∷ []
 
 -- events that may come one after the other
-abbrev may_all : Option Standing → List AccountEvent → Bool
+abbrev may_all : Option RecordState → List AccountEvent → Bool
 may_all standing [] = true
-may_all standing (event ∷ later) = may_follow standing event && may_all (standing_after standing event) later
+may_all standing (event ∷ later) = event_may_follow standing event && may_all (record_state_after standing event) later
 
-legal_all : (before : List AccountRecord) (number : ℕ) (standing : Option Standing) (events : List AccountEvent) → StandsAt before number standing
-    → may_all standing events ≡ true → AreLegalAfter MayCome before (map (of_number number) events)
+legal_all : (before : List AccountRecord) (number : ℕ) (standing : Option RecordState) (events : List AccountEvent) → IsRecordStateAt before number standing
+    → may_all standing events ≡ true → AreLegalAfter IsRecordAllowed before (map (of_number number) events)
 legal_all before number standing [] stands may = tt
 legal_all before number standing (event ∷ later) stands may =
-    let parts = and_parts (may_follow standing event) (may_all (standing_after standing event) later) may in
+    let parts = and_parts (event_may_follow standing event) (may_all (record_state_after standing event) later) may in
     let same : (number == number) ≡ true = grind (arith, nat_tests) in (
       told_by before number standing event stands ∙ parts.0,
-      legal_all (before ++ of_number number event ∷ []) number (standing_after standing event) later
+      legal_all (before ++ of_number number event ∷ []) number (record_state_after standing event) later
           (stands_here before number standing (of_number number event) same event refl parts.0 stands) parts.1,
     )
 
@@ -73,7 +73,7 @@ may_of_seen owner false false (Some (Done fate)) = by_test (fate_is_handed_over 
   by_test true is = rw is refl
   by_test false is = rw is refl
 
-may_of : (standing : Option Standing) (known : Option KnownJob)
+may_of : (standing : Option RecordState) (known : Option KnownJob)
     → may_all standing (events_of (said_by standing).seen (said_by standing).started (said_by standing).closed known) ≡ true
 may_of None None = refl
 may_of None (Some (Live owner true)) = refl
@@ -81,11 +81,11 @@ may_of None (Some (Live owner false)) = refl
 may_of None (Some (Done fate)) = refl
 may_of (Some standing) known = may_of_seen standing.owner standing.started standing.closed known
 
-pub news_legal : (before : List AccountRecord) (number : ℕ) (standing : Option Standing) (known : Option KnownJob) → StandsAt before number standing
-    → AreLegalAfter MayCome before (news_of before number known)
+pub news_legal : (before : List AccountRecord) (number : ℕ) (standing : Option RecordState) (known : Option KnownJob) → IsRecordStateAt before number standing
+    → AreLegalAfter IsRecordAllowed before (news_of before number known)
 news_legal before number standing known stands =
     let said = said_by standing in
-    subst (AreLegalAfter MayCome before)
+    subst (AreLegalAfter IsRecordAllowed before)
     (sym (each_of number (seen_event said.seen known) (start_event said.seen said.started said.closed known) (closing_event said.seen said.closed known))
     ∙ sym (events_told before number standing known stands))
     (legal_all before number standing (events_of said.seen said.started said.closed known) stands (may_of standing known))

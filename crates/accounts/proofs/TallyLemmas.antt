@@ -20,12 +20,12 @@ use Rattle.std.proofs.lemmas.List.Sums.{count_by-le-length, sum_by-cons, sum_by_
 use Rattle.std.proofs.lemmas.Map.Text.{is_eq-slice_cmp}
 use Rattle.std.proofs.lemmas.Slice.Eq.{bytes_eq-Decides}
 use Rattle.record_lines.proofs.SayingLemmas.{none_says}
-use Rattle.accounts.specs.declared.ledger.Standing.{Standing}
+use Rattle.accounts.specs.declared.ledger.RecordState.{RecordState}
 use Rattle.accounts.specs.declared.record.AccountRecord.{AccountRecord}
 use Rattle.accounts.specs.declared.record.Owner.{Owner}
-use Rattle.accounts.specs.Records.{is_named, is_owner, is_seeing_of, is_seen_with, names}
-use Rattle.accounts.specs.Standings.{IsStanding}
-use Rattle.accounts.specs.Totals.{counts_for, kind_of}
+use Rattle.accounts.specs.Records.{has_record_of, is_owner, is_seeing_of, is_seen_with, is_account_record_of}
+use Rattle.accounts.specs.Standings.{IsRecordState}
+use Rattle.accounts.specs.Totals.{counts_for, kind_of_event}
 use Rattle.accounts.specs.inside.Tallying.{AreRaised, IsTallied, IsTallyOf, Pair, counts_so_far, is_met, owner_pair, pair_cmp}
 
 -- bytes are the same either way
@@ -83,7 +83,7 @@ other_more all counted one owner (Some counts) apart tallied = (
   list_any-append (λ r. is_seen_with r.number owner all) counted (one ∷ []) ∙ ap (λ b. b || (is_seen_with one.number owner all || false)) tallied.0,
   λ kind inside fits.
       let longer = one_longer counted one in
-      let none : counts_for all owner kind one ≡ false = and_right (kind_of one.event == kind) (is_seen_with one.number owner all) apart in
+      let none : counts_for all owner kind one ≡ false = and_right (kind_of_event one.event == kind) (is_seen_with one.number owner all) apart in
       let more = counted_more all counted one owner kind in
       let added : one_if (counts_for all owner kind one) ≡ 0 = ap one_if none in
       let here : slice_index counts kind ≡ count_by (counts_for all owner kind) counted = tallied.1 kind inside (omega arith) in
@@ -95,7 +95,7 @@ none_counted : (all counted : List AccountRecord) (owner : Owner) (kind : ℕ) �
 none_counted all [] owner kind none = refl
 none_counted all (one ∷ later) owner kind none =
     let parts = or_parts (is_seen_with one.number owner all) (is_met all later owner) none in
-    let here : counts_for all owner kind one ≡ false = and_right (kind_of one.event == kind) (is_seen_with one.number owner all) parts.0 in
+    let here : counts_for all owner kind one ≡ false = and_right (kind_of_event one.event == kind) (is_seen_with one.number owner all) parts.0 in
     let first : count_by (counts_for all owner kind) (one ∷ later) ≡ one_if (counts_for all owner kind one) + count_by (counts_for all owner kind) later =
     sum_by-cons (λ x. cond (counts_for all owner kind x) 1 0) one later in
     let nothing : one_if (counts_for all owner kind one) ≡ 0 = ap one_if here in
@@ -110,18 +110,18 @@ so_far all counted owner (Some counts) kind tallied inside fits = tallied.1 kind
 
 -- a record that is counted for the owner
 owner_more : (all counted : List AccountRecord) (one : AccountRecord) (owner : Owner) (old : Option (List ℕ)) (counts : List ℕ) → is_seen_with one.number owner all ≡ true
-    → AreRaised old (kind_of one.event) counts → IsTallied all counted owner old → IsTallied all (counted ++ one ∷ []) owner (Some counts)
+    → AreRaised old (kind_of_event one.event) counts → IsTallied all counted owner old → IsTallied all (counted ++ one ∷ []) owner (Some counts)
 owner_more all counted one owner old counts seen raised tallied = (
   list_any-append (λ r. is_seen_with r.number owner all) counted (one ∷ []) ∙ ap (λ b. is_met all counted owner || (b || false)) seen ∙ or-true (is_met all counted owner),
   λ kind inside fits.
       let longer = one_longer counted one in
       let few : count_by (counts_for all owner kind) counted ≤ length counted = count_by-le-length (counts_for all owner kind) counted in
       let before : counts_so_far old kind ≡ count_by (counts_for all owner kind) counted = so_far all counted owner old kind tallied inside (omega arith) in
-      by_test kind (kind_of one.event == kind) refl before (counted_more all counted one owner kind) (raised kind inside (omega arith)),
+      by_test kind (kind_of_event one.event == kind) refl before (counted_more all counted one owner kind) (raised kind inside (omega arith)),
 ) where
-  by_test : (kind : ℕ) (here : Bool) → (kind_of one.event == kind) ≡ here → counts_so_far old kind ≡ count_by (counts_for all owner kind) counted
+  by_test : (kind : ℕ) (here : Bool) → (kind_of_event one.event == kind) ≡ here → counts_so_far old kind ≡ count_by (counts_for all owner kind) counted
       → count_by (counts_for all owner kind) (counted ++ one ∷ []) ≡ count_by (counts_for all owner kind) counted + one_if (counts_for all owner kind one)
-      → slice_index counts kind ≡ cond (kind_of one.event == kind) (counts_so_far old kind + 1) (counts_so_far old kind)
+      → slice_index counts kind ≡ cond (kind_of_event one.event == kind) (counts_so_far old kind + 1) (counts_so_far old kind)
       → slice_index counts kind ≡ count_by (counts_for all owner kind) (counted ++ one ∷ [])
   by_test kind true is before more raised =
       let counted_too : one_if (counts_for all owner kind one) ≡ 1 = ap (λ b. one_if (b && is_seen_with one.number owner all)) is ∙ ap one_if seen in
@@ -133,8 +133,8 @@ owner_more all counted one owner old counts seen raised tallied = (
       omega arith
 
 -- one record more, of a job that was seen
-pub tally_more : (all counted : List AccountRecord) (one : AccountRecord) (standing : Standing) (old new : BTreeMap Pair (List ℕ)) (counts : List ℕ)
-    → IsStanding all one.number standing → AreRaised (tree.get pair_cmp old (owner_pair standing.owner)) (kind_of one.event) counts
+pub tally_more : (all counted : List AccountRecord) (one : AccountRecord) (standing : RecordState) (old new : BTreeMap Pair (List ℕ)) (counts : List ℕ)
+    → IsRecordState all one.number standing → AreRaised (tree.get pair_cmp old (owner_pair standing.owner)) (kind_of_event one.event) counts
     → ((pair : Pair) → tree.get pair_cmp new pair ≡ cond (is_at (pair_cmp (owner_pair standing.owner)) pair) (Some counts) (tree.get pair_cmp old pair))
     → IsTallyOf all counted old → IsTallyOf all (counted ++ one ∷ []) new
 tally_more all counted one standing old new counts stands raised updates tally owner = by_test (is_owner owner standing.owner) refl where
@@ -147,16 +147,16 @@ tally_more all counted one standing old new counts stands raised updates tally o
       let same : owner ≡ standing.owner = same_owner owner standing.owner is in
       subst (IsTallied all (counted ++ one ∷ []) owner) (sym (found true is))
       (owner_more all counted one owner (tree.get pair_cmp old (owner_pair owner)) counts (stands.owner owner ∙ is)
-      (subst (λ o. AreRaised (tree.get pair_cmp old (owner_pair o)) (kind_of one.event) counts) (sym same) raised) (tally owner))
+      (subst (λ o. AreRaised (tree.get pair_cmp old (owner_pair o)) (kind_of_event one.event) counts) (sym same) raised) (tally owner))
   by_test false is =
       subst (IsTallied all (counted ++ one ∷ []) owner) (sym (found false is))
       (other_more all counted one owner (tree.get pair_cmp old (owner_pair owner)) (stands.owner owner ∙ is) (tally owner))
 
 -- and of one that no record names
-pub tally_same : (all counted : List AccountRecord) (one : AccountRecord) (tally : BTreeMap Pair (List ℕ)) → is_named one.number all ≡ false
+pub tally_same : (all counted : List AccountRecord) (one : AccountRecord) (tally : BTreeMap Pair (List ℕ)) → has_record_of one.number all ≡ false
     → IsTallyOf all counted tally → IsTallyOf all (counted ++ one ∷ []) tally
 tally_same all counted one tally none tallied owner =
-    other_more all counted one owner (tree.get pair_cmp tally (owner_pair owner)) (none_says (names one.number) (λ r. is_seeing_of owner r.event) all none) (tallied owner)
+    other_more all counted one owner (tree.get pair_cmp tally (owner_pair owner)) (none_says (is_account_record_of one.number) (λ r. is_seeing_of owner r.event) all none) (tallied owner)
 
 -- the counts with one of them raised
 pub raised_at : (old : Option (List ℕ)) (before : List ℕ) (kind value : ℕ) → kind < 7 → length before ≡ 7 → ((other : ℕ) → other < 7 → slice_index before other ≡ counts_so_far old other)

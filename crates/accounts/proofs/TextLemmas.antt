@@ -6,7 +6,7 @@ use Rattle.record_lines.proofs.LineLemmas.{after_space}
 use Rattle.accounts.specs.declared.record.AccountEvent.{AccountEvent}
 use Rattle.accounts.specs.declared.record.AccountEvent.TheVariants.{Closed, Seen, Started}
 use Rattle.accounts.specs.declared.record.AccountRecord.{AccountRecord}
-use Rattle.accounts.specs.Lines.{IsRestOf, SpellsRecord, letter_of, owner_text}
+use Rattle.accounts.specs.Lines.{IsRestOf, SpellsRecord, letter_of_event, owner_text}
 use Rattle.accounts.specs.inside.Spelling.{eight}
 
 -- what stands after the number of an event is its text
@@ -17,13 +17,13 @@ rest_text rest (Closed closing) is = is
 
 -- the line that a record is spelled in, part by part
 pub text_added : (old with_letter with_space with_digits digits line : List ℕ) (one : AccountRecord) → SpellsRecord line one
-    → with_letter ≡ old ++ letter_of one.event ∷ [] → with_space ≡ with_letter ++ 32 ∷ [] → with_digits ≡ with_space ++ digits
+    → with_letter ≡ old ++ letter_of_event one.event ∷ [] → with_space ≡ with_letter ++ 32 ∷ [] → with_digits ≡ with_space ++ digits
     → (length digits ≡ 8) × SpellsNumber digits one.number
     → with_digits ++ owner_text one.event ≡ old ++ line
 text_added old with_letter with_space with_digits digits line one spelled first second third (counted, number) =
     let same : digits ≡ spelled.digits = one_spelling digits spelled.digits one.number (counted ∙ sym spelled.counted) number spelled.number in
     let rest : owner_text one.event ≡ spelled.rest = sym (rest_text spelled.rest one.event spelled.event.rest_is) in
-    let letter : letter_of one.event ≡ spelled.letter = sym spelled.event.letter_is in
+    let letter : letter_of_event one.event ≡ spelled.letter = sym spelled.event.letter_is in
     let whole : with_digits ≡ ((old ++ spelled.letter ∷ []) ++ 32 ∷ []) ++ spelled.digits =
     third ∙ ap (λ d. with_space ++ d) same ∙ ap (λ w. w ++ spelled.digits) (second ∙ ap (λ w. w ++ 32 ∷ []) (first ∙ ap (λ l. old ++ l ∷ []) letter)) in
     ap (λ w. w ++ owner_text one.event) whole ∙ ap (λ r. (((old ++ spelled.letter ∷ []) ++ 32 ∷ []) ++ spelled.digits) ++ r) rest

@@ -16,8 +16,8 @@ use Rattle.accounts.specs.declared.record.AccountRecord.{AccountRecord}
 use Rattle.accounts.specs.declared.record.Closing.{Closing}
 use Rattle.accounts.specs.declared.record.Owner.{Owner}
 use Rattle.accounts.specs.Lines.{HasOwner, SpellsRecord}
-use Rattle.accounts.specs.News.{closing_event, closing_of, is_handed_over, is_live, known_of, news_of, records_of, seen_event, start_event}
-use Rattle.accounts.specs.Records.{is_closed, is_named, is_seen, is_started, names}
+use Rattle.accounts.specs.News.{closing_event, closing_of, is_handed_over, is_known_live, known_job, news_of, records_of, seen_event, start_event}
+use Rattle.accounts.specs.Records.{has_closing_record, has_record_of, is_seen, has_start_record, is_account_record_of}
 use Rattle.accounts.proofs.WritingLemmas.{can_write}
 use Rattle.spool_model.specs.declared.entry.Entry.TheVariants.{Live, Done}
 use Rattle.spool_model.specs.declared.row.Row.{Row}
@@ -51,8 +51,8 @@ seen_fit false (Some (job.Live owner running)) event fit is = let same : Seen ow
 seen_fit false (Some (job.Done fate)) event fit is = let impossible : None ≡ Some event = is in cc
 
 start_fit : (seen started closed : Bool) (known : Option KnownJob) (event : AccountEvent) → start_event seen started closed known ≡ Some event → HasOwner event
-start_fit seen started closed known event is = by_test ((seen || is_live known) && not started && not closed && is_handed_over known) refl where
-  by_test : (starts : Bool) → ((seen || is_live known) && not started && not closed && is_handed_over known) ≡ starts → HasOwner event
+start_fit seen started closed known event is = by_test ((seen || is_known_live known) && not started && not closed && is_handed_over known) refl where
+  by_test : (starts : Bool) → ((seen || is_known_live known) && not started && not closed && is_handed_over known) ≡ starts → HasOwner event
   by_test true now =
       let same : Started ≡ event = (let there : start_event seen started closed known ≡ Some Started = rw now refl in cc) in
       subst HasOwner same tt
@@ -73,18 +73,18 @@ news_fit : (before : List AccountRecord) (number : ℕ) (known : Option KnownJob
 news_fit before number known one fit has = elim (has_either (first ++ second) third one has) [
   | inl early ↦ elim (has_either first second one early) [
     | inl in_first ↦ seen_fit (is_seen number before) known one.event fit (event_of number (seen_event (is_seen number before) known) one in_first)
-    | inr in_second ↦ start_fit (is_seen number before) (is_started number before) (is_closed number before) known one.event (event_of number (start_event (is_seen number before) (is_started number before) (is_closed number before) known) one in_second)
+    | inr in_second ↦ start_fit (is_seen number before) (has_start_record number before) (has_closing_record number before) known one.event (event_of number (start_event (is_seen number before) (has_start_record number before) (has_closing_record number before) known) one in_second)
   ]
-  | inr late ↦ closing_fit (is_seen number before) (is_closed number before) known one.event (event_of number (closing_event (is_seen number before) (is_closed number before) known) one late)
+  | inr late ↦ closing_fit (is_seen number before) (has_closing_record number before) known one.event (event_of number (closing_event (is_seen number before) (has_closing_record number before) known) one late)
 ] where
   first : List AccountRecord
   first = records_of number (seen_event (is_seen number before) known)
 
   second : List AccountRecord
-  second = records_of number (start_event (is_seen number before) (is_started number before) (is_closed number before) known)
+  second = records_of number (start_event (is_seen number before) (has_start_record number before) (has_closing_record number before) known)
 
   third : List AccountRecord
-  third = records_of number (closing_event (is_seen number before) (is_closed number before) known)
+  third = records_of number (closing_event (is_seen number before) (has_closing_record number before) known)
 
 module _ (before news : List AccountRecord) (rows : List Row) (table : JobTable) (can : All (CanBeSpelled SpellsRecord) before) (sound : IsSound table)
     (live : ListsLive table rows) (letters : HaveLetters rows) (named : (row : Row) → Contains rows row → IsUserName row.user) (are : AreNews before table news) where
@@ -92,19 +92,19 @@ module _ (before news : List AccountRecord) (rows : List Row) (table : JobTable)
   fit_in : (number : ℕ) → HasFitOwner (known_in table number)
   fit_in number = by_entry (entry_at table number) refl where
     by_entry : (entry : Option JobEntry) → entry_at table number ≡ entry → HasFitOwner (known_in table number)
-    by_entry None is = subst (λ e. HasFitOwner (option_map known_of e)) (sym is) tt
-    by_entry (Some (Done fate)) is = subst (λ e. HasFitOwner (option_map known_of e)) (sym is) tt
+    by_entry None is = subst (λ e. HasFitOwner (option_map known_job e)) (sym is) tt
+    by_entry (Some (Done fate)) is = subst (λ e. HasFitOwner (option_map known_job e)) (sym is) tt
     by_entry (Some (Live one state)) is =
         let listed = live.all number one state is in
         let fit : IsTrue (is_ascii_alphabetic listed.0.queue) × IsUserName listed.0.user = (letters listed.0 listed.1, named listed.0 listed.1) in
-        subst (λ e. HasFitOwner (option_map known_of e)) (ap (λ (e : ℕ × JobEntry). Some e.1) listed.2 ∙ sym is) fit
+        subst (λ e. HasFitOwner (option_map known_job e)) (ap (λ (e : ℕ × JobEntry). Some e.1) listed.2 ∙ sym is) fit
 
   -- the number of a record
   number_fits : (number : ℕ) (one : AccountRecord) → Has (news_of before number (known_in table number)) one → (1 ≤ number) × (number < 2 ^ 32)
-  number_fits number one has = by_test (is_named number before) refl where
-    by_entry : (entry : Option JobEntry) → entry_at table number ≡ entry → is_named number before ≡ false → (1 ≤ number) × (number < 2 ^ 32)
+  number_fits number one has = by_test (has_record_of number before) refl where
+    by_entry : (entry : Option JobEntry) → entry_at table number ≡ entry → has_record_of number before ≡ false → (1 ≤ number) × (number < 2 ^ 32)
     by_entry None is unnamed =
-        let nothing : news_of before number (known_in table number) ≡ [] = ap (λ e. news_of before number (option_map known_of e)) is ∙ nothing_new before number unnamed in
+        let nothing : news_of before number (known_in table number) ≡ [] = ap (λ e. news_of before number (option_map known_job e)) is ∙ nothing_new before number unnamed in
         absurd (subst (λ list. Has list one) nothing has)
     by_entry (Some entry) is unnamed =
         let drawn = sound.each number (subst IsSome (sym is) refl) in
@@ -113,9 +113,9 @@ module _ (before news : List AccountRecord) (rows : List Row) (table : JobTable)
         let few = sound.few in
         (some, omega arith)
 
-    by_test : (named : Bool) → is_named number before ≡ named → (1 ≤ number) × (number < 2 ^ 32)
+    by_test : (named : Bool) → has_record_of number before ≡ named → (1 ≤ number) × (number < 2 ^ 32)
     by_test true named =
-        let found : (other : AccountRecord) × Has before other × (names number other ≡ true) = one_passes (names number) before named in
+        let found : (other : AccountRecord) × Has before other × (is_account_record_of number other ≡ true) = one_passes (is_account_record_of number) before named in
         let spelled : CanBeSpelled SpellsRecord found.0 = All-contains (CanBeSpelled SpellsRecord) before found.0 can (contained before found.0 found.1) in
         let same : found.0.number ≡ number = eqb-true found.0.number number found.2 in
         let some = spelled.spelled.some in
@@ -127,9 +127,9 @@ module _ (before news : List AccountRecord) (rows : List Row) (table : JobTable)
 
   one_can : (one : AccountRecord) → Has news one → CanBeSpelled SpellsRecord one
   one_can one has =
-      let itself : names one.number one ≡ true = grind (arith, nat_tests) in
+      let itself : is_account_record_of one.number one ≡ true = grind (arith, nat_tests) in
       let among : Has (news_of before one.number (known_in table one.number)) one =
-      subst (λ list. Has list one) (are.each one.number) (has_filtered (names one.number) news one has itself) in
+      subst (λ list. Has list one) (are.each one.number) (has_filtered (is_account_record_of one.number) news one has itself) in
       let fits = number_fits one.number one among in
       can_write one fits.0 fits.1 (news_fit before one.number (known_in table one.number) one (fit_in one.number) among)
 

@@ -13,7 +13,7 @@ use Rattle.accounts.specs.declared.record.AccountEvent.{AccountEvent}
 use Rattle.accounts.specs.declared.record.AccountEvent.TheVariants.{Closed, Seen, Started}
 use Rattle.accounts.specs.declared.record.AccountRecord.{AccountRecord}
 use Rattle.accounts.specs.declared.record.Closing.TheVariants.{Finished, Interrupted, Lost, NotStarted, Removed}
-use Rattle.accounts.specs.Lines.{HasOwner, IsRestOf, SpellsRecord, letter_of, owner_text}
+use Rattle.accounts.specs.Lines.{HasOwner, IsRestOf, SpellsRecord, letter_of_event, owner_text}
 
 rest_of : (event : AccountEvent) → HasOwner event → IsRestOf (owner_text event) event
 rest_of (Seen owner) (letter, user) = record { is = refl; letter = letter; user = user }
@@ -28,7 +28,7 @@ rest_none (Seen owner) (letter, user) =
 rest_none Started has = refl
 rest_none (Closed closing) has = refl
 
-letter_none : (event : AccountEvent) → (letter_of event == 10) ≡ false
+letter_none : (event : AccountEvent) → (letter_of_event event == 10) ≡ false
 letter_none (Seen owner) = refl
 letter_none Started = refl
 letter_none (Closed Finished) = refl
@@ -43,10 +43,10 @@ can_write one some fits owner =
     let digits : HasNoNewline (digits_of one.number) = none_of is_ascii_alphanumeric 10 (digits_of one.number) refl (are_alphanumeric (digits_of one.number) one.number spelled) in
     let both : HasNoNewline (digits_of one.number ++ owner_text one.event) = both_none (digits_of one.number) (owner_text one.event) digits (rest_none one.event owner) in
     record {
-      line = letter_of one.event ∷ 32 ∷ (digits_of one.number ++ owner_text one.event);
+      line = letter_of_event one.event ∷ 32 ∷ (digits_of one.number ++ owner_text one.event);
       whole = rw (letter_none one.event) both;
       spelled = record {
-        letter = letter_of one.event;
+        letter = letter_of_event one.event;
         digits = digits_of one.number;
         rest = owner_text one.event;
         parted = refl;

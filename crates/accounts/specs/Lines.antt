@@ -11,14 +11,14 @@ use Rattle.accounts.specs.declared.record.Closing.TheVariants.{Finished, Interru
 use Rattle.accounts.specs.declared.record.Owner.{Owner}
 
 -- the letter of an event
-abbrev pub letter_of : AccountEvent → ℕ
-letter_of (Seen _) = 65
-letter_of Started = 83
-letter_of (Closed Finished) = 70
-letter_of (Closed NotStarted) = 78
-letter_of (Closed Interrupted) = 73
-letter_of (Closed Removed) = 82
-letter_of (Closed Lost) = 76
+abbrev pub letter_of_event : AccountEvent → ℕ
+letter_of_event (Seen _) = 65
+letter_of_event Started = 83
+letter_of_event (Closed Finished) = 70
+letter_of_event (Closed NotStarted) = 78
+letter_of_event (Closed Interrupted) = 73
+letter_of_event (Closed Removed) = 82
+letter_of_event (Closed Lost) = 76
 
 -- the text is that of the owner: the queue, a letter, and the user, each after a space
 pub record IsOwnerText (text : List ℕ) (owner : Owner) : Type 0 where
@@ -46,7 +46,7 @@ IsRestOf rest (Closed _) = rest ≡ []
 
 -- the letter and the text after the number are those of the event
 pub record IsEventText (letter : ℕ) (rest : List ℕ) (event : AccountEvent) : Type 0 where
-  pub letter_is : letter ≡ letter_of event
+  pub letter_is : letter ≡ letter_of_event event
   pub rest_is : IsRestOf rest event
 
 -- the line spells the record

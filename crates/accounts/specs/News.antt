@@ -8,7 +8,7 @@ use Rattle.spool_model.specs.declared.fate.Fate.TheVariants as fate
 use Rattle.spool_model.specs.declared.state.State.{State}
 use Rattle.spool_model.specs.declared.state.State.TheVariants.{Pending, Running}
 use Rattle.spool_model.specs.JobTable.{JobEntry}
-use Rattle.accounts.specs.declared.ledger.Standing.{Standing}
+use Rattle.accounts.specs.declared.ledger.RecordState.{RecordState}
 use Rattle.accounts.specs.declared.news.KnownJob.{KnownJob}
 use Rattle.accounts.specs.declared.news.KnownJob.TheVariants.{Done, Live}
 use Rattle.accounts.specs.declared.news.Said.{Said}
@@ -18,22 +18,22 @@ use Rattle.accounts.specs.declared.record.AccountRecord.{AccountRecord}
 use Rattle.accounts.specs.declared.record.Closing.{Closing}
 use Rattle.accounts.specs.declared.record.Closing.TheVariants.{Finished, Interrupted, Lost, NotStarted, Removed}
 use Rattle.accounts.specs.declared.record.Owner.{Owner}
-use Rattle.accounts.specs.Records.{is_closed, is_seen, is_started}
+use Rattle.accounts.specs.Records.{has_closing_record, is_seen, has_start_record}
 
 -- what the records say of a job that stands so
-abbrev pub said_by : Option Standing → Said
+abbrev pub said_by : Option RecordState → Said
 said_by None = record { seen = false; started = false; closed = false }
 said_by (Some standing) = record { seen = true; started = standing.started; closed = standing.closed }
 
 -- a job in this state runs
-abbrev pub runs : State → Bool
-runs Pending = false
-runs (Running _) = true
+abbrev pub is_running_state : State → Bool
+is_running_state Pending = false
+is_running_state (Running _) = true
 
 -- what accounts know of an entry of the table
-abbrev pub known_of : JobEntry → KnownJob
-known_of (entry.Live job state) = Live (record { user = job.user; queue = job.queue }) (runs state)
-known_of (entry.Done fate) = Done fate
+abbrev pub known_job : JobEntry → KnownJob
+known_job (entry.Live job state) = Live (record { user = job.user; queue = job.queue }) (is_running_state state)
+known_job (entry.Done fate) = Done fate
 
 -- the owner of a live job, if it is one
 abbrev pub live_owner : Option KnownJob → Option Owner
@@ -42,10 +42,10 @@ live_owner (Some (Live owner _)) = Some owner
 live_owner (Some (Done _)) = None
 
 -- the job is live
-abbrev pub is_live : Option KnownJob → Bool
-is_live None = false
-is_live (Some (Live _ _)) = true
-is_live (Some (Done _)) = false
+abbrev pub is_known_live : Option KnownJob → Bool
+is_known_live None = false
+is_known_live (Some (Live _ _)) = true
+is_known_live (Some (Done _)) = false
 
 -- a job with this fate was handed over
 abbrev pub fate_is_handed_over : Fate → Bool
@@ -80,7 +80,7 @@ seen_event seen known = if seen then None else option_map Seen (live_owner known
 -- it was started where it was seen, or is seen now, was neither started nor closed, and was handed over
 abbrev pub start_event : Bool → Bool → Bool → Option KnownJob → Option AccountEvent
 start_event seen started closed known =
-    if (seen || is_live known) && not started && not closed && is_handed_over known then Some Started else None
+    if (seen || is_known_live known) && not started && not closed && is_handed_over known then Some Started else None
 
 -- it is closed where it was seen and not closed, and is not live
 abbrev pub closing_event : Bool → Bool → Option KnownJob → Option AccountEvent
@@ -99,4 +99,5 @@ events_by number seen started closed known =
 
 -- the new records of a number after these, by what the table has of it
 abbrev pub news_of : List AccountRecord → ℕ → Option KnownJob → List AccountRecord
-news_of before number known = events_by number (is_seen number before) (is_started number before) (is_closed number before) known
+news_of before number known = events_by number (is_seen number before) (has_start_record number before) (has_closing_record number before)
+    known

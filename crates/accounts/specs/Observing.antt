@@ -5,25 +5,25 @@ use Rattle.std.specs.List.{AllByRecursion, filter}
 use Rattle.std.specs.Option.{option_map}
 use Rattle.accounts.specs.declared.news.KnownJob.{KnownJob}
 use Rattle.accounts.specs.declared.record.AccountRecord.{AccountRecord}
-use Rattle.accounts.specs.News.{known_of, news_of}
-use Rattle.accounts.specs.Records.{names}
+use Rattle.accounts.specs.News.{known_job, news_of}
+use Rattle.accounts.specs.Records.{is_account_record_of}
 use Rattle.spool_model.specs.declared.row.Row.{Row}
 use Rattle.spool_model.specs.JobTable.{JobTable, entry_at}
 use Rattle.accounts.specs.declared.account.TheConstants.{MAX_RECORDS}
 
 -- the numbers of the records never fall
-abbrev pub AreByNumber : List AccountRecord → Type 0
-AreByNumber [] = Unit {0}
-AreByNumber (one ∷ later) = AllByRecursion (λ next. one.number ≤ next.number) later × AreByNumber later
+abbrev pub AreRecordsByNumber : List AccountRecord → Type 0
+AreRecordsByNumber [] = Unit {0}
+AreRecordsByNumber (one ∷ later) = AllByRecursion (λ next. one.number ≤ next.number) later × AreRecordsByNumber later
 
 -- Of each number the records are the new ones after these, by what is known of it, and they stand by number.
 pub record AreNewsBy (before : List AccountRecord) (known : ℕ → Option KnownJob) (news : List AccountRecord) : Type 0 where
-  pub each : (number : ℕ) → filter (names number) news ≡ news_of before number (known number)
-  pub by_number : AreByNumber news
+  pub each : (number : ℕ) → filter (is_account_record_of number) news ≡ news_of before number (known number)
+  pub by_number : AreRecordsByNumber news
 
 -- what the table has of a number
 abbrev pub known_in : JobTable → ℕ → Option KnownJob
-known_in table number = option_map known_of (entry_at table number)
+known_in table number = option_map known_job (entry_at table number)
 
 -- the records are the new ones of a table
 abbrev pub AreNews : List AccountRecord → JobTable → List AccountRecord → Type 0

@@ -24,40 +24,40 @@ abbrev pub is_start : AccountEvent → Bool
 is_start Started = true
 is_start _ = false
 
-abbrev pub is_closing : AccountEvent → Bool
-is_closing (Closed _) = true
-is_closing _ = false
+abbrev pub is_closing_event : AccountEvent → Bool
+is_closing_event (Closed _) = true
+is_closing_event _ = false
 
 -- the record is of the number
-abbrev pub names : ℕ → AccountRecord → Bool
-names number one = one.number == number
+abbrev pub is_account_record_of : ℕ → AccountRecord → Bool
+is_account_record_of number one = one.number == number
 
 -- some record names the number, saw it, saw it with this owner, started it, closed it
-abbrev pub is_named : ℕ → List AccountRecord → Bool
-is_named number records = list_any (names number) records
+abbrev pub has_record_of : ℕ → List AccountRecord → Bool
+has_record_of number records = list_any (is_account_record_of number) records
 
 abbrev pub is_seen : ℕ → List AccountRecord → Bool
-is_seen number records = list_any (λ one. names number one && is_seeing one.event) records
+is_seen number records = list_any (λ one. is_account_record_of number one && is_seeing one.event) records
 
 abbrev pub is_seen_with : ℕ → Owner → List AccountRecord → Bool
-is_seen_with number owner records = list_any (λ one. names number one && is_seeing_of owner one.event) records
+is_seen_with number owner records = list_any (λ one. is_account_record_of number one && is_seeing_of owner one.event) records
 
-abbrev pub is_started : ℕ → List AccountRecord → Bool
-is_started number records = list_any (λ one. names number one && is_start one.event) records
+abbrev pub has_start_record : ℕ → List AccountRecord → Bool
+has_start_record number records = list_any (λ one. is_account_record_of number one && is_start one.event) records
 
-abbrev pub is_closed : ℕ → List AccountRecord → Bool
-is_closed number records = list_any (λ one. names number one && is_closing one.event) records
+abbrev pub has_closing_record : ℕ → List AccountRecord → Bool
+has_closing_record number records = list_any (λ one. is_account_record_of number one && is_closing_event one.event) records
 
 -- after these records the event may be noted of the number: it is seen where nothing names it, started where it was seen
 -- and neither started nor closed, and closed where it was seen and not closed
 abbrev pub may_be_noted : List AccountRecord → ℕ → AccountEvent → Bool
-may_be_noted before number (Seen _) = not (is_named number before)
-may_be_noted before number Started = is_seen number before && not (is_started number before) && not (is_closed number before)
-may_be_noted before number (Closed _) = is_seen number before && not (is_closed number before)
+may_be_noted before number (Seen _) = not (has_record_of number before)
+may_be_noted before number Started = is_seen number before && not (has_start_record number before) && not (has_closing_record number before)
+may_be_noted before number (Closed _) = is_seen number before && not (has_closing_record number before)
 
 -- after these records this one may come
-abbrev pub may_come : List AccountRecord → AccountRecord → Bool
-may_come before next = may_be_noted before next.number next.event
+abbrev pub is_record_allowed : List AccountRecord → AccountRecord → Bool
+is_record_allowed before next = may_be_noted before next.number next.event
 
-abbrev pub MayCome : List AccountRecord → AccountRecord → Type 0
-MayCome before next = IsTrue (may_come before next)
+abbrev pub IsRecordAllowed : List AccountRecord → AccountRecord → Type 0
+IsRecordAllowed before next = IsTrue (is_record_allowed before next)

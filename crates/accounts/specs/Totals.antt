@@ -10,23 +10,23 @@ use Rattle.accounts.specs.declared.record.AccountEvent.TheVariants.{Closed, Seen
 use Rattle.accounts.specs.declared.record.AccountRecord.{AccountRecord}
 use Rattle.accounts.specs.declared.record.Closing.TheVariants.{Finished, Interrupted, Lost, NotStarted, Removed}
 use Rattle.accounts.specs.declared.record.Owner.{Owner}
-use Rattle.accounts.specs.Records.{MayCome, is_seeing_of, is_seen_with}
+use Rattle.accounts.specs.Records.{IsRecordAllowed, is_seeing_of, is_seen_with}
 use Rattle.record_lines.specs.Lines.{AreLegalAfter}
 use Rattle.accounts.specs.declared.line.AccountLine.{AccountLine}
 
 -- which of the seven counts an event is counted by: seen, started, finished, not started, interrupted, removed, lost
-abbrev pub kind_of : AccountEvent → ℕ
-kind_of (Seen _) = 0
-kind_of Started = 1
-kind_of (Closed Finished) = 2
-kind_of (Closed NotStarted) = 3
-kind_of (Closed Interrupted) = 4
-kind_of (Closed Removed) = 5
-kind_of (Closed Lost) = 6
+abbrev pub kind_of_event : AccountEvent → ℕ
+kind_of_event (Seen _) = 0
+kind_of_event Started = 1
+kind_of_event (Closed Finished) = 2
+kind_of_event (Closed NotStarted) = 3
+kind_of_event (Closed Interrupted) = 4
+kind_of_event (Closed Removed) = 5
+kind_of_event (Closed Lost) = 6
 
 -- the record is of this kind, and of a job that the records saw with this owner
 abbrev pub counts_for : List AccountRecord → Owner → ℕ → AccountRecord → Bool
-counts_for records owner kind one = kind_of one.event == kind && is_seen_with one.number owner records
+counts_for records owner kind one = kind_of_event one.event == kind && is_seen_with one.number owner records
 
 -- how many of all the records are so
 abbrev pub count_of : List AccountRecord → Owner → ℕ → ℕ
@@ -57,5 +57,5 @@ pub record AreTotals (records : List AccountRecord) (lines : List AccountLine) :
 
 -- The account of these records: each may come after those before it, and the lines are theirs.
 pub record IsAccount (records : List AccountRecord) (lines : List AccountLine) : Type 0 where
-  pub in_turn : AreLegalAfter MayCome [] records
+  pub in_turn : AreLegalAfter IsRecordAllowed [] records
   pub totals : AreTotals records lines

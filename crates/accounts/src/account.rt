@@ -1,9 +1,9 @@
 //! The account: the records of jobs, and what they come to.
 ghost use Rattle.std.specs.Prelude.{◌≡◌, ◌≤◌, [], ℕ, All, List, Err, IfOk, IfErr, OnOk, OnErr, length};
-ghost use Rattle.record_lines.specs.Lines.{AreLegalAfter, AreLines, CanBeSpelled, IsFirstBadLine};
+ghost use Rattle.record_lines.specs.Lines.{AreLegalAfter, AreRecordLines, CanBeSpelled, IsFirstBadLine};
 ghost use Rattle.record_lines.specs.declared.reader.LinesFault.TheVariants as lines;
 ghost use Rattle.accounts.specs.Lines.{SpellsRecord};
-ghost use Rattle.accounts.specs.Records.{MayCome};
+ghost use Rattle.accounts.specs.Records.{IsRecordAllowed};
 ghost use Rattle.spool_model.specs.JobTable.{IsSound, JobTable};
 ghost use Rattle.spool_store.specs.Listed.{ListsDecided, ListsLive};
 ghost use Rattle.accounts.specs.declared.fault.AccountFault.TheVariants as faults;
@@ -58,9 +58,9 @@ impl Account {
 
     /// The account of a file of records, unless it has a bad line.
     pub fn read(alloc: Global, bytes: &[u8]) -> Result<Account, LinesFault>
-        ensures records { IfOk result (AreLines SpellsRecord MayCome bytes.now) }
+        ensures records { IfOk result (AreRecordLines SpellsRecord IsRecordAllowed bytes.now) }
         ensures damaged { IfErr result (λ fault. (offset : ℕ) → fault ≡ lines.At offset
-            → IsFirstBadLine SpellsRecord MayCome bytes.now offset) }
+            → IsFirstBadLine SpellsRecord IsRecordAllowed bytes.now offset) }
     {
         let mut ledger = Ledger::new(alloc);
         let records: Vec<AccountRecord> = read_lines(alloc, bytes, &mut ledger)?;
@@ -71,7 +71,7 @@ impl Account {
     /// The records, in the order in which they came.
     pub fn records(&self) -> &[AccountRecord]
         ensures records { result.now ≡ self.now }
-        ensures in_turn { AreLegalAfter MayCome [] self.now }
+        ensures in_turn { AreLegalAfter IsRecordAllowed [] self.now }
     {
         self.records.as_slice()
     }

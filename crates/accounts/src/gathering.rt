@@ -3,13 +3,13 @@ ghost use Rattle.std.specs.Prelude.{◌++◌, ℕ, List, Option, IfOk, OnOk};
 ghost use Rattle.record_lines.specs.Lines.{AreLegalAfter};
 ghost use Rattle.accounts.specs.declared.news.KnownJob.{KnownJob};
 ghost use Rattle.accounts.specs.declared.record.AccountRecord.{AccountRecord};
-ghost use Rattle.accounts.specs.Records.{MayCome};
+ghost use Rattle.accounts.specs.Records.{IsRecordAllowed};
 ghost use Rattle.accounts.specs.Standings.{IsLedgerOf};
 ghost use Rattle.accounts.specs.Observing.{AreNewsBy};
 ghost use Rattle.accounts.specs.inside.Knowing.{Knows};
 
 use crate::ledger::Ledger;
-use crate::news::{KnownJob, add_news};
+use crate::news::{KnownJob, add_new_records};
 use crate::record::AccountRecord;
 use record_lines::Keeper;
 use std::alloc::{AllocError, Global};
@@ -24,11 +24,11 @@ pub(crate) fn news_of_jobs(
     ensures are { IfOk result (λ news. (before : List AccountRecord) (known : ℕ → Option KnownJob)
         → IsLedgerOf before ledger.now → Knows before known jobs.now → AreNewsBy before known news.items) }
     ensures in_turn { IfOk result (λ news. (before : List AccountRecord)
-        → IsLedgerOf before ledger.now → AreLegalAfter MayCome before news.items) }
+        → IsLedgerOf before ledger.now → AreLegalAfter IsRecordAllowed before news.items) }
 {
     let mut news = Vec::new(alloc);
     for (number, known) in jobs {
-        add_news(&mut news, *number, ledger.standing(*number), known.as_ref())?;
+        add_new_records(&mut news, *number, ledger.state_of(*number), known.as_ref())?;
     }
     Ok(news)
 }
@@ -36,7 +36,7 @@ pub(crate) fn news_of_jobs(
 // Takes records, each of which may come next.
 pub(crate) fn add_records(ledger: &mut Ledger, records: &[AccountRecord]) -> Result<(), AllocError>
     ensures { OnOk result ((before : List AccountRecord) → IsLedgerOf before ledger.old
-        → AreLegalAfter MayCome before records.now → IsLedgerOf (before ++ records.now) ledger.new) }
+        → AreLegalAfter IsRecordAllowed before records.now → IsLedgerOf (before ++ records.now) ledger.new) }
 {
     for one in records {
         ledger.add(one)?;

@@ -38,7 +38,7 @@ fn put_records(
     ensures { OnOk result (ArePut (map record_known records.now) jobs.old jobs.new) }
 {
     for one in records {
-        put(jobs, one.number, None)?;
+        put_known(jobs, one.number, None)?;
     }
     Ok(())
 }
@@ -48,7 +48,7 @@ fn put_rows(jobs: &mut BTreeMap<u32, Option<KnownJob>>, rows: &[Row]) -> Result<
     ensures { OnOk result (ArePut (map row_known rows.now) jobs.old jobs.new) }
 {
     for row in rows {
-        put(jobs, row.number, Some(live_job(row)))?;
+        put_known(jobs, row.number, Some(live_job(row)))?;
     }
     Ok(())
 }
@@ -71,12 +71,12 @@ fn put_decided(
     ensures { OnOk result (ArePut (map decided_known decided.now) jobs.old jobs.new) }
 {
     for one in decided {
-        put(jobs, one.number, Some(KnownJob::Done(one.fate)))?;
+        put_known(jobs, one.number, Some(KnownJob::Done(one.fate)))?;
     }
     Ok(())
 }
 
-fn put(
+fn put_known(
     jobs: &mut BTreeMap<u32, Option<KnownJob>>,
     number: u32,
     known: Option<KnownJob>,

@@ -3,9 +3,9 @@ ghost use Rattle.std.specs.Prelude.{◌≤◌, ◌<◌, ◌^◌, ℕ, List, Opti
 ghost use Rattle.record_lines.specs.Lines.{AreLegalAfter, CanBeSpelled};
 ghost use Rattle.accounts.specs.Lines.{HasOwner, SpellsRecord};
 ghost use Rattle.accounts.specs.News.{news_of};
-ghost use Rattle.accounts.specs.Records.{MayCome};
-ghost use Rattle.accounts.specs.Standings.{StandsAt};
-ghost use Rattle.accounts.specs.declared.ledger.Standing.{Standing};
+ghost use Rattle.accounts.specs.Records.{IsRecordAllowed};
+ghost use Rattle.accounts.specs.Standings.{IsRecordStateAt};
+ghost use Rattle.accounts.specs.declared.ledger.RecordState.{RecordState};
 ghost use Rattle.accounts.specs.declared.news.KnownJob.{KnownJob};
 ghost use Rattle.accounts.specs.declared.record.AccountRecord.{AccountRecord};
 ghost use Rattle.accounts.specs.Laws.{NewsAreOne};
@@ -19,8 +19,8 @@ pub fn records_can_be_written()
 
 /// What is new of a number may come after the records.
 pub fn news_may_come()
-    ensures { (before : List AccountRecord) (number : ℕ) (standing : Option Standing) (known : Option KnownJob)
-        → StandsAt before number standing → AreLegalAfter MayCome before (news_of before number known) }
+    ensures { (before : List AccountRecord) (number : ℕ) (standing : Option RecordState) (known : Option KnownJob)
+        → IsRecordStateAt before number standing → AreLegalAfter IsRecordAllowed before (news_of before number known) }
 {}
 
 /// The new records after others are fixed by what the table has of each number.

@@ -4,9 +4,9 @@ ghost use Rattle.std.specs.Option.{option_copied};
 ghost use Rattle.std.specs.Bool.{Decides};
 ghost use Rattle.std.specs.BTreeMap.{get};
 ghost use Rattle.std.specs.Ordering.{nat_cmp};
-ghost use Rattle.accounts.specs.Records.{MayCome};
+ghost use Rattle.accounts.specs.Records.{IsRecordAllowed};
 ghost use Rattle.accounts.specs.declared.record.AccountRecord.{AccountRecord};
-ghost use Rattle.accounts.specs.Standings.{IsLedgerOf, StandsAt, may_follow, standing_after};
+ghost use Rattle.accounts.specs.Standings.{IsLedgerOf, IsRecordStateAt, event_may_follow, record_state_after};
 
 use crate::{AccountEvent, AccountRecord, Owner};
 use record_lines::Keeper;
@@ -15,7 +15,7 @@ use std::collections::BTreeMap;
 
 /// What the records say of a job that was seen.
 #[derive(Clone, Copy)]
-pub struct Standing {
+pub struct RecordState {
     pub owner: Owner,
     pub started: bool,
     pub closed: bool,
@@ -24,7 +24,7 @@ pub struct Standing {
 /// What the records say of each job that was seen, by its number.
 #[derive(Drop)]
 pub struct Ledger {
-    standings: BTreeMap<u32, Standing>,
+    standings: BTreeMap<u32, RecordState>,
 }
 
 impl Ledger {
@@ -38,9 +38,9 @@ impl Ledger {
     }
 
     /// How the job of the number stands, if some record names it.
-    pub fn standing(&self, number: u32) -> Option<&Standing>
+    pub fn state_of(&self, number: u32) -> Option<&RecordState>
         ensures { (records : List AccountRecord) → IsLedgerOf records self.now
-            → StandsAt records number (option_copied result) }
+            → IsRecordStateAt records number (option_copied result) }
     {
         self.standings.get(&number)
     }
@@ -49,14 +49,14 @@ impl Ledger {
 impl Keeper<AccountRecord> for Ledger {
     ghost tells = { IsLedgerOf };
 
-    ghost legal = { MayCome };
+    ghost legal = { IsRecordAllowed };
 
     fn allows(&self, next: &AccountRecord) -> bool {
-        may_follow(self.standings.get(&next.number), &next.event)
+        event_may_follow(self.standings.get(&next.number), &next.event)
     }
 
     fn add(&mut self, next: &AccountRecord) -> Result<(), AllocError> {
-        let standing = standing_after(self.standings.get(&next.number), &next.event);
+        let standing = record_state_after(self.standings.get(&next.number), &next.event);
         if let Some(standing) = standing {
             self.standings.insert(next.number, standing)?;
         }
@@ -65,8 +65,8 @@ impl Keeper<AccountRecord> for Ledger {
 }
 
 // Whether the event may come next in the life of a job that stands so.
-fn may_follow(standing: Option<&Standing>, event: &AccountEvent) -> bool
-    ensures { result ≡ may_follow (option_copied standing.entry) event.now }
+fn event_may_follow(standing: Option<&RecordState>, event: &AccountEvent) -> bool
+    ensures { result ≡ event_may_follow (option_copied standing.entry) event.now }
 {
     match (standing, event) {
         (None, AccountEvent::Seen(_)) => true,
@@ -77,21 +77,21 @@ fn may_follow(standing: Option<&Standing>, event: &AccountEvent) -> bool
 }
 
 // How the job stands after the event.
-fn standing_after(standing: Option<&Standing>, event: &AccountEvent) -> Option<Standing>
-    ensures { result ≡ standing_after (option_copied standing.entry) event.now }
+fn record_state_after(standing: Option<&RecordState>, event: &AccountEvent) -> Option<RecordState>
+    ensures { result ≡ record_state_after (option_copied standing.entry) event.now }
 {
     match event {
-        AccountEvent::Seen(owner) => Some(Standing {
+        AccountEvent::Seen(owner) => Some(RecordState {
             owner: *owner,
             started: false,
             closed: false,
         }),
-        AccountEvent::Started => standing.map(|one| Standing {
+        AccountEvent::Started => standing.map(|one| RecordState {
             owner: one.owner,
             started: true,
             closed: one.closed,
         }),
-        AccountEvent::Closed(_) => standing.map(|one| Standing {
+        AccountEvent::Closed(_) => standing.map(|one| RecordState {
             owner: one.owner,
             started: one.started,
             closed: true,

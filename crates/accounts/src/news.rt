@@ -2,10 +2,10 @@
 ghost use Rattle.std.specs.Prelude.{◌≡◌, ◌++◌, List, OnOk};
 ghost use Rattle.std.specs.Option.{option_copied};
 ghost use Rattle.accounts.specs.declared.record.AccountRecord.{AccountRecord};
-ghost use Rattle.accounts.specs.News.{closing_event, closing_of, is_handed_over, is_live, live_owner, news_of, records_of, said_by, seen_event, start_event};
-ghost use Rattle.accounts.specs.Standings.{StandsAt};
+ghost use Rattle.accounts.specs.News.{closing_event, closing_of, is_handed_over, is_known_live, live_owner, news_of, records_of, said_by, seen_event, start_event};
+ghost use Rattle.accounts.specs.Standings.{IsRecordStateAt};
 
-use crate::{AccountEvent, AccountRecord, Closing, Owner, Standing};
+use crate::{AccountEvent, AccountRecord, Closing, Owner, RecordState};
 use host_calls::Ending;
 use spool_model::Fate;
 use std::alloc::AllocError;
@@ -19,13 +19,13 @@ pub enum KnownJob {
 }
 
 /// Adds what is new of the job: that it is seen, that it was started, and that it is closed.
-pub fn add_news(
+pub fn add_new_records(
     news: &mut Vec<AccountRecord>,
     number: u32,
-    standing: Option<&Standing>,
+    standing: Option<&RecordState>,
     known: Option<&KnownJob>,
 ) -> Result<(), AllocError>
-    ensures { OnOk result ((before : List AccountRecord) → StandsAt before number (option_copied standing.entry)
+    ensures { OnOk result ((before : List AccountRecord) → IsRecordStateAt before number (option_copied standing.entry)
         → news.new.items ≡ news.old.items ++ news_of before number (option_copied known.entry)) }
 {
     let said = said_by(standing);
@@ -47,7 +47,7 @@ struct Said {
     closed: bool,
 }
 
-fn said_by(standing: Option<&Standing>) -> Said
+fn said_by(standing: Option<&RecordState>) -> Said
     ensures { result ≡ said_by (option_copied standing.entry) }
 {
     match standing {
@@ -97,7 +97,7 @@ fn start_event(
 ) -> Option<AccountEvent>
     ensures { result ≡ start_event seen started closed (option_copied known.entry) }
 {
-    if (seen || is_live(known)) && !started && !closed && is_handed_over(known) {
+    if (seen || is_known_live(known)) && !started && !closed && is_handed_over(known) {
         Some(AccountEvent::Started)
     } else {
         None
@@ -124,8 +124,8 @@ fn live_owner(known: Option<&KnownJob>) -> Option<Owner>
     }
 }
 
-fn is_live(known: Option<&KnownJob>) -> bool
-    ensures { result ≡ is_live (option_copied known.entry) }
+fn is_known_live(known: Option<&KnownJob>) -> bool
+    ensures { result ≡ is_known_live (option_copied known.entry) }
 {
     matches!(known, Some(KnownJob::Live(_, _)))
 }

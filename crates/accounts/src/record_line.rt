@@ -2,7 +2,7 @@
 ghost use Rattle.std.specs.Prelude.{◌≡◌, ◌≤◌, ◌++◌, ℕ, List, IfSome, IfNone, OnOk, length};
 ghost use Rattle.hex_digits.specs.Digits.{SpellsNumber};
 ghost use Rattle.record_lines.specs.Lines.{CanBeSpelled, IsLineAdded};
-ghost use Rattle.accounts.specs.Lines.{IsEventText, IsOwnerText, SpellsRecord, letter_of, owner_text};
+ghost use Rattle.accounts.specs.Lines.{IsEventText, IsOwnerText, SpellsRecord, letter_of_event, owner_text};
 ghost use Rattle.accounts.specs.inside.Spelling.{one_record};
 ghost use Rattle.accounts.specs.declared.record.AccountEvent.{AccountEvent};
 ghost use Rattle.accounts.specs.declared.record.Owner.{Owner};
@@ -34,10 +34,10 @@ impl LineRecord for AccountRecord {
     }
 
     fn write(&self, text: &mut Vec<u8>) -> Result<(), AllocError> {
-        text.push(letter_of(&self.event))?;
+        text.push(letter_of_event(&self.event))?;
         text.push(b' ')?;
         let mut digits = [0; DIGITS];
-        hex_digits::write(&mut digits, self.number as u64);
+        hex_digits::write_hex(&mut digits, self.number as u64);
         text.extend_from_slice(&digits)?;
         write_owner(&self.event, text)?;
         Ok(())
@@ -51,7 +51,7 @@ fn number_in(digits: &[u8]) -> Option<u32>
     ensures number { IfSome result (SpellsNumber digits.now) }
     ensures none { IfNone result ((number : ℕ) → 1 ≤ number → ¬ (SpellsNumber digits.now number)) }
 {
-    let number = hex_digits::read(digits)?;
+    let number = hex_digits::read_hex(digits)?;
     if number == 0 {
         return None;
     }
@@ -59,8 +59,8 @@ fn number_in(digits: &[u8]) -> Option<u32>
 }
 
 // The letter of an event's line.
-fn letter_of(event: &AccountEvent) -> u8
-    ensures { result ≡ letter_of event.now }
+fn letter_of_event(event: &AccountEvent) -> u8
+    ensures { result ≡ letter_of_event event.now }
 {
     match event {
         AccountEvent::Seen(_) => b'A',

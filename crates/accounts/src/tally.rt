@@ -4,8 +4,8 @@ ghost use Rattle.std.specs.BTreeMap.{IsOrdered};
 ghost use Rattle.std.specs.Option.{option_copied};
 ghost use Rattle.accounts.specs.declared.record.AccountRecord.{AccountRecord};
 ghost use Rattle.accounts.specs.Standings.{IsLedgerOf};
-ghost use Rattle.accounts.specs.Totals.{AreTotals, kind_of};
-ghost use Rattle.accounts.specs.inside.Tallying.{AreRaised, IsTallyOf, counts_so_far, line_of, pair_cmp};
+ghost use Rattle.accounts.specs.Totals.{AreTotals, kind_of_event};
+ghost use Rattle.accounts.specs.inside.Tallying.{AreRaised, IsTallyOf, counts_so_far, owner_line, pair_cmp};
 
 use crate::ledger::Ledger;
 use crate::record::{AccountEvent, AccountRecord, Closing};
@@ -55,11 +55,11 @@ fn count_one(
     ensures { OnOk result ((all : List AccountRecord) (counted : List AccountRecord) → IsLedgerOf all ledger.now
         → IsTallyOf all counted tally.old → IsTallyOf all (counted ++ one.now ∷ []) tally.new) }
 {
-    let Some(standing) = ledger.standing(one.number) else {
+    let Some(standing) = ledger.state_of(one.number) else {
         return Ok(());
     };
     let pair = (standing.owner.user, standing.owner.queue);
-    let counts = raised(tally.get(&pair), kind_of(&one.event));
+    let counts = raised(tally.get(&pair), kind_of_event(&one.event));
     tally.insert(pair, counts)?;
     Ok(())
 }
@@ -85,8 +85,8 @@ fn so_far(counts: Option<&[u64; KINDS]>) -> [u64; KINDS]
 }
 
 // The place of an event's count.
-fn kind_of(event: &AccountEvent) -> usize
-    ensures kind { result ≡ kind_of event.now }
+fn kind_of_event(event: &AccountEvent) -> usize
+    ensures kind { result ≡ kind_of_event event.now }
     ensures inside { result < 7 }
 {
     match event {
@@ -105,7 +105,7 @@ fn lines_of(
     alloc: Global,
     tally: &BTreeMap<(UserName, u8), [u64; KINDS]>,
 ) -> Result<Vec<AccountLine>, AllocError>
-    ensures lines { IfOk result (λ lines. lines.items ≡ map line_of tally.now.entries) }
+    ensures lines { IfOk result (λ lines. lines.items ≡ map owner_line tally.now.entries) }
     ensures ordered { IsOrdered pair_cmp tally.now }
 {
     let mut lines = Vec::new(alloc);

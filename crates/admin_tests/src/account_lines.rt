@@ -1,6 +1,6 @@
 //! Files of records, and their first bad lines.
 use accounts::{AccountRecord, Ledger};
-use record_lines::{LinesFault, read_lines, read_records_can_be_written, text_of};
+use record_lines::{LinesFault, lines_text, read_lines, read_records_can_be_written};
 use std::test::Fail;
 
 #[test]
@@ -11,12 +11,12 @@ fn a_file_of_each_kind_of_line(rt: HostRuntime) -> Result<(), Fail> {
     let mut ledger = Ledger::new(alloc);
     let read = read_lines::<AccountRecord, Ledger>(alloc, text, &mut ledger)?;
     read_records_can_be_written::<AccountRecord>(text);
-    let written = text_of(alloc, read.as_slice())?;
+    let written = lines_text(alloc, read.as_slice())?;
     assert_eq!(rt; written.as_slice(), text);
-    let standing = ledger.standing(1).ok_or("not seen")?;
+    let standing = ledger.state_of(1).ok_or("not seen")?;
     assert!(rt; standing.started && standing.closed);
     assert_eq!(rt; standing.owner.user.as_bytes(), b"ann".as_slice());
-    assert!(rt; ledger.standing(4).is_none());
+    assert!(rt; ledger.state_of(4).is_none());
     Ok(())
 }
 

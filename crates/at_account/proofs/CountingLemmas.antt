@@ -4,10 +4,10 @@ use Rattle.std.specs.Prelude.{Option, Some, None}
 use Rattle.std.specs.FinMap as finite
 use Rattle.std.specs.Option.{option_map}
 use Rattle.host_calls.specs.Folder.{Files, Folder, IsImage}
-use Rattle.host_calls.specs.World.{GoesOn, World, reading}
+use Rattle.host_calls.specs.World.{TimePasses, World, reading}
 use Rattle.host_calls.proofs.WorldLemmas.{leaves_weaker}
 use Rattle.accounts.specs.declared.record.AccountRecord.{AccountRecord}
-use Rattle.accounts.specs.News.{known_of, news_of}
+use Rattle.accounts.specs.News.{known_job, news_of}
 use Rattle.accounts.specs.Observing.{AreNews, known_in}
 use Rattle.listing_text.specs.declared.cause.Cause.{Cause}
 use Rattle.listing_text.specs.declared.cause.Cause.TheVariants.{Refused, FileFault, Memory, Damaged}
@@ -25,23 +25,23 @@ use Rattle.whole_file.specs.Others.{ChangesFiles, IsEither}
 use Rattle.whole_file.specs.Replacing.{IsCertainAt}
 use Rattle.whole_file.proofs.ChangesJoined.{changes_end, changes_on, changes_weaker, left_alone}
 use Rattle.at_account.specs.Accounting.{IsAccounted, IsAccounting}
-use Rattle.at_account.specs.Counting.{AreCounted, GivesRecords, IsAccountDamage}
+use Rattle.at_account.specs.Counting.{AreUpdatedRecords, GivesRecords, IsAccountDamage}
 use Rattle.at_account.specs.Names.{account_file, account_temp}
 use Rattle.at_account.specs.Showing.{IsShown}
 use Rattle.at_account.specs.inside.Filing as file
-use Rattle.at_account.specs.inside.Filing.{IsWriting, IsWritten}
-use Rattle.at_account.specs.inside.Inside.{IsCounted, StopsCounting, StopsInside}
+use Rattle.at_account.specs.inside.Filing.{IsWriting, AreRecordsWritten}
+use Rattle.at_account.specs.inside.Inside.{AreUpdatedContent, StopsCounting, StopsInside}
 use Rattle.at_account.proofs.NameLemmas.{both_beside, file_beside, temp_beside}
 
 -- an entry is known without its script
-same_known : (entry : Option JobEntry) → option_map known_of (option_map entry_without_script entry) ≡ option_map known_of entry
+same_known : (entry : Option JobEntry) → option_map known_job (option_map entry_without_script entry) ≡ option_map known_job entry
 same_known None = refl
 same_known (Some (Live job state)) = refl
 same_known (Some (DoneEntry fate)) = refl
 
 known_without_scripts : (kept table : JobTable) (number : ℕ) → kept ≡ without_scripts table → known_in kept number ≡ known_in table number
 known_without_scripts kept table number is =
-    ap (λ (of : JobTable). known_in of number) is ∙ ap (option_map known_of) (entries_are_without_scripts table number) ∙ same_known (entry_at table number)
+    ap (λ (of : JobTable). known_in of number) is ∙ ap (option_map known_job) (entries_are_without_scripts table number) ∙ same_known (entry_at table number)
 
 -- what is new by the table that a store keeps is so by the table itself
 news_with_scripts : (before news : List AccountRecord) (kept table : JobTable) → kept ≡ without_scripts table → AreNews before kept news → AreNews before table news
@@ -70,7 +70,7 @@ accounting_alone old new recovery =
     changes_weaker (ShowsAsBefore old.now.folder) (IsAccounting old.now.folder) old new (recovery_is_accounting old.now.folder) recovery
 
 -- a fault of a file, or want of memory, leaves what it leaves
-pub host_stops : (old new : World) (cause : Cause) → file.IsOfHost cause → StopsInside old new cause
+pub host_stops : (old new : World) (cause : Cause) → file.IsHostCause cause → StopsInside old new cause
 host_stops old new FileFault is = tt
 host_stops old new Memory is = tt
 host_stops old new cause is = absurd is
@@ -108,8 +108,8 @@ module _ (old middle : World) (kept : Kept) (recovery : ChangesFiles (ShowsAsBef
   stops Memory stopped = tt
   stops _ stopped = absurd stopped
 
-  module _ (records : List AccountRecord) (counts : IsCounted kept.table (finite.get (reading middle) account_file) records) where
-    counted : AreCounted (reading old) recovered.table records
+  module _ (records : List AccountRecord) (counts : AreUpdatedContent kept.table (finite.get (reading middle) account_file) records) where
+    counted : AreUpdatedRecords (reading old) recovered.table records
     counted = record {
       read = counts.read;
       news = counts.news;
@@ -142,7 +142,7 @@ module _ (old middle : World) (kept : Kept) (recovery : ChangesFiles (ShowsAsBef
           (recovery_is_accounting old.now.folder) since_start recovery writes
 
       -- all was done
-      pub accounted : (show : Bool) (text : List ℕ) → IsShown show records text → IsWritten records middle.now.folder new.now.folder → IsAccounted show old new text
+      pub accounted : (show : Bool) (text : List ℕ) → IsShown show records text → AreRecordsWritten records middle.now.folder new.now.folder → IsAccounted show old new text
       accounted show text shown written = record {
         table = recovered.table;
         records = records;
@@ -159,7 +159,7 @@ module _ (old middle : World) (kept : Kept) (recovery : ChangesFiles (ShowsAsBef
       }
 
 -- what changes only files goes on
-pub goes_on_by : (P : Files → Type 0) (old new : World) → ChangesFiles P old new → GoesOn old new
+pub goes_on_by : (P : Files → Type 0) (old new : World) → ChangesFiles P old new → TimePasses old new
 goes_on_by P old new changes = record {
   asked = changes.asked;
   handed = changes.handed;

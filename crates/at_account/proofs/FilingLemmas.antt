@@ -7,16 +7,16 @@ use Rattle.host_calls.specs.World.{World}
 use Rattle.record_lines.specs.Lines.{AreLegalAfter, AreSpelled}
 use Rattle.accounts.specs.declared.record.AccountRecord.{AccountRecord}
 use Rattle.accounts.specs.Lines.{SpellsRecord}
-use Rattle.accounts.specs.Records.{MayCome}
+use Rattle.accounts.specs.Records.{IsRecordAllowed}
 use Rattle.whole_file.specs.Others.{ChangesFiles}
 use Rattle.whole_file.specs.Placing.{IsPlaced, IsPlacing}
 use Rattle.whole_file.proofs.ChangesJoined.{changes_weaker}
 use Rattle.at_account.specs.Counting.{GivesRecords}
 use Rattle.at_account.specs.Names.{account_file, account_temp}
-use Rattle.at_account.specs.inside.Filing.{IsWriting, IsWritten}
+use Rattle.at_account.specs.inside.Filing.{IsWriting, AreRecordsWritten}
 
 -- what is placed is a file of records
-module _ (bytes : List ℕ) (records : List AccountRecord) (spelled : AreSpelled SpellsRecord bytes records) (in_turn : AreLegalAfter MayCome [] records) where
+module _ (bytes : List ℕ) (records : List AccountRecord) (spelled : AreSpelled SpellsRecord bytes records) (in_turn : AreLegalAfter IsRecordAllowed [] records) where
   gives : (content : Option (List ℕ)) → content ≡ Some bytes → GivesRecords content records
   gives content is = subst (λ c. GivesRecords c records) (sym is) (record { spelled = spelled; in_turn = in_turn })
 
@@ -28,7 +28,7 @@ module _ (bytes : List ℕ) (records : List AccountRecord) (spelled : AreSpelled
         account = elim is.placed [ inl same ↦ inl same | inr put ↦ inr (gives (finite.get image account_file) put) ];
       }) changes
 
-  pub written : (old new : Folder) → IsPlaced account_temp account_file bytes old new → IsWritten records old new
+  pub written : (old new : Folder) → IsPlaced account_temp account_file bytes old new → AreRecordsWritten records old new
   written old new placed = record {
     gives = λ image is. gives (finite.get image account_file) (placed.placed image is);
     no_temp = placed.no_temp;

@@ -1,15 +1,15 @@
 -- The names of accounts are none of the store's, and differ.
 use Rattle.std.proofs.Common.{◌≢◌, refl}
 use Rattle.spool_shows.proofs.NameLemmas.{differ_by}
-use Rattle.spool_store.specs.Beside.{IsBeside}
+use Rattle.spool_store.specs.Beside.{IsNoSpoolName}
 use Rattle.spool_store.proofs.BesideLemmas.{AreBeside, beside_by, two_beside}
 use Rattle.whole_file.specs.Others.{IsEither}
 use Rattle.at_account.specs.Names.{account_file, account_temp}
 
-pub file_beside : IsBeside account_file
+pub file_beside : IsNoSpoolName account_file
 file_beside = beside_by account_file refl refl refl refl
 
-pub temp_beside : IsBeside account_temp
+pub temp_beside : IsNoSpoolName account_temp
 temp_beside = beside_by account_temp refl refl refl refl
 
 pub both_beside : AreBeside (IsEither account_temp account_file)

@@ -5,7 +5,7 @@ use Rattle.std.proofs.lemmas.List.{take_all}
 use Rattle.at_words.specs.Answers.{Answers}
 use Rattle.at_words.specs.declared.fault.WordsFault.{WordsFault}
 use Rattle.at_words.specs.declared.fault.WordsFault.TheVariants as words
-use Rattle.cause_output.specs.Saying.{IsSaid, IsUndone, SaysLine}
+use Rattle.cause_output.specs.Saying.{IsSaid, IsFailure, SaysLine}
 use Rattle.cause_output.specs.Causes.{words_cause}
 use Rattle.cause_output.specs.Sinks.{EndsLine, IsPutInPart, IsPutOrCut, IsSilent, SinkAt}
 use Rattle.host_calls.proofs.WorldLemmas.{goes_on_none}
@@ -18,7 +18,7 @@ use Rattle.listing_text.specs.declared.cause.Cause.{Cause}
 use Rattle.listing_text.specs.declared.cause.Cause.TheVariants.{Done, Refused, FileFault, InputFault, OutputFault, Busy, Memory, Damaged, StillRunning, Faulty}
 use Rattle.whole_file.proofs.OthersLemmas.{changes_none}
 use Rattle.cause_output.specs.Outside.{OutsideAt}
-use Rattle.at_account.specs.Accounting.{Accounting, IsAccounting, Leaves}
+use Rattle.at_account.specs.Accounting.{Accounting, IsAccounting, AccountLeaves}
 
 -- nothing was done
 same_session : (session : Session) → IsOutside session → IsLeft session session
@@ -72,7 +72,7 @@ module _ (asked : Result Bool WordsFault) (at : OutsideAt) (outside : IsOutside 
   unasked_ends words.Memory is = unread
 
 -- what is left where the line of a cause found no memory
-no_memory_leaves : (show output : Bool) (old new : World) (was now : SinkAt) (cause : Cause) → IsUndone cause → Leaves show output old new was now cause → Leaves show output old new was now Memory
+no_memory_leaves : (show output : Bool) (old new : World) (was now : SinkAt) (cause : Cause) → IsFailure cause → AccountLeaves show output old new was now cause → AccountLeaves show output old new was now Memory
 no_memory_leaves show output old new was now OutputFault undone is = λ tells.
     let cut = is.2 tells in
     inr (is.0, is.1, record { count = cut.count; content = cut.content; later = cut.later })
@@ -85,7 +85,7 @@ no_memory_leaves show output old new was now Done undone is = absurd undone
 no_memory_leaves show output old new was now _ undone is = absurd is
 
 module _ (asked : Result Bool WordsFault) (old new : OutsideAt) (cause : Cause) (ends : Accounting asked old new cause) where
-  no_memory_ends : IsUndone cause → Accounting asked old new Memory
+  no_memory_ends : IsFailure cause → Accounting asked old new Memory
   no_memory_ends undone = record {
     left = ends.left;
     goes_on = ends.goes_on;

@@ -16,28 +16,28 @@ use Rattle.host_session.specs.Work.{Calls}
 use Rattle.listing_text.specs.declared.cause.Cause.{Cause}
 use Rattle.listing_text.specs.declared.cause.Cause.TheVariants.{Done, Refused, FileFault, OutputFault, Busy, Memory, Damaged}
 use Rattle.listing_text.specs.declared.refusal.Refusal.TheVariants as refusal
-use Rattle.spool_session.specs.Sessions.{EndsSession, IsOfSession}
+use Rattle.spool_session.specs.Sessions.{EndsCommandSession, IsOfSession}
 use Rattle.whole_file.specs.Others.{ChangesFiles}
 use Rattle.whole_file.proofs.OthersLemmas.{changes_none}
-use Rattle.at_account.specs.Accounting.{IsAccounted, IsAccounting, Leaves, MayEnd}
-use Rattle.at_account.specs.inside.Inside.{EndsInside, IsOfWork, PutsText, StopsInside}
+use Rattle.at_account.specs.Accounting.{IsAccounted, IsAccounting, AccountLeaves, MayEndAccount}
+use Rattle.at_account.specs.inside.Inside.{EndsInside, IsAccountingCause, PutsCounts, StopsInside}
 
 -- what stops the work may end the program, and comes within a session
-work_may_end : (cause : Cause) → IsOfWork cause → MayEnd cause
+work_may_end : (cause : Cause) → IsAccountingCause cause → MayEndAccount cause
 work_may_end FileFault is = tt
 work_may_end Memory is = tt
 work_may_end (Damaged damage) is = tt
 work_may_end (Refused refusal.AccountsFull) is = tt
 work_may_end cause is = absurd is
 
-work_of_session : (cause : Cause) → IsOfWork cause → IsOfSession cause
+work_of_session : (cause : Cause) → IsAccountingCause cause → IsOfSession cause
 work_of_session FileFault is = tt
 work_of_session Memory is = tt
 work_of_session (Damaged damage) is = tt
 work_of_session (Refused refusal.AccountsFull) is = refl
 work_of_session cause is = absurd is
 
-entry_may_end : (fault : EnterFault) → MayEnd (cause_of_entry fault)
+entry_may_end : (fault : EnterFault) → MayEndAccount (cause_of_entry fault)
 entry_may_end entry.Taken = tt
 entry_may_end entry.Failed = tt
 entry_may_end entry.Memory = tt
@@ -68,15 +68,15 @@ ends_inside show old new (Ok text) is = is
 ends_inside show old new (Err stopped) is = stops_inside old new stopped.cause is
 
 module _ {H F : Type 0} (g : Ghosts H) (calls : Calls H F (Result (List ℕ) CommandError)) (work left : F) (old new : H) (result : Result (List ℕ) CommandError)
-    (ends : EndsSession g calls work left old new result) where
+    (ends : EndsCommandSession g calls work left old new result) where
   -- why the session ended
-  pub session_may_end : ((first last : H) → CalledAtMut calls work first result left last → IfErr result (λ stopped. IsOfWork stopped.cause)) →
-      IfErr result (λ stopped. MayEnd stopped.cause)
+  pub session_may_end : ((first last : H) → CalledAtMut calls work first result left last → IfErr result (λ stopped. IsAccountingCause stopped.cause)) →
+      IfErr result (λ stopped. MayEndAccount stopped.cause)
   session_may_end within = elim ends [
-    | inl none ↦ subst (λ of. IfErr of (λ stopped. MayEnd stopped.cause)) (sym none.is) (entry_may_end none.fault)
+    | inl none ↦ subst (λ of. IfErr of (λ stopped. MayEndAccount stopped.cause)) (sym none.is) (entry_may_end none.fault)
     | inr done ↦ by_result result (within done.first done.last done.did)
   ] where
-    by_result : (of : Result (List ℕ) CommandError) → IfErr of (λ stopped. IsOfWork stopped.cause) → IfErr of (λ stopped. MayEnd stopped.cause)
+    by_result : (of : Result (List ℕ) CommandError) → IfErr of (λ stopped. IsAccountingCause stopped.cause) → IfErr of (λ stopped. MayEndAccount stopped.cause)
     by_result (Ok text) is = tt
     by_result (Err stopped) is = work_may_end stopped.cause is
 
@@ -109,7 +109,7 @@ same_silent : (at : SinkAt) → IsSilent at at
 same_silent at = record { content = refl; later = omega arith }
 
 -- the session was stopped
-pub stopped_leaves : (show output : Bool) (old new : World) (at : SinkAt) (cause : Cause) → MayEnd cause → Stops old new cause → Leaves show output old new at at cause
+pub stopped_leaves : (show output : Bool) (old new : World) (at : SinkAt) (cause : Cause) → MayEndAccount cause → Stops old new cause → AccountLeaves show output old new at at cause
 stopped_leaves show output old new at FileFault may is = λ tells. same_silent at
 stopped_leaves show output old new at Memory may is = λ tells. inl (same_silent at)
 stopped_leaves show output old new at Busy may is = (is, λ tells. same_silent at)
@@ -118,8 +118,8 @@ stopped_leaves show output old new at (Refused refusal) may is = (is, λ tells. 
 stopped_leaves show output old new at _ may is = absurd is
 
 -- the text was put, or not
-pub put_leaves : (show output : Bool) (old new : World) (was now : SinkAt) (text : List ℕ) (cause : Cause) → PutsText output text was now cause
-    → IsAccounted show old new text → Leaves show output old new was now cause
+pub put_leaves : (show output : Bool) (old new : World) (was now : SinkAt) (text : List ℕ) (cause : Cause) → PutsCounts output text was now cause
+    → IsAccounted show old new text → AccountLeaves show output old new was now cause
 put_leaves show output old new was now text Done puts done = (text, done, puts)
 put_leaves show output old new was now text OutputFault puts done = (text, done, puts)
 put_leaves show output old new was now text Memory puts done = λ tells. inl (puts tells)
@@ -132,6 +132,6 @@ put_failed (Err sink.Failed) was now has same = has.rose refl
 put_failed (Err sink.Memory) was now has same = let impossible : Memory ≡ OutputFault = same in cc
 
 -- nothing is put of a text without a byte
-pub none_put : (tells : Bool) (text : List ℕ) (at : SinkAt) → text ≡ [] → PutsText tells text at at Done
+pub none_put : (tells : Bool) (text : List ℕ) (at : SinkAt) → text ≡ [] → PutsCounts tells text at at Done
 none_put tells text at none = λ known.
     record { content = sym (append-nil at.content) ∙ ap (λ (bytes : List ℕ). at.content ++ bytes) (sym none); later = omega arith }

@@ -2,7 +2,7 @@
 use Rattle.std.proofs.Common.{◌≡◌, ◌∙◌, ℕ, ◌+◌, ◌<◌, ◌≤◌, List, [], ◌∷◌, ◌++◌, length, drop, get_or, refl, sym, ap, append_assoc, append-nil, add-one, drop-cons}
 use Rattle.std.specs.Fmt.{decimal}
 use Rattle.std.proofs.lemmas.List.{drop_all}
-use Rattle.cause_output.specs.Putting.{lines_of}
+use Rattle.cause_output.specs.Putting.{joined_lines}
 use Rattle.accounts.specs.declared.line.AccountLine.{AccountLine}
 use Rattle.at_account.specs.Showing.{counts_text, line_text}
 
@@ -33,11 +33,11 @@ pub counts_all : (start text counts : List ℕ) (place : ℕ) → length counts 
 counts_all = told_all counts_text refl
 
 pub lines_more : (start text more : List ℕ) (lines : List AccountLine) (place : ℕ) (one : AccountLine) → place < length lines → one ≡ get_or lines place one
-    → text ++ lines_of line_text (drop place lines) ≡ start ++ lines_of line_text lines → more ≡ text ++ line_text one
-    → more ++ lines_of line_text (drop (place + 1) lines) ≡ start ++ lines_of line_text lines
+    → text ++ joined_lines line_text (drop place lines) ≡ start ++ joined_lines line_text lines → more ≡ text ++ line_text one
+    → more ++ joined_lines line_text (drop (place + 1) lines) ≡ start ++ joined_lines line_text lines
 lines_more start text more lines place one inside here so_far added =
-    told_more (lines_of line_text) line_text (λ x xs. refl) start text more lines place one inside so_far (added ∙ ap (λ (line : AccountLine). text ++ line_text line) here)
+    told_more (joined_lines line_text) line_text (λ x xs. refl) start text more lines place one inside so_far (added ∙ ap (λ (line : AccountLine). text ++ line_text line) here)
 
 pub lines_all : (start text : List ℕ) (lines : List AccountLine) (place : ℕ) → length lines ≤ place
-    → text ++ lines_of line_text (drop place lines) ≡ start ++ lines_of line_text lines → text ≡ start ++ lines_of line_text lines
-lines_all = told_all (lines_of line_text) refl
+    → text ++ joined_lines line_text (drop place lines) ≡ start ++ joined_lines line_text lines → text ≡ start ++ joined_lines line_text lines
+lines_all = told_all (joined_lines line_text) refl

@@ -11,7 +11,7 @@ use Rattle.host_calls.specs.declared.host.Host as host
 use Rattle.host_calls.specs.declared.sink.Sink as sink
 use Rattle.host_calls.specs.Folder.{Files, Folder, IsImage, IsInNoImage, reading_of}
 use Rattle.host_calls.specs.Session.{IsLeft}
-use Rattle.host_calls.specs.World.{GoesOn, World, reading}
+use Rattle.host_calls.specs.World.{TimePasses, World, reading}
 use Rattle.listing_text.specs.declared.cause.Cause.{Cause}
 use Rattle.listing_text.specs.declared.cause.Cause.TheVariants.{Done, Refused, FileFault, OutputFault, Busy, Memory, Damaged}
 use Rattle.listing_text.specs.declared.refusal.Refusal.{Refusal}
@@ -22,7 +22,7 @@ use Rattle.spool_shows.specs.Shown.{Shows, shown_by}
 use Rattle.step_runs.specs.Calls.{ShowsAsBefore}
 use Rattle.step_runs.specs.Current.{IsSpoolName}
 use Rattle.whole_file.specs.Others.{ChangesFiles, IsEither}
-use Rattle.at_account.specs.Counting.{AreCounted, AreTooMany, GivesRecords, IsAccountDamage}
+use Rattle.at_account.specs.Counting.{AreUpdatedRecords, AreTooManyRecords, GivesRecords, IsAccountDamage}
 use Rattle.at_account.specs.Names.{account_file, account_temp}
 use Rattle.at_account.specs.Showing.{IsShown}
 
@@ -30,7 +30,7 @@ use Rattle.at_account.specs.Showing.{IsShown}
 pub record HasCounted (files : Files) (content : Option (List ℕ)) : Type 0 where
   pub table : JobTable
   pub records : List AccountRecord
-  pub counted : AreCounted files table records
+  pub counted : AreUpdatedRecords files table records
   pub gives : GivesRecords content records
 
 -- The image shows what an image of the start shows and has its other files. Its file of accounts is that one's, or has
@@ -45,8 +45,8 @@ pub record IsAccounting (start : Folder) (image : Files) : Type 0 where
       ≡ finite.get from name
 
 -- each image of the folder shows the table, and its file of accounts has the records
-abbrev pub EachHas : Folder → JobTable → List AccountRecord → Type 0
-EachHas folder table records =
+abbrev pub EachIsAccounted : Folder → JobTable → List AccountRecord → Type 0
+EachIsAccounted folder table records =
     (image : Files) → IsImage folder image → Shows image table × GivesRecords (finite.get image account_file) records
 
 -- The records were counted over the reading of the start, each image has them, and the text is what is shown of them. The
@@ -54,8 +54,8 @@ EachHas folder table records =
 pub record IsAccounted (show : Bool) (old new : World) (text : List ℕ) : Type 0 where
   pub table : JobTable
   pub records : List AccountRecord
-  pub counted : AreCounted (reading old) table records
-  pub stands : EachHas new.now.folder table records
+  pub counted : AreUpdatedRecords (reading old) table records
+  pub stands : EachIsAccounted new.now.folder table records
   pub shown : IsShown show records text
   pub no_temp : IsInNoImage new.now.folder account_temp
   pub others : (name : List ℕ) → ¬ (IsSpoolName name) → ¬ (IsEither account_temp account_file name)
@@ -66,39 +66,40 @@ abbrev pub IsLeftAlone : World → World → Type 0
 IsLeftAlone old new = ChangesFiles (ShowsAsBefore old.now.folder) old new
 
 -- the spool is damaged, or else the file of accounts
-abbrev pub IsDamage : Files → Damage → Type 0
-IsDamage files damage =
+abbrev pub IsSpoolOrAccountDamage : Files → Damage → Type 0
+IsSpoolOrAccountDamage files damage =
     (shown_by files ≡ Err damage)
     ⊎ ((table : JobTable) × (shown_by files ≡ Ok table) × IsAccountDamage (finite.get files account_file) damage)
 
 -- what a refusal leaves: there would be too many records, and nothing was placed
-abbrev pub RefusalLeaves : Refusal → World → World → Type 0
-RefusalLeaves AccountsFull old new = AreTooMany (reading old) × IsLeftAlone old new
-RefusalLeaves _ old new = ⊥
+abbrev pub AccountRefusalLeaves : Refusal → World → World → Type 0
+AccountRefusalLeaves AccountsFull old new = AreTooManyRecords (reading old) × IsLeftAlone old new
+AccountRefusalLeaves _ old new = ⊥
 
 -- What is left in the folder and put on the output, by the cause: all of the text where it is done, a prefix of it where the
 -- put failed or found no memory, and else nothing.
-abbrev pub Leaves : Bool → Bool → World → World → SinkAt → SinkAt → Cause → Type 0
-Leaves show tells old new was now Done = (text : List ℕ) × IsAccounted show old new text × (tells ≡ true → IsPut text was now)
-Leaves show tells old new was now OutputFault = (text : List ℕ) × IsAccounted show old new text × (tells ≡ true → IsCut text was now)
-Leaves show tells old new was now Memory = tells ≡ true →
+abbrev pub AccountLeaves : Bool → Bool → World → World → SinkAt → SinkAt → Cause → Type 0
+AccountLeaves show tells old new was now Done = (text : List ℕ) × IsAccounted show old new text × (tells ≡ true → IsPut text was now)
+AccountLeaves show tells old new was now OutputFault = (text : List ℕ) × IsAccounted show old new text × (tells ≡ true → IsCut text was now)
+AccountLeaves show tells old new was now Memory = tells ≡ true →
     IsSilent was now ⊎ ((text : List ℕ) × IsAccounted show old new text × IsPutInPart text was now)
-Leaves show tells old new was now FileFault = tells ≡ true → IsSilent was now
-Leaves show tells old new was now (Refused refusal) = RefusalLeaves refusal old new × (tells ≡ true → IsSilent was now)
-Leaves show tells old new was now (Damaged damage) = IsDamage (reading old) damage × IsLeftAlone old new × (tells ≡ true → IsSilent was now)
-Leaves show tells old new was now Busy = (new ≡ old) × (tells ≡ true → IsSilent was now)
-Leaves show tells old new was now _ = ⊥
+AccountLeaves show tells old new was now FileFault = tells ≡ true → IsSilent was now
+AccountLeaves show tells old new was now (Refused refusal) = AccountRefusalLeaves refusal old new × (tells ≡ true → IsSilent was now)
+AccountLeaves show tells old new was now (Damaged damage) = IsSpoolOrAccountDamage (reading old) damage × IsLeftAlone old new
+    × (tells ≡ true → IsSilent was now)
+AccountLeaves show tells old new was now Busy = (new ≡ old) × (tells ≡ true → IsSilent was now)
+AccountLeaves show tells old new was now _ = ⊥
 
 -- the causes for which the program may end, where its words ask for something
-abbrev pub MayEnd : Cause → Type 0
-MayEnd Done = Unit {0}
-MayEnd (Refused AccountsFull) = Unit {0}
-MayEnd FileFault = Unit {0}
-MayEnd OutputFault = Unit {0}
-MayEnd Busy = Unit {0}
-MayEnd Memory = Unit {0}
-MayEnd (Damaged damage) = Unit {0}
-MayEnd _ = ⊥
+abbrev pub MayEndAccount : Cause → Type 0
+MayEndAccount Done = Unit {0}
+MayEndAccount (Refused AccountsFull) = Unit {0}
+MayEndAccount FileFault = Unit {0}
+MayEndAccount OutputFault = Unit {0}
+MayEndAccount Busy = Unit {0}
+MayEndAccount Memory = Unit {0}
+MayEndAccount (Damaged damage) = Unit {0}
+MayEndAccount _ = ⊥
 
 -- all that the program is handed before it says its cause: no readings, no inputs, and nothing to say it on
 abbrev pub account_outside : {H O : Type 0} → host.Ghosts H → sink.Ghosts O → H → O → OutsideAt
@@ -115,14 +116,14 @@ pub record IsUnasked (fault : WordsFault) (old new : OutsideAt) (cause : Cause) 
 -- its count rose; what each image of each moment has; what is left; and what is put.
 pub record Accounting (asked : Result Bool WordsFault) (old new : OutsideAt) (cause : Cause) : Type 0 where
   pub left : IsLeft old.session new.session
-  pub goes_on : old.tells.files ≡ true → GoesOn old.holds.spool new.holds.spool
+  pub goes_on : old.tells.files ≡ true → TimePasses old.holds.spool new.holds.spool
   pub file_fault : cause ≡ FileFault → Rose old.session.file_faults new.session.file_faults
   pub busy : cause ≡ Busy → Rose old.session.taken new.session.taken
   pub output_fault : cause ≡ OutputFault → Rose old.out.sink_faults new.out.sink_faults
   pub made_as : new.out.made_as ≡ old.out.made_as
   pub unasked : (fault : WordsFault) → asked ≡ Err fault → IsUnasked fault old new cause
-  pub may_end : (show : Bool) → asked ≡ Ok show → MayEnd cause
+  pub may_end : (show : Bool) → asked ≡ Ok show → MayEndAccount cause
   pub images : old.tells.files ≡ true → old.tells.alone ≡ true →
       ChangesFiles (IsAccounting old.holds.spool.now.folder) old.holds.spool new.holds.spool
   pub leaves : (show : Bool) → asked ≡ Ok show → old.tells.files ≡ true → old.tells.alone ≡ true →
-      Leaves show old.tells.output old.holds.spool new.holds.spool old.holds.output new.holds.output cause
+      AccountLeaves show old.tells.output old.holds.spool new.holds.spool old.holds.output new.holds.output cause

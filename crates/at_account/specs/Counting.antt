@@ -4,10 +4,10 @@ use Rattle.std.specs.FinMap as finite
 use Rattle.host_calls.specs.Damages.{damage_at}
 use Rattle.host_calls.specs.declared.damage.Damage.{Damage}
 use Rattle.host_calls.specs.Folder.{Files}
-use Rattle.record_lines.specs.Lines.{AreLines, IsFirstBadLine}
+use Rattle.record_lines.specs.Lines.{AreRecordLines, IsFirstBadLine}
 use Rattle.accounts.specs.declared.record.AccountRecord.{AccountRecord}
 use Rattle.accounts.specs.Lines.{SpellsRecord}
-use Rattle.accounts.specs.Records.{MayCome}
+use Rattle.accounts.specs.Records.{IsRecordAllowed}
 use Rattle.accounts.specs.declared.account.TheConstants.{MAX_RECORDS}
 use Rattle.accounts.specs.Observing.{AreNews, WouldPass}
 use Rattle.spool_model.specs.JobTable.{JobTable}
@@ -17,18 +17,18 @@ use Rattle.at_account.specs.Names.{account_file}
 -- the content of the file has these records; where there is no file, there are none
 abbrev pub GivesRecords : Option (List ℕ) → List AccountRecord → Type 0
 GivesRecords None records = records ≡ []
-GivesRecords (Some bytes) records = AreLines SpellsRecord MayCome bytes records
+GivesRecords (Some bytes) records = AreRecordLines SpellsRecord IsRecordAllowed bytes records
 
 -- the file is damaged at the first byte of its first bad line
 pub record IsAccountDamage (content : Option (List ℕ)) (damage : Damage) : Type 0 where
   pub bytes : List ℕ
   pub offset : ℕ
   pub is : content ≡ Some bytes
-  pub first : IsFirstBadLine SpellsRecord MayCome bytes offset
+  pub first : IsFirstBadLine SpellsRecord IsRecordAllowed bytes offset
   pub damage_is : damage ≡ damage_at account_file bytes offset
 
 -- The files show the table, and the records are those of the file of accounts with what is new of that table, not too many.
-pub record AreCounted (files : Files) (table : JobTable) (records : List AccountRecord) : Type 0 where
+pub record AreUpdatedRecords (files : Files) (table : JobTable) (records : List AccountRecord) : Type 0 where
   pub read : List AccountRecord
   pub news : List AccountRecord
   pub shown : shown_by files ≡ Ok table
@@ -38,7 +38,7 @@ pub record AreCounted (files : Files) (table : JobTable) (records : List Account
   pub few : length records ≤ MAX_RECORDS
 
 -- the files show a table, with whose new records there would be too many
-pub record AreTooMany (files : Files) : Type 0 where
+pub record AreTooManyRecords (files : Files) : Type 0 where
   pub table : JobTable
   pub read : List AccountRecord
   pub shown : shown_by files ≡ Ok table

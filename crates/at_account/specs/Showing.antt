@@ -1,7 +1,7 @@
 -- The lines that are shown (own).
 use Rattle.std.specs.Prelude.{◌≡◌, [], ◌∷◌, ◌++◌, ℕ, Bool, true, false, List}
 use Rattle.std.specs.Fmt.{decimal}
-use Rattle.cause_output.specs.Putting.{lines_of}
+use Rattle.cause_output.specs.Putting.{joined_lines}
 use Rattle.accounts.specs.declared.record.AccountRecord.{AccountRecord}
 use Rattle.accounts.specs.declared.line.AccountLine.{AccountLine}
 use Rattle.accounts.specs.Totals.{AreTotals}
@@ -17,5 +17,5 @@ line_text line = (line.user ++ 32 ∷ line.queue ∷ []) ++ (counts_text line.co
 
 -- the text that is shown of the records: a line for each owner where it is asked for, and else nothing
 abbrev pub IsShown : Bool → List AccountRecord → List ℕ → Type 0
-IsShown true records text = (lines : List AccountLine) × AreTotals records lines × (text ≡ lines_of line_text lines)
+IsShown true records text = (lines : List AccountLine) × AreTotals records lines × (text ≡ joined_lines line_text lines)
 IsShown false records text = text ≡ []

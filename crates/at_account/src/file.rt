@@ -11,14 +11,14 @@ ghost use Rattle.whole_file.specs.Others.{ChangesFiles};
 ghost use Rattle.whole_file.specs.Placing.{IsPlaced, IsPlacing};
 ghost use Rattle.whole_file.specs.Replacing.{IsCertainAt};
 ghost use Rattle.at_account.specs.Names.{account_file, account_temp};
-ghost use Rattle.at_account.specs.inside.Filing.{IsOfHost, IsOfReading, IsWriting, IsWritten, ReadsAccount};
+ghost use Rattle.at_account.specs.inside.Filing.{IsHostCause, IsReadingCause, IsWriting, AreRecordsWritten, ReadsAccount};
 
 use crate::{account_name, account_temporary_name};
 use accounts::Account;
 use cause_output::CommandError;
 use host_calls::{Damage, Host, HostFault};
 use listing_text::Cause;
-use record_lines::{LinesFault, text_of};
+use record_lines::{LinesFault, lines_text};
 use std::alloc::Global;
 use whole_file::{content, replace};
 
@@ -26,7 +26,7 @@ use whole_file::{content, replace};
 pub(crate) fn read_account<H: Host>(alloc: Global, host: &mut H) -> Result<Account, CommandError>
     requires { IsInside (H.session host.old) }
     ensures inside { CallsInside (error_of cause.FileFault) (H.session host.old) (H.session host.new) result }
-    ensures comes { IfErr result (λ stopped. IsOfReading stopped.cause) }
+    ensures comes { IfErr result (λ stopped. IsReadingCause stopped.cause) }
     ensures spelled { IfOk result (All (CanBeSpelled SpellsRecord)) }
     ensures looks { IsTrue H.tells → H.world host.new ≡ H.world host.old }
     ensures reads { IsTrue H.tells → ReadsAccount (map.get (reading (H.world host.old)) account_file) result }
@@ -39,7 +39,7 @@ pub(crate) fn read_account<H: Host>(alloc: Global, host: &mut H) -> Result<Accou
 
 // The account of these bytes.
 fn account_of(alloc: Global, bytes: &[u8]) -> Result<Account, CommandError>
-    ensures comes { IfErr result (λ stopped. IsOfReading stopped.cause) }
+    ensures comes { IfErr result (λ stopped. IsReadingCause stopped.cause) }
     ensures no_fault { IfErr result (λ stopped. stopped.cause ≡ cause.FileFault → ⊥) }
     ensures spelled { IfOk result (All (CanBeSpelled SpellsRecord)) }
     ensures reads { ReadsAccount (Some bytes.now) result }
@@ -65,13 +65,13 @@ pub(crate) fn write_account<H: Host>(
     requires spelled { All (CanBeSpelled SpellsRecord) account.now }
     requires certain { IsTrue H.tells → IsCertainAt account_temp (H.world host.old).now.folder }
     ensures inside { CallsInside (error_of cause.FileFault) (H.session host.old) (H.session host.new) result }
-    ensures comes { IfErr result (λ stopped. IsOfHost stopped.cause) }
+    ensures comes { IfErr result (λ stopped. IsHostCause stopped.cause) }
     ensures files { IsTrue H.tells
         → ChangesFiles (IsWriting account.now (H.world host.old).now.folder) (H.world host.old) (H.world host.new) }
     ensures written { IsTrue H.tells
-        → OnOk result (IsWritten account.now (H.world host.old).now.folder (H.world host.new).now.folder) }
+        → OnOk result (AreRecordsWritten account.now (H.world host.old).now.folder (H.world host.new).now.folder) }
 {
-    let text = text_of(alloc, account.records())?;
+    let text = lines_text(alloc, account.records())?;
     replace_text(alloc, host, text.as_slice())?;
     Ok(())
 }

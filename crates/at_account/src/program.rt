@@ -33,12 +33,17 @@ pub fn account_program<H: Host, O: Sink, E: Sink>(
         (sink_at (E.content err.old) (E.outlet err.old)) (sink_at (E.content err.new) (E.outlet err.new)) }
     ensures made_as { (E.outlet err.new).made_as ≡ (E.outlet err.old).made_as }
 {
-    let cause = carry_out(alloc, words, host, out);
+    let cause = account_by_words(alloc, words, host, out);
     Status::of(say_cause(alloc, PROGRAM, cause, err))
 }
 
 // Does what the words ask for. The line of the cause is still to be said.
-fn carry_out<H: Host, O: Sink>(alloc: Global, words: &[String], host: &mut H, out: &mut O) -> Cause
+fn account_by_words<H: Host, O: Sink>(
+    alloc: Global,
+    words: &[String],
+    host: &mut H,
+    out: &mut O,
+) -> Cause
     requires { IsOutside (H.session host.old) }
     ensures { Accounting (account_asked (map string_bytes words.now))
         (account_outside H.Host O.Sink host.old out.old) (account_outside H.Host O.Sink host.new out.new) result }

@@ -6,23 +6,23 @@ ghost use Rattle.cause_output.specs.Causes.{error_of};
 ghost use Rattle.cause_output.specs.Sinks.{sink_at};
 ghost use Rattle.host_calls.specs.Causes.{Rose};
 ghost use Rattle.host_calls.specs.Session.{CallsInside, IsInside, IsOutside};
-ghost use Rattle.host_calls.specs.World.{GoesOn, reading};
+ghost use Rattle.host_calls.specs.World.{TimePasses, reading};
 ghost use Rattle.listing_text.specs.declared.cause.Cause.TheVariants as cause;
 ghost use Rattle.record_lines.specs.Lines.{CanBeSpelled};
 ghost use Rattle.spool_session.specs.Sessions.{HasRisenIn, StaysQuiet};
 ghost use Rattle.whole_file.specs.Others.{ChangesFiles};
-ghost use Rattle.at_account.specs.Accounting.{IsAccounting, MayEnd};
+ghost use Rattle.at_account.specs.Accounting.{IsAccounting, MayEndAccount};
 ghost use Rattle.at_account.specs.Names.{account_file};
-ghost use Rattle.at_account.specs.inside.Inside.{Accounts, Counts, EndsInside, IsOfWork, PutsText};
+ghost use Rattle.at_account.specs.inside.Inside.{Accounts, Counts, EndsInside, IsAccountingCause, PutsCounts};
 
 use crate::file::{read_account, write_account};
-use crate::show::shown;
+use crate::show::shown_counts;
 use accounts::{Account, AccountFault};
 use cause_output::{CommandError, cause_of_put};
 use host_calls::{Bytes, Host, Sink};
 use listing_text::{Cause, Refusal};
 use spool_model::LAST_NUMBER;
-use spool_session::in_session;
+use spool_session::in_command_session;
 use spool_store::Store;
 use std::alloc::Global;
 
@@ -36,7 +36,7 @@ pub(crate) fn account<H: Host, O: Sink>(
     requires { IsOutside (H.session host.old) }
     ensures quiet { StaysQuiet H.Host host.old host.new }
     ensures faults { HasRisenIn H.Host host.old host.new result }
-    ensures may_end { MayEnd result }
+    ensures may_end { MayEndAccount result }
     ensures output_fault { result ≡ Cause.OutputFault
         → Rose (O.outlet out.old).sink_faults (O.outlet out.new).sink_faults }
     ensures made_as { (O.outlet out.new).made_as ≡ (O.outlet out.old).made_as }
@@ -44,7 +44,7 @@ pub(crate) fn account<H: Host, O: Sink>(
         (sink_at (O.content out.old) (O.outlet out.old)) (sink_at (O.content out.new) (O.outlet out.new)) result }
 {
     // The session is left before the text is put, so that a slow reader does not hold the lock.
-    match in_session(alloc, host, &mut |host| account_inside(alloc, show, host)) {
+    match in_command_session(alloc, host, &mut |host| account_inside(alloc, show, host)) {
         Ok(text) => put_text(alloc, host, text.as_slice(), out),
         Err(stopped) => stopped.cause,
     }
@@ -57,7 +57,7 @@ fn put_text<H: Host, O: Sink>(alloc: Global, host: &H, text: &[u8], out: &mut O)
     ensures made_as { (O.outlet out.new).made_as ≡ (O.outlet out.old).made_as }
     ensures output_fault { result ≡ Cause.OutputFault
         → Rose (O.outlet out.old).sink_faults (O.outlet out.new).sink_faults }
-    ensures puts { PutsText O.tells text.now (sink_at (O.content out.old) (O.outlet out.old))
+    ensures puts { PutsCounts O.tells text.now (sink_at (O.content out.old) (O.outlet out.old))
         (sink_at (O.content out.new) (O.outlet out.new)) result }
 {
     if text.is_empty() {
@@ -71,24 +71,28 @@ fn put_text<H: Host, O: Sink>(alloc: Global, host: &H, text: &[u8], out: &mut O)
 fn account_inside<H: Host>(alloc: Global, show: bool, host: &mut H) -> Result<Bytes, CommandError>
     requires { IsInside (H.session host.old) }
     ensures inside { CallsInside (error_of cause.FileFault) (H.session host.old) (H.session host.new) result }
-    ensures comes { IfErr result (λ stopped. IsOfWork stopped.cause) }
-    ensures goes_on { IsTrue H.tells → GoesOn (H.world host.old) (H.world host.new) }
+    ensures comes { IfErr result (λ stopped. IsAccountingCause stopped.cause) }
+    ensures goes_on { IsTrue H.tells → TimePasses (H.world host.old) (H.world host.new) }
     ensures images { IsTrue H.tells
         → ChangesFiles (IsAccounting (H.world host.old).now.folder) (H.world host.old) (H.world host.new) }
     ensures ends { IsTrue H.tells → EndsInside show (H.world host.old) (H.world host.new) result }
 {
     let store = Store::recover(alloc, host)?;
-    let account = counted(alloc, host, &store)?;
-    let text = shown(alloc, show, &account)?;
+    let account = updated_account(alloc, host, &store)?;
+    let text = shown_counts(alloc, show, &account)?;
     write_account(alloc, host, &account)?;
     Ok(text)
 }
 
 // The records of the file with what is new of the store's jobs.
-fn counted<H: Host>(alloc: Global, host: &mut H, store: &Store) -> Result<Account, CommandError>
+fn updated_account<H: Host>(
+    alloc: Global,
+    host: &mut H,
+    store: &Store,
+) -> Result<Account, CommandError>
     requires { IsInside (H.session host.old) }
     ensures inside { CallsInside (error_of cause.FileFault) (H.session host.old) (H.session host.new) result }
-    ensures comes { IfErr result (λ stopped. IsOfWork stopped.cause) }
+    ensures comes { IfErr result (λ stopped. IsAccountingCause stopped.cause) }
     ensures spelled { IfOk result (All (CanBeSpelled SpellsRecord)) }
     ensures looks { IsTrue H.tells → H.world host.new ≡ H.world host.old }
     ensures counts { IsTrue H.tells

@@ -1,7 +1,7 @@
 //! The lines that are shown.
 ghost use Rattle.std.specs.Prelude.{◌≡◌, ◌∷◌, ◌++◌, IfOk, OnOk};
 ghost use Rattle.std.specs.Fmt.{decimal};
-ghost use Rattle.cause_output.specs.Putting.{lines_of};
+ghost use Rattle.cause_output.specs.Putting.{joined_lines};
 ghost use Rattle.at_account.specs.Showing.{IsShown, counts_text, line_text};
 
 use accounts::{Account, AccountLine};
@@ -9,7 +9,11 @@ use host_calls::Bytes;
 use std::alloc::{AllocError, Global};
 
 // What is shown of the account: a line for each owner where it is asked for, and else nothing.
-pub(crate) fn shown(alloc: Global, show: bool, account: &Account) -> Result<Bytes, AllocError>
+pub(crate) fn shown_counts(
+    alloc: Global,
+    show: bool,
+    account: &Account,
+) -> Result<Bytes, AllocError>
     ensures { IfOk result (IsShown show account.now) }
 {
     let mut text = Vec::new(alloc);
@@ -20,15 +24,15 @@ pub(crate) fn shown(alloc: Global, show: bool, account: &Account) -> Result<Byte
 }
 
 fn add_lines(alloc: Global, lines: &[AccountLine], text: &mut Vec<u8>) -> Result<(), AllocError>
-    ensures { OnOk result (text.new.items ≡ text.old.items ++ lines_of line_text lines.now) }
+    ensures { OnOk result (text.new.items ≡ text.old.items ++ joined_lines line_text lines.now) }
 {
     for line in lines {
-        add_line(alloc, line, text)?;
+        add_owner_line(alloc, line, text)?;
     }
     Ok(())
 }
 
-fn add_line(alloc: Global, line: &AccountLine, text: &mut Vec<u8>) -> Result<(), AllocError>
+fn add_owner_line(alloc: Global, line: &AccountLine, text: &mut Vec<u8>) -> Result<(), AllocError>
     ensures { OnOk result (text.new.items ≡ text.old.items ++ line_text line.now) }
 {
     text.extend_from_slice(line.user.as_bytes())?;

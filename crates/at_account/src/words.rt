@@ -15,12 +15,12 @@ pub(crate) fn asks_to_show(alloc: Global, words: &[String]) -> Result<bool, Word
     if words.is_empty() {
         return Err(WordsFault::Usage);
     }
-    let command = command(alloc)?;
+    let command = account_command(alloc)?;
     let matches = parsed(command, words)?;
     Ok(has_flag(&matches, "show"))
 }
 
-fn command<'a>(alloc: Global) -> Result<Command<'a>, AllocError>
+fn account_command<'a>(alloc: Global) -> Result<Command<'a>, AllocError>
     ensures { IfOk result (λ made. app_of made ≡ account_app) }
 {
     with_long_flag(alloc, bare_command(alloc, "ataccount"), "show")

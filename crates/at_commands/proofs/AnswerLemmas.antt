@@ -7,7 +7,7 @@ use Rattle.at_words.specs.declared.tool_request.ToolRequest.{ToolRequest}
 use Rattle.at_words.specs.declared.tool_request.ToolRequest.TheVariants as request
 use Rattle.civil_minute.specs.declared.zone.Zone.{Zone}
 use Rattle.host_calls.specs.World.{World}
-use Rattle.job_listing.specs.Scripts.{ComesOfShowing, PutsBy}
+use Rattle.job_listing.specs.Scripts.{ComesOfShowing, PutsScriptsBy}
 use Rattle.step_runs.specs.Attempts.{Achieves}
 use Rattle.step_runs.specs.Current.{IsCurrent, Kept}
 use Rattle.listing_text.specs.declared.cause.Cause.{Cause}
@@ -20,21 +20,21 @@ use Rattle.spool_model.specs.Users.{IsUserName}
 use Rattle.cause_output.specs.declared.caller.Caller.{Caller}
 use Rattle.cause_output.specs.declared.command_error.CommandError.{CommandError}
 use Rattle.cause_output.specs.Causes.{cause_in, error_of}
-use Rattle.command_rules.specs.Checks.{Check, check_of, is_before, of_lock}
-use Rattle.command_rules.specs.Ends.{Ends, KeepsOrder, StopsBeforeLock}
+use Rattle.command_rules.specs.Checks.{Check, check_of, is_earlier_check, of_lock}
+use Rattle.command_rules.specs.Ends.{CommandEnds, KeepsOrder, StopsBeforeLock}
 use Rattle.cause_output.specs.Outside.{Holding, Telling, holding, telling}
 use Rattle.command_rules.specs.Found.{Finds, Found, answers_read}
-use Rattle.at_commands.specs.inside.Carrying.{AreSessionSteps, Carries, Finding, IsSessionLine, IsSessionText}
-use Rattle.command_rules.specs.Requested.{Prints, Says, next_number, passes_of, scripts_of}
-use Rattle.command_rules.specs.Sessions.{IsNotOpened, IsOpened}
+use Rattle.at_commands.specs.inside.Carrying.{AreUnrefusedSteps, Carries, Finding, IsSessionLine, IsSessionText}
+use Rattle.command_rules.specs.Requested.{RequestPrints, RequestSays, next_number, passes_of, scripts_of}
+use Rattle.command_rules.specs.Sessions.{IsNotOpened, IsStoreOpened}
 use Rattle.cause_output.specs.Sinks.{IsPut, NotesBy, PrintsBy, SinkAt, HasBytes}
 use Rattle.command_rules.specs.Verdict.{early_verdict, filter_check, first_refusal, jobs_check, spool_verdict, user_check, zone_check}
 use Rattle.civil_minute.specs.Zone.{is_unreadable}
 use Rattle.at_commands.proofs.EntryLemmas.{IsOfEntry}
 use Rattle.at_commands.specs.inside.Answering.{EndsPrinting, EndsRemoving}
 use Rattle.at_commands.specs.inside.Printing.{PutsWhole}
-use Rattle.at_commands.specs.inside.Session.{IsNoOutput, IsOfSpool}
-use Rattle.at_commands.specs.inside.Sessions.{Lists, Shows, lists_alone}
+use Rattle.at_commands.specs.inside.Session.{IsNoOutput, IsSpoolCause}
+use Rattle.at_commands.specs.inside.Sessions.{ListsInSession, ShowsInSession, lists_alone}
 use Rattle.command_rules.proofs.CheckLemmas.{refused_up_to}
 use Rattle.at_commands.proofs.CarryLemmas.{carries_no_memory, carries_unsaid, done_allowed, no_true}
 use Rattle.at_commands.proofs.EndsLemmas.{ends_carried, ends_early}
@@ -57,7 +57,7 @@ none_put : (at : SinkAt) → IsPut [] at at
 none_put at = record { content = sym (append-nil at.content); later = omega arith }
 
 -- where the spool stopped the session
-spool_prints : (cause : Cause) (IsText : List ℕ → Type 0) (at : SinkAt) → IsOfSpool cause → PrintsBy cause IsText at at
+spool_prints : (cause : Cause) (IsText : List ℕ → Type 0) (at : SinkAt) → IsSpoolCause cause → PrintsBy cause IsText at at
 spool_prints (Refused refusal) IsText at is = silent at
 spool_prints FileFault IsText at is = inl (silent at)
 spool_prints Busy IsText at is = silent at
@@ -65,7 +65,7 @@ spool_prints Memory IsText at is = inl (silent at)
 spool_prints (Damaged damage) IsText at is = silent at
 spool_prints _ IsText at is = absurd is
 
-pub spool_notes : (cause : Cause) (IsLine : List ℕ → Type 0) (at : SinkAt) → IsOfSpool cause → NotesBy cause IsLine at at
+pub spool_notes : (cause : Cause) (IsLine : List ℕ → Type 0) (at : SinkAt) → IsSpoolCause cause → NotesBy cause IsLine at at
 spool_notes (Refused refusal) IsLine at is = silent at
 spool_notes FileFault IsLine at is = silent at
 spool_notes Busy IsLine at is = silent at
@@ -75,10 +75,10 @@ spool_notes _ IsLine at is = absurd is
 
 -- by requests that print nothing, and by those that say nothing
 module _ (tells alone : Bool) (asked : ToolRequest) (caller : Caller) (finding : Finding) (old new : World) where
-  pub prints_nothing : (cause : Cause) (carries : Carries tells alone asked caller finding old new cause) → ((table : JobTable) → Prints asked caller table []) → (at : SinkAt) →
+  pub prints_nothing : (cause : Cause) (carries : Carries tells alone asked caller finding old new cause) → ((table : JobTable) → RequestPrints asked caller table []) → (at : SinkAt) →
       tells ≡ true → alone ≡ true → PrintsBy cause (IsSessionText asked caller (finding carries.allow carries.deny) carries.shown) at at
   prints_nothing Done carries none at known is_alone =
-      let ends : Achieves (AreSessionSteps asked caller (finding carries.allow carries.deny)) old new = carries.spool known is_alone in (
+      let ends : Achieves (AreUnrefusedSteps asked caller (finding carries.allow carries.deny)) old new = carries.spool known is_alone in (
         [],
         (
           ends.0,
@@ -97,7 +97,7 @@ module _ (tells alone : Bool) (asked : ToolRequest) (caller : Caller) (finding :
   prints_nothing (Damaged damage) carries none at known is_alone = silent at
   prints_nothing _ carries none at known is_alone = absurd carries.reach
 
-  notes_nothing : (cause : Cause) (carries : Carries tells alone asked caller finding old new cause) → ((zone : Zone) (found : Found) (number : ℕ) → Says asked zone found number []) →
+  notes_nothing : (cause : Cause) (carries : Carries tells alone asked caller finding old new cause) → ((zone : Zone) (found : Found) (number : ℕ) → RequestSays asked zone found number []) →
       (at : SinkAt) → NotesBy cause (IsSessionLine asked caller (finding carries.allow carries.deny) carries.shown) at at
   notes_nothing Done carries none at = (
     [],
@@ -119,26 +119,26 @@ module _ (tells alone : Bool) (asked : ToolRequest) (caller : Caller) (finding :
 -- Sessions of requests that were not opened.
 
 pub listing_unentered : (tells alone : Bool) (asked : ToolRequest) (caller : Caller) (old new : World) (cause : Cause) → IsOfEntry cause →
-    (tells ≡ true → alone ≡ true → new ≡ old) → Lists tells alone asked caller old new (Err (error_of cause))
+    (tells ≡ true → alone ≡ true → new ≡ old) → ListsInSession tells alone asked caller old new (Err (error_of cause))
 listing_unentered tells alone asked caller old new cause entry same = record { carries = carries_unentered tells alone asked caller old new cause entry same; text = tt }
 
 pub listing_unopened : (tells alone : Bool) (asked : ToolRequest) (caller : Caller) (old new : World) (user : List ℕ) (cause : Cause) → caller.context.user ≡ user →
-    IsNotOpened tells user old new cause → Lists tells alone asked caller old new (Err (error_of cause))
+    IsNotOpened tells user old new cause → ListsInSession tells alone asked caller old new (Err (error_of cause))
 listing_unopened tells alone asked caller old new user cause same is =
     record { carries = carries_unopened tells alone asked caller old new user cause same is; text = tt }
 
 pub listing_of : (tells : Bool) (which : Filter) (caller : Caller) (user : List ℕ) (zone : Zone) (same : caller.context.user ≡ user) (same_zone : caller.zone ≡ zone)
-    (old middle new : World) (kept : Kept) (is_open : IsOpened tells user old middle kept) → None ≡ filter_check user kept.table which → (tells ≡ true → new ≡ middle) →
+    (old middle new : World) (kept : Kept) (is_open : IsStoreOpened tells user old middle kept) → None ≡ filter_check user kept.table which → (tells ≡ true → new ≡ middle) →
     (result : Result (List ℕ) CommandError) → IfOk result (IsListing zone kept.table user (passes_of which)) → IfErr result (λ stopped. stopped ≡ error_of Memory) →
-    Lists tells true (request.List which) caller old new result
+    ListsInSession tells true (request.List which) caller old new result
 listing_of tells which caller user zone same same_zone old middle new kept is_open none still (Ok text) is lacks =
     listing_made tells which caller user zone same same_zone old middle new kept is_open text none still is
 listing_of tells which caller user zone same same_zone old middle new kept is_open none still (Err stopped) is lacks =
-    subst (λ (of : CommandError). Lists tells true (request.List which) caller old new (Err of)) (sym lacks)
+    subst (λ (of : CommandError). ListsInSession tells true (request.List which) caller old new (Err of)) (sym lacks)
     (listing_lacks tells which caller user zone same same_zone old middle new kept is_open still)
 
 pub showing_unentered : (tells alone output : Bool) (asked : ToolRequest) (caller : Caller) (old new : World) (at : SinkAt) (cause : Cause) → IsOfEntry cause →
-    (tells ≡ true → alone ≡ true → new ≡ old) → Shows tells alone output asked caller old new at at (Err (error_of cause))
+    (tells ≡ true → alone ≡ true → new ≡ old) → ShowsInSession tells alone output asked caller old new at at (Err (error_of cause))
 showing_unentered tells alone output asked caller old new at cause entry same =
     let carries : Carries tells alone asked caller lists_alone old new cause = carries_unentered tells alone asked caller old new cause entry same in
     record {
@@ -147,7 +147,7 @@ showing_unentered tells alone output asked caller old new at cause entry same =
     }
 
 pub showing_unopened : (tells alone output : Bool) (asked : ToolRequest) (caller : Caller) (old new : World) (at : SinkAt) (user : List ℕ) (cause : Cause) →
-    caller.context.user ≡ user → IsNotOpened tells user old new cause → Shows tells alone output asked caller old new at at (Err (error_of cause))
+    caller.context.user ≡ user → IsNotOpened tells user old new cause → ShowsInSession tells alone output asked caller old new at at (Err (error_of cause))
 showing_unopened tells alone output asked caller old new at user cause same is =
     let carries : Carries tells alone asked caller lists_alone old new cause = carries_unopened tells alone asked caller old new user cause same is in
     record {
@@ -158,10 +158,10 @@ showing_unopened tells alone output asked caller old new at user cause same is =
 
 -- the scripts were put, or a prefix of them
 pub showing_of : (tells output : Bool) (numbers : List ℕ) (caller : Caller) (user : List ℕ) (same : caller.context.user ≡ user)
-    (old middle new : World) (was is : SinkAt) (kept : Kept) (is_open : IsOpened tells user old middle kept) → None ≡ jobs_check user false kept.table numbers →
+    (old middle new : World) (was is : SinkAt) (kept : Kept) (is_open : IsStoreOpened tells user old middle kept) → None ≡ jobs_check user false kept.table numbers →
     (tells ≡ true → new ≡ middle) → (result : Result (Unit {0}) CommandError) → IfErr result ComesOfShowing →
-    (tells ≡ true → output ≡ true → (table : JobTable) → IsCurrent kept middle.now.folder table → PutsBy (scripts_of table numbers) was is result) →
-    Shows tells true output (request.Show numbers) caller old new was is result
+    (tells ≡ true → output ≡ true → (table : JobTable) → IsCurrent kept middle.now.folder table → PutsScriptsBy (scripts_of table numbers) was is result) →
+    ShowsInSession tells true output (request.Show numbers) caller old new was is result
 showing_of tells output numbers caller user same old middle new was is kept is_open none still (Ok value) comes puts =
     showing_done tells output numbers caller user same old middle new was is kept is_open none still puts
 showing_of tells output numbers caller user same old middle new was is kept is_open none still (Err stopped) comes puts =
@@ -199,8 +199,8 @@ no_listing asks none is = let no : false ≡ true = sym none ∙ is in cc
 module _ (asked : ToolRequest) (caller : Caller) (tells : Telling) (at : Holding)
     (clock : (reached : Check) → answers_read (Ok asked) reached (pos 0) at.answers ≡ at.answers)
     (finds : (reached : Check) (found : Found) → Finds tells.input (Ok asked) caller.zone at.contents reached found) where
-  refused_early : (refusal : Refusal) → ((found : Found) → early_verdict asked caller found ≡ Some refusal) → is_before (check_of refusal) of_lock ≡ true →
-      Ends NotesBy (Ok asked) caller tells at at (Refused refusal)
+  refused_early : (refusal : Refusal) → ((found : Found) → early_verdict asked caller found ≡ Some refusal) → is_earlier_check (check_of refusal) of_lock ≡ true →
+      CommandEnds NotesBy (Ok asked) caller tells at at (Refused refusal)
   refused_early refusal verdict ahead =
       ends_early asked caller tells at at lists_alone keeps_lists (Refused refusal) (check_of refusal)
       (λ allow deny. subst (λ (of : Option Refusal). KeepsOrder of (Refused refusal)) (sym (verdict (lists_alone allow deny))) (inl refl)) tt refl ahead
@@ -258,7 +258,7 @@ removal_ends files alone numbers caller old new cause named carries = λ output 
 -- Showings.
 
 pub showing_ends : (files alone output : Bool) (numbers : List ℕ) (caller : Caller) (old new : World) (was is : SinkAt) (result : Result (Unit {0}) CommandError) →
-    IsUserName caller.context.user → Shows files alone output (request.Show numbers) caller old new was is result →
+    IsUserName caller.context.user → ShowsInSession files alone output (request.Show numbers) caller old new was is result →
     EndsPrinting files alone output (request.Show numbers) caller old new was is (cause_in result)
 showing_ends files alone output numbers caller old new was is result named shows = λ clock input errors answers contents said.
     ends_carried (request.Show numbers) caller (telling files alone clock input output errors) (holding old answers contents was said)
@@ -278,7 +278,7 @@ module _ (files alone output : Bool) (which : Filter) (caller : Caller) (old new
       ∙ alone_is (zone_check caller.zone) ∙ zone_passes caller.zone readable
 
   -- no text was made
-  pub listing_stopped : (stopped : CommandError) (at : SinkAt) → IsNoOutput stopped → Lists files alone (request.List which) caller old new (Err stopped) →
+  pub listing_stopped : (stopped : CommandError) (at : SinkAt) → IsNoOutput stopped → ListsInSession files alone (request.List which) caller old new (Err stopped) →
       EndsPrinting files alone output (request.List which) caller old new at at stopped.cause
   listing_stopped stopped at of_spool lists = λ clock input errors answers contents said.
       ends_carried (request.List which) caller (telling files alone clock input output errors) (holding old answers contents at said)
@@ -301,7 +301,7 @@ module _ (files alone output : Bool) (which : Filter) (caller : Caller) (old new
       (λ known is_alone asks same. listed known is_alone same)
       (λ known. notes_nothing files alone (request.List which) caller lists_alone old new cause carries (λ zone found number. refl) said)
 
-  pub listing_put : (cause : Cause) (text : List ℕ) (was is : SinkAt) → Lists files alone (request.List which) caller old new (Ok text) →
+  pub listing_put : (cause : Cause) (text : List ℕ) (was is : SinkAt) → ListsInSession files alone (request.List which) caller old new (Ok text) →
       PutsWhole output text was is cause → EndsPrinting files alone output (request.List which) caller old new was is cause
   listing_put Done text was is lists puts =
       listing_by Done lists.carries was is (λ known is_alone tells_output. (text, lists.text, puts tells_output))

@@ -12,7 +12,7 @@ use Rattle.listing_text.specs.declared.cause.Cause.{Cause}
 use Rattle.listing_text.specs.declared.cause.Cause.TheVariants.{Memory}
 use Rattle.serving.specs.Outcomes.{at_a_line}
 use Rattle.cause_output.specs.Saying.{IsSaid}
-use Rattle.serving.specs.Serves.{ServeAt, no_turn}
+use Rattle.serving.specs.Serves.{ServeState, no_turn}
 use Rattle.cause_output.specs.Outside.{Telling}
 use Rattle.cause_output.proofs.EndLemmas.{silent_same}
 use Rattle.at_commands.specs.Served.{IsNotServed, ServesAnew, WhereServed}
@@ -28,7 +28,7 @@ none_served (Ok (request.Make count)) IsSo is = tt
 none_served (Err fault) IsSo is = tt
 
 -- no turn was made, since there was no memory to read the words
-pub nothing_served : (tells : Telling) (limit interval : ℕ) (once : Bool) (turns : ℕ) (old : DaemonState → ServeAt) (out err err_new : SinkAt) (final : Cause)
+pub nothing_served : (tells : Telling) (limit interval : ℕ) (once : Bool) (turns : ℕ) (old : DaemonState → ServeState) (out err err_new : SinkAt) (final : Cause)
     → IsSaid (codes "atd") tells.errors Memory err err_new final → ServesAnew tells limit interval once turns old old out out err err_new final
 nothing_served tells limit interval once turns old out err err_new final said = record {
   daemon = new_daemon limit interval;

@@ -16,11 +16,11 @@ use Rattle.spool_model.specs.declared.step.Step.{Step}
 use Rattle.spool_model.specs.JobTable.{JobTable}
 use Rattle.spool_shows.specs.Shown.{shown_by}
 use Rattle.cause_output.specs.declared.caller.Caller.{Caller}
-use Rattle.command_rules.specs.Checks.{Check, ComesUpTo, check_of, is_before, of_access, of_folder, of_lists, of_lock, of_output, of_steps, place_of}
+use Rattle.command_rules.specs.Checks.{Check, ComesUpTo, check_of, is_earlier_check, of_access, of_folder, of_lists, of_lock, of_output, of_steps, place_of_check}
 use Rattle.command_rules.specs.Ends.{KeepsOrder, Reaches}
 use Rattle.command_rules.specs.Found.{AreInFolder, Found, allow_file, deny_file}
-use Rattle.at_commands.specs.inside.Carrying.{AreSessionSteps, AreWorkSteps, Carries, Finding}
-use Rattle.command_rules.specs.Sessions.{AreListsIn, IsNotOpened, IsOpened, Works, faults, lists_lack_memory, is_damaged, lacks_memory, refuses, lists_fault}
+use Rattle.at_commands.specs.inside.Carrying.{AreUnrefusedSteps, AreWorkSteps, Carries, Finding}
+use Rattle.command_rules.specs.Sessions.{AreListsIn, IsNotOpened, IsStoreOpened, CommandWorks, faults, lists_lack_memory, is_damaged, lacks_memory, refuses, lists_fault}
 use Rattle.command_rules.specs.Spool.{SpoolEnds}
 use Rattle.command_rules.specs.Verdict.{spool_verdict, table_verdict}
 use Rattle.command_rules.proofs.SessionLemmas.{works_end}
@@ -62,7 +62,7 @@ module _ (tells alone : Bool) (asked : ToolRequest) (caller : Caller) (finding :
   untouched : (cause : Cause) → Reaches cause of_lock → KeepsOrder (spool_verdict asked caller held (shown_by (reading old))) cause →
       (lists : (tells ≡ true → alone ≡ true → AreInFolder (reading old) held (shown_by (reading old)))) →
       (tells ≡ true → alone ≡ true → new ≡ old) →
-      (tells ≡ true → alone ≡ true → SpoolEnds (AreSessionSteps asked caller held) old new cause) →
+      (tells ≡ true → alone ≡ true → SpoolEnds (AreUnrefusedSteps asked caller held) old new cause) →
       Carries tells alone asked caller finding old new cause
   untouched cause reach order lists same spool = record {
     allow = finite.get (reading old) allow_file;
@@ -108,7 +108,7 @@ module _ (tells alone : Bool) (asked : ToolRequest) (caller : Caller) (finding :
       KeepsOrder (spool_verdict asked caller (finding (finite.get (reading old) allow_file) (finite.get (reading old) deny_file)) (shown_by (reading old))) cause →
       (tells ≡ true → new ≡ old) →
       (tells ≡ true → alone ≡ true →
-      SpoolEnds (AreSessionSteps asked caller (finding (finite.get (reading old) allow_file) (finite.get (reading old) deny_file))) old new cause) →
+      SpoolEnds (AreUnrefusedSteps asked caller (finding (finite.get (reading old) allow_file) (finite.get (reading old) deny_file))) old new cause) →
       Carries tells alone asked caller finding old new cause
   stopped_at_lists cause reach order same spool = record {
     allow = finite.get (reading old) allow_file;
@@ -127,7 +127,7 @@ module _ (tells alone : Bool) (asked : ToolRequest) (caller : Caller) (finding :
   -- no store was had for a user whom the lists permit: a file fault or want of memory
   stopped_at_folder : (allow deny : Option (List ℕ)) → may_use caller.context.user allow deny ≡ true → (tells ≡ true → AreListsIn (reading old) allow deny) →
       (cause : Cause) → Reaches cause of_folder → KeepsOrder (spool_verdict asked caller (finding allow deny) (shown_by (reading old))) cause →
-      (tells ≡ true → alone ≡ true → SpoolEnds (AreSessionSteps asked caller (finding allow deny)) old new cause) →
+      (tells ≡ true → alone ≡ true → SpoolEnds (AreUnrefusedSteps asked caller (finding allow deny)) old new cause) →
       Carries tells alone asked caller finding old new cause
   stopped_at_folder allow deny permits lists cause reach order spool = record {
     allow = allow;
@@ -201,7 +201,7 @@ module _ (tells alone : Bool) (asked : ToolRequest) (caller : Caller) (finding :
 -- What a store keeps decides as the table does.
 
 module _ (tells alone : Bool) (asked : ToolRequest) (caller : Caller) (finding : Finding) (keeps : KeepsLists finding) (old middle new : World)
-    (kept : Kept) (opened : IsOpened tells caller.context.user old middle kept) where
+    (kept : Kept) (opened : IsStoreOpened tells caller.context.user old middle kept) where
   -- what was found
   abbrev found : Found
   found = finding opened.allow opened.deny
@@ -215,13 +215,13 @@ module _ (tells alone : Bool) (asked : ToolRequest) (caller : Caller) (finding :
   decides_table table =
       permitted asked caller found (Ok table) (rw (keeps.allow_is opened.allow opened.deny, keeps.deny_is opened.allow opened.deny) opened.permits)
 
-  pub work_to_session : (table : JobTable) (steps : List Step) → AreWorkSteps asked caller found table steps → AreSessionSteps asked caller found table steps
+  pub work_to_session : (table : JobTable) (steps : List Step) → AreWorkSteps asked caller found table steps → AreUnrefusedSteps asked caller found table steps
   work_to_session table steps are = record { none = decides_table table ∙ are.none; steps_are = are.steps_are }
 
   -- the work after the store that was opened
-  abbrev worked_at : (cause : Cause) (reached : Check) → is_before reached of_lock ≡ false → is_before reached of_folder ≡ false → Reaches cause reached →
+  abbrev worked_at : (cause : Cause) (reached : Check) → is_earlier_check reached of_lock ≡ false → is_earlier_check reached of_folder ≡ false → Reaches cause reached →
       KeepsOrder (table_verdict asked caller (Ok kept.table)) cause → ComesUpTo (table_verdict asked caller (Ok kept.table)) reached →
-      (tells ≡ true → Works (AreWorkSteps asked caller found) opened.table middle new cause) →
+      (tells ≡ true → CommandWorks (AreWorkSteps asked caller found) opened.table middle new cause) →
       Carries tells alone asked caller finding old new cause
   worked_at cause reached entered later reach order up_to works = record {
     allow = opened.allow;
@@ -238,15 +238,15 @@ module _ (tells alone : Bool) (asked : ToolRequest) (caller : Caller) (finding :
       table = sym (opened.recovered known).shown;
     };
     apart = λ known is_alone early. absurd (no_true (sym later ∙ early));
-    spool = λ known is_alone. ends_map (AreWorkSteps asked caller found) (AreSessionSteps asked caller found) work_to_session old new cause
+    spool = λ known is_alone. ends_map (AreWorkSteps asked caller found) (AreUnrefusedSteps asked caller found) work_to_session old new cause
         (works_end (AreWorkSteps asked caller found) old middle new opened.table kept (opened.recovered known) cause (works known));
   }
 
   -- a refusal keeps the order where it is that of the table
-  on_table : (verdict : Option Refusal) (refusal : Refusal) → OnTable verdict → verdict ≡ Some refusal → is_before of_folder (check_of refusal) ≡ true
+  on_table : (verdict : Option Refusal) (refusal : Refusal) → OnTable verdict → verdict ≡ Some refusal → is_earlier_check of_folder (check_of refusal) ≡ true
   on_table None refusal on is = cc
   on_table (Some other) refusal on is =
-      let same : other ≡ refusal = same_Some other refusal is in subst (λ of. is_before of_folder (check_of of) ≡ true) same on.1
+      let same : other ≡ refusal = same_Some other refusal is in subst (λ of. is_earlier_check of_folder (check_of of) ≡ true) same on.1
 
   later : (place : ℕ) → nat_lt 14 place ≡ true → (nat_lt place 11 ≡ false) × (nat_lt place 14 ≡ false)
   later place is = (grind (arith, nat_tests), grind (arith, nat_tests))
@@ -256,9 +256,9 @@ module _ (tells alone : Bool) (asked : ToolRequest) (caller : Caller) (finding :
   reached_by None = of_steps
   reached_by (Some refusal) = check_of refusal
 
-  pub far_by : (verdict : Option Refusal) → OnTable verdict → (is_before (reached_by verdict) of_lock ≡ false) × (is_before (reached_by verdict) of_folder ≡ false)
+  pub far_by : (verdict : Option Refusal) → OnTable verdict → (is_earlier_check (reached_by verdict) of_lock ≡ false) × (is_earlier_check (reached_by verdict) of_folder ≡ false)
   far_by None on = (refl, refl)
-  far_by (Some refusal) on = later (place_of (check_of refusal)) on.1
+  far_by (Some refusal) on = later (place_of_check (check_of refusal)) on.1
 
   pub up_to_by : (verdict : Option Refusal) → ComesUpTo verdict (reached_by verdict)
   up_to_by None = tt
@@ -268,32 +268,32 @@ module _ (tells alone : Bool) (asked : ToolRequest) (caller : Caller) (finding :
   pub work_refused : (refusal : Refusal) → table_verdict asked caller (Ok kept.table) ≡ Some refusal → (tells ≡ true → new ≡ middle) →
       Carries tells alone asked caller finding old new (Refused refusal)
   work_refused refusal is same =
-      let late : is_before of_folder (check_of refusal) ≡ true =
+      let late : is_earlier_check of_folder (check_of refusal) ≡ true =
       on_table (table_verdict asked caller (Ok kept.table)) refusal (table_on asked caller (Ok kept.table)) is in
-      let far : (nat_lt (place_of (check_of refusal)) 11 ≡ false) × (nat_lt (place_of (check_of refusal)) 14 ≡ false) = later (place_of (check_of refusal)) late in
+      let far : (nat_lt (place_of_check (check_of refusal)) 11 ≡ false) × (nat_lt (place_of_check (check_of refusal)) 14 ≡ false) = later (place_of_check (check_of refusal)) late in
       worked_at (Refused refusal) (check_of refusal) far.0 far.1 refl
       (subst (λ (of : Option Refusal). KeepsOrder of (Refused refusal)) (sym is) (inl refl))
       (refused_up_to (table_verdict asked caller (Ok kept.table)) refusal is) (λ known. (late, same known))
 
   -- the table doesn't refuse: the work was done, or a fault of a file or want of memory came
-  abbrev pub work_done : table_verdict asked caller (Ok kept.table) ≡ None → (tells ≡ true → Works (AreWorkSteps asked caller found) opened.table middle new Done) →
+  abbrev pub work_done : table_verdict asked caller (Ok kept.table) ≡ None → (tells ≡ true → CommandWorks (AreWorkSteps asked caller found) opened.table middle new Done) →
       Carries tells alone asked caller finding old new Done
   work_done is works =
       worked_at Done of_output refl refl refl (subst (λ (of : Option Refusal). KeepsOrder of Done) (sym is) tt) (allowed_up_to _ of_output is) works
 
   abbrev pub work_unsaid : table_verdict asked caller (Ok kept.table) ≡ None →
-      (tells ≡ true → Works (AreWorkSteps asked caller found) opened.table middle new OutputFault) →
+      (tells ≡ true → CommandWorks (AreWorkSteps asked caller found) opened.table middle new OutputFault) →
       Carries tells alone asked caller finding old new OutputFault
   work_unsaid is works =
       worked_at OutputFault of_output refl refl refl (subst (λ (of : Option Refusal). KeepsOrder of OutputFault) (sym is) tt) (allowed_up_to _ of_output is) works
 
   abbrev pub work_fails : table_verdict asked caller (Ok kept.table) ≡ None →
-      (tells ≡ true → Works (AreWorkSteps asked caller found) opened.table middle new FileFault) →
+      (tells ≡ true → CommandWorks (AreWorkSteps asked caller found) opened.table middle new FileFault) →
       Carries tells alone asked caller finding old new FileFault
   work_fails is works =
       worked_at FileFault of_steps refl refl (refl, refl) (subst (λ (of : Option Refusal). KeepsOrder of FileFault) (sym is) tt) (allowed_up_to _ of_steps is) works
 
-  abbrev pub work_lacks_memory : (tells ≡ true → Works (AreWorkSteps asked caller found) opened.table middle new Memory) →
+  abbrev pub work_lacks_memory : (tells ≡ true → CommandWorks (AreWorkSteps asked caller found) opened.table middle new Memory) →
       Carries tells alone asked caller finding old new Memory
   work_lacks_memory works =
       worked_at Memory (reached_by (table_verdict asked caller (Ok kept.table)))
@@ -318,8 +318,8 @@ carries_within tells alone asked caller finding before entered left after cause 
       subst (λ (of : World). AreInFolder (reading of) (finding carries.allow carries.deny) carries.shown) (enters known is_alone) (carries.folder known refl);
   apart = λ known is_alone early. leaves known is_alone ∙ carries.apart known refl early ∙ enters known is_alone;
   spool = λ known is_alone.
-      subst (λ (of : World). SpoolEnds (AreSessionSteps asked caller (finding carries.allow carries.deny)) of after cause) (enters known is_alone)
-      (subst (λ (of : World). SpoolEnds (AreSessionSteps asked caller (finding carries.allow carries.deny)) entered of cause) (sym (leaves known is_alone))
+      subst (λ (of : World). SpoolEnds (AreUnrefusedSteps asked caller (finding carries.allow carries.deny)) of after cause) (enters known is_alone)
+      (subst (λ (of : World). SpoolEnds (AreUnrefusedSteps asked caller (finding carries.allow carries.deny)) entered of cause) (sym (leaves known is_alone))
       (carries.spool known refl));
 }
 
@@ -362,5 +362,5 @@ module _ (tells alone : Bool) (asked : ToolRequest) (caller : Caller) (finding :
     up_to = allowed_up_to _ of_output (done_allowed _ carries.order);
     folder = carries.folder;
     apart = λ known is_alone early. absurd (no_true early);
-    spool = λ known is_alone. attempt_of (AreSessionSteps asked caller (finding carries.allow carries.deny)) old new Done (carries.spool known is_alone);
+    spool = λ known is_alone. attempt_of (AreUnrefusedSteps asked caller (finding carries.allow carries.deny)) old new Done (carries.spool known is_alone);
   }

@@ -13,7 +13,7 @@ use Rattle.listing_text.specs.declared.cause.Cause.{Cause}
 use Rattle.listing_text.specs.declared.cause.Cause.TheVariants.{Refused, FileFault, InputFault, OutputFault, Busy, Memory, StillRunning}
 use Rattle.listing_text.specs.declared.refusal.Refusal.TheVariants.{BadQueue, Usage}
 use Rattle.cause_output.specs.declared.caller.Caller.{Caller}
-use Rattle.command_rules.specs.Ends.{Ends, FailsToPrint, KeepsOrder, Reaches, StopsBeforeLock}
+use Rattle.command_rules.specs.Ends.{CommandEnds, FailsToPrint, KeepsOrder, Reaches, StopsBeforeLock}
 use Rattle.cause_output.specs.Outside.{Holding, OutsideAt, Telling}
 use Rattle.command_rules.specs.Found.{Asked}
 use Rattle.cause_output.specs.Sinks.{NotesBy, SinkAt}
@@ -38,7 +38,7 @@ words_come words.Memory = tt
 
 -- a command whose words ask for nothing
 pub words_end : (asked : Asked) (caller : Caller) (tells : Telling) (at : Holding) (fault : WordsFault) → Answers asked (Err fault) →
-    Ends NotesBy asked caller tells at at (words_cause fault)
+    CommandEnds NotesBy asked caller tells at at (words_cause fault)
 words_end asked caller tells at words.Usage is =
     ends_at_words asked caller tells at (Refused Usage) tt refl
     (λ found shown. subst (λ (of : Asked). KeepsOrder (verdict_of of caller found shown) (Refused Usage)) is (inl refl))
@@ -49,14 +49,14 @@ words_end asked caller tells at words.Memory is =
     ends_at_words asked caller tells at Memory tt tt (λ found shown. any_memory (verdict_of asked caller found shown))
 
 -- a day is not made here
-pub make_ends : (count : ℕ) (caller : Caller) (tells : Telling) (at : Holding) → Ends NotesBy (Ok (request.Make count)) caller tells at at (Refused Usage)
+pub make_ends : (count : ℕ) (caller : Caller) (tells : Telling) (at : Holding) → CommandEnds NotesBy (Ok (request.Make count)) caller tells at at (Refused Usage)
 make_ends count caller tells at = ends_at_words (Ok (request.Make count)) caller tells at (Refused Usage) tt refl (λ found shown. inl refl)
 
 -- What is asked for, by another name.
 
 pub ends_asked : (one other : Asked) (caller : Caller) (tells : Telling) (before after : Holding) (cause : Cause) → one ≡ other →
-    Ends NotesBy one caller tells before after cause → Ends NotesBy other caller tells before after cause
-ends_asked one other caller tells before after cause same ends = subst (λ (of : Asked). Ends NotesBy of caller tells before after cause) same ends
+    CommandEnds NotesBy one caller tells before after cause → CommandEnds NotesBy other caller tells before after cause
+ends_asked one other caller tells before after cause same ends = subst (λ (of : Asked). CommandEnds NotesBy of caller tells before after cause) same ends
 
 -- The line of the cause.
 
@@ -96,7 +96,7 @@ memory_output_fault is = cc
 
 -- no command ends while its jobs still run
 pub ends_not_running : (Notes : Cause → (List ℕ → Type 0) → SinkAt → SinkAt → Type 0) (asked : Asked) (caller : Caller) (tells : Telling) (before after : Holding)
-    (cause : Cause) → Ends Notes asked caller tells before after cause → cause ≢ StillRunning
+    (cause : Cause) → CommandEnds Notes asked caller tells before after cause → cause ≢ StillRunning
 ends_not_running Notes asked caller tells before after cause ends is = subst (λ (of : Cause). Reaches of ends.reached) is ends.reach
 
 -- What is left of a session that was ended, and where none was begun.

@@ -17,17 +17,17 @@ use Rattle.spool_model.specs.JobTable.{JobTable}
 use Rattle.spool_shows.specs.Shown.{shown_by}
 use Rattle.step_runs.specs.Attempts.{Achieves}
 use Rattle.cause_output.specs.declared.caller.Caller.{Caller}
-use Rattle.command_rules.specs.Checks.{Check, ComesUpTo, check_of, is_before, of_lock, place_of}
-use Rattle.command_rules.specs.Ends.{Ends, IsNoRefusal, KeepsOrder, Reaches}
+use Rattle.command_rules.specs.Checks.{Check, ComesUpTo, check_of, is_earlier_check, of_lock, place_of_check}
+use Rattle.command_rules.specs.Ends.{CommandEnds, IsNoRefusal, KeepsOrder, Reaches}
 use Rattle.cause_output.specs.Outside.{Holding, Telling}
 use Rattle.command_rules.specs.Found.{Asked, Finds, Found, allow_file, answers_read, deny_file, is_listing}
-use Rattle.at_commands.specs.inside.Carrying.{AreSessionSteps, Carries, Finding, IsSessionLine, IsSessionText}
+use Rattle.at_commands.specs.inside.Carrying.{AreUnrefusedSteps, Carries, Finding, IsSessionLine, IsSessionText}
 use Rattle.command_rules.specs.Requested.{AreAskedSteps, AreNoSteps, IsAskedLine, IsAskedText}
 use Rattle.cause_output.specs.Sinks.{EndsLine, IsPutInPart, IsPutOrCut, IsSilent, NotesBy, PrintsBy, PutsCut, PutsPart, SaysBy, SinkAt, HasBytes}
 use Rattle.command_rules.specs.Spool.{SpoolEnds}
 use Rattle.command_rules.specs.Verdict.{early_verdict, first_refusal, spool_verdict, verdict_of}
 use Rattle.command_rules.proofs.SpoolLemmas.{attempt_of, unbegun_same}
-use Rattle.cause_output.specs.Saying.{IsSaid, IsUndone, SaysLine}
+use Rattle.cause_output.specs.Saying.{IsSaid, IsFailure, SaysLine}
 use Rattle.at_commands.proofs.CarryLemmas.{KeepsLists, ends_map}
 use Rattle.at_commands.proofs.LateLemmas.{any_memory, late_input, late_up_to, spool_late}
 
@@ -87,7 +87,7 @@ module _ (asked : ToolRequest) (caller : Caller) (tells : Telling) (before after
       (tells.files ≡ true → tells.alone ≡ true → is_listing (Ok asked) ≡ true → cause ≡ OutputFault →
       HasBytes (IsSessionText asked caller found carries.shown)) →
       (tells.errors ≡ true → NotesBy cause (IsSessionLine asked caller found carries.shown) before.errors after.errors) →
-      Ends NotesBy (Ok asked) caller tells before after cause
+      CommandEnds NotesBy (Ok asked) caller tells before after cause
   ends_carried none clock finds prints listed notes = record {
     found = found;
     shown = carries.shown;
@@ -99,7 +99,7 @@ module _ (asked : ToolRequest) (caller : Caller) (tells : Telling) (before after
     finds = finds;
     folder = carries.folder;
     apart = carries.apart;
-    spool = λ known is_alone. ends_map (AreSessionSteps asked caller found) (AreAskedSteps (Ok asked) caller found)
+    spool = λ known is_alone. ends_map (AreUnrefusedSteps asked caller found) (AreAskedSteps (Ok asked) caller found)
         (λ table steps are. record { none = verdict_late asked caller found (Ok table) none ∙ are.none; steps_are = are.steps_are })
         before.spool after.spool cause (carries.spool known is_alone);
     prints = λ known is_alone tells_output. prints_map (IsSessionText asked caller found carries.shown) (IsAskedText (Ok asked) caller found carries.shown)
@@ -139,7 +139,7 @@ keeps_early None asked caller found shown cause is order =
 
 -- and so how far the command came
 up_to_early : (early : Option Refusal) (asked : ToolRequest) (caller : Caller) (found : Found) (shown : Result JobTable Damage) (reached : Check) →
-    is_before reached of_lock ≡ true → ComesUpTo early reached → ComesUpTo (first_refusal (early ∷ spool_verdict asked caller found shown ∷ [])) reached
+    is_earlier_check reached of_lock ≡ true → ComesUpTo early reached → ComesUpTo (first_refusal (early ∷ spool_verdict asked caller found shown ∷ [])) reached
 up_to_early (Some refusal) asked caller found shown reached ahead up_to = up_to
 up_to_early None asked caller found shown reached ahead up_to =
     subst (λ (of : Option Refusal). ComesUpTo of reached) (sym (alone (spool_verdict asked caller found shown)))
@@ -154,10 +154,10 @@ before_folder place is = grind (arith, nat_tests)
 
 -- a command that stopped before the spool was entered leaves it as it was
 pub untouched : (AreSteps : JobTable → List Step → Type 0) (old new : World) (cause : Cause) (reached : Check) → IsEarly cause → Reaches cause reached →
-    is_before reached of_lock ≡ true → new ≡ old → SpoolEnds AreSteps old new cause
+    is_earlier_check reached of_lock ≡ true → new ≡ old → SpoolEnds AreSteps old new cause
 untouched AreSteps old new (Refused refusal) reached early reach before same =
     subst (λ (beyond : Bool). MatchBool beyond (Achieves AreNoSteps old new) (new ≡ old))
-    (sym (before_folder (place_of (check_of refusal)) (subst (λ (of : Check). is_before of of_lock ≡ true) reach before))) same
+    (sym (before_folder (place_of_check (check_of refusal)) (subst (λ (of : Check). is_earlier_check of of_lock ≡ true) reach before))) same
 untouched AreSteps old new InputFault reached early reach before same = same
 untouched AreSteps old new Memory reached early reach before same = inl (unbegun_same old new same)
 untouched AreSteps old new _ reached early reach before same = absurd early
@@ -179,11 +179,11 @@ silent_notes _ IsLine old new early silent = absurd early
 pub ends_early : (asked : ToolRequest) (caller : Caller) (tells : Telling) (before after : Holding) (finding : Finding) (keeps : KeepsLists finding)
     (cause : Cause) (reached : Check) →
     ((allow deny : Option (List ℕ)) → KeepsOrder (early_verdict asked caller (finding allow deny)) cause) → IsEarly cause → Reaches cause reached →
-    is_before reached of_lock ≡ true → ((allow deny : Option (List ℕ)) → ComesUpTo (early_verdict asked caller (finding allow deny)) reached) →
+    is_earlier_check reached of_lock ≡ true → ((allow deny : Option (List ℕ)) → ComesUpTo (early_verdict asked caller (finding allow deny)) reached) →
     ((allow deny : Option (List ℕ)) → tells.clock ≡ true → after.answers ≡ answers_read (Ok asked) reached (finding allow deny).now before.answers) →
     ((allow deny : Option (List ℕ)) → Finds tells.input (Ok asked) caller.zone before.contents reached (finding allow deny)) →
     after.spool ≡ before.spool → IsSilent before.output after.output → IsSilent before.errors after.errors →
-    Ends NotesBy (Ok asked) caller tells before after cause
+    CommandEnds NotesBy (Ok asked) caller tells before after cause
 ends_early asked caller tells before after finding keeps cause reached order early reach ahead up_to clock finds same silent quiet =
     let allow : Option (List ℕ) = finite.get (reading before.spool) allow_file in
     let deny : Option (List ℕ) = finite.get (reading before.spool) deny_file in
@@ -233,7 +233,7 @@ module _ (tool : List ℕ) (IsLine : List ℕ → Type 0) (old between new : Sin
   line_said Faulty says = says
 
   -- what was said before a line that finds no memory
-  notes_no_memory : (cause : Cause) → IsUndone cause → NotesBy cause IsLine old between → NotesBy Memory IsLine old between
+  notes_no_memory : (cause : Cause) → IsFailure cause → NotesBy cause IsLine old between → NotesBy Memory IsLine old between
   notes_no_memory OutputFault undone notes = notes
   notes_no_memory Memory undone notes = notes
   notes_no_memory FileFault undone notes = inl notes
@@ -247,12 +247,12 @@ module _ (tool : List ℕ) (IsLine : List ℕ → Type 0) (old between new : Sin
   says_line : (cause : Cause) → NotesBy cause IsLine old between → SaysLine tool cause between new → SaysBy tool cause IsLine old new
   says_line cause notes says = record { between = between; notice = notes; line = line_said cause says }
 
-  says_none : (cause : Cause) → IsUndone cause → NotesBy cause IsLine old between → IsSilent between new → SaysBy tool Memory IsLine old new
+  says_none : (cause : Cause) → IsFailure cause → NotesBy cause IsLine old between → IsSilent between new → SaysBy tool Memory IsLine old new
   says_none cause undone notes quiet =
       record { between = between; notice = notes_no_memory cause undone notes; line = none_in_part (cause_line_of tool Memory) between new quiet }
 
 -- what is printed before a line that finds no memory
-prints_no_memory : (cause : Cause) (IsText : List ℕ → Type 0) (old new : SinkAt) → IsUndone cause → PrintsBy cause IsText old new → PrintsBy Memory IsText old new
+prints_no_memory : (cause : Cause) (IsText : List ℕ → Type 0) (old new : SinkAt) → IsFailure cause → PrintsBy cause IsText old new → PrintsBy Memory IsText old new
 prints_no_memory OutputFault IsText old new undone prints = prints
 prints_no_memory Memory IsText old new undone prints = prints
 prints_no_memory FileFault IsText old new undone prints = prints
@@ -269,8 +269,8 @@ with_errors at errors = record { spool = at.spool; answers = at.answers; content
 
 -- A command whose cause was said, or found no memory.
 module _ (tool : List ℕ) (asked : Asked) (caller : Caller) (tells : Telling) (before after : Holding) (between : SinkAt) (cause : Cause)
-    (ends : Ends NotesBy asked caller tells before (with_errors after between) cause) where
-  ends_as_is : (tells.errors ≡ true → SaysLine tool cause between after.errors) → Ends (SaysBy tool) asked caller tells before after cause
+    (ends : CommandEnds NotesBy asked caller tells before (with_errors after between) cause) where
+  ends_as_is : (tells.errors ≡ true → SaysLine tool cause between after.errors) → CommandEnds (SaysBy tool) asked caller tells before after cause
   ends_as_is says = record {
     found = ends.found;
     shown = ends.shown;
@@ -288,7 +288,7 @@ module _ (tool : List ℕ) (asked : Asked) (caller : Caller) (tells : Telling) (
     notes = λ known. says_line tool (IsAskedLine asked caller ends.found ends.shown) before.errors between after.errors cause (ends.notes known) (says known);
   }
 
-  ends_no_memory : IsUndone cause → (tells.errors ≡ true → IsSilent between after.errors) → Ends (SaysBy tool) asked caller tells before after Memory
+  ends_no_memory : IsFailure cause → (tells.errors ≡ true → IsSilent between after.errors) → CommandEnds (SaysBy tool) asked caller tells before after Memory
   ends_no_memory undone quiet = record {
     found = ends.found;
     shown = ends.shown;
@@ -308,8 +308,8 @@ module _ (tool : List ℕ) (asked : Asked) (caller : Caller) (tells : Telling) (
         (quiet known);
   }
 
-  pub ends_said : (final : Cause) → IsSaid tool tells.errors cause between after.errors final → Ends (SaysBy tool) asked caller tells before after final
+  pub ends_said : (final : Cause) → IsSaid tool tells.errors cause between after.errors final → CommandEnds (SaysBy tool) asked caller tells before after final
   ends_said final said = elim said [
-    | inl as_is ↦ subst (λ (of : Cause). Ends (SaysBy tool) asked caller tells before after of) (sym as_is.0) (ends_as_is as_is.1)
-    | inr lacks ↦ subst (λ (of : Cause). Ends (SaysBy tool) asked caller tells before after of) (sym lacks.1) (ends_no_memory lacks.0 lacks.2)
+    | inl as_is ↦ subst (λ (of : Cause). CommandEnds (SaysBy tool) asked caller tells before after of) (sym as_is.0) (ends_as_is as_is.1)
+    | inr lacks ↦ subst (λ (of : Cause). CommandEnds (SaysBy tool) asked caller tells before after of) (sym lacks.1) (ends_no_memory lacks.0 lacks.2)
   ]

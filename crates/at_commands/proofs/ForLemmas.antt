@@ -11,7 +11,7 @@ use Rattle.step_runs.specs.Current.{IsCurrent, Kept}
 use Rattle.step_runs.specs.Made.{AreMade}
 use Rattle.step_runs.proofs.ListLemmas.{lists_as_on_the_table}
 use Rattle.step_runs.proofs.MadeLemmas.{no_steps_are_made}
-use Rattle.job_removal.specs.Removing.{AreRemoval, ComesOfRemoving, IsOfWork}
+use Rattle.job_removal.specs.Removing.{AreRemoval, ComesOfRemoving, IsRemovalCause}
 use Rattle.job_listing.specs.Scripts.{IsOfShowing}
 use Rattle.listing_text.specs.declared.cause.Cause.{Cause}
 use Rattle.listing_text.specs.declared.cause.Cause.TheVariants.{Done, Refused, FileFault, InputFault, OutputFault, Busy, Memory, Damaged, StillRunning, Faulty}
@@ -26,12 +26,12 @@ use Rattle.cause_output.specs.declared.command_error.CommandError.{CommandError}
 use Rattle.cause_output.specs.Causes.{cause_in, error_of}
 use Rattle.command_rules.specs.Found.{Found}
 use Rattle.at_commands.specs.inside.Carrying.{AreWorkSteps, Carries, IsSessionText}
-use Rattle.command_rules.specs.Requested.{passes_of, scripts_of, steps_of}
-use Rattle.command_rules.specs.Sessions.{IsKeptOf, IsNotOpened, IsOpened, IsWorkedOut, Works}
+use Rattle.command_rules.specs.Requested.{passes_of, scripts_of, steps_of_request}
+use Rattle.command_rules.specs.Sessions.{IsKeptOf, IsNotOpened, IsStoreOpened, IsWorkedOut, CommandWorks}
 use Rattle.cause_output.specs.Sinks.{IsPut, IsPutInPart, IsSilent, PutsPart, SinkAt}
 use Rattle.command_rules.specs.Verdict.{filter_check, jobs_check, table_verdict}
 use Rattle.at_commands.proofs.EntryLemmas.{IsOfEntry}
-use Rattle.at_commands.specs.inside.Sessions.{Lists, Shows, lists_alone}
+use Rattle.at_commands.specs.inside.Sessions.{ListsInSession, ShowsInSession, lists_alone}
 use Rattle.at_commands.proofs.CarryLemmas.{KeepsLists, carries_within, decides, not_entered, not_opened, work_done, work_fails, work_lacks_memory, work_refused, work_unsaid}
 use Rattle.at_commands.proofs.KeptLemmas.{kept_decides}
 use Rattle.at_commands.proofs.UserLemmas.{alone_is}
@@ -40,7 +40,7 @@ pub keeps_lists : KeepsLists lists_alone
 keeps_lists = record { allow_is = λ allow deny. refl; deny_is = λ allow deny. refl }
 
 -- for a caller of the user's name
-abbrev pub as_opened : (tells : Bool) (user other : List ℕ) (old new : World) (kept : Kept) → other ≡ user → IsOpened tells user old new kept → IsOpened tells other old new kept
+abbrev pub as_opened : (tells : Bool) (user other : List ℕ) (old new : World) (kept : Kept) → other ≡ user → IsStoreOpened tells user old new kept → IsStoreOpened tells other old new kept
 as_opened tells user other old new kept same opened = record {
   allow = opened.allow;
   deny = opened.deny;
@@ -62,7 +62,7 @@ module _ (tells alone : Bool) (asked : ToolRequest) (caller : Caller) (old new :
 
 -- Works of one list of steps that are those of another.
 works_map : (A B : JobTable → List Step → Type 0) (table : JobTable) → ((steps : List Step) → A table steps → B table steps) → (old new : World) (cause : Cause) →
-    Works A table old new cause → Works B table old new cause
+    CommandWorks A table old new cause → CommandWorks B table old new cause
 works_map A B table all old new Done works = record { steps = works.steps; kept = works.kept; are = all works.steps works.are; made = works.made }
 works_map A B table all old new OutputFault works = record { steps = works.steps; kept = works.kept; are = all works.steps works.are; made = works.made }
 works_map A B table all old new FileFault works = elim works [
@@ -81,8 +81,8 @@ works_map A B table all old new StillRunning works = works
 works_map A B table all old new Faulty works = works
 
 module _ (tells alone : Bool) (asked : ToolRequest) (caller : Caller) (user : List ℕ) (same : caller.context.user ≡ user) (old middle new : World) (kept : Kept)
-    (is_open : IsOpened tells user old middle kept) where
-  abbrev opened : IsOpened tells caller.context.user old middle kept
+    (is_open : IsStoreOpened tells user old middle kept) where
+  abbrev opened : IsStoreOpened tells caller.context.user old middle kept
   opened = as_opened tells user caller.context.user old middle kept same is_open
 
   abbrev found : Found
@@ -105,7 +105,7 @@ module _ (tells alone : Bool) (asked : ToolRequest) (caller : Caller) (user : Li
   carries_lacking still = work_lacks_memory tells alone asked caller lists_alone keeps_lists old middle new kept opened (λ known. inl (still known))
 
   -- a request without steps makes none
-  pub work_none : ((table : JobTable) → steps_of asked caller found table ≡ []) → table_verdict asked caller (Ok kept.table) ≡ None → tells ≡ true → new ≡ middle →
+  pub work_none : ((table : JobTable) → steps_of_request asked caller found table ≡ []) → table_verdict asked caller (Ok kept.table) ≡ None → tells ≡ true → new ≡ middle →
       IsWorkedOut (AreWorkSteps asked caller found) is_open.table middle new
   work_none steps none known still = record {
     steps = [];
@@ -114,12 +114,12 @@ module _ (tells alone : Bool) (asked : ToolRequest) (caller : Caller) (user : Li
     made = subst (λ (at : World). AreMade is_open.table [] [] [] kept middle at) (sym still) (no_steps_are_made is_open.table kept middle (is_open.recovered known).current);
   }
 
-  abbrev pub carries_still_unsaid : ((table : JobTable) → steps_of asked caller found table ≡ []) → table_verdict asked caller (Ok kept.table) ≡ None →
+  abbrev pub carries_still_unsaid : ((table : JobTable) → steps_of_request asked caller found table ≡ []) → table_verdict asked caller (Ok kept.table) ≡ None →
       (tells ≡ true → new ≡ middle) → Carries tells alone asked caller lists_alone old new OutputFault
   carries_still_unsaid steps none still =
       work_unsaid tells alone asked caller lists_alone keeps_lists old middle new kept opened none (λ known. work_none steps none known (still known))
 
-  abbrev pub carries_still : ((table : JobTable) → steps_of asked caller found table ≡ []) → table_verdict asked caller (Ok kept.table) ≡ None →
+  abbrev pub carries_still : ((table : JobTable) → steps_of_request asked caller found table ≡ []) → table_verdict asked caller (Ok kept.table) ≡ None →
       (tells ≡ true → new ≡ middle) → Carries tells alone asked caller lists_alone old new Done
   carries_still steps none still =
       work_done tells alone asked caller lists_alone keeps_lists old middle new kept opened none (λ known. work_none steps none known (still known))
@@ -134,7 +134,7 @@ IsOfRemoval Memory = Unit {0}
 IsOfRemoval _ = ⊥
 
 module _ (tells alone : Bool) (numbers : List ℕ) (caller : Caller) (user : List ℕ) (same : caller.context.user ≡ user) (old middle new : World) (kept : Kept)
-    (is_open : IsOpened tells user old middle kept) where
+    (is_open : IsStoreOpened tells user old middle kept) where
   removal_decides : (verdict : Option Refusal) → verdict ≡ jobs_check user true kept.table numbers →
       table_verdict (request.Remove numbers) caller (Ok kept.table) ≡ verdict
   removal_decides verdict is =
@@ -145,8 +145,8 @@ module _ (tells alone : Bool) (numbers : List ℕ) (caller : Caller) (user : Lis
   removal_refused refusal is still =
       carries_refused tells alone (request.Remove numbers) caller user same old middle new kept is_open refusal (removal_decides (Some refusal) is) still
 
-  removal_works : None ≡ jobs_check user true kept.table numbers → (cause : Cause) → (tells ≡ true → Works (AreRemoval numbers) is_open.table middle new cause) → tells ≡ true →
-      Works (AreWorkSteps (request.Remove numbers) caller (lists_alone is_open.allow is_open.deny)) is_open.table middle new cause
+  removal_works : None ≡ jobs_check user true kept.table numbers → (cause : Cause) → (tells ≡ true → CommandWorks (AreRemoval numbers) is_open.table middle new cause) → tells ≡ true →
+      CommandWorks (AreWorkSteps (request.Remove numbers) caller (lists_alone is_open.allow is_open.deny)) is_open.table middle new cause
   removal_works none cause works known =
       works_map (AreRemoval numbers) (AreWorkSteps (request.Remove numbers) caller (lists_alone is_open.allow is_open.deny)) is_open.table
       (λ steps are. record {
@@ -154,7 +154,7 @@ module _ (tells alone : Bool) (numbers : List ℕ) (caller : Caller) (user : Lis
         steps_are = are;
       }) middle new cause (works known)
 
-  pub removal_by : (cause : Cause) → None ≡ jobs_check user true kept.table numbers → IsOfRemoval cause → (tells ≡ true → Works (AreRemoval numbers) is_open.table middle new cause) →
+  pub removal_by : (cause : Cause) → None ≡ jobs_check user true kept.table numbers → IsOfRemoval cause → (tells ≡ true → CommandWorks (AreRemoval numbers) is_open.table middle new cause) →
       Carries tells alone (request.Remove numbers) caller lists_alone old new cause
   removal_by FileFault none of_work works =
       work_fails tells alone (request.Remove numbers) caller lists_alone keeps_lists old middle new kept
@@ -171,7 +171,7 @@ module _ (tells alone : Bool) (numbers : List ℕ) (caller : Caller) (user : Lis
 pub removal_comes : (result : Result (Unit {0}) CommandError) → IfErr result ComesOfRemoving → IsOfRemoval (cause_in result)
 removal_comes (Ok value) comes = tt
 removal_comes (Err stopped) comes = by_cause stopped.cause comes where
-  by_cause : (cause : Cause) → IsOfWork cause → IsOfRemoval cause
+  by_cause : (cause : Cause) → IsRemovalCause cause → IsOfRemoval cause
   by_cause FileFault of_work = tt
   by_cause Memory of_work = tt
   by_cause Done of_work = absurd of_work
@@ -204,24 +204,24 @@ kept_rows kept table either = elim either [
 ]
 
 module _ (tells : Bool) (which : Filter) (caller : Caller) (user : List ℕ) (zone : Zone) (same : caller.context.user ≡ user) (same_zone : caller.zone ≡ zone)
-    (old middle new : World) (kept : Kept) (is_open : IsOpened tells user old middle kept) where
+    (old middle new : World) (kept : Kept) (is_open : IsStoreOpened tells user old middle kept) where
   filter_decides : (verdict : Option Refusal) → verdict ≡ filter_check user kept.table which →
       table_verdict (request.List which) caller (Ok kept.table) ≡ verdict
   filter_decides verdict is =
       alone_is (filter_check caller.context.user kept.table which) ∙ ap (λ (of : List ℕ). filter_check of kept.table which) same ∙ sym is
 
   pub listing_refused : (refusal : Refusal) → Some refusal ≡ filter_check user kept.table which → (tells ≡ true → new ≡ middle) →
-      Lists tells true (request.List which) caller old new (Err (error_of (Refused refusal)))
+      ListsInSession tells true (request.List which) caller old new (Err (error_of (Refused refusal)))
   listing_refused refusal is still = record {
     carries = carries_refused tells true (request.List which) caller user same old middle new kept is_open refusal (filter_decides (Some refusal) is) still;
     text = tt;
   }
 
-  pub listing_lacks : (tells ≡ true → new ≡ middle) → Lists tells true (request.List which) caller old new (Err (error_of Memory))
+  pub listing_lacks : (tells ≡ true → new ≡ middle) → ListsInSession tells true (request.List which) caller old new (Err (error_of Memory))
   listing_lacks still = record { carries = carries_lacking tells true (request.List which) caller user same old middle new kept is_open still; text = tt }
 
   pub listing_made : (text : List ℕ) → None ≡ filter_check user kept.table which → (tells ≡ true → new ≡ middle) →
-      IsListing zone kept.table user (passes_of which) text → Lists tells true (request.List which) caller old new (Ok text)
+      IsListing zone kept.table user (passes_of which) text → ListsInSession tells true (request.List which) caller old new (Ok text)
   listing_made text none still is =
       let allowed : table_verdict (request.List which) caller (Ok kept.table) ≡ None = filter_decides None none in
       record {
@@ -240,7 +240,7 @@ module _ (tells : Bool) (which : Filter) (caller : Caller) (user : List ℕ) (zo
 -- what a session listed stands after it
 pub lists_within : (tells alone : Bool) (asked : ToolRequest) (caller : Caller) (before entered left after : World) (result : Result (List ℕ) CommandError) →
     (tells ≡ true → alone ≡ true → entered ≡ before) → (tells ≡ true → alone ≡ true → after ≡ left) →
-    Lists tells true asked caller entered left result → Lists tells alone asked caller before after result
+    ListsInSession tells true asked caller entered left result → ListsInSession tells alone asked caller before after result
 lists_within tells alone asked caller before entered left after result enters leaves lists = record {
   carries = carries_within tells alone asked caller lists_alone before entered left after (cause_in result) enters leaves lists.carries;
   text = lists.text;
@@ -249,14 +249,14 @@ lists_within tells alone asked caller before entered left after result enters le
 -- Showings.
 
 module _ (tells output : Bool) (numbers : List ℕ) (caller : Caller) (user : List ℕ) (same : caller.context.user ≡ user)
-    (old middle new : World) (was is : SinkAt) (kept : Kept) (is_open : IsOpened tells user old middle kept) where
+    (old middle new : World) (was is : SinkAt) (kept : Kept) (is_open : IsStoreOpened tells user old middle kept) where
   showing_decides : (verdict : Option Refusal) → verdict ≡ jobs_check user false kept.table numbers →
       table_verdict (request.Show numbers) caller (Ok kept.table) ≡ verdict
   showing_decides verdict is =
       alone_is (jobs_check caller.context.user false kept.table numbers) ∙ ap (λ (of : List ℕ). jobs_check of false kept.table numbers) same ∙ sym is
 
   pub showing_refused : (refusal : Refusal) → Some refusal ≡ jobs_check user false kept.table numbers → (tells ≡ true → new ≡ middle) → IsSilent was is →
-      Shows tells true output (request.Show numbers) caller old new was is (Err (error_of (Refused refusal)))
+      ShowsInSession tells true output (request.Show numbers) caller old new was is (Err (error_of (Refused refusal)))
   showing_refused refusal says still silent = record {
     carries = carries_refused tells true (request.Show numbers) caller user same old middle new kept is_open refusal (showing_decides (Some refusal) says) still;
     prints = λ known is_alone tells_output. silent;
@@ -276,7 +276,7 @@ module _ (tells output : Bool) (numbers : List ℕ) (caller : Caller) (user : Li
     )
 
     pub showing_done : (tells ≡ true → output ≡ true → (table : JobTable) → IsCurrent kept middle.now.folder table → IsPut (scripts_of table numbers) was is) →
-        Shows tells true output (request.Show numbers) caller old new was is (Ok tt)
+        ShowsInSession tells true output (request.Show numbers) caller old new was is (Ok tt)
     showing_done puts = record {
       carries = carries_still tells true (request.Show numbers) caller user same old middle new kept is_open (λ table. refl) allowed still;
       prints = λ known is_alone tells_output.
@@ -291,7 +291,7 @@ module _ (tells output : Bool) (numbers : List ℕ) (caller : Caller) (user : Li
 
     pub showing_stopped : (cause : Cause) → IsOfShowing cause →
         (tells ≡ true → output ≡ true → (table : JobTable) → IsCurrent kept middle.now.folder table → IsPutInPart (scripts_of table numbers) was is) →
-        Shows tells true output (request.Show numbers) caller old new was is (Err (error_of cause))
+        ShowsInSession tells true output (request.Show numbers) caller old new was is (Err (error_of cause))
     showing_stopped FileFault of_showing puts = record {
       carries = carries_failing tells true (request.Show numbers) caller user same old middle new kept is_open allowed still;
       prints = λ known is_alone tells_output. showing_part puts known tells_output;
@@ -309,7 +309,7 @@ module _ (tells output : Bool) (numbers : List ℕ) (caller : Caller) (user : Li
 -- what a session showed stands after it
 pub shows_within : (tells alone output : Bool) (asked : ToolRequest) (caller : Caller) (before entered left after : World) (was is : SinkAt) (result : Result (Unit {0}) CommandError) →
     (tells ≡ true → alone ≡ true → entered ≡ before) → (tells ≡ true → alone ≡ true → after ≡ left) →
-    Shows tells true output asked caller entered left was is result → Shows tells alone output asked caller before after was is result
+    ShowsInSession tells true output asked caller entered left was is result → ShowsInSession tells alone output asked caller before after was is result
 shows_within tells alone output asked caller before entered left after was is result enters leaves shows = record {
   carries = carries_within tells alone asked caller lists_alone before entered left after (cause_in result) enters leaves shows.carries;
   prints = λ known is_alone tells_output. shows.prints known refl tells_output;

@@ -13,10 +13,10 @@ use Rattle.cause_output.specs.declared.command_error.CommandError.{CommandError}
 use Rattle.cause_output.specs.Causes.{cause_in, cause_of_entry, error_of}
 use Rattle.command_rules.specs.Found.{found_of}
 use Rattle.cause_output.specs.Sinks.{SinkAt}
-use Rattle.spool_session.specs.Sessions.{ComesOfSession, EndsSession}
+use Rattle.spool_session.specs.Sessions.{ComesOfSession, EndsCommandSession}
 use Rattle.at_commands.specs.inside.Carrying.{Carries}
 use Rattle.at_commands.specs.inside.Session.{IsNoOutput}
-use Rattle.at_commands.specs.inside.Sessions.{Lists, Shows, lists_alone}
+use Rattle.at_commands.specs.inside.Sessions.{ListsInSession, ShowsInSession, lists_alone}
 use Rattle.at_commands.specs.inside.Storing.{Stores, StoresJob}
 use Rattle.at_commands.proofs.AnswerLemmas.{listing_unentered, showing_unentered}
 use Rattle.at_commands.proofs.CarryLemmas.{carries_within}
@@ -26,7 +26,7 @@ use Rattle.at_commands.proofs.SessionLemmas.{cause_output_fault, comes_no_input,
 use Rattle.at_commands.proofs.SubmitLemmas.{store_not_entered, stores_within}
 
 module _ {H F T : Type 0} (g : Ghosts H) (calls : Calls H F (Result T CommandError)) (work left : F) (old new : H) (result : Result T CommandError)
-    (ends : EndsSession g calls work left old new result) where
+    (ends : EndsCommandSession g calls work left old new result) where
   -- what is so of each answer of the work, and where the session could not begin
   pub answer_of_session : (IsSo : Result T CommandError → Type 0) → ((fault : EnterFault) → left ≡ work → IsSo (Err (error_of (cause_of_entry fault)))) →
       ((first last : H) → CalledAtMut calls work first result left last → IsSo result) → IsSo result
@@ -64,11 +64,11 @@ module _ {H F T : Type 0} (g : Ghosts H) (calls : Calls H F (Result T CommandErr
 
 module _ {H F : Type 0} (g : Ghosts H) where
   pub lists_of_session : (calls : Calls H F (Result (List ℕ) CommandError)) (work left : F) (old new : H) (result : Result (List ℕ) CommandError)
-      (asked : ToolRequest) (caller : Caller) → EndsSession g calls work left old new result →
-      ((first last : H) → CalledAtMut calls work first result left last → Lists g.tells true asked caller (g.world first) (g.world last) result) →
-      Lists g.tells g.alone asked caller (g.world old) (g.world new) result
+      (asked : ToolRequest) (caller : Caller) → EndsCommandSession g calls work left old new result →
+      ((first last : H) → CalledAtMut calls work first result left last → ListsInSession g.tells true asked caller (g.world first) (g.world last) result) →
+      ListsInSession g.tells g.alone asked caller (g.world old) (g.world new) result
   lists_of_session calls work left old new result asked caller ends within = elim ends [
-    | inl none ↦ subst (λ (of : Result (List ℕ) CommandError). Lists g.tells g.alone asked caller (g.world old) (g.world new) of) (sym none.is)
+    | inl none ↦ subst (λ (of : Result (List ℕ) CommandError). ListsInSession g.tells g.alone asked caller (g.world old) (g.world new) of) (sym none.is)
         (listing_unentered g.tells g.alone asked caller (g.world old) (g.world new) (cause_of_entry none.fault) (entry_comes none.fault)
         none.undone.refused.quiet.alone)
     | inr done ↦ lists_within g.tells g.alone asked caller (g.world old) (g.world done.first) (g.world done.last) (g.world new)
@@ -77,13 +77,13 @@ module _ {H F : Type 0} (g : Ghosts H) where
 
   -- where the session could not begin, the sink is as it was
   pub shows_of_session : (calls : Calls H F (Result (Unit {0}) CommandError)) (work left : F) (old new : H) (result : Result (Unit {0}) CommandError)
-      (output : Bool) (asked : ToolRequest) (caller : Caller) (was is : SinkAt) → EndsSession g calls work left old new result → (left ≡ work → is ≡ was) →
+      (output : Bool) (asked : ToolRequest) (caller : Caller) (was is : SinkAt) → EndsCommandSession g calls work left old new result → (left ≡ work → is ≡ was) →
       ((first last : H) → CalledAtMut calls work first result left last →
-      Shows g.tells true output asked caller (g.world first) (g.world last) was is result) →
-      Shows g.tells g.alone output asked caller (g.world old) (g.world new) was is result
+      ShowsInSession g.tells true output asked caller (g.world first) (g.world last) was is result) →
+      ShowsInSession g.tells g.alone output asked caller (g.world old) (g.world new) was is result
   shows_of_session calls work left old new result output asked caller was is ends still within = elim ends [
-    | inl none ↦ subst (λ (at : SinkAt). Shows g.tells g.alone output asked caller (g.world old) (g.world new) was at result) (sym (still none.undone.same))
-        (subst (λ (of : Result (Unit {0}) CommandError). Shows g.tells g.alone output asked caller (g.world old) (g.world new) was was of) (sym none.is)
+    | inl none ↦ subst (λ (at : SinkAt). ShowsInSession g.tells g.alone output asked caller (g.world old) (g.world new) was at result) (sym (still none.undone.same))
+        (subst (λ (of : Result (Unit {0}) CommandError). ShowsInSession g.tells g.alone output asked caller (g.world old) (g.world new) was was of) (sym none.is)
         (showing_unentered g.tells g.alone output asked caller (g.world old) (g.world new) was (cause_of_entry none.fault) (entry_comes none.fault)
         none.undone.refused.quiet.alone))
     | inr done ↦ shows_within g.tells g.alone output asked caller (g.world old) (g.world done.first) (g.world done.last) (g.world new) was is
@@ -91,7 +91,7 @@ module _ {H F : Type 0} (g : Ghosts H) where
   ]
 
   pub stores_of_session : (calls : Calls H F (Result ℕ CommandError)) (work left : F) (old new : H) (result : Result ℕ CommandError)
-      (caller : Caller) (queue minute : ℕ) (script : List ℕ) → EndsSession g calls work left old new result →
+      (caller : Caller) (queue minute : ℕ) (script : List ℕ) → EndsCommandSession g calls work left old new result →
       ((first last : H) → CalledAtMut calls work first result left last →
       StoresJob g.tells true caller queue minute script (g.world first) (g.world last) result) →
       StoresJob g.tells g.alone caller queue minute script (g.world old) (g.world new) result

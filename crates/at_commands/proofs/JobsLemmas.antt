@@ -18,20 +18,20 @@ use Rattle.spool_model.specs.Steps.{AreLegal}
 use Rattle.spool_shows.proofs.Membership.{Has}
 use Rattle.spool_store.specs.Listed.{IsLive}
 use Rattle.command_rules.specs.Requested.{removes}
-use Rattle.command_rules.specs.Verdict.{jobs_check, row_at, row_check}
+use Rattle.command_rules.specs.Verdict.{jobs_check, live_row, row_check}
 use Rattle.job_removal.proofs.LegalLemmas.{removes_legal}
 use Rattle.step_runs.proofs.ApartLemmas.{Apart}
 use Rattle.at_commands.proofs.UserLemmas.{first_passed}
 
 -- no check of a number refuses
 pub each_passes : (user : List ℕ) (removing : Bool) (table : JobTable) (numbers : List ℕ) → jobs_check user removing table numbers ≡ None →
-    (number : ℕ) → Has numbers number → row_check user removing number (row_at table number) ≡ None
+    (number : ℕ) → Has numbers number → row_check user removing number (live_row table number) ≡ None
 each_passes user removing table [] none number has = absurd has
 each_passes user removing table (first ∷ later) none number (inl same) =
-    let parts = first_passed (row_check user removing first (row_at table first)) (map (λ of. row_check user removing of (row_at table of)) later) none in
-    subst (λ of. row_check user removing of (row_at table of) ≡ None) same parts.0
+    let parts = first_passed (row_check user removing first (live_row table first)) (map (λ of. row_check user removing of (live_row table of)) later) none in
+    subst (λ of. row_check user removing of (live_row table of) ≡ None) same parts.0
 each_passes user removing table (first ∷ later) none number (inr has) =
-    let parts = first_passed (row_check user removing first (row_at table first)) (map (λ of. row_check user removing of (row_at table of)) later) none in
+    let parts = first_passed (row_check user removing first (live_row table first)) (map (λ of. row_check user removing of (live_row table of)) later) none in
     each_passes user removing table later parts.1 number has
 
 -- a row that may be removed does not run

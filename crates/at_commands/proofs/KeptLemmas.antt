@@ -16,7 +16,7 @@ use Rattle.spool_model.specs.JobTable.{JobEntry, JobTable, entry_at}
 use Rattle.spool_model.specs.Lists.{row_under}
 use Rattle.cause_output.specs.declared.caller.Caller.{Caller}
 use Rattle.command_rules.specs.Sessions.{IsKeptOf}
-use Rattle.command_rules.specs.Verdict.{first_refusal, jobs_check, number_check, room_check, row_at, row_check, table_verdict}
+use Rattle.command_rules.specs.Verdict.{first_refusal, jobs_check, number_check, room_check, live_row, row_check, table_verdict}
 
 without_scripts_last : (table : JobTable) → (without_scripts table).last ≡ table.last
 unfolding without_scripts
@@ -28,7 +28,7 @@ row_without_scripts number None = refl
 row_without_scripts number (Some (Live job state)) = refl
 row_without_scripts number (Some (Done fate)) = refl
 
-pub row_at-without_scripts : (table : JobTable) (number : ℕ) → row_at (without_scripts table) number ≡ row_at table number
+pub row_at-without_scripts : (table : JobTable) (number : ℕ) → live_row (without_scripts table) number ≡ live_row table number
 row_at-without_scripts table number = ap (option_and_then (row_under number)) (entries_are_without_scripts table number) ∙ row_without_scripts number (entry_at table number)
 
 -- the check of numbers
@@ -36,9 +36,9 @@ pub jobs_check-without_scripts : (user : List ℕ) (removing : Bool) (table : Jo
     jobs_check user removing (without_scripts table) numbers ≡ jobs_check user removing table numbers
 jobs_check-without_scripts user removing table [] = refl
 jobs_check-without_scripts user removing table (number ∷ later) =
-    ap (λ row. first_refusal (row_check user removing number row ∷ map (λ of. row_check user removing of (row_at (without_scripts table) of)) later)) (row_at-without_scripts table number)
-    ∙ first_of-same (row_check user removing number (row_at table number)) (map (λ of. row_check user removing of (row_at (without_scripts table) of)) later)
-    (map (λ of. row_check user removing of (row_at table of)) later) (jobs_check-without_scripts user removing table later) where
+    ap (λ row. first_refusal (row_check user removing number row ∷ map (λ of. row_check user removing of (live_row (without_scripts table) of)) later)) (row_at-without_scripts table number)
+    ∙ first_of-same (row_check user removing number (live_row table number)) (map (λ of. row_check user removing of (live_row (without_scripts table) of)) later)
+    (map (λ of. row_check user removing of (live_row table of)) later) (jobs_check-without_scripts user removing table later) where
       first_of-same : (one : Option Refusal) (some other : List (Option Refusal)) → first_refusal some ≡ first_refusal other →
           first_refusal (one ∷ some) ≡ first_refusal (one ∷ other)
       first_of-same None some other same = same

@@ -17,15 +17,15 @@ use Rattle.spool_model.specs.declared.row.Row.{Row}
 use Rattle.spool_model.specs.JobTable.{JobTable}
 use Rattle.spool_model.specs.declared.row.TheConstants.{MAX_LIVE}
 use Rattle.cause_output.specs.declared.caller.Caller.{Caller}
-use Rattle.command_rules.specs.Checks.{Check, ComesUpTo, check_of, is_before, of_folder, of_input, of_lists, of_lock, place_of}
+use Rattle.command_rules.specs.Checks.{Check, ComesUpTo, check_of, is_earlier_check, of_folder, of_input, of_lists, of_lock, place_of_check}
 use Rattle.command_rules.specs.Ends.{KeepsOrder}
 use Rattle.command_rules.specs.Found.{Found}
-use Rattle.command_rules.specs.Verdict.{first_refusal, jobs_check, number_check, room_check, row_at, row_check, spool_verdict, table_verdict}
+use Rattle.command_rules.specs.Verdict.{first_refusal, jobs_check, number_check, room_check, live_row, row_check, spool_verdict, table_verdict}
 
 -- a check within a session
 pub record IsLate (check : Check) : Type 0 where
-  pub input : is_before of_input check ≡ true
-  pub lock : is_before of_lock check ≡ true
+  pub input : is_earlier_check of_input check ≡ true
+  pub lock : is_earlier_check of_lock check ≡ true
 
 abbrev pub AllLate : Option Refusal → Type 0
 AllLate None = Unit {0}
@@ -34,7 +34,7 @@ AllLate (Some refusal) = IsLate (check_of refusal)
 -- a check on the table
 abbrev pub OnTable : Option Refusal → Type 0
 OnTable None = Unit {0}
-OnTable (Some refusal) = IsLate (check_of refusal) × (is_before of_folder (check_of refusal) ≡ true)
+OnTable (Some refusal) = IsLate (check_of refusal) × (is_earlier_check of_folder (check_of refusal) ≡ true)
 
 at_test : (test : Bool) (refusal : Refusal) → OnTable (Some refusal) → OnTable (cond test (Some refusal) None)
 at_test true refusal on = on
@@ -65,9 +65,9 @@ first_more None later on after = after
 pub jobs_on : (user : List ℕ) (removing : Bool) (table : JobTable) (numbers : List ℕ) → OnTable (jobs_check user removing table numbers)
 jobs_on user removing table [] = tt
 jobs_on user removing table (number ∷ later) =
-    first_more (row_check user removing number (row_at table number))
-    (map (λ of. row_check user removing of (row_at table of)) later)
-    (row_on user removing number (row_at table number)) (jobs_on user removing table later)
+    first_more (row_check user removing number (live_row table number))
+    (map (λ of. row_check user removing of (live_row table of)) later)
+    (row_on user removing number (live_row table number)) (jobs_on user removing table later)
 
 -- a refusal on the table comes of one of its checks
 pub table_on : (asked : ToolRequest) (caller : Caller) (shown : Result JobTable Damage) → OnTable (table_verdict asked caller shown)
@@ -130,21 +130,21 @@ not_at_lists place late = grind (arith, nat_tests)
 not_at_folder : (place : ℕ) → nat_lt 14 place ≡ true → nat_lt place 14 ≡ false
 not_at_folder place after = grind (arith, nat_tests)
 
-pub late_up_to : (verdict : Option Refusal) (reached : Check) → AllLate verdict → is_before reached of_lock ≡ true → ComesUpTo verdict reached
+pub late_up_to : (verdict : Option Refusal) (reached : Check) → AllLate verdict → is_earlier_check reached of_lock ≡ true → ComesUpTo verdict reached
 late_up_to None reached late ahead = tt
-late_up_to (Some refusal) reached late ahead = not_earlier (place_of (check_of refusal)) (place_of reached) late.lock ahead
+late_up_to (Some refusal) reached late ahead = not_earlier (place_of_check (check_of refusal)) (place_of_check reached) late.lock ahead
 
 pub late_up_to_lock : (verdict : Option Refusal) → AllLate verdict → ComesUpTo verdict of_lock
 late_up_to_lock None late = tt
-late_up_to_lock (Some refusal) late = not_at_lock (place_of (check_of refusal)) late.lock
+late_up_to_lock (Some refusal) late = not_at_lock (place_of_check (check_of refusal)) late.lock
 
 pub late_up_to_lists : (verdict : Option Refusal) → AllLate verdict → ComesUpTo verdict of_lists
 late_up_to_lists None late = tt
-late_up_to_lists (Some refusal) late = not_at_lists (place_of (check_of refusal)) late.lock
+late_up_to_lists (Some refusal) late = not_at_lists (place_of_check (check_of refusal)) late.lock
 
 pub table_up_to_folder : (verdict : Option Refusal) → OnTable verdict → ComesUpTo verdict of_folder
 table_up_to_folder None on = tt
-table_up_to_folder (Some refusal) on = not_at_folder (place_of (check_of refusal)) on.1
+table_up_to_folder (Some refusal) on = not_at_folder (place_of_check (check_of refusal)) on.1
 
 -- where the lists permit the user, the table decides
 pub permitted : (asked : ToolRequest) (caller : Caller) (found : Found) (shown : Result JobTable Damage) →

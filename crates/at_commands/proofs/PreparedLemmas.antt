@@ -15,7 +15,7 @@ use Rattle.listing_text.specs.declared.refusal.Refusal.{Refusal}
 use Rattle.spool_model.specs.Users.{IsUserName}
 use Rattle.cause_output.specs.declared.caller.Caller.{Caller}
 use Rattle.cause_output.specs.declared.command_error.CommandError.{CommandError}
-use Rattle.command_rules.specs.Checks.{Check, is_before, of_input, of_lock, of_variables, of_zone, place_of}
+use Rattle.command_rules.specs.Checks.{Check, is_earlier_check, of_input, of_lock, of_variables, of_zone, place_of_check}
 use Rattle.cause_output.specs.Outside.{holding, telling}
 use Rattle.command_rules.specs.Found.{FindsInput, Found, answers_read, found_of}
 use Rattle.at_commands.specs.inside.Carrying.{Finding, IsSessionLine}
@@ -25,7 +25,7 @@ use Rattle.command_rules.specs.Times.{minute_in}
 use Rattle.command_rules.specs.Verdict.{clock_check, directory_check, length_check, spool_verdict, time_check, user_check, variables_check, zone_check}
 use Rattle.submission_checks.specs.declared.submission.Submission.{Submission}
 use Rattle.submission_checks.specs.Preparing.{IsOfPreparing, IsPrepared, IsStoppedEarly, Prepares}
-use Rattle.at_commands.specs.inside.Answering.{Held, Submits, Tells}
+use Rattle.at_commands.specs.inside.Answering.{Held, SubmissionEnds, SubmissionTelling}
 use Rattle.at_commands.specs.inside.Saying.{Accepts}
 use Rattle.at_commands.specs.inside.Session.{IsNoOutput}
 use Rattle.at_commands.specs.inside.Storing.{AnswersJob, IsJobOf, Stores, StoresAndSays}
@@ -90,10 +90,10 @@ late_place place is = grind (arith, nat_tests)
 finding_keeps : (now : ℤ) (time : Result ℕ Refusal) (commands : List ℕ) → KeepsLists (found_of now time commands)
 finding_keeps now time commands = record { allow_is = λ allow deny. refl; deny_is = λ allow deny. refl }
 
-module _ (tells : Tells) (queue : ℕ) (mail : Bool) (file : Option (List ℕ)) (when : When) (caller : Caller) (before after : Held) where
+module _ (tells : SubmissionTelling) (queue : ℕ) (mail : Bool) (file : Option (List ℕ)) (when : When) (caller : Caller) (before after : Held) where
   -- a check refuses before the spool is entered, the inputs failed, or there was no memory
   pub submission_stopped : (stopped : CommandError) → Prepares tells.clock tells.input caller mail file when before.answers after.answers before.contents (Err stopped) →
-      after.spool ≡ before.spool → IsSilent before.sink after.sink → Submits tells (request.Submit queue mail file when) caller before after stopped.cause
+      after.spool ≡ before.spool → IsSilent before.sink after.sink → SubmissionEnds tells (request.Submit queue mail file when) caller before after stopped.cause
   submission_stopped stopped prepares same quiet = λ output printed.
       let ends : IsStoppedEarly caller (found_of prepares.now prepares.time prepares.commands None None) prepares.reached stopped.cause = prepares.ends in
       ends_early (request.Submit queue mail file when) caller (telling tells.files tells.alone tells.clock tells.input output tells.sink)
@@ -132,24 +132,24 @@ module _ (tells : Tells) (queue : ℕ) (mail : Bool) (file : Option (List ℕ)) 
     prepared_header = has_header caller mail prepares.commands submission.script prepared_job
 
     -- the clock was read, the time found and the commands read
-    clock_at : (reached : Check) → is_before reached of_lock ≡ false → tells.clock ≡ true →
+    clock_at : (reached : Check) → is_earlier_check reached of_lock ≡ false → tells.clock ≡ true →
         after.answers ≡ answers_read (Ok (request.Submit queue mail file when)) reached prepares.now before.answers
     clock_at reached entered known =
-        let beyond : is_before of_variables prepares.reached ≡ true = ap (λ (of : Check). is_before of_variables of) prepared.all in
+        let beyond : is_earlier_check of_variables prepares.reached ≡ true = ap (λ (of : Check). is_earlier_check of_variables of) prepared.all in
         prepares.clock known
-        ∙ ap (λ (read : Bool). if read then with_now prepares.now before.answers else before.answers) (beyond ∙ sym (late_place (place_of reached) entered))
+        ∙ ap (λ (read : Bool). if read then with_now prepares.now before.answers else before.answers) (beyond ∙ sym (late_place (place_of_check reached) entered))
 
     finds_at : (reached : Check) (allow deny : Option (List ℕ)) →
         FindsInput tells.input file when caller.zone before.contents reached (found_of prepares.now prepares.time prepares.commands allow deny)
     finds_at reached allow deny = record {
-      time = λ beyond. prepares.finds.time (ap (λ (of : Check). is_before of_zone of) prepared.all);
-      commands = λ known beyond. prepares.finds.commands known (ap (λ (of : Check). is_before of_input of) prepared.all);
+      time = λ beyond. prepares.finds.time (ap (λ (of : Check). is_earlier_check of_zone of) prepared.all);
+      commands = λ known beyond. prepares.finds.commands known (ap (λ (of : Check). is_earlier_check of_input of) prepared.all);
     }
 
     -- its session
     pub submission_answered : (cause : Cause) →
         AnswersJob tells.files tells.alone tells.sink caller queue submission.minute submission.script before.spool after.spool before.sink after.sink cause →
-        Submits tells (request.Submit queue mail file when) caller before after cause
+        SubmissionEnds tells (request.Submit queue mail file when) caller before after cause
     submission_answered cause answers_job = λ output printed.
         let answered : StoresAndSays tells.files tells.alone tells.sink (request.Submit queue mail file when) caller
         (found_of prepares.now prepares.time prepares.commands) before.spool after.spool before.sink after.sink cause =

@@ -13,7 +13,7 @@ use Rattle.cause_output.specs.Causes.{cause_in, cause_of, error_of}
 use Rattle.command_rules.specs.Sessions.{IsNotOpened, faults, is_damaged, lacks_memory, lists_fault, lists_lack_memory, refuses}
 use Rattle.host_calls.proofs.WorldLemmas.{goes_on_none}
 use Rattle.job_listing.specs.Scripts.{ComesOfShowing, IsOfShowing}
-use Rattle.job_removal.specs.Removing.{ComesOfRemoving, IsOfWork}
+use Rattle.job_removal.specs.Removing.{ComesOfRemoving, IsRemovalCause}
 use Rattle.spool_session.specs.Sessions.{ComesOfSession, HasRisenIn, IsOfSession, StaysQuiet}
 use Rattle.at_words.specs.declared.filter.Filter.{Filter}
 use Rattle.at_words.specs.declared.filter.Filter.TheVariants as filter
@@ -22,7 +22,7 @@ use Rattle.spool_model.specs.JobTable.{JobTable}
 use Rattle.command_rules.specs.Ends.{StopsBeforeLock}
 use Rattle.command_rules.specs.Verdict.{filter_check, jobs_check}
 use Rattle.at_commands.proofs.LateLemmas.{OnTable, jobs_on}
-use Rattle.at_commands.specs.inside.Session.{IsNoOutput, IsOfSpool}
+use Rattle.at_commands.specs.inside.Session.{IsNoOutput, IsSpoolCause}
 use Rattle.at_commands.proofs.EntryLemmas.{IsOfEntry}
 
 -- no store was had
@@ -43,7 +43,7 @@ store_comes store.NumbersUsedUp = refl
 store_comes store.Memory = tt
 
 -- nor does the output fail where none is put
-pub not_opened_of_spool : (tells : Bool) (user : List ℕ) (old new : World) (cause : Cause) → IsNotOpened tells user old new cause → IsOfSpool cause
+pub not_opened_of_spool : (tells : Bool) (user : List ℕ) (old new : World) (cause : Cause) → IsNotOpened tells user old new cause → IsSpoolCause cause
 not_opened_of_spool tells user old new cause (lists_fault same) = tt
 not_opened_of_spool tells user old new cause (lists_lack_memory same) = tt
 not_opened_of_spool tells user old new cause (faults allow deny permits lists unbegun) = tt
@@ -51,25 +51,25 @@ not_opened_of_spool tells user old new cause (lacks_memory allow deny permits li
 not_opened_of_spool tells user old new cause (refuses allow deny refused lists same) = tt
 not_opened_of_spool tells user old new cause (is_damaged damage allow deny permits lists shows) = tt
 
-pub store_of_spool : (fault : StoreFault) → IsOfSpool (cause_of fault)
+pub store_of_spool : (fault : StoreFault) → IsSpoolCause (cause_of fault)
 store_of_spool store.FileFault = tt
 store_of_spool (store.Damaged damage) = tt
 store_of_spool store.QueueFull = tt
 store_of_spool store.NumbersUsedUp = tt
 store_of_spool store.Memory = tt
 
-pub entry_of_spool : (cause : Cause) → IsOfEntry cause → IsOfSpool cause
+pub entry_of_spool : (cause : Cause) → IsOfEntry cause → IsSpoolCause cause
 entry_of_spool FileFault is = tt
 entry_of_spool Busy is = tt
 entry_of_spool Memory is = tt
 entry_of_spool _ is = absurd is
 
-pub work_of_spool : (cause : Cause) → IsOfWork cause → IsOfSpool cause
+pub work_of_spool : (cause : Cause) → IsRemovalCause cause → IsSpoolCause cause
 work_of_spool FileFault is = tt
 work_of_spool Memory is = tt
 work_of_spool _ is = absurd is
 
-pub work_of_session : (cause : Cause) → IsOfWork cause → IsOfSession cause
+pub work_of_session : (cause : Cause) → IsRemovalCause cause → IsOfSession cause
 work_of_session FileFault is = tt
 work_of_session Memory is = tt
 work_of_session _ is = absurd is
@@ -82,10 +82,10 @@ showing_of_session _ is = absurd is
 
 -- so neither the inputs nor the output
 pub no_input_of_spool : (stopped : CommandError) → IsNoOutput stopped → stopped.cause ≢ InputFault
-no_input_of_spool stopped is same = subst IsOfSpool same is
+no_input_of_spool stopped is same = subst IsSpoolCause same is
 
 pub no_output_of_spool : (stopped : CommandError) → IsNoOutput stopped → stopped.cause ≢ OutputFault
-no_output_of_spool stopped is same = subst IsOfSpool same is
+no_output_of_spool stopped is same = subst IsSpoolCause same is
 
 pub comes_no_input : {T : Type 0} (result : Result T CommandError) → IfErr result ComesOfSession → cause_in result ≢ InputFault
 comes_no_input (Ok value) comes same = let no : Done ≡ InputFault = same in cc
@@ -124,13 +124,13 @@ memory_comes (Err stopped) lacks = subst (λ (of : CommandError). IsOfSession of
 
 pub memory_no_output : {T : Type 0} (result : Result T CommandError) → IfErr result (λ stopped. stopped ≡ error_of Memory) → IfErr result IsNoOutput
 memory_no_output (Ok value) lacks = tt
-memory_no_output (Err stopped) lacks = subst (λ (of : CommandError). IsOfSpool of.cause) (sym lacks) tt
+memory_no_output (Err stopped) lacks = subst (λ (of : CommandError). IsSpoolCause of.cause) (sym lacks) tt
 
 -- where the spool stopped the session, its output did not fail
 pub no_output_error : {T : Type 0} (result : Result T CommandError) → IfErr result IsNoOutput → IsErrOf result (error_of OutputFault) → ⊥
 no_output_error (Ok value) comes is = let no : ◌≡◌ {A = Result _ CommandError} (Ok value) (Err (error_of OutputFault)) = is in cc
 no_output_error (Err stopped) comes is =
-    let same : stopped ≡ error_of OutputFault = cc in subst (λ (of : CommandError). IsOfSpool of.cause) same comes
+    let same : stopped ≡ error_of OutputFault = cc in subst (λ (of : CommandError). IsSpoolCause of.cause) same comes
 
 pub no_output_of_stopped : (stopped : CommandError) → IsNoOutput stopped → ◌≡◌ {A = Result (Unit {0}) CommandError} (Err stopped) (Err (error_of OutputFault)) → ⊥
 no_output_of_stopped stopped of_spool is = no_output_error (Err stopped) of_spool is

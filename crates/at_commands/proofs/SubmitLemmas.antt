@@ -33,7 +33,7 @@ use Rattle.cause_output.specs.Causes.{cause_in, cause_of, error_of}
 use Rattle.command_rules.specs.Found.{found_of}
 use Rattle.at_commands.specs.inside.Carrying.{AreWorkSteps, Finding}
 use Rattle.spool_store.proofs.WrittenJobs.{header_of_written, job_of_written}
-use Rattle.command_rules.specs.Sessions.{IsNotOpened, IsOpened, IsWorkedOn}
+use Rattle.command_rules.specs.Sessions.{IsNotOpened, IsStoreOpened, IsWorkedOn}
 use Rattle.command_rules.specs.Times.{minute_in}
 use Rattle.command_rules.specs.Verdict.{first_refusal, number_check, room_check, table_verdict}
 use Rattle.at_commands.specs.inside.Storing.{IsJobOf, Stores}
@@ -101,7 +101,7 @@ module _ (tells : Bool) (caller : Caller) (queue minute : â„•) (script : List â„
       Stores tells true asked caller finding old new (Err (error_of cause))
   store_not_opened user cause old new same is = record { carries = not_opened tells true asked caller finding keeps old new user cause same is; number = tt }
 
-  module _ (old middle new : World) (kept : Kept) (opened : IsOpened tells caller.context.user old middle kept) where
+  module _ (old middle new : World) (kept : Kept) (opened : IsStoreOpened tells caller.context.user old middle kept) where
     abbrev table : JobTable
     table = opened.table
 

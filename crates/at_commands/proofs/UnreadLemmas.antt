@@ -13,8 +13,8 @@ use Rattle.listing_text.specs.declared.refusal.Refusal.{Refusal}
 use Rattle.spool_model.specs.JobTable.{JobTable}
 use Rattle.spool_shows.specs.Shown.{shown_by}
 use Rattle.cause_output.specs.declared.caller.Caller.{Caller}
-use Rattle.command_rules.specs.Checks.{Check, ComesUpTo, check_of, is_before, of_access, of_clock, of_date, of_directory, of_folder, of_input, of_jobs, of_length, of_lists, of_lock, of_number, of_output, of_room, of_spelling, of_steps, of_user, of_variables, of_words, of_zone}
-use Rattle.command_rules.specs.Ends.{Ends, KeepsOrder, Reaches}
+use Rattle.command_rules.specs.Checks.{Check, ComesUpTo, check_of, is_earlier_check, of_access, of_clock, of_date, of_directory, of_folder, of_input, of_jobs, of_length, of_lists, of_lock, of_number, of_output, of_room, of_spelling, of_steps, of_user, of_variables, of_words, of_zone}
+use Rattle.command_rules.specs.Ends.{CommandEnds, KeepsOrder, Reaches}
 use Rattle.cause_output.specs.Outside.{Holding, Telling}
 use Rattle.command_rules.specs.Found.{Asked, Finds, Found, allow_file, answers_read, deny_file, found_of}
 use Rattle.command_rules.specs.Requested.{AreAskedSteps, IsAskedLine, IsAskedText}
@@ -23,7 +23,7 @@ use Rattle.command_rules.specs.Verdict.{verdict_of}
 use Rattle.at_commands.proofs.EndsLemmas.{IsEarly, no_true, silent_notes, silent_prints, untouched}
 
 -- no check comes before that of the words
-words_first : (check : Check) → is_before check of_words ≡ false
+words_first : (check : Check) → is_earlier_check check of_words ≡ false
 words_first of_words = refl
 words_first of_user = refl
 words_first of_directory = refl
@@ -74,7 +74,7 @@ silent at = record { content = refl; later = omega arith }
 
 pub ends_at_words : (asked : Asked) (caller : Caller) (tells : Telling) (at : Holding) (cause : Cause) → IsEarly cause → Reaches cause of_words →
     ((found : Found) (shown : Result JobTable Damage) → KeepsOrder (verdict_of asked caller found shown) cause) →
-    Ends NotesBy asked caller tells at at cause
+    CommandEnds NotesBy asked caller tells at at cause
 ends_at_words asked caller tells at cause early reach order =
     let allow : Option (List ℕ) = finite.get (reading at.spool) allow_file in
     let deny : Option (List ℕ) = finite.get (reading at.spool) deny_file in

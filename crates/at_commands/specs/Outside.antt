@@ -2,13 +2,13 @@
 use Rattle.std.specs.Prelude.{◌≡◌, ◌≢◌, ℕ, true, false, List, Err}
 use Rattle.at_words.specs.declared.fault.WordsFault.{WordsFault}
 use Rattle.cause_output.specs.declared.caller.Caller.{Caller}
-use Rattle.command_rules.specs.Ends.{Ends, FailsToPrint, StopsBeforeLock}
+use Rattle.command_rules.specs.Ends.{CommandEnds, FailsToPrint, StopsBeforeLock}
 use Rattle.cause_output.specs.Outside.{HasRisen, OutsideAt, Telling, telling}
 use Rattle.command_rules.specs.Found.{Asked, is_submission}
 use Rattle.cause_output.specs.Sinks.{SinkAt}
 use Rattle.host_calls.specs.Inputs.{AreReadAtMostOnce}
 use Rattle.host_calls.specs.Session.{IsLeft}
-use Rattle.host_calls.specs.World.{GoesOn}
+use Rattle.host_calls.specs.World.{TimePasses}
 use Rattle.listing_text.specs.declared.cause.Cause.{Cause}
 use Rattle.listing_text.specs.declared.cause.Cause.TheVariants.{StillRunning}
 use Rattle.serving.specs.Outside.{served_at}
@@ -24,8 +24,8 @@ HasRisenAsked asked old new cause = HasRisen (FailsToPrint asked old.out new.out
 pub record EndsUnserved (Notes : Cause → (List ℕ → Type 0) → SinkAt → SinkAt → Type 0) (asked : Asked) (caller : Caller)
     (old new : OutsideAt) (cause : Cause) : Type 0 where
   pub left : IsLeft old.session new.session
-  pub quiet : old.tells.files ≡ true → GoesOn old.holds.spool new.holds.spool
-  pub ends : Ends Notes asked caller old.tells old.holds new.holds cause
+  pub quiet : old.tells.files ≡ true → TimePasses old.holds.spool new.holds.spool
+  pub ends : CommandEnds Notes asked caller old.tells old.holds new.holds cause
   pub not_running : cause ≢ StillRunning
   pub readers : new.readers ≡ old.readers
   pub unasked : (fault : WordsFault) → asked ≡ Err fault → new.session ≡ old.session

@@ -5,7 +5,7 @@ use Rattle.command_rules.specs.Found.{Asked}
 use Rattle.cause_output.specs.Sinks.{SinkAt}
 use Rattle.daemon_turn.specs.Daemons.{DaemonState, new_daemon}
 use Rattle.listing_text.specs.declared.cause.Cause.{Cause}
-use Rattle.serving.specs.Serves.{ServeAt}
+use Rattle.serving.specs.Serves.{ServeState}
 use Rattle.cause_output.specs.Outside.{Telling}
 use Rattle.serving.specs.Serving.{Serving}
 
@@ -31,7 +31,7 @@ WhereServed (Ok (request.Make count)) IsSo = Unit {0}
 WhereServed (Err fault) IsSo = Unit {0}
 
 -- A daemon without kids served, and is gone. What it was served with is given by what the daemon keeps.
-pub record ServesAnew (tells : Telling) (limit interval : ℕ) (once : Bool) (turns : ℕ) (old new : DaemonState → ServeAt)
+pub record ServesAnew (tells : Telling) (limit interval : ℕ) (once : Bool) (turns : ℕ) (old new : DaemonState → ServeState)
     (out_old out_new err_old err_new : SinkAt) (cause : Cause) : Type 0 where
   pub daemon : DaemonState
   pub serving : Serving tells once turns (old (new_daemon limit interval)) (new daemon) out_old out_new err_old err_new cause

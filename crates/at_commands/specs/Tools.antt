@@ -5,18 +5,18 @@ use Rattle.at_words.specs.declared.tool.Tool.TheVariants.{At, Batch, Atq, Atrm, 
 use Rattle.at_words.specs.Tools.{tool_of_words}
 
 -- the name of a tool
-abbrev pub name_of : Tool → List ℕ
-name_of At = codes "at"
-name_of Batch = codes "batch"
-name_of Atq = codes "atq"
-name_of Atrm = codes "atrm"
-name_of Atd = codes "atd"
-name_of Atday = codes "atday"
+abbrev pub name_of_command : Tool → List ℕ
+name_of_command At = codes "at"
+name_of_command Batch = codes "batch"
+name_of_command Atq = codes "atq"
+name_of_command Atrm = codes "atrm"
+name_of_command Atd = codes "atd"
+name_of_command Atday = codes "atday"
 
 -- the name of the tool that was found, or of at where none was
 abbrev pub name_or_at : Option (Tool × ℕ) → List ℕ
 name_or_at None = codes "at"
-name_or_at (Some found) = name_of found.0
+name_or_at (Some found) = name_of_command found.0
 
 -- the name of the tool in the words, or of at where they name none
 abbrev pub tool_name_of : List (List ℕ) → List ℕ

@@ -6,7 +6,7 @@ use command_rules::CommandError;
 use listing_text::Cause;
 
 // The cause of what was done, or stopped.
-pub(crate) fn cause_of(done: Result<(), CommandError>) -> Cause
+pub(crate) fn cause_of_command(done: Result<(), CommandError>) -> Cause
     ensures { result ≡ cause_in done }
 {
     match done {

@@ -4,7 +4,7 @@ ghost use Rattle.at_words.specs.declared.tool_request.ToolRequest.TheVariants as
 ghost use Rattle.civil_minute.specs.Zone.{IsReadable, is_unreadable};
 ghost use Rattle.host_calls.specs.Causes.{Rose};
 ghost use Rattle.host_calls.specs.Session.{CallsInside, IsInside, IsOutside};
-ghost use Rattle.host_calls.specs.World.{GoesOn};
+ghost use Rattle.host_calls.specs.World.{TimePasses};
 ghost use Rattle.listing_text.specs.declared.cause.Cause.TheVariants as cause;
 ghost use Rattle.listing_text.specs.Listing.{IsListing};
 ghost use Rattle.spool_model.specs.Users.{IsUserName};
@@ -22,15 +22,15 @@ use at_words::Filter;
 use civil_minute::Zone;
 use command_rules::{Caller, CommandError, cause_of_put};
 use host_calls::{Bytes, Host, Sink};
-use job_listing::listing;
+use job_listing::job_listing_text;
 use listing_text::{Cause, Refusal};
 use spool_model::UserName;
-use spool_session::{in_session, open, refusal_of_jobs};
+use spool_session::{in_command_session, open_store, refusal_of_jobs};
 use spool_store::Store;
 use std::alloc::Global;
 
 // Lists the jobs that the filter lets pass.
-pub(crate) fn list<H: Host, O: Sink>(
+pub(crate) fn list_jobs<H: Host, O: Sink>(
     alloc: Global,
     which: &Filter,
     caller: &Caller,
@@ -81,7 +81,7 @@ fn list_for<H: Host, O: Sink>(
     }
     // The session is left before the text is put, so that a slow reader does not hold the lock.
     let zone = &caller.zone;
-    match in_session(
+    match in_command_session(
         alloc,
         host,
         &mut |host| list_inside(alloc, user, which, zone, host),
@@ -126,19 +126,19 @@ fn list_inside<H: Host>(
     ensures inside { CallsInside (error_of cause.FileFault) (H.session host.old) (H.session host.new) result }
     ensures comes { IfErr result ComesOfSession }
     ensures no_output { IfErr result IsNoOutput }
-    ensures goes_on { IsTrue H.tells → GoesOn (H.world host.old) (H.world host.new) }
+    ensures goes_on { IsTrue H.tells → TimePasses (H.world host.old) (H.world host.new) }
     ensures lists { ListsFor H.tells true (request.List which.now) user.now zone.now
         (H.world host.old) (H.world host.new) result }
 {
-    let store = open(alloc, host, user)?;
+    let store = open_store(alloc, host, user)?;
     match refusal_of_filter(&store, user, which) {
         Some(refusal) => Err(CommandError::refused(refusal)),
-        None => text_of(alloc, &store, user, which, zone),
+        None => listing_text_of(alloc, &store, user, which, zone),
     }
 }
 
 // The lines of the jobs that the filter lets pass.
-fn text_of(
+fn listing_text_of(
     alloc: Global,
     store: &Store,
     user: &UserName,
@@ -149,7 +149,7 @@ fn text_of(
     ensures is_listing { IfOk result (IsListing zone.now store.now.table user.now (passes_of which.now)) }
     ensures memory { IfErr result (λ stopped. stopped ≡ error_of cause.Memory) }
 {
-    Ok(listing(alloc, store, user, which, zone)?)
+    Ok(job_listing_text(alloc, store, user, which, zone)?)
 }
 
 // The first refusal of the jobs that are asked for by their numbers.

@@ -11,12 +11,12 @@ ghost use Rattle.serving.specs.Serves.{serve_at};
 ghost use Rattle.at_commands.specs.Outside.{EndsUnserved, HasRisenAsked, ServesAsked, StaysMade};
 ghost use Rattle.cause_output.specs.Outside.{outside_at, telling};
 ghost use Rattle.at_commands.specs.Served.{IsNotServed, ServesAnew};
-ghost use Rattle.at_commands.specs.Tools.{name_of, name_or_at, tool_name_of};
+ghost use Rattle.at_commands.specs.Tools.{name_of_command, name_or_at, tool_name_of};
 
-use crate::list::list;
+use crate::list::list_jobs;
 use crate::remove::remove;
 use crate::show::show;
-use crate::submit::submit;
+use crate::submit::submit_job;
 use at_words::{Tool, ToolRequest, request_by, tool_of};
 use cause_output::say_cause;
 use command_rules::{Caller, cause_of_words};
@@ -73,7 +73,7 @@ pub fn command<H: Host, R: Readings, I: Inputs, O: Sink, E: Sink>(
             } => serve_anew(
                 alloc, limit, interval, once, turns, host, readings, out, err,
             ),
-            asked => answer(
+            asked => run_request(
                 alloc,
                 asked,
                 tool_name(named),
@@ -122,7 +122,7 @@ fn serve_anew<H: Host, R: Readings, O: Sink, E: Sink>(
 }
 
 // Does what is asked for, and says the line of its cause.
-fn answer<H: Host, R: Readings, I: Inputs, O: Sink, E: Sink>(
+fn run_request<H: Host, R: Readings, I: Inputs, O: Sink, E: Sink>(
     alloc: Global,
     asked: ToolRequest,
     tool: &str,
@@ -148,12 +148,12 @@ fn answer<H: Host, R: Readings, I: Inputs, O: Sink, E: Sink>(
         (outside_at H.Host R.Readings I.Inputs O.Sink E.Sink host.old readings.old inputs.old out.old err.old)
         (outside_at H.Host R.Readings I.Inputs O.Sink E.Sink host.new readings.new inputs.new out.new err.new) }
 {
-    let cause = carry_out(alloc, asked, caller, host, readings, inputs, out, err);
+    let cause = dispatch(alloc, asked, caller, host, readings, inputs, out, err);
     Status::of(say_cause(alloc, tool, cause, err))
 }
 
 // Does what is asked for. The line of the cause is still to be said.
-fn carry_out<H: Host, R: Readings, I: Inputs, O: Sink, E: Sink>(
+fn dispatch<H: Host, R: Readings, I: Inputs, O: Sink, E: Sink>(
     alloc: Global,
     asked: ToolRequest,
     caller: &Caller,
@@ -183,10 +183,10 @@ fn carry_out<H: Host, R: Readings, I: Inputs, O: Sink, E: Sink>(
             mail,
             file,
             when,
-        } => submit(
+        } => submit_job(
             alloc, queue, mail, &file, &when, caller, host, readings, inputs, err,
         ),
-        ToolRequest::List(which) => list(alloc, &which, caller, host, out),
+        ToolRequest::List(which) => list_jobs(alloc, &which, caller, host, out),
         ToolRequest::Remove(numbers) => remove(alloc, &numbers, caller, host),
         ToolRequest::Show(numbers) => show(alloc, &numbers, caller, host, out),
         ToolRequest::Daemon { .. } => unreachable!(),
@@ -199,14 +199,14 @@ fn tool_name(named: Option<(Tool, usize)>) -> &'static str
     ensures { result.now ≡ name_or_at named }
 {
     match named {
-        Some((tool, _)) => name(tool),
+        Some((tool, _)) => name_of_command(tool),
         None => "at",
     }
 }
 
 // The name by which a tool is called, as it begins its lines.
-fn name(tool: Tool) -> &'static str
-    ensures { result.now ≡ name_of tool }
+fn name_of_command(tool: Tool) -> &'static str
+    ensures { result.now ≡ name_of_command tool }
 {
     match tool {
         Tool::At => "at",

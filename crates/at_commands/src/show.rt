@@ -3,7 +3,7 @@ ghost use Rattle.std.specs.Prelude.{◌≡◌, ◌≢◌, IfErr, IsErrOf, IsTrue
 ghost use Rattle.at_words.specs.declared.tool_request.ToolRequest.TheVariants as request;
 ghost use Rattle.host_calls.specs.Causes.{Rose};
 ghost use Rattle.host_calls.specs.Session.{CallsInside, IsInside, IsOutside};
-ghost use Rattle.host_calls.specs.World.{GoesOn};
+ghost use Rattle.host_calls.specs.World.{TimePasses};
 ghost use Rattle.spool_session.specs.Sessions.{ComesOfSession, HasRisenIn, StaysQuiet};
 ghost use Rattle.listing_text.specs.declared.cause.Cause.TheVariants as cause;
 ghost use Rattle.cause_output.specs.Causes.{error_of};
@@ -11,14 +11,14 @@ ghost use Rattle.cause_output.specs.Sinks.{sink_at};
 ghost use Rattle.at_commands.specs.inside.Answering.{EndsPrinting};
 ghost use Rattle.at_commands.specs.inside.Sessions.{ShowsFor};
 
-use crate::cause::cause_of;
+use crate::cause::cause_of_command;
 use at_words::Numbers;
 use command_rules::{Caller, CommandError};
 use host_calls::{Host, Sink};
 use job_listing::put_scripts;
 use listing_text::{Cause, Refusal};
 use spool_model::UserName;
-use spool_session::{in_session, open, refusal_of_jobs};
+use spool_session::{in_command_session, open_store, refusal_of_jobs};
 use std::alloc::Global;
 
 // Puts the scripts of the jobs of the numbers.
@@ -43,7 +43,7 @@ pub(crate) fn show<H: Host, O: Sink>(
     let numbers = numbers.as_slice();
     // The session lasts as long as the scripts are read.
     match UserName::of(caller.context.user.as_str().as_bytes()) {
-        Some(user) => cause_of(in_session(
+        Some(user) => cause_of_command(in_command_session(
             alloc,
             host,
             &mut |host| show_inside(alloc, &user, numbers, host, out),
@@ -66,12 +66,12 @@ fn show_inside<H: Host, O: Sink>(
     ensures output_fault { IsErrOf result (error_of cause.OutputFault)
         → Rose (O.outlet out.old).sink_faults (O.outlet out.new).sink_faults }
     ensures made_as { (O.outlet out.new).made_as ≡ (O.outlet out.old).made_as }
-    ensures goes_on { IsTrue H.tells → GoesOn (H.world host.old) (H.world host.new) }
+    ensures goes_on { IsTrue H.tells → TimePasses (H.world host.old) (H.world host.new) }
     ensures shows { ShowsFor H.tells true O.tells (request.Show numbers.now) user.now
         (H.world host.old) (H.world host.new)
         (sink_at (O.content out.old) (O.outlet out.old)) (sink_at (O.content out.new) (O.outlet out.new)) result }
 {
-    let store = open(alloc, host, user)?;
+    let store = open_store(alloc, host, user)?;
     match refusal_of_jobs(&store, user, false, numbers) {
         Some(refusal) => Err(CommandError::refused(refusal)),
         None => put_scripts(alloc, host, &store, numbers, out),

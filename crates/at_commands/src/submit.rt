@@ -7,14 +7,14 @@ ghost use Rattle.clock_range.specs.ClockRange.{IsClockMinute};
 ghost use Rattle.host_calls.specs.Causes.{Rose};
 ghost use Rattle.host_calls.specs.Inputs.{AreReadAtMostOnce};
 ghost use Rattle.host_calls.specs.Session.{CallsInside, IsInside, IsOutside};
-ghost use Rattle.host_calls.specs.World.{GoesOn};
+ghost use Rattle.host_calls.specs.World.{TimePasses};
 ghost use Rattle.job_script.specs.HeaderIn.{header_in};
 ghost use Rattle.spool_model.specs.Users.{IsUserName};
 ghost use Rattle.listing_text.specs.declared.cause.Cause.TheVariants as cause;
 ghost use Rattle.cause_output.specs.declared.caller.Caller.{Caller as From};
 ghost use Rattle.command_rules.specs.Requested.{IsAcceptedLine};
 ghost use Rattle.cause_output.specs.Sinks.{sink_at};
-ghost use Rattle.at_commands.specs.inside.Answering.{Submits, held_by, tells_of};
+ghost use Rattle.at_commands.specs.inside.Answering.{SubmissionEnds, held_by, tells_of};
 ghost use Rattle.at_commands.specs.inside.Saying.{Accepts};
 ghost use Rattle.cause_output.specs.Causes.{error_of};
 ghost use Rattle.spool_session.specs.Sessions.{ComesOfSession, HasRisenIn, StaysQuiet};
@@ -28,12 +28,12 @@ use command_rules::{Caller, CommandError, cause_of_put};
 use host_calls::{Host, Inputs, Readings, Sink, Text};
 use listing_text::Cause;
 use spool_model::UserName;
-use spool_session::{in_session, open};
+use spool_session::{in_command_session, open_store};
 use std::alloc::Global;
 use submission_checks::{Submission, prepare};
 
 // Submits a job, and says so.
-pub(crate) fn submit<H: Host, R: Readings, I: Inputs, E: Sink>(
+pub(crate) fn submit_job<H: Host, R: Readings, I: Inputs, E: Sink>(
     alloc: Global,
     queue: u8,
     mail: bool,
@@ -58,7 +58,7 @@ pub(crate) fn submit<H: Host, R: Readings, I: Inputs, E: Sink>(
     ensures contents { I.contents inputs.new ≡ I.contents inputs.old }
     ensures input_read { AreReadAtMostOnce (I.sources inputs.old) (I.sources inputs.new) }
     ensures errors_made { (E.outlet err.new).made_as ≡ (E.outlet err.old).made_as }
-    ensures submits { Submits (tells_of H.tells H.alone R.tells I.tells E.tells)
+    ensures submits { SubmissionEnds (tells_of H.tells H.alone R.tells I.tells E.tells)
         (request.Submit queue mail file.now when.now) caller.now
         (held_by (H.world host.old) (R.answers readings.old) (I.contents inputs.old)
         (sink_at (E.content err.old) (E.outlet err.old)))
@@ -107,7 +107,7 @@ fn store_and_say<H: Host, E: Sink>(
     let user = UserName::of(caller.context.user.as_str().as_bytes()).unwrap();
     let minute = submission.minute;
     let script = submission.script.as_slice();
-    match in_session(
+    match in_command_session(
         alloc,
         host,
         &mut |host| store_inside(alloc, &user, queue, minute, script, host),
@@ -146,11 +146,11 @@ fn store_inside<H: Host>(
     ensures inside { CallsInside (error_of cause.FileFault) (H.session host.old) (H.session host.new) result }
     ensures comes { IfErr result ComesOfSession }
     ensures no_output { IfErr result IsNoOutput }
-    ensures goes_on { IsTrue H.tells → GoesOn (H.world host.old) (H.world host.new) }
+    ensures goes_on { IsTrue H.tells → TimePasses (H.world host.old) (H.world host.new) }
     ensures stores { (caller : From) → caller.context.user ≡ user.now
         → StoresJob H.tells true caller queue minute script.now (H.world host.old) (H.world host.new) result }
 {
-    let store = open(alloc, host, user)?;
+    let store = open_store(alloc, host, user)?;
     let (_, number) = store.submit(alloc, host, queue, minute, script)?;
     Ok(number)
 }

@@ -5,17 +5,17 @@ use Rattle.at_words.specs.declared.tool_request.ToolRequest.TheVariants as reque
 use Rattle.at_words.specs.Requests.{request_of}
 use Rattle.civil_minute.specs.declared.zone.Zone.{Zone}
 use Rattle.cause_output.specs.declared.caller.Caller.{Caller}
-use Rattle.command_rules.specs.Checks.{Check, is_before, of_words, of_user, of_directory, of_variables, of_clock, of_zone, of_spelling, of_date, of_input, of_length, of_lock, of_lists, of_access, of_folder, of_room, of_number, of_jobs, of_steps, of_output}
+use Rattle.command_rules.specs.Checks.{Check, is_earlier_check, of_words, of_user, of_directory, of_variables, of_clock, of_zone, of_spelling, of_date, of_input, of_length, of_lock, of_lists, of_access, of_folder, of_room, of_number, of_jobs, of_steps, of_output}
 use Rattle.command_rules.specs.Ends.{Reaches}
 use Rattle.command_rules.specs.Found.{Asked, Finds, Found, is_submission}
-use Rattle.command_rules.specs.Requested.{AreAskedSteps, OrNone, forgets, removes, steps_asked}
+use Rattle.command_rules.specs.Requested.{AreAskedSteps, OrNone, forget_steps, removes, steps_asked}
 use Rattle.command_rules.specs.Spool.{SpoolEnds}
 use Rattle.command_rules.proofs.SpoolLemmas.{refusal_left, unbegun_same}
 use Rattle.headline.specs.Effects.{TakesEffect, IsEffectOf, Effect, Untouched, Partial, Whole}
 use Rattle.host_calls.specs.Inputs.{Contents}
 use Rattle.host_calls.specs.World.{World}
 use Rattle.step_runs.specs.Attempts.{Attempts, IsBegun}
-use Rattle.listing_text.specs.Cause.{is_done}
+use Rattle.listing_text.specs.Cause.{is_done_cause}
 use Rattle.listing_text.specs.declared.cause.Cause.{Cause}
 use Rattle.listing_text.specs.declared.cause.Cause.TheVariants.{Done, Refused, FileFault, InputFault, OutputFault, Busy, Memory, Damaged}
 use Rattle.memory_host.specs.Inputs.{given_contents}
@@ -28,7 +28,7 @@ use Rattle.at_day.specs.Giving.{HasReadClock}
 
 -- each Accept among the steps of a request stands after its Draw
 
-follow_forgets : (numbers : List ℕ) → FollowDraws false (forgets numbers)
+follow_forgets : (numbers : List ℕ) → FollowDraws false (forget_steps numbers)
 follow_forgets [] = tt
 follow_forgets (number ∷ later) = follow_forgets later
 
@@ -39,7 +39,7 @@ follow_removes (number ∷ later) after follow = follow_removes later after foll
 follow_asked : (asked : Asked) (caller : Caller) (found : Found) (table : JobTable) → FollowDraws false (steps_asked asked caller found table)
 follow_asked (Ok (request.Submit queue mail file when)) caller found table = (refl, tt)
 follow_asked (Ok (request.List filter)) caller found table = tt
-follow_asked (Ok (request.Remove numbers)) caller found table = follow_removes numbers (forgets (surplus (after_steps table (removes numbers)))) (follow_forgets (surplus (after_steps table (removes numbers))))
+follow_asked (Ok (request.Remove numbers)) caller found table = follow_removes numbers (forget_steps (surplus (after_steps table (removes numbers)))) (follow_forgets (surplus (after_steps table (removes numbers))))
 follow_asked (Ok (request.Show numbers)) caller found table = tt
 follow_asked (Ok (request.Daemon limit interval once turns)) caller found table = tt
 follow_asked (Ok (request.Make count)) caller found table = tt
@@ -55,14 +55,14 @@ follow_none steps none = subst (FollowDraws false) (sym none) tt
 -- what comes after the check of the folder has passed those before the lock
 
 pub record IsLate (reached : Check) : Type 0 where
-  pub clock : is_before of_variables reached ≡ true
-  pub zone : is_before of_zone reached ≡ true
-  pub input : is_before of_input reached ≡ true
+  pub clock : is_earlier_check of_variables reached ≡ true
+  pub zone : is_earlier_check of_zone reached ≡ true
+  pub input : is_earlier_check of_input reached ≡ true
 
 no_bool : true ≡ false → ⊥
 no_bool is = cc
 
-late_after : (reached : Check) → is_before reached of_folder ≡ false → IsLate reached
+late_after : (reached : Check) → is_earlier_check reached of_folder ≡ false → IsLate reached
 late_after of_words is = absurd (no_bool is)
 late_after of_user is = absurd (no_bool is)
 late_after of_directory is = absurd (no_bool is)
@@ -109,23 +109,23 @@ EffectsBy acknowledged words caller input now old new =
 module _ (words : List (List ℕ)) (caller : Caller) (input : List ℕ) (now : ℤ) (old new : World) (found : Found) (reached : Check)
     (finds : Finds true (request_of words) caller.zone (given_contents input (Some input)) reached found)
     (clock : HasReadClock (request_of words) reached → found.now ≡ now)
-    (apart : is_before reached of_folder ≡ true → new ≡ old) where
+    (apart : is_earlier_check reached of_folder ≡ true → new ≡ old) where
   -- the steps are those of the command at its second with its input
-  strict : (table : JobTable) (steps : List Step) → is_before reached of_folder ≡ false →
+  strict : (table : JobTable) (steps : List Step) → is_earlier_check reached of_folder ≡ false →
       AreAskedSteps (request_of words) caller found table steps → AreCommandSteps words caller input now table steps
   strict table steps is are =
       let late : IsLate reached = late_after reached is in
       record {
         found = found;
         finds = late_finds (request_of words) caller.zone (given_contents input (Some input)) reached found late finds;
-        clock = λ submits. clock (both (is_submission (request_of words)) (is_before of_variables reached) submits late.clock);
+        clock = λ submits. clock (both (is_submission (request_of words)) (is_earlier_check of_variables reached) submits late.clock);
         are = are;
       }
 
   unbegun_effect : (acknowledged : Bool) → acknowledged ≡ false → new ≡ old → EffectsBy acknowledged words caller input now old new
   unbegun_effect acknowledged is same = (Untouched, is, unbegun_same old new same)
 
-  begun_effect : (table : JobTable) (steps : List Step) → is_before reached of_folder ≡ false →
+  begun_effect : (table : JobTable) (steps : List Step) → is_earlier_check reached of_folder ≡ false →
       OrNone (AreAskedSteps (request_of words) caller found) table steps → IsBegun table steps old new →
       EffectsBy false words caller input now old new
   begun_effect table steps is (inl are) begun =
@@ -133,7 +133,7 @@ module _ (words : List (List ℕ)) (caller : Caller) (input : List ℕ) (now : �
   begun_effect table steps is (inr none) begun = (Partial table steps, (refl, inr none), (follow_none steps none, begun))
 
   attempt_effect : Attempts (OrNone (AreAskedSteps (request_of words) caller found)) old new → EffectsBy false words caller input now old new
-  attempt_effect attempts = elim (either (is_before reached of_folder)) [
+  attempt_effect attempts = elim (either (is_earlier_check reached of_folder)) [
     | inl early ↦ unbegun_effect false refl (apart early)
     | inr is ↦ elim attempts [
       | inl unbegun ↦ (Untouched, refl, unbegun)
@@ -143,9 +143,9 @@ module _ (words : List (List ℕ)) (caller : Caller) (input : List ℕ) (now : �
 
   pub effect_by : (cause : Cause) → Reaches cause reached → cause ≢ OutputFault →
       SpoolEnds (AreAskedSteps (request_of words) caller found) old new cause →
-      EffectsBy (is_done cause) words caller input now old new
+      EffectsBy (is_done_cause cause) words caller input now old new
   effect_by Done reaches no_fault ends =
-      let is : is_before reached of_folder ≡ false = ap (λ (check : Check). is_before check of_folder) reaches in
+      let is : is_earlier_check reached of_folder ≡ false = ap (λ (check : Check). is_earlier_check check of_folder) reaches in
       (Whole ends.0 ends.1, strict ends.0 ends.1 is ends.2, (follow_are (request_of words) caller found ends.0 ends.1 ends.2, ends.3))
   effect_by OutputFault reaches no_fault ends = absurd (no_fault refl)
   effect_by FileFault reaches no_fault ends = attempt_effect ends

@@ -20,7 +20,7 @@ use Rattle.spool_store.specs.Recovering.{IsRecovered}
 use Rattle.host_calls.specs.declared.store_fault.StoreFault.{StoreFault}
 use Rattle.host_calls.specs.declared.store_fault.StoreFault.TheVariants as fault
 use Rattle.at_day.specs.declared.counts.Counts.{Counts}
-use Rattle.at_day.specs.Counting.{CountsBy, IsCounted, done_so, runs, waits, was_finished, was_interrupted, was_not_started, was_removed}
+use Rattle.at_day.specs.Counting.{CountsBy, IsTableCounted, done_so, is_running_row, is_waiting_row, was_finished, was_interrupted, was_not_started, was_removed}
 use Rattle.at_day.proofs.CountLemmas.{done_counted, live_is}
 
 -- a count that rose on the way has risen in all
@@ -62,7 +62,7 @@ last_is table kept is = ap (λ (of : JobTable). of.last) is
 -- a recovery, and the counts of what it kept
 pub counted : (old new : Session) (before after : World) (kept : Kept) → IsRecovered before.now.folder after.now.folder kept →
     (rows : List Row) → ListsLive kept.table rows → (decided : List Decided) → ListsDecided kept.table decided →
-    (counts : Counts) → counts.last ≡ kept.table.last → counts.pending ≡ count_by waits rows → counts.running ≡ count_by runs rows →
+    (counts : Counts) → counts.last ≡ kept.table.last → counts.pending ≡ count_by is_waiting_row rows → counts.running ≡ count_by is_running_row rows →
     counts.removed ≡ count_by (λ one. was_removed one.fate) decided →
     counts.finished ≡ count_by (λ one. was_finished one.fate) decided →
     counts.not_started ≡ count_by (λ one. was_not_started one.fate) decided →
@@ -71,8 +71,8 @@ counted old new before after kept recovered rows live decided done counts last p
     let is : kept.table ≡ without_scripts recovered.table = recovered.current.without_scripts_is in
     let listed : live_rows recovered.table ≡ rows = live_is recovered.table kept.table rows is live in
     let first : counts.last ≡ recovered.table.last = last ∙ last_is recovered.table kept.table is in
-    let second : counts.pending ≡ count_by waits (live_rows recovered.table) = pending ∙ ap (count_by waits) (sym listed) in
-    let third : counts.running ≡ count_by runs (live_rows recovered.table) = running ∙ ap (count_by runs) (sym listed) in
+    let second : counts.pending ≡ count_by is_waiting_row (live_rows recovered.table) = pending ∙ ap (count_by is_waiting_row) (sym listed) in
+    let third : counts.running ≡ count_by is_running_row (live_rows recovered.table) = running ∙ ap (count_by is_running_row) (sym listed) in
     let fourth : counts.removed ≡ done_so was_removed recovered.table =
     removed ∙ sym (done_counted was_removed recovered.table kept.table decided is done) in
     let fifth : counts.finished ≡ done_so was_finished recovered.table =
@@ -86,7 +86,7 @@ counted old new before after kept recovered rows live decided done counts last p
 -- the session could not begin
 pub not_entered : (old new : MemoryHost) (result : Result Counts StoreFault) → IsLeft (memory_session old) (memory_session new) →
     memory_world new ≡ memory_world old → CountsBy (memory_session old) (memory_session new) (memory_world old) result →
-    IsCounted old new result
+    IsTableCounted old new result
 not_entered old new result left same counts = record {
   left = left;
   unbegun = unbegun_same (memory_world old) (memory_world new) same;
@@ -100,7 +100,7 @@ pub counted_in_session : (old first second new : MemoryHost) (result : Result Co
     memory_world first ≡ memory_world old → StaysInside (memory_session first) (memory_session second) →
     IsUnbegun (memory_world first) (memory_world second) → (memory_world second).asked ≡ (memory_world first).asked →
     CountsBy (memory_session first) (memory_session second) (memory_world first) result →
-    IsLeft (memory_session second) (memory_session new) → memory_world new ≡ memory_world second → IsCounted old new result
+    IsLeft (memory_session second) (memory_session new) → memory_world new ≡ memory_world second → IsTableCounted old new result
 counted_in_session old first second new result children before entered stays unbegun asked counts left same = record {
   left = record {
     outside = left.outside;

@@ -4,9 +4,9 @@ use Rattle.host_session.specs.declared.turn_end.TurnEnd.{TurnEnd}
 use Rattle.host_session.specs.declared.turn_end.TurnEnd.TheVariants.{Done, Busy, FileFault, Damaged, Memory}
 use Rattle.spool_model.specs.declared.turn_step.TurnStep.{TurnStep}
 use Rattle.spool_model.specs.declared.turn_step.TurnStep.TheVariants.{HandedOver, Ended, Interrupted, Forgotten}
-use Rattle.daemon_turn.specs.Leaving.{DaemonAt, IsStopped, TurnLeaves}
+use Rattle.daemon_turn.specs.Leaving.{DaemonAt, IsTurnStopped, TurnLeaves}
 use Rattle.daemon_turn.specs.Starting.{Turn as TurnOf, turn_of}
-use Rattle.spool_model.specs.StepsOf.{steps_of}
+use Rattle.spool_model.specs.StepsOf.{steps_of_turn}
 use Rattle.day_events.specs.declared.event.Event.{Event}
 use Rattle.day_events.specs.declared.event.Event.TheVariants.{Command, Turn, Reboot}
 use Rattle.day_events.specs.declared.report.EventReport.{EventReport}
@@ -16,7 +16,7 @@ use Rattle.host_calls.specs.Folder.{Files, IsImage}
 use Rattle.host_calls.specs.World.{Moment, World, reading}
 use Rattle.cause_output.specs.declared.caller.Caller.{Caller}
 use Rattle.step_runs.specs.Made.{flags_of}
-use Rattle.listing_text.specs.Cause.{is_done}
+use Rattle.listing_text.specs.Cause.{is_done_cause}
 use Rattle.listing_text.specs.declared.status.Status.{Status}
 use Rattle.memory_host.specs.declared.memory_host.MemoryHost.{MemoryHost}
 use Rattle.memory_host.specs.Host.{after_reboot, memory_world}
@@ -28,7 +28,7 @@ use Rattle.at_day.specs.Machines.{Machine, daemon_at, spool_of}
 use Rattle.at_day.proofs.CommandEffects.{EffectsBy, effect_by}
 
 -- no step of a turn draws or accepts a number
-follow_turn : (steps : List TurnStep) → FollowDraws false (steps_of steps)
+follow_turn : (steps : List TurnStep) → FollowDraws false (steps_of_turn steps)
 follow_turn [] = tt
 follow_turn (HandedOver number second ∷ later) = follow_turn later
 follow_turn (Ended number ending ∷ later) = follow_turn later
@@ -40,10 +40,10 @@ abbrev TurnEffects : TurnOf → Bool → List TurnStep → World → World → T
 TurnEffects turn acknowledged reported old new =
     (effect : Effect) × IsEffectOf acknowledged (AreStepsOfTurn turn acknowledged reported) effect × TakesEffect effect old new
 
-stopped_effect : (turn : TurnOf) (steps : List TurnStep) (old new : DaemonAt) → IsStopped turn steps old new →
+stopped_effect : (turn : TurnOf) (steps : List TurnStep) (old new : DaemonAt) → IsTurnStopped turn steps old new →
     TurnEffects turn false steps old.world new.world
 stopped_effect turn steps old new stopped = (
-  Partial stopped.table (steps_of (steps ++ stopped.next)),
+  Partial stopped.table (steps_of_turn (steps ++ stopped.next)),
   (
     refl,
     record {
@@ -61,7 +61,7 @@ stopped_effect turn steps old new stopped = (
 turn_effect : (turn : TurnOf) (steps : List TurnStep) (old new : DaemonAt) (end : TurnEnd) → TurnLeaves turn steps old new end →
     TurnEffects turn (is_done_turn end) steps old.world new.world
 turn_effect turn steps old new Done whole = (
-  Whole whole.table (steps_of steps),
+  Whole whole.table (steps_of_turn steps),
   record { made = steps; answers = whole.answers; flags = flags_of whole.given; are = whole.are; reports = refl; steps_are = refl },
   (follow_turn steps, whole.achieved),
 )
@@ -91,7 +91,7 @@ comes_up pick old new is was only =
 
 given_effects : (words : List (List ℕ)) (caller : Caller) (input : List ℕ) (now : ℤ) (status : Status) (out err : List ℕ)
     (old new : MemoryHost) → IsGiven words caller input now status out err old new →
-    EffectsBy (is_done status.cause) words caller input now (memory_world old) (memory_world new)
+    EffectsBy (is_done_cause status.cause) words caller input now (memory_world old) (memory_world new)
 given_effects words caller input now status out err old new given =
     effect_by words caller input now (memory_world old) (memory_world new) given.ends.found given.ends.reached given.ends.finds
     given.clock (given.ends.apart refl refl) status.cause given.ends.reach given.no_output_fault (given.ends.spool refl refl)

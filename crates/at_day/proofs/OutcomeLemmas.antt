@@ -18,11 +18,11 @@ use Rattle.host_calls.specs.declared.child.Child.{Child}
 use Rattle.host_calls.specs.Session.{IsOutside}
 use Rattle.memory_host.specs.Host.{IsUnchanged, memory_session}
 use Rattle.memory_host.specs.declared.memory_host.MemoryHost.{MemoryHost}
-use Rattle.at_day.specs.Days.{IsDayCut, IsDayOf, IsReady, first_machine}
+use Rattle.at_day.specs.Days.{IsDayCut, IsDayOf, IsMachineReady, first_machine}
 use Rattle.at_day.specs.declared.days.TheConstants.{LIMIT, INTERVAL}
-use Rattle.at_day.specs.EventOutcomes.{AreDoneOn, EventOutcome, IsDoneOn, events_of, machine_after, passed_of, reports_of}
+use Rattle.at_day.specs.EventOutcomes.{AreDoneOn, EventOutcome, IsDoneOn, events_of, machine_after, passed_events, reports_of}
 use Rattle.at_day.specs.Happening.{Happens, IsUnreported}
-use Rattle.at_day.specs.Machines.{Machine, machine, session_of, spool_of}
+use Rattle.at_day.specs.Machines.{Machine, machine, machine_session, spool_of}
 use Rattle.at_day.specs.Promise.{KeepsPromise}
 use Rattle.at_day.proofs.EffectLemmas.{happens_takes_effect}
 
@@ -39,13 +39,13 @@ after_more from (earlier ∷ later) outcome = after_more earlier.left later outc
 
 -- the promise, by the law of all events
 
-pass_from : (first : Machine) (outcomes : List EventOutcome) → AreDoneOn first outcomes → PassFrom (spool_of first) (passed_of outcomes)
+pass_from : (first : Machine) (outcomes : List EventOutcome) → AreDoneOn first outcomes → PassFrom (spool_of first) (passed_events outcomes)
 pass_from first [] done = tt
 pass_from first (outcome ∷ later) done = (done.0.moved, pass_from outcome.left later done.1)
 
 pub keeps_promise : EventsHandOnce → (first : Machine) (outcomes : List EventOutcome) → AreDoneOn first outcomes → KeepsPromise first outcomes
 keeps_promise law first outcomes done opening shows =
-    law opening (passed_of outcomes) (spool_of first) shows (pass_from first outcomes done)
+    law opening (passed_events outcomes) (spool_of first) shows (pass_from first outcomes done)
 
 -- no child is watched at first, and a watched child stays a child
 
@@ -57,17 +57,17 @@ kept_kids old new kids watched same kept are =
     subst (λ (children : List Child). AreChildren children watched) (sym same)
     (subst (AreChildren old) (sym kept) are)
 
-pub ready_after : (event : Event) (answer : EventReport) (old new : Machine) → Happens event answer old new → IsReady old → IsReady new
+pub ready_after : (event : Event) (answer : EventReport) (old new : Machine) → Happens event answer old new → IsMachineReady old → IsMachineReady new
 ready_after (Command words caller input now) (known.Command status out err) old new given ready = record {
   outside = given.host.left.outside;
-  children = kept_kids (session_of old).children (session_of new).children old.daemon.kids new.daemon.kids given.host.left.children
+  children = kept_kids (machine_session old).children (machine_session new).children old.daemon.kids new.daemon.kids given.host.left.children
       (ap (λ (daemon : DaemonState). daemon.kids) given.daemon) ready.children;
 }
 ready_after (Turn now load) (known.Turn turned) old new turns ready = record { outside = turns.outside; children = turns.children }
 ready_after (Reboot pick fuse) known.Rebooted old new up ready = record {
   outside = up.host.outside;
-  children = subst (AreChildren (session_of new).children) (sym (ap (λ (daemon : DaemonState). daemon.kids) up.daemon))
-      (no_kids (session_of new).children);
+  children = subst (AreChildren (machine_session new).children) (sym (ap (λ (daemon : DaemonState). daemon.kids) up.daemon))
+      (no_kids (machine_session new).children);
 }
 ready_after (Command words caller input now) (known.Turn turned) old new happens ready = absurd happens
 ready_after (Command words caller input now) known.Rebooted old new happens ready = absurd happens
@@ -78,14 +78,14 @@ ready_after (Reboot pick fuse) (known.Turn turned) old new happens ready = absur
 
 -- the events so far: so many of them have outcomes, and the machine is as they left it
 pub record IsSoFar (events : List Event) (count : ℕ) (reports : List EventReport) (first now : Machine) : Type 0 where
-  pub ready : IsReady now
+  pub ready : IsMachineReady now
   pub outcomes : List EventOutcome
   pub done : AreDoneOn first outcomes
   pub events_are : events_of outcomes ≡ take count events
   pub reports_are : reports_of outcomes ≡ reports
   pub now_is : machine_after first outcomes ≡ now
 
-pub none_so_far : (events : List Event) (first : Machine) → IsReady first → IsSoFar events 0 [] first first
+pub none_so_far : (events : List Event) (first : Machine) → IsMachineReady first → IsSoFar events 0 [] first first
 none_so_far events first ready = record {
   ready = ready;
   outcomes = [];
@@ -207,6 +207,6 @@ so_far_more events count reports beyond first now so event inside is answer afte
     (one_more events count reports first now so event inside is answer after happens)
 
 -- no session is on where the event was not reported
-pub outside_after : (event : Event) (now after : Machine) → IsReady now → IsUnreported event now after → IsOutside (session_of after)
+pub outside_after : (event : Event) (now after : Machine) → IsMachineReady now → IsUnreported event now after → IsOutside (machine_session after)
 outside_after event now after ready (inl same) = subst IsOutside (sym same.host.session) ready.outside
 outside_after event now after ready (inr happened) = (ready_after event happened.0 now after happened.1 ready).outside

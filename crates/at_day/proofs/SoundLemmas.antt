@@ -31,13 +31,13 @@ use Rattle.host_calls.specs.declared.store_fault.StoreFault.{StoreFault}
 use Rattle.host_calls.specs.declared.store_fault.StoreFault.TheVariants as fault
 use Rattle.at_day.specs.declared.counts.Counts.{Counts}
 use Rattle.at_day.specs.declared.report.DayReport.{DayReport}
-use Rattle.at_day.specs.Counting.{CountsBy, IsCounted}
+use Rattle.at_day.specs.Counting.{CountsBy, IsTableCounted}
 use Rattle.at_day.specs.Days.{IsDay, IsDayOf, first_machine}
-use Rattle.at_day.specs.EventOutcomes.{AreDoneOn, EventOutcome, events_of, machine_after, passed_of}
+use Rattle.at_day.specs.EventOutcomes.{AreDoneOn, EventOutcome, events_of, machine_after, passed_events}
 use Rattle.at_day.specs.Happening.{Happens}
-use Rattle.at_day.specs.Machines.{Machine, session_of, spool_of}
+use Rattle.at_day.specs.Machines.{Machine, machine_session, spool_of}
 use Rattle.at_day.specs.MadeDays.{ComesTo, deny_alone, lacks_memory}
-use Rattle.at_day.specs.inside.Making.{IsSound}
+use Rattle.at_day.specs.inside.Making.{IsCountedOrMemory}
 use Rattle.at_day.proofs.MadeLemmas.{LightNoFuse, LightsNoFuse, made_events_light_none}
 
 -- What the folder shows at first.
@@ -65,7 +65,7 @@ shows_at_first count host new image is =
 
 -- What it shows after the events.
 
-world_left : (first : Machine) (outcomes : List EventOutcome) → world_after (spool_of first) (passed_of outcomes) ≡ spool_of (machine_after first outcomes)
+world_left : (first : Machine) (outcomes : List EventOutcome) → world_after (spool_of first) (passed_events outcomes) ≡ spool_of (machine_after first outcomes)
 world_left first [] = refl
 world_left first (outcome ∷ later) = world_left outcome.left later
 
@@ -73,7 +73,7 @@ pub table_after : (events : List Event) (reports : List EventReport) (first left
     IsDayOf events reports (first_machine first) left → (opening : JobTable) → EachShows (memory_world first).now.folder opening →
     (table : JobTable) × Shows (reading (memory_world left)) table
 table_after events reports first left day opening shows =
-    let after : world_after (memory_world first) (passed_of day.outcomes) ≡ memory_world left =
+    let after : world_after (memory_world first) (passed_events day.outcomes) ≡ memory_world left =
     world_left (first_machine first) day.outcomes ∙ ap memory_world day.last_is in
     let shown_so = (day.keeps opening shows).shows (reading (memory_world left))
     (subst (λ (world : World). IsImage world.now.folder (reading (memory_world left))) (sym after)
@@ -83,7 +83,7 @@ table_after events reports first left day opening shows =
 -- What it was made as stays.
 
 as_made_event : (event : Event) (answer : EventReport) (old new : Machine) → Happens event answer old new → LightsNoFuse event →
-    (session_of new).made_as ≡ (session_of old).made_as
+    (machine_session new).made_as ≡ (machine_session old).made_as
 as_made_event (Command words caller input now) (known.Command status out err) old new given none = given.host.left.counts.made_as
 as_made_event (Turn now load) (known.Turn turned) old new turns none = turns.counts.made_as
 as_made_event (Reboot pick fuse) known.Rebooted old new up none =
@@ -98,7 +98,7 @@ as_made_event (Reboot pick fuse) (known.Command status out err) old new happens 
 as_made_event (Reboot pick fuse) (known.Turn turned) old new happens none = absurd happens
 
 as_made : (first : Machine) (outcomes : List EventOutcome) → AreDoneOn first outcomes → LightNoFuse (events_of outcomes) →
-    (session_of (machine_after first outcomes)).made_as ≡ (session_of first).made_as
+    (machine_session (machine_after first outcomes)).made_as ≡ (machine_session first).made_as
 as_made first [] done none = refl
 as_made first (outcome ∷ later) done none =
     as_made outcome.left later done.1 none.1
@@ -118,7 +118,7 @@ no_rise before now none rose = omega arith
 
 sound_of : (between last : MemoryHost) (counts : Result Counts StoreFault) → HasNoFault (memory_session last) →
     (table : JobTable) → Shows (reading (memory_world between)) table →
-    CountsBy (memory_session between) (memory_session last) (memory_world between) counts → IsSound counts
+    CountsBy (memory_session between) (memory_session last) (memory_world between) counts → IsCountedOrMemory counts
 sound_of between last (Ok counts) quiet table shows by = tt
 sound_of between last (Err fault.Memory) quiet table shows by = tt
 sound_of between last (Err fault.FileFault) quiet table shows (inl rose) =
@@ -129,7 +129,7 @@ sound_of between last (Err (fault.Damaged damage)) quiet table shows by = absurd
 sound_of between last _ quiet table shows by = absurd by
 
 pub counts_are_sound : (count : ℕ) (first last : MemoryHost) (report : DayReport) → IsNew deny_alone (made_plan count) first →
-    IsDay (made_events count) first last report → IsSound report.counts
+    IsDay (made_events count) first last report → IsCountedOrMemory report.counts
 counts_are_sound count first last report new day =
     let table = table_after (made_events count) report.events first day.between day.day (without_jobs 0) (shows_at_first count first new) in
     let made = day.counted.left.counts.made_as
@@ -152,7 +152,7 @@ comes_to count first last report counts new day is found = record {
   day = record {
     between = day.between;
     day = day.day;
-    counted = subst (λ (of : Result Counts StoreFault). IsCounted day.between last of) is day.counted;
+    counted = subst (λ (of : Result Counts StoreFault). IsTableCounted day.between last of) is day.counted;
   };
   found_memory = found;
 }

@@ -12,7 +12,7 @@ use Rattle.at_commands.proofs.ServedLemmas.{not_served}
 use Rattle.day_events.specs.Days.{is_day_tool}
 use Rattle.cause_output.specs.declared.caller.Caller.{Caller}
 use Rattle.command_rules.specs.Checks.{Check}
-use Rattle.command_rules.specs.Ends.{Ends, FailsToPrint}
+use Rattle.command_rules.specs.Ends.{CommandEnds, FailsToPrint}
 use Rattle.cause_output.specs.Outside.{Holding, holding}
 use Rattle.command_rules.specs.Found.{Asked, answers_read}
 use Rattle.cause_output.specs.Sinks.{SaysBy, SinkAt, sink_at}
@@ -21,7 +21,7 @@ use Rattle.host_calls.specs.Clock.{Answers, Readers, with_now}
 use Rattle.host_calls.specs.Inputs.{Contents}
 use Rattle.host_calls.specs.Session.{IsLeft}
 use Rattle.host_calls.specs.Sink.{Outlet}
-use Rattle.host_calls.specs.World.{GoesOn, World}
+use Rattle.host_calls.specs.World.{TimePasses, World}
 use Rattle.listing_text.specs.Cause.{status_of}
 use Rattle.listing_text.specs.declared.cause.Cause.{Cause}
 use Rattle.listing_text.specs.declared.cause.Cause.TheVariants.{Busy, FileFault, InputFault, OutputFault, StillRunning}
@@ -127,14 +127,14 @@ pub record HasEnded (words : List (List ℕ)) (caller : Caller) (old new : Memor
     (inputs inputs_new : MemoryInputs) (out out_new err err_new : MemorySink) (status : Status) : Type 0 where
   pub code : status ≡ status_of status.cause
   pub left : IsLeft (memory_session old) (memory_session new)
-  pub quiet : GoesOn (memory_world old) (memory_world new)
+  pub quiet : TimePasses (memory_world old) (memory_world new)
   pub file_fault : status.cause ≡ FileFault → Rose (memory_session old).file_faults (memory_session new).file_faults
   pub busy : status.cause ≡ Busy → Rose (memory_session old).taken (memory_session new).taken
   pub input_fault : status.cause ≡ InputFault → Rose (sources_so_far inputs).input_faults (sources_so_far inputs_new).input_faults
   pub output_fault : status.cause ≡ OutputFault →
       FailsToPrint (request_of words) (outlet_so_far out) (outlet_so_far out_new) (outlet_so_far err) (outlet_so_far err_new)
   pub not_running : status.cause ≢ StillRunning
-  pub ends : Ends (SaysBy (tool_name_of words)) (request_of words) caller all_known
+  pub ends : CommandEnds (SaysBy (tool_name_of words)) (request_of words) caller all_known
       (holding (memory_world old) (answers_so_far readings) (contents_given inputs)
       (sink_at (content_so_far out) (outlet_so_far out)) (sink_at (content_so_far err) (outlet_so_far err)))
       (holding (memory_world new) (answers_so_far readings_new) (contents_given inputs_new)
@@ -143,7 +143,7 @@ pub record HasEnded (words : List (List ℕ)) (caller : Caller) (old new : Memor
 -- the ends of the command, over what it was handed and what it left
 abbrev GivenEnds : List (List ℕ) → Caller → List ℕ → World → World → Answers → List ℕ → List ℕ → Cause → Type 0
 GivenEnds words caller input old new answers out err cause =
-    Ends (SaysBy (tool_name_of words)) (request_of words) caller all_known (at_first old input) (at_last new answers input out err) cause
+    CommandEnds (SaysBy (tool_name_of words)) (request_of words) caller all_known (at_first old input) (at_last new answers input out err) cause
 
 module _ (words : List (List ℕ)) (caller : Caller) (input : List ℕ) (now : ℤ) (old new : MemoryHost) (readings readings_new : ListReadings)
     (inputs inputs_new : MemoryInputs) (out out_new err err_new : MemorySink) (status : Status)
@@ -180,9 +180,9 @@ module _ (words : List (List ℕ)) (caller : Caller) (input : List ℕ) (now : �
   given_ends : GivenEnds words caller input (memory_world old) (memory_world new) (answers_so_far readings_new)
       (content_so_far out_new) (content_so_far err_new) status.cause
   given_ends =
-      subst (λ (after : Holding). Ends (SaysBy (tool_name_of words)) (request_of words) caller all_known
+      subst (λ (after : Holding). CommandEnds (SaysBy (tool_name_of words)) (request_of words) caller all_known
       (at_first (memory_world old) input) after status.cause) last_is
-      (subst (λ (before : Holding). Ends (SaysBy (tool_name_of words)) (request_of words) caller all_known before
+      (subst (λ (before : Holding). CommandEnds (SaysBy (tool_name_of words)) (request_of words) caller all_known before
       (holding (memory_world new) (answers_so_far readings_new) (contents_given inputs_new)
       (sink_at (content_so_far out_new) (outlet_so_far out_new)) (sink_at (content_so_far err_new) (outlet_so_far err_new))) status.cause)
       first_is ended.ends)

@@ -19,11 +19,11 @@ use Rattle.host_calls.specs.declared.store_fault.StoreFault.TheVariants as fault
 use Rattle.at_day.specs.declared.counts.Counts.{Counts}
 
 -- the job of the row runs, or waits
-abbrev pub runs : Row → Bool
-runs row = is_running row.state
+abbrev pub is_running_row : Row → Bool
+is_running_row row = is_running row.state
 
-abbrev pub waits : Row → Bool
-waits row = not (is_running row.state)
+abbrev pub is_waiting_row : Row → Bool
+is_waiting_row row = not (is_running row.state)
 
 -- the job was removed
 abbrev pub was_removed : Fate → Bool
@@ -67,8 +67,8 @@ done_so passes table = count_by (λ number. is_done_so passes (entry_at table nu
 abbrev pub counts_in : JobTable → Counts
 counts_in table = record {
   last = table.last;
-  pending = count_by waits (live_rows table);
-  running = count_by runs (live_rows table);
+  pending = count_by is_waiting_row (live_rows table);
+  running = count_by is_running_row (live_rows table);
   removed = done_so was_removed table;
   finished = done_so was_finished table;
   not_started = done_so was_not_started table;
@@ -85,7 +85,7 @@ CountsBy old new world (Err fault.Memory) = Unit {0}
 CountsBy old new world _ = ⊥
 
 -- A session in which the folder was recovered and counted, and nothing else was done.
-pub record IsCounted (old new : MemoryHost) (result : Result Counts StoreFault) : Type 0 where
+pub record IsTableCounted (old new : MemoryHost) (result : Result Counts StoreFault) : Type 0 where
   pub left : IsLeft (memory_session old) (memory_session new)
   pub unbegun : IsUnbegun (memory_world old) (memory_world new)
   pub asked : (memory_world new).asked ≡ (memory_world old).asked

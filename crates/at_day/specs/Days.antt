@@ -9,9 +9,9 @@ use Rattle.memory_host.specs.Host.{IsUnchanged}
 use Rattle.memory_host.specs.declared.memory_host.MemoryHost.{MemoryHost}
 use Rattle.at_day.specs.declared.days.TheConstants.{LIMIT, INTERVAL}
 use Rattle.at_day.specs.declared.report.DayReport.{DayReport}
-use Rattle.at_day.specs.Counting.{IsCounted}
+use Rattle.at_day.specs.Counting.{IsTableCounted}
 use Rattle.at_day.specs.EventOutcomes.{AreDoneOn, EventOutcome, events_of, machine_after, reports_of}
-use Rattle.at_day.specs.Machines.{Machine, machine, session_of}
+use Rattle.at_day.specs.Machines.{Machine, machine, machine_session}
 use Rattle.at_day.specs.Promise.{KeepsPromise}
 
 -- the machine of a day at first: its daemon watches no child
@@ -19,9 +19,9 @@ abbrev pub first_machine : MemoryHost → Machine
 first_machine host = machine host (new_daemon LIMIT INTERVAL)
 
 -- a machine on which an event can happen: no session is on, and each child that the daemon watches is one of the host
-pub record IsReady (at : Machine) : Type 0 where
-  pub outside : IsOutside (session_of at)
-  pub children : AreChildren (session_of at).children at.daemon.kids
+pub record IsMachineReady (at : Machine) : Type 0 where
+  pub outside : IsOutside (machine_session at)
+  pub children : AreChildren (machine_session at).children at.daemon.kids
 
 -- The events were made to their end: each of them has an outcome, in order, these are their reports, and this is the host
 -- that they left.
@@ -47,4 +47,4 @@ pub record IsDayCut (events : List Event) (first : Machine) (left : MemoryHost) 
 pub record IsDay (events : List Event) (old new : MemoryHost) (report : DayReport) : Type 0 where
   pub between : MemoryHost
   pub day : IsDayOf events report.events (first_machine old) between
-  pub counted : IsCounted between new report.counts
+  pub counted : IsTableCounted between new report.counts

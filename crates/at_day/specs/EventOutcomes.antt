@@ -9,15 +9,15 @@ use Rattle.host_session.specs.declared.turn_end.TurnEnd.{TurnEnd}
 use Rattle.host_session.specs.declared.turn_end.TurnEnd.TheVariants.{Done, Busy, FileFault, Damaged, Memory}
 use Rattle.spool_model.specs.declared.turn_step.TurnStep.{TurnStep}
 use Rattle.daemon_turn.specs.Starting.{Turn as TurnOf, turn_of}
-use Rattle.spool_model.specs.StepsOf.{steps_of}
-use Rattle.daemon_turn.specs.Turning.{AreFirstSteps, AreTurnSteps, IsPrefixOf}
+use Rattle.spool_model.specs.StepsOf.{steps_of_turn}
+use Rattle.daemon_turn.specs.Turning.{AreFirstSteps, AreTurnSteps, IsStepsPrefix}
 use Rattle.day_events.specs.declared.event.Event.{Event}
 use Rattle.day_events.specs.declared.event.Event.TheVariants.{Command, Turn, Reboot}
 use Rattle.day_events.specs.declared.report.EventReport.{EventReport}
 use Rattle.day_events.specs.declared.report.EventReport.TheVariants as known
 use Rattle.headline.specs.Effects.{TakesEffect, IsEffectOf, Effect, Passed, Untouched, Partial, Whole, Crashed}
 use Rattle.host_calls.specs.declared.child.Ending.{Ending}
-use Rattle.listing_text.specs.Cause.{is_done}
+use Rattle.listing_text.specs.Cause.{is_done_cause}
 use Rattle.memory_host.specs.Inputs.{given_contents}
 use Rattle.spool_model.specs.declared.step.Step.{Step}
 use Rattle.spool_model.specs.JobTable.{JobTable}
@@ -45,8 +45,8 @@ pub record AreStepsOfTurn (turn : TurnOf) (acknowledged : Bool) (reported : List
   pub answers : List (Option Ending)
   pub flags : List Bool
   pub are : MatchBool acknowledged (AreTurnSteps turn table answers flags made) (AreFirstSteps turn table answers flags made)
-  pub reports : MatchBool acknowledged (made ≡ reported) (IsPrefixOf reported made)
-  pub steps_are : steps ≡ steps_of made
+  pub reports : MatchBool acknowledged (made ≡ reported) (IsStepsPrefix reported made)
+  pub steps_are : steps ≡ steps_of_turn made
 
 -- the turn was done
 abbrev pub is_done_turn : TurnEnd → Bool
@@ -58,7 +58,7 @@ is_done_turn Memory = false
 
 -- the report acknowledges the event: the command or the turn was done
 abbrev pub is_acknowledged : EventReport → Bool
-is_acknowledged (known.Command status out err) = is_done status.cause
+is_acknowledged (known.Command status out err) = is_done_cause status.cause
 is_acknowledged (known.Turn turned) = is_done_turn turned.end
 is_acknowledged known.Rebooted = false
 
@@ -71,13 +71,13 @@ AreEventSteps (Turn now load) (known.Turn turned) old table steps =
 AreEventSteps _ _ old table steps = ⊥
 
 -- the move is that of a crash
-abbrev pub IsCrash : Effect → Type 0
-IsCrash (Crashed image) = Unit {0}
-IsCrash _ = ⊥
+abbrev pub IsCrashEffect : Effect → Type 0
+IsCrashEffect (Crashed image) = Unit {0}
+IsCrashEffect _ = ⊥
 
 -- the move of an event is one of its steps, or the crash that it is
 abbrev pub IsEventEffect : Event → EventReport → Machine → Effect → Type 0
-IsEventEffect (Reboot pick fuse) answer old effect = IsCrash effect
+IsEventEffect (Reboot pick fuse) answer old effect = IsCrashEffect effect
 IsEventEffect (Command words caller input now) answer old effect =
     IsEffectOf (is_acknowledged answer) (AreEventSteps (Command words caller input now) answer old) effect
 IsEventEffect (Turn now load) answer old effect =
@@ -113,5 +113,5 @@ events_of outcomes = map (λ outcome. outcome.event) outcomes
 abbrev pub reports_of : List EventOutcome → List EventReport
 reports_of outcomes = map (λ outcome. outcome.report) outcomes
 
-abbrev pub passed_of : List EventOutcome → List Passed
-passed_of outcomes = map (λ outcome. record { effect = outcome.effect; left = spool_of outcome.left }) outcomes
+abbrev pub passed_events : List EventOutcome → List Passed
+passed_events outcomes = map (λ outcome. record { effect = outcome.effect; left = spool_of outcome.left }) outcomes

@@ -3,15 +3,15 @@ use Rattle.std.specs.Prelude.{◌≡◌, ◌≢◌, ◌⊎◌, ◌&&◌, [], ℕ
 use Rattle.at_commands.specs.Tools.{tool_name_of}
 use Rattle.at_words.specs.Requests.{request_of}
 use Rattle.cause_output.specs.declared.caller.Caller.{Caller}
-use Rattle.command_rules.specs.Checks.{Check, is_before, of_variables}
-use Rattle.command_rules.specs.Ends.{Ends}
+use Rattle.command_rules.specs.Checks.{Check, is_earlier_check, of_variables}
+use Rattle.command_rules.specs.Ends.{CommandEnds}
 use Rattle.cause_output.specs.Outside.{Holding, holding, Telling, telling}
 use Rattle.command_rules.specs.Found.{Asked, is_submission}
 use Rattle.cause_output.specs.Sinks.{SaysBy, SinkAt}
 use Rattle.host_calls.specs.Causes.{Rose}
 use Rattle.host_calls.specs.Clock.{Answers}
 use Rattle.host_calls.specs.Session.{IsLeft}
-use Rattle.host_calls.specs.World.{GoesOn, World}
+use Rattle.host_calls.specs.World.{TimePasses, World}
 use Rattle.listing_text.specs.Cause.{status_of}
 use Rattle.listing_text.specs.declared.cause.Cause.TheVariants.{Busy, FileFault, InputFault, OutputFault, StillRunning}
 use Rattle.listing_text.specs.declared.status.Status.{Status}
@@ -40,7 +40,7 @@ at_last spool answers input out err = holding spool answers (given_contents inpu
 
 -- the command came so far that it read the clock
 abbrev pub HasReadClock : Asked → Check → Type 0
-HasReadClock asked reached = (is_submission asked && is_before of_variables reached) ≡ true
+HasReadClock asked reached = (is_submission asked && is_earlier_check of_variables reached) ≡ true
 
 -- The command was given at the second with the input, and ended with the status. It does and says what a command does
 -- and says; where it read the clock, that answered the second.
@@ -48,14 +48,14 @@ pub record IsGiven (words : List (List ℕ)) (caller : Caller) (input : List ℕ
     (old new : MemoryHost) : Type 0 where
   pub code : status ≡ status_of status.cause
   pub left : IsLeft (memory_session old) (memory_session new)
-  pub quiet : GoesOn (memory_world old) (memory_world new)
+  pub quiet : TimePasses (memory_world old) (memory_world new)
   pub busy : status.cause ≡ Busy → Rose (memory_session old).taken (memory_session new).taken
   pub file_fault : status.cause ≡ FileFault → Rose (memory_session old).file_faults (memory_session new).file_faults
   pub no_input_fault : status.cause ≢ InputFault
   pub no_output_fault : status.cause ≢ OutputFault
   pub not_running : status.cause ≢ StillRunning
   pub answers : Answers
-  pub ends : Ends (SaysBy (tool_name_of words)) (request_of words) caller all_known
+  pub ends : CommandEnds (SaysBy (tool_name_of words)) (request_of words) caller all_known
       (at_first (memory_world old) input) (at_last (memory_world new) answers input out err) status.cause
   pub clock : HasReadClock (request_of words) ends.reached → ends.found.now ≡ now
 

@@ -15,8 +15,8 @@ abbrev pub machine : MemoryHost → DaemonState → Machine
 machine host daemon = record { host = host; daemon = daemon }
 
 -- what its host tells as every host does
-abbrev pub session_of : Machine → Session
-session_of at = memory_session at.host
+abbrev pub machine_session : Machine → Session
+machine_session at = memory_session at.host
 
 -- the moments of its spool folder
 abbrev pub spool_of : Machine → World

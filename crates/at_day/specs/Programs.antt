@@ -11,12 +11,12 @@ use Rattle.at_words.specs.declared.tool_request.ToolRequest.TheVariants as reque
 use Rattle.at_words.specs.Requests.{request_of}
 use Rattle.at_words.specs.Tools.{tool_of_words}
 use Rattle.cause_output.specs.declared.caller.Caller.{Caller}
-use Rattle.command_rules.specs.Ends.{Ends, StopsBeforeLock}
+use Rattle.command_rules.specs.Ends.{CommandEnds, StopsBeforeLock}
 use Rattle.command_rules.specs.Found.{Asked}
 use Rattle.cause_output.specs.Sinks.{EndsLine, IsPut, IsPutInPart, IsSilent, SaysBy, SinkAt}
 use Rattle.host_calls.specs.Causes.{Rose}
 use Rattle.host_calls.specs.Session.{IsLeft}
-use Rattle.host_calls.specs.World.{GoesOn}
+use Rattle.host_calls.specs.World.{TimePasses}
 use Rattle.listing_text.specs.declared.cause.Cause.{Cause}
 use Rattle.listing_text.specs.declared.cause.Cause.TheVariants.{Done, Refused, OutputFault, Memory, StillRunning}
 use Rattle.listing_text.specs.declared.refusal.Refusal.TheVariants.{Usage}
@@ -76,10 +76,10 @@ EndsDay tells _ old new cause = ⊥
 -- way and each image of the end show, and what is printed and said.
 pub record EndsUnservedUnlessDay (words : List (List ℕ)) (caller : Caller) (old new : OutsideAt) (cause : Cause) : Type 0 where
   pub left : IsLeft old.session new.session
-  pub quiet : old.tells.files ≡ true → GoesOn old.holds.spool new.holds.spool
+  pub quiet : old.tells.files ≡ true → TimePasses old.holds.spool new.holds.spool
   pub not_running : cause ≢ StillRunning
   pub ends : asks_for_day words ≡ false →
-      Ends (SaysBy (tool_name_of words)) (request_of words) caller old.tells old.holds new.holds cause
+      CommandEnds (SaysBy (tool_name_of words)) (request_of words) caller old.tells old.holds new.holds cause
   pub readers : new.readers ≡ old.readers
   pub unasked : (fault : WordsFault) → request_of words ≡ Err fault → new.session ≡ old.session
   pub before_lock : StopsBeforeLock cause → new.session ≡ old.session

@@ -6,10 +6,10 @@ use Rattle.std.specs.Prelude.{List}
 use Rattle.headline.specs.Headline.{Headline}
 use Rattle.step_runs.specs.Current.{EachShows}
 use Rattle.spool_model.specs.JobTable.{JobTable}
-use Rattle.at_day.specs.EventOutcomes.{EventOutcome, passed_of}
+use Rattle.at_day.specs.EventOutcomes.{EventOutcome, passed_events}
 use Rattle.at_day.specs.Machines.{Machine, spool_of}
 
 -- the promise of outcomes on a machine
 abbrev pub KeepsPromise : Machine → List EventOutcome → Type 0
 KeepsPromise first outcomes = (opening : JobTable) → EachShows (spool_of first).now.folder opening →
-    Headline opening (passed_of outcomes) (spool_of first)
+    Headline opening (passed_events outcomes) (spool_of first)

@@ -3,7 +3,7 @@ ghost use Rattle.std.specs.Prelude.{◌≡◌, ◌<◌, ◌^◌, count_by, lengt
 ghost use Rattle.host_calls.specs.Session.{IsInside, IsOutside, StaysInside};
 ghost use Rattle.step_runs.specs.Attempts.{IsUnbegun};
 ghost use Rattle.memory_host.specs.Host.{memory_session, memory_world};
-ghost use Rattle.at_day.specs.Counting.{CountsBy, IsCounted, runs, waits, was_finished, was_interrupted, was_not_started, was_removed};
+ghost use Rattle.at_day.specs.Counting.{CountsBy, IsTableCounted, is_running_row, is_waiting_row, was_finished, was_interrupted, was_not_started, was_removed};
 
 use crate::Counts;
 use host_calls::{Ending, EnterFault};
@@ -16,7 +16,7 @@ use std::alloc::Global;
 /// What a recovery of the folder counts, in a session of its own.
 pub fn counts(alloc: Global, host: &mut MemoryHost) -> Result<Counts, StoreFault>
     requires { IsOutside (memory_session host.old) }
-    ensures { IsCounted host.old host.new result }
+    ensures { IsTableCounted host.old host.new result }
 {
     match in_session(alloc, host, &mut |host| counted_within(alloc, host)) {
         Ok(counted) => counted,
@@ -44,12 +44,12 @@ fn counted_within(alloc: Global, host: &mut MemoryHost) -> Result<Counts, StoreF
         removed: removed(decided) as u32,
         finished: finished(decided) as u32,
         not_started: not_started(decided) as u32,
-        interrupted: interrupted(decided) as u32,
+        interrupted: interrupted_count(decided) as u32,
     })
 }
 
 fn waiting(rows: &[Row]) -> usize
-    ensures { result ≡ count_by waits rows.now }
+    ensures { result ≡ count_by is_waiting_row rows.now }
 {
     rows.iter()
         .filter(|row| matches!(row.state, State::Pending))
@@ -57,7 +57,7 @@ fn waiting(rows: &[Row]) -> usize
 }
 
 fn running(rows: &[Row]) -> usize
-    ensures { result ≡ count_by runs rows.now }
+    ensures { result ≡ count_by is_running_row rows.now }
 {
     rows.iter()
         .filter(|row| matches!(row.state, State::Running(_)))
@@ -96,7 +96,7 @@ fn not_started(decided: &[Decided]) -> usize
         .count()
 }
 
-fn interrupted(decided: &[Decided]) -> usize
+fn interrupted_count(decided: &[Decided]) -> usize
     ensures { result ≡ count_by (λ one. was_interrupted one.fate) decided.now }
 {
     decided

@@ -27,7 +27,7 @@ pub fn day(alloc: Global, events: &[Event], host: &mut MemoryHost) -> Result<Day
     ensures day { IfOk result (IsDay events.now host.old host.new) }
     ensures cut { OnErr result (IsDayCut events.now (first_machine host.old) host.new) }
 {
-    let reports = each_event(alloc, events, host)?;
+    let reports = event_reports(alloc, events, host)?;
     Ok(DayReport {
         events: EventReports::from(reports),
         counts: counts(alloc, host),
@@ -35,7 +35,7 @@ pub fn day(alloc: Global, events: &[Event], host: &mut MemoryHost) -> Result<Day
 }
 
 // The reports of the events.
-fn each_event(
+fn event_reports(
     alloc: Global,
     events: &[Event],
     host: &mut MemoryHost,

@@ -6,7 +6,7 @@ ghost use Rattle.day_events.specs.Plans.{made_plan};
 ghost use Rattle.memory_host.specs.Host.{IsNew};
 ghost use Rattle.at_day.specs.MadeDays.{ComesTo, deny_alone, lacks_memory};
 ghost use Rattle.at_day.specs.Programs.{EndsMade};
-ghost use Rattle.at_day.specs.inside.Making.{AreLinesOfDay, IsSound, PutsDay};
+ghost use Rattle.at_day.specs.inside.Making.{AreLinesOfDay, IsCountedOrMemory, PutsDay};
 
 use crate::lines::day_lines;
 use crate::{Counts, day};
@@ -79,7 +79,7 @@ pub fn spool_of_day(alloc: Global, plan: Plan) -> Result<MemoryHost, AllocError>
 
 // The counts, of which want of memory alone can be in the way.
 fn sound_counts(counts: Result<Counts, StoreFault>) -> Result<Counts, AllocError>
-    requires { IsSound counts }
+    requires { IsCountedOrMemory counts }
     ensures { IfOk result (λ found. counts ≡ Ok found) }
 {
     match counts {

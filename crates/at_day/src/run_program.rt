@@ -99,12 +99,12 @@ fn answer_day<O: Sink, E: Sink>(alloc: Global, words: &[String], out: &mut O, er
     ensures out_made { (O.outlet out.new).made_as ≡ (O.outlet out.old).made_as }
     ensures errors_made { (E.outlet err.new).made_as ≡ (E.outlet err.old).made_as }
 {
-    let cause = carry_out(alloc, words, out);
+    let cause = make_run(alloc, words, out);
     Status::of(say_cause(alloc, DAY_TOOL, cause, err))
 }
 
 // Makes and tells the day that words of `atday` ask for. The line of the cause is still to be said.
-fn carry_out<O: Sink>(alloc: Global, words: &[String], out: &mut O) -> Cause
+fn make_run<O: Sink>(alloc: Global, words: &[String], out: &mut O) -> Cause
     requires { asks_for_day (map string_bytes words.now) ≡ true }
     ensures made_as { (O.outlet out.new).made_as ≡ (O.outlet out.old).made_as }
     ensures day { EndsDay O.tells (request_of (map string_bytes words.now))

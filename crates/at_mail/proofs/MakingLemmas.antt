@@ -12,15 +12,15 @@ use Rattle.cause_output.specs.Sinks.{SinkAt}
 use Rattle.daemon_turn.specs.Kids.{AreChildren, KeepsChildren}
 use Rattle.host_session.specs.declared.turn_end.TurnEnd.{TurnEnd}
 use Rattle.host_session.specs.declared.turn_end.TurnEnd.TheVariants.{Done, Busy, FileFault, Damaged, Memory}
-use Rattle.mail_session.specs.Leaving.{PostAt}
+use Rattle.mail_session.specs.Leaving.{PostSpool}
 use Rattle.cause_output.specs.Outside.{ClockAt, Rests, RestsBefore, RestsOn, Telling, WorkAt}
 use Rattle.at_mail.specs.Making.{IsSession, MakesSessions, next_session, no_session, rest_after_sessions, rest_seconds}
-use Rattle.at_mail.specs.Outcomes.{PostItem, last_outcome, outcome_by, outcome_or_done}
-use Rattle.at_mail.specs.declared.outcome.Outcome.{Outcome}
-use Rattle.at_mail.specs.declared.outcome.Outcome.TheVariants.{Own}
+use Rattle.at_mail.specs.Outcomes.{PostItem, last_session_outcome, session_outcome, outcome_or_done}
+use Rattle.at_mail.specs.declared.outcome.MailOutcome.{MailOutcome}
+use Rattle.at_mail.specs.declared.outcome.MailOutcome.TheVariants.{Own}
 use Rattle.at_mail.specs.inside.Progressing.{HasMade, rest_before}
 
-pub last_more : (items : List PostItem) (item : PostItem) → last_outcome (items ++ item ∷ []) ≡ outcome_by item.end item.said
+pub last_more : (items : List PostItem) (item : PostItem) → last_session_outcome (items ++ item ∷ []) ≡ session_outcome item.end item.said
 last_more [] item = refl
 last_more (one ∷ []) item = refl
 last_more (one ∷ other ∷ items) item = last_more (other ∷ items) item
@@ -57,7 +57,7 @@ children_then old middle new first second =
     (first.0 ++ second.0, second.1 ∙ ap (λ (before : List Child). before ++ second.0) first.1 ∙ append_assoc old first.0 second.0)
 
 -- What sessions keep, one after another: no session is on, the kids are children, no child is forgotten, no count has fallen.
-pub record Keeps (first last : WorkAt PostAt) : Type 0 where
+pub record Keeps (first last : WorkAt PostSpool) : Type 0 where
   pub outside : IsOutside last.spool.session
   pub children : AreChildren last.spool.session.children last.spool.post.kids
   pub kept : KeepsChildren first.spool.session.children last.spool.session.children
@@ -65,7 +65,7 @@ pub record Keeps (first last : WorkAt PostAt) : Type 0 where
   pub said : first.said.faults ≤ last.said.faults
   pub readers : last.clock.readers ≡ first.clock.readers
 
-pub keeps_none : (first : WorkAt PostAt) → IsOutside first.spool.session → AreChildren first.spool.session.children first.spool.post.kids → Keeps first first
+pub keeps_none : (first : WorkAt PostSpool) → IsOutside first.spool.session → AreChildren first.spool.session.children first.spool.post.kids → Keeps first first
 keeps_none first outside children = record {
   outside = outside;
   children = children;
@@ -75,23 +75,23 @@ keeps_none first outside children = record {
   readers = refl;
 }
 
-pub keeps_more : (tells : Telling) (item : PostItem) (items : List PostItem) (first last rested after : WorkAt PostAt) → Keeps first last
+pub keeps_more : (tells : Telling) (item : PostItem) (items : List PostItem) (first last rested after : WorkAt PostSpool) → Keeps first last
     → RestsBefore tells.clock (rest_after_sessions items) last rested → IsSession tells item rested after → Keeps first after
 keeps_more tells item items first last rested after keeps rests session = record {
   outside = session.posts.outside;
   children = session.posts.children;
   kept = children_then first.spool.session.children last.spool.session.children after.spool.session.children keeps.kept
-      (subst (λ (spool : PostAt). KeepsChildren spool.session.children after.spool.session.children) rests.spool session.posts.kept);
+      (subst (λ (spool : PostSpool). KeepsChildren spool.session.children after.spool.session.children) rests.spool session.posts.kept);
   counts = counts_on first.spool.session last.spool.session after.spool.session keeps.counts
-      (subst (λ (spool : PostAt). KeepsCounts spool.session after.spool.session) rests.spool session.posts.counts);
+      (subst (λ (spool : PostSpool). KeepsCounts spool.session after.spool.session) rests.spool session.posts.counts);
   said = (let before : first.said.faults ≤ last.said.faults = keeps.said in
       let later : last.said.faults ≤ after.said.faults =
       subst (λ (said : SinkAt). said.faults ≤ after.said.faults) rests.said session.says.later in omega arith);
   readers = ap (λ (at : ClockAt). at.readers) session.clock ∙ rested_readers tells.clock (rest_after_sessions items) last.clock rested.clock rests.clock ∙ keeps.readers;
 }
 
-module _ (tells : Telling) (first : WorkAt PostAt) (outside : IsOutside first.spool.session) (children : AreChildren first.spool.session.children first.spool.post.kids) where
-  pub keeps_all : (items : List PostItem) (last : WorkAt PostAt) → MakesSessions tells first items last → Keeps first last
+module _ (tells : Telling) (first : WorkAt PostSpool) (outside : IsOutside first.spool.session) (children : AreChildren first.spool.session.children first.spool.post.kids) where
+  pub keeps_all : (items : List PostItem) (last : WorkAt PostSpool) → MakesSessions tells first items last → Keeps first last
   keeps_all _ _ no_session = keeps_none first outside children
   keeps_all _ _ (next_session before item last rested after makes goes_on rests session) =
       keeps_more tells item before first last rested after (keeps_all before last makes) rests session
@@ -99,7 +99,7 @@ module _ (tells : Telling) (first : WorkAt PostAt) (outside : IsOutside first.sp
 -- Why the program comes to a failed output.
 
 outcome_rose : (end : TurnEnd) (said : Result (Unit {0}) SinkFault) (old new : SinkAt) → (IsErrOf said put.Failed → Rose old.faults new.faults)
-    → outcome_by end said ≡ Some (Own cause.OutputFault) → Rose old.faults new.faults
+    → session_outcome end said ≡ Some (Own cause.OutputFault) → Rose old.faults new.faults
 outcome_rose end (Err put.Failed) old new failed comes = failed refl
 outcome_rose Done (Ok done) old new failed comes = absurd (cc)
 outcome_rose Busy (Ok done) old new failed comes = absurd (cc)
@@ -112,8 +112,8 @@ outcome_rose FileFault (Err put.Memory) old new failed comes = absurd (cc)
 outcome_rose (Damaged damage) (Err put.Memory) old new failed comes = absurd (cc)
 outcome_rose Memory (Err put.Memory) old new failed comes = absurd (cc)
 
-pub output_rose : (tells : Telling) (items : List PostItem) (first last : WorkAt PostAt) → MakesSessions tells first items last → IsOutside first.spool.session
-    → AreChildren first.spool.session.children first.spool.post.kids → last_outcome items ≡ Some (Own cause.OutputFault) → Rose first.said.faults last.said.faults
+pub output_rose : (tells : Telling) (items : List PostItem) (first last : WorkAt PostSpool) → MakesSessions tells first items last → IsOutside first.spool.session
+    → AreChildren first.spool.session.children first.spool.post.kids → last_session_outcome items ≡ Some (Own cause.OutputFault) → Rose first.said.faults last.said.faults
 output_rose tells _ first _ no_session outside children comes = absurd (cc)
 output_rose tells _ first _ (next_session before item last rested after makes goes_on rests session) outside children comes =
     let keeps = keeps_all tells first outside children before last makes in
@@ -125,13 +125,13 @@ output_rose tells _ first _ (next_session before item last rested after makes go
 
 -- One session more.
 
-module _ (tells : Telling) (items : List PostItem) (first last rested after : WorkAt PostAt) (makes : MakesSessions tells first items last)
-    (goes_on : last_outcome items ≡ None) (rests : RestsBefore tells.clock (rest_after_sessions items) last rested) (item : PostItem) (session : IsSession tells item rested after) where
+module _ (tells : Telling) (items : List PostItem) (first last rested after : WorkAt PostSpool) (makes : MakesSessions tells first items last)
+    (goes_on : last_session_outcome items ≡ None) (rests : RestsBefore tells.clock (rest_after_sessions items) last rested) (item : PostItem) (session : IsSession tells item rested after) where
   pub makes_more : MakesSessions tells first (items ++ item ∷ []) after
   makes_more = next_session items item last rested after makes goes_on rests session
 
   -- it ended the program
-  pub ended_at : (turns : ℕ) (outcome : Outcome) → length items < turns → Some outcome ≡ outcome_by item.end item.said → HasMade tells turns first after outcome
+  pub ended_at : (turns : ℕ) (outcome : MailOutcome) → length items < turns → Some outcome ≡ session_outcome item.end item.said → HasMade tells turns first after outcome
   ended_at turns outcome few comes = record {
     items = items ++ item ∷ [];
     few = (let longer : length (items ++ item ∷ []) ≡ length items + 1 = one_longer items item in omega arith);
@@ -141,7 +141,7 @@ module _ (tells : Telling) (items : List PostItem) (first last rested after : Wo
   }
 
 -- all were made
-pub ended_made : (tells : Telling) (items : List PostItem) (turns : ℕ) (first last : WorkAt PostAt) → MakesSessions tells first items last → last_outcome items ≡ None
+pub ended_made : (tells : Telling) (items : List PostItem) (turns : ℕ) (first last : WorkAt PostSpool) → MakesSessions tells first items last → last_session_outcome items ≡ None
     → length items ≡ turns → HasMade tells turns first last (Own cause.Done)
 ended_made tells items turns first last makes goes_on all = record {
   items = items;

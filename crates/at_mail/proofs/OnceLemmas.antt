@@ -5,7 +5,7 @@ use Rattle.std.specs.FinMap as finite
 use Rattle.std.proofs.lemmas.List.{append_cancel_right}
 use Rattle.host_calls.specs.declared.child.Handed.{Handed}
 use Rattle.host_calls.specs.Folder.{Files, Folder, IsImage}
-use Rattle.host_calls.specs.World.{AtEach, AtSome, HasEachImage, LeavesOnly, Moment, World, moments, reading}
+use Rattle.host_calls.specs.World.{AllMoments, AnyMoment, HasEachImage, LeavesOnly, Moment, World, moments, reading}
 use Rattle.host_calls.proofs.FolderLemmas.{reading_is_image}
 use Rattle.host_calls.proofs.WorldLemmas.{AtEach-append, leaves_weaker}
 use Rattle.at_words.specs.Numbers.{are_distinct}
@@ -15,22 +15,22 @@ use Rattle.host_session.specs.declared.turn_end.TurnEnd.TheVariants.{Done, Busy,
 use Rattle.mail_notes.specs.declared.note.Note.{Note}
 use Rattle.mail_notes.specs.Hands.{Mailing}
 use Rattle.mail_notes.specs.Names.{mail_file}
-use Rattle.mail_notes.specs.Notes.{AreFirst, is_closed, is_named}
+use Rattle.mail_notes.specs.Notes.{IsNotesPrefix, has_closing_note, has_note_of}
 use Rattle.mail_session.specs.Dues.{sent_numbers}
-use Rattle.mail_session.specs.Leaving.{HasRead, IsIdle, IsStopped, IsWhole, MailLeaves, PostAt, mailing_of}
-use Rattle.mail_session.specs.Sessions.{HasPosted, HoldsPrefix, IsPosted, IsUntouched}
-use Rattle.at_mail.specs.Once.{HasOnceSince, HasWholeNotes, IsBesideMail, IsCrash, LeavesNotes, MailEvent, MailEvents, NoticesAreHandedOnce, a_session, another, crashed, next_event, no_event, notice_numbers}
+use Rattle.mail_session.specs.Leaving.{HasReadNotes, IsMailIdle, IsMailStopped, IsMailDone, MailLeaves, PostSpool, mailing_of}
+use Rattle.mail_session.specs.Sessions.{HasPosted, HoldsPrefix, IsPosted, IsMailUntouched}
+use Rattle.at_mail.specs.Once.{HasOnceSince, HasWholeNotes, IsBesideMail, IsCrashOfEvent, LeavesNotes, MailEvent, MailEvents, NoticesAreHandedOnce, a_session, another, crashed, next_event, no_event, notice_numbers}
 use Rattle.at_mail.proofs.SentLemmas.{AreNotes, GivesSpelled, by_now_numbers, closed_more, distinct_both, distinct_left, given_notes, gives_spelled, has, has_either, has_left, holds_spelled, named_of_sent, notes_both, notes_first, numbers_both, one_reading, sent_both, sent_closed, steps_are, steps_distinct, steps_open, unnamed_both, unnamed_first}
 
 -- Of a retired number nothing is noted any more, where it is unnamed. The law of this crate has none.
 
 abbrev pub LeavesRetired : (ℕ → Type 0) → World → World → Type 0
-LeavesRetired retired old new = (number : ℕ) → retired number → (table : JobTable) (notes steps : List Note) → HasRead table notes steps old new →
-    is_named number notes ≡ false → is_named number steps ≡ false
+LeavesRetired retired old new = (number : ℕ) → retired number → (table : JobTable) (notes steps : List Note) → HasReadNotes table notes steps old new →
+    has_note_of number notes ≡ false → has_note_of number steps ≡ false
 
 -- by these notes the notice of the number does not become due again
 abbrev pub IsShut : (ℕ → Type 0) → List Note → ℕ → Type 0
-IsShut retired notes number = (is_closed number notes ≡ true) ⊎ ((is_named number notes ≡ false) × retired number)
+IsShut retired notes number = (has_closing_note number notes ≡ true) ⊎ ((has_note_of number notes ≡ false) × retired number)
 
 -- The image spells notes, by which each notice that was handed over since the opening is shut, and no number of these
 -- stands twice.
@@ -55,8 +55,8 @@ same_once retired opening from image had handed is same as_many = record {
 
 -- what the notes of a session hand over comes to what was handed over before
 module _ (retired : ℕ → Type 0) (opening : List Handed) (start : Files) (had : List Handed) (base : IsOnce retired opening start had) (files : Files) (table : JobTable)
-    (notes steps : List Note) (are : Rattle.mail_session.specs.Leaving.AreSessionSteps files table notes steps) (same : base.notes ≡ notes)
-    (unnamed : (number : ℕ) → retired number → is_named number notes ≡ false → is_named number steps ≡ false) where
+    (notes steps : List Note) (are : Rattle.mail_session.specs.Leaving.AreMailSteps files table notes steps) (same : base.notes ≡ notes)
+    (unnamed : (number : ℕ) → retired number → has_note_of number notes ≡ false → has_note_of number steps ≡ false) where
   before : AreNotes notes
   before = subst AreNotes same (given_notes (finite.get start mail_file) base.notes base.gives)
 
@@ -75,7 +75,7 @@ module _ (retired : ℕ → Type 0) (opening : List Handed) (start : Files) (had
 
     not_shut : (number : ℕ) → has number (notice_numbers given) ≡ true → IsShut retired notes number → ⊥
     not_shut number is (inl closed) =
-        let open_yet : is_closed number notes ≡ false = steps_open files table notes steps are number (in_steps number is) in
+        let open_yet : has_closing_note number notes ≡ false = steps_open files table notes steps are number (in_steps number is) in
         let impossible : true ≡ false = sym closed ∙ open_yet in cc
     not_shut number is (inr shut) =
         let impossible : true ≡ false = sym (named_of_sent number steps (in_steps number is)) ∙ unnamed number shut.1 shut.0 in cc
@@ -89,7 +89,7 @@ module _ (retired : ℕ → Type 0) (opening : List Handed) (start : Files) (had
     still_shut : (number : ℕ) → IsShut retired notes number → IsShut retired (notes ++ prefix) number
     still_shut number (inl closed) = inl (closed_more number notes prefix closed)
     still_shut number (inr shut) =
-        inr (unnamed_both number notes prefix shut.0 (unnamed_first number prefix after (sym (ap (is_named number) first) ∙ unnamed number shut.1 shut.0)), shut.1)
+        inr (unnamed_both number notes prefix shut.0 (unnamed_first number prefix after (sym (ap (has_note_of number) first) ∙ unnamed number shut.1 shut.0)), shut.1)
 
     added_shut : (number : ℕ) → has number (notice_numbers (base.given ++ given)) ≡ true → IsShut retired (notes ++ prefix) number
     added_shut number is = elim (has_either number (notice_numbers base.given) (notice_numbers given) (sym (ap (has number) (numbers_both base.given given)) ∙ is)) [
@@ -107,18 +107,18 @@ module _ (retired : ℕ → Type 0) (opening : List Handed) (start : Files) (had
     added_notes = notes_both notes prefix before (notes_first prefix after (subst AreNotes first (steps_are files table notes steps are before)))
 
 module _ (retired : ℕ → Type 0) (opening : List Handed) (old new : World) (inv : HasEachImage (IsOnce retired opening) old.now) where
-  pub untouched : (image : Files) (handed : List Handed) → IsUntouched old.now image handed → IsOnce retired opening image handed
+  pub untouched : (image : Files) (handed : List Handed) → IsMailUntouched old.now image handed → IsOnce retired opening image handed
   untouched image handed is = same_once retired opening is.beside.from image old.now.handed handed (inv is.beside.from is.beside.was) is.same is.as_many
 
-  module _ (leaves : LeavesRetired retired old new) (table : JobTable) (notes steps : List Note) (read : HasRead table notes steps old new) (of : Mailing) (new_ones : List Note)
-      (first : AreFirst new_ones steps) where
+  module _ (leaves : LeavesRetired retired old new) (table : JobTable) (notes steps : List Note) (read : HasReadNotes table notes steps old new) (of : Mailing) (new_ones : List Note)
+      (first : IsNotesPrefix new_ones steps) where
     at_start : IsOnce retired opening (reading old) old.now.handed
     at_start = inv (reading old) (reading_is_image old.now.folder)
 
     same_notes : at_start.notes ≡ notes
     same_notes = one_reading (finite.get (reading old) mail_file) at_start.notes notes at_start.gives (gives_spelled (finite.get (reading old) mail_file) notes read.gives)
 
-    unnamed : (number : ℕ) → retired number → is_named number notes ≡ false → is_named number steps ≡ false
+    unnamed : (number : ℕ) → retired number → has_note_of number notes ≡ false → has_note_of number steps ≡ false
     unnamed number is = leaves number is table notes steps read
 
     added : (image : Files) (handed : List Handed) → HoldsPrefix of notes new_ones old.now image handed → IsOnce retired opening image handed
@@ -170,7 +170,7 @@ module _ (retired : ℕ → Type 0) (opening : List Handed) (old new : World) (i
     now = λ image is. weaker image new.now.handed (now image is);
   }
 
-  posted_keeps : LeavesRetired retired old new → (table : JobTable) (notes steps new_ones : List Note) (of : Mailing) → HasRead table notes steps old new → AreFirst new_ones steps
+  posted_keeps : LeavesRetired retired old new → (table : JobTable) (notes steps new_ones : List Note) (of : Mailing) → HasReadNotes table notes steps old new → IsNotesPrefix new_ones steps
       → HasPosted of notes new_ones table old new → KeepsOnce retired opening old new
   posted_keeps apart table notes steps new_ones of read first is =
       keeps_by (IsPosted of notes new_ones old.now) (posted retired opening old new inv apart table notes steps read of new_ones first) is.leaves is.now
@@ -179,17 +179,17 @@ module _ (retired : ℕ → Type 0) (opening : List Handed) (old new : World) (i
   beside_keeps is = keeps_by (LeavesNotes old.now) (beside retired opening old new inv) is.leaves is.now
 
 -- a session, whatever its end
-module _ (retired : ℕ → Type 0) (opening : List Handed) (before after : PostAt) (inv : HasEachImage (IsOnce retired opening) before.world.now)
+module _ (retired : ℕ → Type 0) (opening : List Handed) (before after : PostSpool) (inv : HasEachImage (IsOnce retired opening) before.world.now)
     (apart : LeavesRetired retired before.world after.world) (sent : List ℕ) where
-  idle : IsIdle sent before after → KeepsOnce retired opening before.world after.world
-  idle is = keeps_by retired opening before.world after.world inv (IsUntouched before.world.now) (untouched retired opening before.world after.world inv) is.leaves is.now
+  idle : IsMailIdle sent before after → KeepsOnce retired opening before.world after.world
+  idle is = keeps_by retired opening before.world after.world inv (IsMailUntouched before.world.now) (untouched retired opening before.world after.world inv) is.leaves is.now
 
-  stopped : IsStopped sent before after → KeepsOnce retired opening before.world after.world
+  stopped : IsMailStopped sent before after → KeepsOnce retired opening before.world after.world
   stopped is =
       posted_keeps retired opening before.world after.world inv apart is.table is.notes is.steps (is.made ++ is.next) (mailing_of before.post is.table is.notes is.steps) is.read
       is.first is.posted
 
-  whole : IsWhole sent before after → KeepsOnce retired opening before.world after.world
+  whole : IsMailDone sent before after → KeepsOnce retired opening before.world after.world
   whole is =
       posted_keeps retired opening before.world after.world inv apart is.table is.notes is.steps is.steps (mailing_of before.post is.table is.notes is.steps) is.read
       ([], sym (append-nil is.steps)) is.posted
@@ -211,16 +211,16 @@ event_keeps retired opening old new inv apart (a_session is) =
 event_keeps retired opening old new inv apart (another is) = beside_keeps retired opening old new inv is
 
 -- what holds of each moment holds of one of them
-at_one : (P : Moment → Type 0) (list : List Moment) (at : Moment) → AtEach P list → AtSome (λ moment. moment ≡ at) list → P at
+at_one : (P : Moment → Type 0) (list : List Moment) (at : Moment) → AllMoments P list → AnyMoment (λ moment. moment ≡ at) list → P at
 at_one P [] at all some = absurd some
 at_one P (here ∷ others) at all some = elim some [ inl same ↦ subst P same all.0 | inr later ↦ at_one P others at all.1 later ]
 
 pub crash_keeps : (retired : ℕ → Type 0) (opening : List Handed) (old during new : World) → HasEachImage (IsOnce retired opening) old.now → KeepsOnce retired opening old during
-    → IsCrash old during new → HasEachImage (IsOnce retired opening) new.now
+    → IsCrashOfEvent old during new → HasEachImage (IsOnce retired opening) new.now
 crash_keeps retired opening old during new inv keeps crash image is =
     let same : keeps.leaves.more ≡ crash.more = append_cancel_right keeps.leaves.more crash.more (moments old) (sym keeps.leaves.run ∙ crash.run) in
-    let each : AtEach (HasEachImage (IsOnce retired opening)) (crash.more ++ old.now ∷ []) =
-    AtEach-append (HasEachImage (IsOnce retired opening)) crash.more (old.now ∷ []) (subst (AtEach (HasEachImage (IsOnce retired opening))) same keeps.leaves.each) (inv, tt) in
+    let each : AllMoments (HasEachImage (IsOnce retired opening)) (crash.more ++ old.now ∷ []) =
+    AtEach-append (HasEachImage (IsOnce retired opening)) crash.more (old.now ∷ []) (subst (AllMoments (HasEachImage (IsOnce retired opening))) same keeps.leaves.each) (inv, tt) in
     let there : HasEachImage (IsOnce retired opening) crash.at = at_one (HasEachImage (IsOnce retired opening)) (crash.more ++ old.now ∷ []) crash.at each crash.is_one in
     same_once retired opening image image crash.at.handed new.now.handed (there image (crash.images image is)) refl crash.handed
 

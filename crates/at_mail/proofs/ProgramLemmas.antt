@@ -20,12 +20,12 @@ use Rattle.host_session.specs.declared.turn_end.TurnEnd.{TurnEnd}
 use Rattle.host_session.specs.declared.turn_end.TurnEnd.TheVariants.{Done, Busy, FileFault, Damaged, Memory}
 use Rattle.mail_session.specs.PostState.{PostState, new_post}
 use Rattle.cause_output.specs.Outside.{OutsideAt, Telling, WorkAt}
-use Rattle.mail_session.specs.Leaving.{PostAt}
+use Rattle.mail_session.specs.Leaving.{PostSpool}
 use Rattle.at_mail.specs.Making.{MakesSessions, next_session, no_session}
-use Rattle.at_mail.specs.Outcomes.{PostItem, last_outcome, outcome_by, outcome_or_done, program_name}
-use Rattle.at_mail.specs.Program.{PostsSessions, HasMadeNone, PostEnds, SaysOutcome, work_with}
-use Rattle.at_mail.specs.declared.outcome.Outcome.{Outcome}
-use Rattle.at_mail.specs.declared.outcome.Outcome.TheVariants.{OfSession, Own}
+use Rattle.at_mail.specs.Outcomes.{PostItem, last_session_outcome, session_outcome, outcome_or_done, mail_program}
+use Rattle.at_mail.specs.Program.{PostsSessions, HasMadeNoSession, PostEnds, SaysMailOutcome, work_with}
+use Rattle.at_mail.specs.declared.outcome.MailOutcome.{MailOutcome}
+use Rattle.at_mail.specs.declared.outcome.MailOutcome.TheVariants.{OfSession, Own}
 use Rattle.at_mail.specs.declared.request.PostRequest.{PostRequest}
 use Rattle.at_mail.specs.inside.Progressing.{HasMade}
 use Rattle.at_mail.proofs.MakingLemmas.{children_same, keeps_all, last_more, output_rose}
@@ -41,7 +41,7 @@ same_request : (one other : PostRequest) → ◌≡◌ {A = Result PostRequest W
 same_request one other same = cc
 
 -- a cause that was said is that, or want of memory
-said_other : (of : Cause) (tells : Bool) (old new : SinkAt) (final : Cause) → IsSaid program_name tells of old new final → of ≢ cause.OutputFault → final ≡ cause.OutputFault → ⊥
+said_other : (of : Cause) (tells : Bool) (old new : SinkAt) (final : Cause) → IsSaid mail_program tells of old new final → of ≢ cause.OutputFault → final ≡ cause.OutputFault → ⊥
 said_other of tells old new final (inl says) other is = other (sym says.0 ∙ is)
 said_other of tells old new final (inr lacks) other is = let no : cause.Memory ≡ cause.OutputFault = sym lacks.1 ∙ is in cc
 
@@ -51,9 +51,9 @@ words_other words.BadQueue is = cc
 words_other words.Memory is = cc
 
 module _ (asked : Result PostRequest WordsFault) (old new : OutsideAt) (final : Cause) (outside : IsOutside old.session) (made : new.err.made_as ≡ old.err.made_as) where
-  undone_ends : (of : Cause) → of ≢ cause.OutputFault → HasMadeNone of old new final
-      → ((fault : WordsFault) → asked ≡ Err fault → HasMadeNone (words_cause fault) old new final ⊎ HasMadeNone cause.Memory old new final)
-      → ((request : PostRequest) → asked ≡ Ok request → HasMadeNone cause.Memory old new final ⊎ PostsSessions request.turns (new_post request.program) old new final)
+  undone_ends : (of : Cause) → of ≢ cause.OutputFault → HasMadeNoSession of old new final
+      → ((fault : WordsFault) → asked ≡ Err fault → HasMadeNoSession (words_cause fault) old new final ⊎ HasMadeNoSession cause.Memory old new final)
+      → ((request : PostRequest) → asked ≡ Ok request → HasMadeNoSession cause.Memory old new final ⊎ PostsSessions request.turns (new_post request.program) old new final)
       → PostEnds asked old new final
   undone_ends of other is unasked posts = record {
     outside = subst IsOutside (sym is.session) outside;
@@ -67,24 +67,24 @@ module _ (asked : Result PostRequest WordsFault) (old new : OutsideAt) (final : 
   }
 
   -- words that ask for nothing
-  pub unasked_ends : (fault : WordsFault) → Answers asked (Err fault) → HasMadeNone (words_cause fault) old new final → PostEnds asked old new final
+  pub unasked_ends : (fault : WordsFault) → Answers asked (Err fault) → HasMadeNoSession (words_cause fault) old new final → PostEnds asked old new final
   unasked_ends words.Usage answers is =
       undone_ends (words_cause words.Usage) (words_other words.Usage) is
-      (λ fault was. inl (subst (λ (of : WordsFault). HasMadeNone (words_cause of) old new final) (same_fault asked words.Usage fault answers was) is))
+      (λ fault was. inl (subst (λ (of : WordsFault). HasMadeNoSession (words_cause of) old new final) (same_fault asked words.Usage fault answers was) is))
       (λ request was. absurd (not_both asked words.Usage request answers was))
   unasked_ends words.BadQueue answers is =
       undone_ends (words_cause words.BadQueue) (words_other words.BadQueue) is
-      (λ fault was. inl (subst (λ (of : WordsFault). HasMadeNone (words_cause of) old new final) (same_fault asked words.BadQueue fault answers was) is))
+      (λ fault was. inl (subst (λ (of : WordsFault). HasMadeNoSession (words_cause of) old new final) (same_fault asked words.BadQueue fault answers was) is))
       (λ request was. absurd (not_both asked words.BadQueue request answers was))
   unasked_ends words.Memory answers is =
       undone_ends cause.Memory (words_other words.Memory) is (λ fault was. inr is) (λ request was. inl is)
 
   -- no memory was found for the post
-  pub unmade_ends : HasMadeNone cause.Memory old new final → PostEnds asked old new final
+  pub unmade_ends : HasMadeNoSession cause.Memory old new final → PostEnds asked old new final
   unmade_ends is = undone_ends cause.Memory (words_other words.Memory) is (λ fault was. inr is) (λ request was. inl is)
 
 -- a session that ended the program, whose line was said, did so by a damage
-session_other : (end : TurnEnd) (said : Result (Unit {0}) SinkFault) → outcome_by end said ≡ Some (OfSession cause.OutputFault) → ⊥
+session_other : (end : TurnEnd) (said : Result (Unit {0}) SinkFault) → session_outcome end said ≡ Some (OfSession cause.OutputFault) → ⊥
 session_other Done (Ok done) is = cc
 session_other Busy (Ok done) is = cc
 session_other FileFault (Ok done) is = cc
@@ -101,16 +101,16 @@ session_other FileFault (Err put.Memory) is = cc
 session_other (Damaged damage) (Err put.Memory) is = cc
 session_other Memory (Err put.Memory) is = cc
 
-sessions_other : (tells : Telling) (items : List PostItem) (first last : WorkAt PostAt) → MakesSessions tells first items last → last_outcome items ≡ Some (OfSession cause.OutputFault) → ⊥
+sessions_other : (tells : Telling) (items : List PostItem) (first last : WorkAt PostSpool) → MakesSessions tells first items last → last_session_outcome items ≡ Some (OfSession cause.OutputFault) → ⊥
 sessions_other tells _ first _ no_session is = cc
 sessions_other tells _ first _ (next_session before item last rested after makes goes_on rests session) is =
     session_other item.end item.said (sym (last_more before item) ∙ is)
 
-own_output : (outcome : Option Outcome) → outcome_or_done outcome ≡ Own cause.OutputFault → outcome ≡ Some (Own cause.OutputFault)
+own_output : (outcome : Option MailOutcome) → outcome_or_done outcome ≡ Own cause.OutputFault → outcome ≡ Some (Own cause.OutputFault)
 own_output None is = absurd (cc)
 own_output (Some outcome) is = ap Some is
 
-session_output : (outcome : Option Outcome) → outcome_or_done outcome ≡ OfSession cause.OutputFault → outcome ≡ Some (OfSession cause.OutputFault)
+session_output : (outcome : Option MailOutcome) → outcome_or_done outcome ≡ OfSession cause.OutputFault → outcome ≡ Some (OfSession cause.OutputFault)
 session_output None is = absurd (cc)
 session_output (Some outcome) is = ap Some is
 
@@ -118,26 +118,26 @@ session_output (Some outcome) is = ap Some is
 pub no_kids : (children : List Child) (program : List ℕ) → AreChildren children (new_post program).kids
 no_kids children program = record { each = λ kid is. absurd (let less : is.0 < 0 = is.1 in omega arith) }
 
-module _ (tells : Telling) (items : List PostItem) (first last : WorkAt PostAt) (makes : MakesSessions tells first items last) (outside : IsOutside first.spool.session)
+module _ (tells : Telling) (items : List PostItem) (first last : WorkAt PostSpool) (makes : MakesSessions tells first items last) (outside : IsOutside first.spool.session)
     (children : AreChildren first.spool.session.children first.spool.post.kids) where
-  rose_by : (errors : Bool) (outcome : Outcome) (new : SinkAt) (final : Cause) → outcome ≡ outcome_or_done (last_outcome items) → last.said.faults ≤ new.faults
-      → SaysOutcome errors outcome last.said new final → final ≡ cause.OutputFault → Rose first.said.faults new.faults
+  rose_by : (errors : Bool) (outcome : MailOutcome) (new : SinkAt) (final : Cause) → outcome ≡ outcome_or_done (last_session_outcome items) → last.said.faults ≤ new.faults
+      → SaysMailOutcome errors outcome last.said new final → final ≡ cause.OutputFault → Rose first.said.faults new.faults
   rose_by errors (OfSession of) new final comes later says is =
       absurd (sessions_other tells items first last makes
-      (session_output (last_outcome items) (sym comes ∙ ap OfSession (sym says.0 ∙ is))))
+      (session_output (last_session_outcome items) (sym comes ∙ ap OfSession (sym says.0 ∙ is))))
   rose_by errors (Own of) new final comes later (inl says) is =
       let rose : Rose first.said.faults last.said.faults =
-      output_rose tells items first last makes outside children (own_output (last_outcome items) (sym comes ∙ ap Own (sym says.0 ∙ is))) in
+      output_rose tells items first last makes outside children (own_output (last_session_outcome items) (sym comes ∙ ap Own (sym says.0 ∙ is))) in
       omega arith
   rose_by errors (Own of) new final comes later (inr lacks) is = absurd (let no : cause.Memory ≡ cause.OutputFault = sym lacks.1 ∙ is in cc)
 
 -- the sessions were made, and what they came to was said
-pub posted_ends : (request : PostRequest) (post : PostState) (old mid new : OutsideAt) (outcome : Outcome) (final : Cause) → IsOutside old.session
+pub posted_ends : (request : PostRequest) (post : PostState) (old mid new : OutsideAt) (outcome : MailOutcome) (final : Cause) → IsOutside old.session
     → HasMade old.tells request.turns (work_with (new_post request.program) old) (work_with post mid) outcome → new.session ≡ mid.session → new.holds.spool ≡ mid.holds.spool
     → new.holds.answers ≡ mid.holds.answers → new.readers ≡ mid.readers → mid.holds.errors.faults ≤ new.holds.errors.faults → new.err.made_as ≡ old.err.made_as
-    → SaysOutcome old.tells.errors outcome mid.holds.errors new.holds.errors final → PostEnds (Ok request) old new final
+    → SaysMailOutcome old.tells.errors outcome mid.holds.errors new.holds.errors final → PostEnds (Ok request) old new final
 posted_ends request post old mid new outcome final outside made session spool answers readers later same says =
-    let first : WorkAt PostAt = work_with (new_post request.program) old in
+    let first : WorkAt PostSpool = work_with (new_post request.program) old in
     let keeps = keeps_all old.tells first outside (no_kids old.session.children request.program) made.items (work_with post mid) made.makes in record {
       outside = subst IsOutside (sym session) keeps.outside;
       kept = subst (λ (is : Session). KeepsChildren old.session.children is.children) (sym session) keeps.kept;
@@ -156,6 +156,6 @@ posted_ends request post old mid new outcome final outside made session spool an
         spool = spool;
         answers = answers;
         readers = readers;
-        says = subst (λ (of : Outcome). SaysOutcome old.tells.errors of mid.holds.errors new.holds.errors final) made.comes says;
+        says = subst (λ (of : MailOutcome). SaysMailOutcome old.tells.errors of mid.holds.errors new.holds.errors final) made.comes says;
       }));
     }

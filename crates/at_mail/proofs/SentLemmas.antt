@@ -22,17 +22,17 @@ use Rattle.spool_model.specs.JobTable.{JobEntry, JobTable, entry_at}
 use Rattle.mail_notes.specs.declared.note.Note.{Note}
 use Rattle.mail_notes.specs.declared.note.Note.TheVariants.{Dropped, Noted, Sent}
 use Rattle.mail_notes.specs.declared.note.NotedJob.{NotedJob}
-use Rattle.mail_notes.specs.Hands.{HandsByNow, Hands, IsNoticeOf, Mailing}
+use Rattle.mail_notes.specs.Hands.{SendsNoticesByNow, SendsNotices, IsNoticeOf, Mailing}
 use Rattle.mail_notes.specs.Lines.{Fits, HoldsNotes, IsNote, SpellsNote, note_text, notes_text}
-use Rattle.mail_notes.specs.Notes.{is_closed, is_closing, is_named, names}
+use Rattle.mail_notes.specs.Notes.{has_closing_note, is_closing_note, has_note_of, is_note_of}
 use Rattle.mail_notes.specs.Notices.{notice_text}
 use Rattle.mail_notes.proofs.OneText.{one_note_a_line}
 use Rattle.mail_notes.proofs.WritingLemmas.{notes_can_be_written}
-use Rattle.mail_session.specs.declared.due.Due.{Due}
+use Rattle.mail_session.specs.declared.due.NoticeDue.{NoticeDue}
 use Rattle.mail_session.specs.Dues.{notes_of, sent_numbers}
-use Rattle.mail_session.specs.Leaving.{AreSessionSteps, GivesNotes}
+use Rattle.mail_session.specs.Leaving.{AreMailSteps, GivesNotes}
 use Rattle.mail_session.specs.News.{IsNotedFrom, noting_of}
-use Rattle.mail_session.specs.Steps.{due_of}
+use Rattle.mail_session.specs.Steps.{due_of_entry}
 use Rattle.at_mail.specs.Once.{is_notice, notice_numbers}
 
 -- the number is one of these
@@ -109,7 +109,7 @@ is_one : (of : Mailing) (number : ℕ) (handed : Handed) → IsNoticeOf of numbe
 is_one of number handed notice =
     ap (λ (script : List ℕ). is_none (header_in script)) notice.script_is ∙ ap is_none (no_header of.program notice.job (turn_text notice.end))
 
-pub hands_numbers : (of : Mailing) (notes : List Note) (given : List Handed) → Hands of notes given → notice_numbers given ≡ sent_numbers notes
+pub hands_numbers : (of : Mailing) (notes : List Note) (given : List Handed) → SendsNotices of notes given → notice_numbers given ≡ sent_numbers notes
 hands_numbers of [] given is = ap notice_numbers is
 hands_numbers of (Sent number ∷ later) given (first, rest, one, others, is) =
     ap notice_numbers (is ∙ ap (λ (some : List Handed). some ++ rest) one.2)
@@ -128,41 +128,41 @@ sent_both (Noted job ∷ later) second = sent_both later second
 sent_both (Dropped number ∷ later) second = sent_both later second
 
 -- what was handed over by these notes, the last of which may be wanting, is of the first of their numbers
-pub by_now_numbers : (of : Mailing) (notes : List Note) (image : Files) (given : List Handed) → HandsByNow of notes image given
+pub by_now_numbers : (of : Mailing) (notes : List Note) (image : Files) (given : List Handed) → SendsNoticesByNow of notes image given
     → (more : List ℕ) × (sent_numbers notes ≡ notice_numbers given ++ more)
 by_now_numbers of notes image given (inl hands) = ([], sym (append-nil (notice_numbers given) ∙ hands_numbers of notes given hands))
 by_now_numbers of notes image given (inr lacks) =
     (lacks.number ∷ [], ap sent_numbers lacks.ends ∙ sent_both lacks.earlier (Sent lacks.number ∷ []) ∙ ap (λ (numbers : List ℕ). numbers ++ lacks.number ∷ []) (sym (hands_numbers of lacks.earlier given lacks.hands)))
 
 -- a number whose notice was sent is closed
-closed_of_sent : (number : ℕ) (notes : List Note) → has number (sent_numbers notes) ≡ true → is_closed number notes ≡ true
+closed_of_sent : (number : ℕ) (notes : List Note) → has number (sent_numbers notes) ≡ true → has_closing_note number notes ≡ true
 closed_of_sent number [] is = is
 closed_of_sent number (Sent one ∷ later) is = elim (either (one == number) (has number (sent_numbers later)) is) [
-  | inl same ↦ one_is ((one == number) && true) (is_closed number later) (rw same refl)
-  | inr rest ↦ other_is ((one == number) && true) (is_closed number later) (closed_of_sent number later rest)
+  | inl same ↦ one_is ((one == number) && true) (has_closing_note number later) (rw same refl)
+  | inr rest ↦ other_is ((one == number) && true) (has_closing_note number later) (closed_of_sent number later rest)
 ]
-closed_of_sent number (Noted job ∷ later) is = other_is ((job.number == number) && false) (is_closed number later) (closed_of_sent number later is)
-closed_of_sent number (Dropped one ∷ later) is = other_is ((one == number) && true) (is_closed number later) (closed_of_sent number later is)
+closed_of_sent number (Noted job ∷ later) is = other_is ((job.number == number) && false) (has_closing_note number later) (closed_of_sent number later is)
+closed_of_sent number (Dropped one ∷ later) is = other_is ((one == number) && true) (has_closing_note number later) (closed_of_sent number later is)
 
-pub sent_closed : (number : ℕ) (before notes : List Note) → has number (sent_numbers notes) ≡ true → is_closed number (before ++ notes) ≡ true
+pub sent_closed : (number : ℕ) (before notes : List Note) → has number (sent_numbers notes) ≡ true → has_closing_note number (before ++ notes) ≡ true
 sent_closed number before notes is =
-    list_any-append (λ note. names number note && is_closing note) before notes
-    ∙ other_is (is_closed number before) (is_closed number notes) (closed_of_sent number notes is)
+    list_any-append (λ note. is_note_of number note && is_closing_note note) before notes
+    ∙ other_is (has_closing_note number before) (has_closing_note number notes) (closed_of_sent number notes is)
 
 -- and so it stays
-pub closed_more : (number : ℕ) (notes later : List Note) → is_closed number notes ≡ true → is_closed number (notes ++ later) ≡ true
+pub closed_more : (number : ℕ) (notes later : List Note) → has_closing_note number notes ≡ true → has_closing_note number (notes ++ later) ≡ true
 closed_more number notes later is =
-    list_any-append (λ note. names number note && is_closing note) notes later ∙ one_is (is_closed number notes) (is_closed number later) is
+    list_any-append (λ note. is_note_of number note && is_closing_note note) notes later ∙ one_is (has_closing_note number notes) (has_closing_note number later) is
 
 -- a number whose notice was sent is named
-pub named_of_sent : (number : ℕ) (notes : List Note) → has number (sent_numbers notes) ≡ true → is_named number notes ≡ true
+pub named_of_sent : (number : ℕ) (notes : List Note) → has number (sent_numbers notes) ≡ true → has_note_of number notes ≡ true
 named_of_sent number [] is = is
 named_of_sent number (Sent one ∷ later) is = elim (either (one == number) (has number (sent_numbers later)) is) [
-  | inl same ↦ one_is (one == number) (is_named number later) same
-  | inr rest ↦ other_is (one == number) (is_named number later) (named_of_sent number later rest)
+  | inl same ↦ one_is (one == number) (has_note_of number later) same
+  | inr rest ↦ other_is (one == number) (has_note_of number later) (named_of_sent number later rest)
 ]
-named_of_sent number (Noted job ∷ later) is = other_is (job.number == number) (is_named number later) (named_of_sent number later is)
-named_of_sent number (Dropped one ∷ later) is = other_is (one == number) (is_named number later) (named_of_sent number later is)
+named_of_sent number (Noted job ∷ later) is = other_is (job.number == number) (has_note_of number later) (named_of_sent number later is)
+named_of_sent number (Dropped one ∷ later) is = other_is (one == number) (has_note_of number later) (named_of_sent number later is)
 
 neither : (one other : Bool) → one ≡ false → other ≡ false → (one || other) ≡ false
 neither one other is rest = rw (is, rest) refl
@@ -173,24 +173,24 @@ not_one false other is = refl
 
 -- a number that neither of two lists of notes names, and one that both don't
 
-pub unnamed_both : (number : ℕ) (first second : List Note) → is_named number first ≡ false → is_named number second ≡ false → is_named number (first ++ second) ≡ false
-unnamed_both number first second one two = list_any-append (names number) first second ∙ neither (is_named number first) (is_named number second) one two
+pub unnamed_both : (number : ℕ) (first second : List Note) → has_note_of number first ≡ false → has_note_of number second ≡ false → has_note_of number (first ++ second) ≡ false
+unnamed_both number first second one two = list_any-append (is_note_of number) first second ∙ neither (has_note_of number first) (has_note_of number second) one two
 
-pub unnamed_first : (number : ℕ) (first second : List Note) → is_named number (first ++ second) ≡ false → is_named number first ≡ false
-unnamed_first number first second is = not_one (is_named number first) (is_named number second) (sym (list_any-append (names number) first second) ∙ is)
+pub unnamed_first : (number : ℕ) (first second : List Note) → has_note_of number (first ++ second) ≡ false → has_note_of number first ≡ false
+unnamed_first number first second is = not_one (has_note_of number first) (has_note_of number second) (sym (list_any-append (is_note_of number) first second) ∙ is)
 
 -- What is due.
 
-abbrev pub dues_in : JobTable → List NotedJob → List Due
-dues_in table jobs = filter_map (λ job. due_of job (entry_at table job.number)) jobs
+abbrev pub dues_in : JobTable → List NotedJob → List NoticeDue
+dues_in table jobs = filter_map (λ job. due_of_entry job (entry_at table job.number)) jobs
 
 -- the numbers of the notices that are due of these
 abbrev pub sents_in : JobTable → List NotedJob → List ℕ
 sents_in table jobs = sent_numbers (notes_of (dues_in table jobs))
 
 -- a job has a notice, or none
-sent_step : (job : NotedJob) (held : Option JobEntry) (rest : List Due) → (sent_numbers (notes_of (cons_option (due_of job held) rest)) ≡ sent_numbers (notes_of rest))
-    ⊎ (sent_numbers (notes_of (cons_option (due_of job held) rest)) ≡ job.number ∷ sent_numbers (notes_of rest))
+sent_step : (job : NotedJob) (held : Option JobEntry) (rest : List NoticeDue) → (sent_numbers (notes_of (cons_option (due_of_entry job held) rest)) ≡ sent_numbers (notes_of rest))
+    ⊎ (sent_numbers (notes_of (cons_option (due_of_entry job held) rest)) ≡ job.number ∷ sent_numbers (notes_of rest))
 sent_step job None rest = inl refl
 sent_step job (Some (Live live state)) rest = inl refl
 sent_step job (Some (Done (Finished ending))) rest = inr refl
@@ -235,21 +235,21 @@ noting_none : (news : List NotedJob) → sent_numbers (noting_of news) ≡ []
 noting_none [] = refl
 noting_none (job ∷ later) = noting_none later
 
-module _ (files : Files) (table : JobTable) (notes steps : List Note) (are : AreSessionSteps files table notes steps) where
+module _ (files : Files) (table : JobTable) (notes steps : List Note) (are : AreMailSteps files table notes steps) where
   steps_sent : sent_numbers steps ≡ sents_in table are.due.jobs
   steps_sent =
       ap sent_numbers are.all ∙ sent_both (noting_of are.news) (notes_of are.dues)
-      ∙ ap (λ (numbers : List ℕ). numbers ++ sent_numbers (notes_of are.dues)) (noting_none are.news) ∙ ap (λ (dues : List Due). sent_numbers (notes_of dues)) are.due.dues_are
+      ∙ ap (λ (numbers : List ℕ). numbers ++ sent_numbers (notes_of are.dues)) (noting_none are.news) ∙ ap (λ (dues : List NoticeDue). sent_numbers (notes_of dues)) are.due.dues_are
 
   -- the numbers whose notices a session sends stand once each
   pub steps_distinct : are_distinct (sent_numbers steps) ≡ true
   steps_distinct = ap are_distinct steps_sent ∙ distinct_sents table are.due.jobs are.due.waiting.rise
 
   -- and none of them was closed before
-  pub steps_open : (number : ℕ) → has number (sent_numbers steps) ≡ true → is_closed number notes ≡ false
+  pub steps_open : (number : ℕ) → has number (sent_numbers steps) ≡ true → has_closing_note number notes ≡ false
   steps_open number is =
-      each_sent (λ one. is_closed one notes ≡ false) table are.due.jobs
-      (All-weaker (Contains are.due.jobs) (λ job. is_closed job.number notes ≡ false) (λ job has. (are.due.waiting.each job has).open_yet) are.due.jobs (All-contains_itself are.due.jobs))
+      each_sent (λ one. has_closing_note one notes ≡ false) table are.due.jobs
+      (All-weaker (Contains are.due.jobs) (λ job. has_closing_note job.number notes ≡ false) (λ job has. (are.due.waiting.each job has).open_yet) are.due.jobs (All-contains_itself are.due.jobs))
       number (sym (ap (has number) steps_sent) ∙ is)
 
 -- The text of the notes.
@@ -338,7 +338,7 @@ noting_are files table [] all = tt
 noting_are files table (job ∷ later) all =
     (noted_is files table job (All-head (IsNotedFrom files table) job later all), noting_are files table later (All-tail (IsNotedFrom files table) job later all))
 
-due_step : (job : NotedJob) → Fits job.number → (held : Option JobEntry) (rest : List Due) → AreNotes (notes_of rest) → AreNotes (notes_of (cons_option (due_of job held) rest))
+due_step : (job : NotedJob) → Fits job.number → (held : Option JobEntry) (rest : List NoticeDue) → AreNotes (notes_of rest) → AreNotes (notes_of (cons_option (due_of_entry job held) rest))
 due_step job fits None rest are = (fits, are)
 due_step job fits (Some (Live live state)) rest are = are
 due_step job fits (Some (Done (Finished ending))) rest are = (fits, are)
@@ -351,10 +351,10 @@ dues_are table (job ∷ later) all =
     due_step job (All-head (λ one. Fits one.number) job later all) (entry_at table job.number) (dues_in table later) (dues_are table later (All-tail (λ one. Fits one.number) job later all))
 
 -- the steps of a session can stand in lines, where the notes before them do
-pub steps_are : (files : Files) (table : JobTable) (notes steps : List Note) → AreSessionSteps files table notes steps → AreNotes notes → AreNotes steps
+pub steps_are : (files : Files) (table : JobTable) (notes steps : List Note) → AreMailSteps files table notes steps → AreNotes notes → AreNotes steps
 steps_are files table notes steps are before = subst AreNotes (sym are.all)
     (notes_both (noting_of are.news) (notes_of are.dues)
     (noting_are files table are.news (All-weaker (Contains are.news) (IsNotedFrom files table) are.each are.news (All-contains_itself are.news)))
-    (subst (λ (dues : List Due). AreNotes (notes_of dues)) (sym are.due.dues_are)
+    (subst (λ (dues : List NoticeDue). AreNotes (notes_of dues)) (sym are.due.dues_are)
     (dues_are table are.due.jobs (All-weaker (Contains are.due.jobs) (λ job. Fits job.number)
     (λ job has. (All-contains IsNote notes (Noted job) (notes_all notes before) (are.due.waiting.each job has).noted).0) are.due.jobs (All-contains_itself are.due.jobs)))))

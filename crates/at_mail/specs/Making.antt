@@ -1,8 +1,8 @@
 -- The sessions of the program, one after another, with a rest between two (own).
 use Rattle.std.specs.Prelude.{◌≡◌, ◌++◌, [], ◌∷◌, ℕ, List, Option, Some, None}
 use Rattle.cause_output.specs.Outside.{RestsBefore, Telling, WorkAt}
-use Rattle.mail_session.specs.Leaving.{PostAt, PostsTo}
-use Rattle.at_mail.specs.Outcomes.{PostItem, SaysEnd, last_outcome}
+use Rattle.mail_session.specs.Leaving.{PostSpool, PostsTo}
+use Rattle.at_mail.specs.Outcomes.{PostItem, SaysMailEnd, last_session_outcome}
 
 -- the seconds between two sessions
 abbrev pub rest_seconds : ℕ
@@ -14,18 +14,18 @@ rest_after_sessions [] = None
 rest_after_sessions (item ∷ items) = Some rest_seconds
 
 -- One session was made, and its end said. No clock is read, and no load.
-pub record IsSession (tells : Telling) (item : PostItem) (old new : WorkAt PostAt) : Type 0 where
+pub record IsSession (tells : Telling) (item : PostItem) (old new : WorkAt PostSpool) : Type 0 where
   pub posts : PostsTo tells.files tells.alone old.spool new.spool item.end item.sent
-  pub says : SaysEnd tells.errors item.end old.said new.said item.said
+  pub says : SaysMailEnd tells.errors item.end old.said new.said item.said
   pub clock : new.clock ≡ old.clock
   pub input : new.input ≡ old.input
 
 -- The sessions lead from the first state to this one: each begins where the one before it ended, after a rest.
-pub data MakesSessions (tells : Telling) (first : WorkAt PostAt) : List PostItem → WorkAt PostAt → Type 0 where
+pub data MakesSessions (tells : Telling) (first : WorkAt PostSpool) : List PostItem → WorkAt PostSpool → Type 0 where
   no_session : MakesSessions tells first [] first
-  next_session : (before : List PostItem) (item : PostItem) (last rested after : WorkAt PostAt)
+  next_session : (before : List PostItem) (item : PostItem) (last rested after : WorkAt PostSpool)
       → MakesSessions tells first before last
-      → last_outcome before ≡ None
+      → last_session_outcome before ≡ None
       → RestsBefore tells.clock (rest_after_sessions before) last rested
       → IsSession tells item rested after
       → MakesSessions tells first (before ++ item ∷ []) after

@@ -3,13 +3,13 @@ use Rattle.std.specs.Prelude.{◌≡◌, ◌++◌, [], ◌∷◌, ℕ, Bool, tru
 use Rattle.std.specs.FinMap as finite
 use Rattle.host_calls.specs.declared.child.Handed.{Handed}
 use Rattle.host_calls.specs.Folder.{Files, Folder, HasImagesOf, IsImage}
-use Rattle.host_calls.specs.World.{AtSome, HasEachImage, LeavesOnly, Moment, World, moments}
+use Rattle.host_calls.specs.World.{AnyMoment, HasEachImage, LeavesOnly, Moment, World, moments}
 use Rattle.at_words.specs.Numbers.{are_distinct}
 use Rattle.job_script.specs.HeaderIn.{header_in}
 use Rattle.host_session.specs.declared.turn_end.TurnEnd.{TurnEnd}
 use Rattle.mail_notes.specs.declared.note.Note.{Note}
 use Rattle.mail_notes.specs.Names.{mail_file}
-use Rattle.mail_session.specs.Leaving.{GivesNotes, MailLeaves, PostAt, PostsTo}
+use Rattle.mail_session.specs.Leaving.{GivesNotes, MailLeaves, PostSpool, PostsTo}
 use Rattle.cause_output.specs.Outside.{Telling, WorkAt}
 use Rattle.at_mail.specs.Making.{MakesSessions}
 use Rattle.at_mail.specs.Outcomes.{PostItem}
@@ -28,8 +28,8 @@ HasWholeNotes folder = (image : Files) → IsImage folder image → (notes : Lis
 
 -- a session of mail, whatever its end, by a post that keeps what it will
 pub record IsMailSession (old new : World) : Type 0 where
-  pub before : PostAt
-  pub after : PostAt
+  pub before : PostSpool
+  pub after : PostSpool
   pub was : before.world ≡ old
   pub is : after.world ≡ new
   pub end : TurnEnd
@@ -56,11 +56,11 @@ pub data MailEvent (old new : World) : Type 0 where
   another : IsBesideMail old new → MailEvent old new
 
 -- A crash at a moment of the event: what stands then has images of that moment alone, and what was handed over by then.
-pub record IsCrash (old during new : World) : Type 0 where
+pub record IsCrashOfEvent (old during new : World) : Type 0 where
   pub more : List Moment
   pub run : moments during ≡ more ++ moments old
   pub at : Moment
-  pub is_one : AtSome (λ moment. moment ≡ at) (more ++ old.now ∷ [])
+  pub is_one : AnyMoment (λ moment. moment ≡ at) (more ++ old.now ∷ [])
   pub images : HasImagesOf at.folder new.now.folder
   pub handed : new.now.handed ≡ at.handed
 
@@ -68,7 +68,7 @@ pub record IsCrash (old during new : World) : Type 0 where
 pub data MailEvents (first : World) : World → Type 0 where
   no_event : MailEvents first first
   next_event : (before after : World) → MailEvents first before → MailEvent before after → MailEvents first after
-  crashed : (before during after : World) → MailEvents first before → MailEvent before during → IsCrash before during after
+  crashed : (before during after : World) → MailEvents first before → MailEvent before during → IsCrashOfEvent before during after
       → MailEvents first after
 
 -- of the notices that were handed over since, no number stands twice
@@ -84,9 +84,10 @@ NoticesAreHandedOnce = (first last : World) → HasWholeNotes first.now.folder �
 
 -- a session of a post is an event, over a host that tells its files and is alone
 abbrev pub SessionsAreEvents : Type 0
-SessionsAreEvents = (old new : PostAt) (end : TurnEnd) (sent : List ℕ) → PostsTo true true old new end sent → MailEvent old.world new.world
+SessionsAreEvents = (old new : PostSpool) (end : TurnEnd) (sent : List ℕ) → PostsTo true true old new end sent
+    → MailEvent old.world new.world
 
 -- and the sessions of the program are events, one after another
 abbrev pub ProgramsAreEvents : Type 0
-ProgramsAreEvents = (tells : Telling) (items : List PostItem) (first last : WorkAt PostAt) → tells.files ≡ true → tells.alone ≡ true →
+ProgramsAreEvents = (tells : Telling) (items : List PostItem) (first last : WorkAt PostSpool) → tells.files ≡ true → tells.alone ≡ true →
     MakesSessions tells first items last → MailEvents first.spool.world last.spool.world

@@ -9,12 +9,12 @@ use Rattle.cause_output.specs.Ends.{cause_of_end}
 use Rattle.cause_output.specs.Sinks.{IsCut, IsPut, IsSilent, SinkAt}
 use Rattle.host_session.specs.declared.turn_end.TurnEnd.{TurnEnd}
 use Rattle.host_session.specs.declared.turn_end.TurnEnd.TheVariants.{Done, Busy, FileFault, Damaged, Memory}
-use Rattle.at_mail.specs.declared.outcome.Outcome.{Outcome}
-use Rattle.at_mail.specs.declared.outcome.Outcome.TheVariants.{OfSession, Own}
+use Rattle.at_mail.specs.declared.outcome.MailOutcome.{MailOutcome}
+use Rattle.at_mail.specs.declared.outcome.MailOutcome.TheVariants.{OfSession, Own}
 
 -- the name under which the program says its causes
-abbrev pub program_name : List ℕ
-program_name = codes "atpost"
+abbrev pub mail_program : List ℕ
+mail_program = codes "atpost"
 
 -- A session of the program: how it ended, the numbers of the notices that it handed over, and what the put of its line answered.
 pub record PostItem : Type 0 where
@@ -23,23 +23,23 @@ pub record PostItem : Type 0 where
   pub said : Result (Unit {0}) SinkFault
 
 -- the line of a session's end: one that was done has none
-abbrev pub end_line : TurnEnd → List ℕ
-end_line end = cause_line_of program_name (cause_of_end end)
+abbrev pub mail_end_line : TurnEnd → List ℕ
+mail_end_line end = cause_line_of mail_program (cause_of_end end)
 
 -- the line was put whole, or up to a fault of the sink; nothing where no memory was found
-abbrev pub SaysBy : List ℕ → SinkAt → SinkAt → Result (Unit {0}) SinkFault → Type 0
-SaysBy line old new (Ok done) = IsPut line old new
-SaysBy line old new (Err put.Failed) = IsCut line old new
-SaysBy line old new (Err put.Memory) = IsSilent old new
+abbrev pub SaysEndBy : List ℕ → SinkAt → SinkAt → Result (Unit {0}) SinkFault → Type 0
+SaysEndBy line old new (Ok done) = IsPut line old new
+SaysEndBy line old new (Err put.Failed) = IsCut line old new
+SaysEndBy line old new (Err put.Memory) = IsSilent old new
 
 -- The end of a session was said, by what the put of its line answered.
-pub record SaysEnd (tells : Bool) (end : TurnEnd) (old new : SinkAt) (said : Result (Unit {0}) SinkFault) : Type 0 where
+pub record SaysMailEnd (tells : Bool) (end : TurnEnd) (old new : SinkAt) (said : Result (Unit {0}) SinkFault) : Type 0 where
   pub later : old.faults ≤ new.faults
   pub failed : IsErrOf said put.Failed → Rose old.faults new.faults
-  pub says : tells ≡ true → SaysBy (end_line end) old new said
+  pub says : tells ≡ true → SaysEndBy (mail_end_line end) old new said
 
 -- what comes of a line that was put: a damage ends the program
-abbrev pub outcome_said : TurnEnd → Option Outcome
+abbrev pub outcome_said : TurnEnd → Option MailOutcome
 outcome_said Done = None
 outcome_said Busy = None
 outcome_said FileFault = None
@@ -47,7 +47,7 @@ outcome_said (Damaged damage) = Some (OfSession (cause.Damaged damage))
 outcome_said Memory = None
 
 -- of one whose put failed: a damage comes before that
-abbrev pub outcome_cut : TurnEnd → Option Outcome
+abbrev pub outcome_cut : TurnEnd → Option MailOutcome
 outcome_cut Done = Some (Own cause.OutputFault)
 outcome_cut Busy = Some (Own cause.OutputFault)
 outcome_cut FileFault = Some (Own cause.OutputFault)
@@ -55,7 +55,7 @@ outcome_cut (Damaged damage) = Some (OfSession (cause.Damaged damage))
 outcome_cut Memory = Some (Own cause.OutputFault)
 
 -- and of one that found no memory: that of want of memory may be wanting
-abbrev pub outcome_unsaid : TurnEnd → Option Outcome
+abbrev pub outcome_unsaid : TurnEnd → Option MailOutcome
 outcome_unsaid Done = Some (Own cause.Memory)
 outcome_unsaid Busy = Some (Own cause.Memory)
 outcome_unsaid FileFault = Some (Own cause.Memory)
@@ -63,18 +63,18 @@ outcome_unsaid (Damaged damage) = Some (Own cause.Memory)
 outcome_unsaid Memory = None
 
 -- what the program comes to by a session, if no further one is made
-abbrev pub outcome_by : TurnEnd → Result (Unit {0}) SinkFault → Option Outcome
-outcome_by end (Ok done) = outcome_said end
-outcome_by end (Err put.Failed) = outcome_cut end
-outcome_by end (Err put.Memory) = outcome_unsaid end
+abbrev pub session_outcome : TurnEnd → Result (Unit {0}) SinkFault → Option MailOutcome
+session_outcome end (Ok done) = outcome_said end
+session_outcome end (Err put.Failed) = outcome_cut end
+session_outcome end (Err put.Memory) = outcome_unsaid end
 
 -- what it comes to by the last of its sessions
-abbrev pub last_outcome : List PostItem → Option Outcome
-last_outcome [] = None
-last_outcome (item ∷ []) = outcome_by item.end item.said
-last_outcome (item ∷ other ∷ items) = last_outcome (other ∷ items)
+abbrev pub last_session_outcome : List PostItem → Option MailOutcome
+last_session_outcome [] = None
+last_session_outcome (item ∷ []) = session_outcome item.end item.said
+last_session_outcome (item ∷ other ∷ items) = last_session_outcome (other ∷ items)
 
 -- all was done where no session ended it
-abbrev pub outcome_or_done : Option Outcome → Outcome
+abbrev pub outcome_or_done : Option MailOutcome → MailOutcome
 outcome_or_done None = Own cause.Done
 outcome_or_done (Some outcome) = outcome

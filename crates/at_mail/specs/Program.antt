@@ -14,47 +14,47 @@ use Rattle.host_calls.specs.Session.{IsOutside, KeepsCounts}
 use Rattle.listing_text.specs.declared.cause.Cause.{Cause}
 use Rattle.listing_text.specs.declared.cause.Cause.TheVariants as cause
 use Rattle.mail_session.specs.PostState.{PostState, new_post}
-use Rattle.mail_session.specs.Leaving.{PostAt}
-use Rattle.at_mail.specs.declared.outcome.Outcome.{Outcome}
-use Rattle.at_mail.specs.declared.outcome.Outcome.TheVariants.{OfSession, Own}
+use Rattle.mail_session.specs.Leaving.{PostSpool}
+use Rattle.at_mail.specs.declared.outcome.MailOutcome.{MailOutcome}
+use Rattle.at_mail.specs.declared.outcome.MailOutcome.TheVariants.{OfSession, Own}
 use Rattle.at_mail.specs.declared.request.PostRequest.{PostRequest}
 use Rattle.at_mail.specs.Making.{MakesSessions}
-use Rattle.at_mail.specs.Outcomes.{PostItem, last_outcome, outcome_or_done, program_name}
+use Rattle.at_mail.specs.Outcomes.{PostItem, last_session_outcome, outcome_or_done, mail_program}
 
 -- all that the program is handed: no inputs, and nothing to print on
 abbrev pub mail_outside : {H R E : Type 0} → host.Ghosts H → readings.Ghosts R → sink.Ghosts E → H → R → E → OutsideAt
 mail_outside h r e host readings err = outside_at h r no_inputs no_sink e host readings tt tt err
 
 -- what is worked with, with this post
-abbrev pub work_with : PostState → OutsideAt → WorkAt PostAt
+abbrev pub work_with : PostState → OutsideAt → WorkAt PostSpool
 work_with post at = work_at (record { session = at.session; world = at.holds.spool; post = post }) at
 
 -- the last line: that of a cause of its own; the line of a session that ended it was said before
-abbrev pub SaysOutcome : Bool → Outcome → SinkAt → SinkAt → Cause → Type 0
-SaysOutcome tells (OfSession of) old new final = (final ≡ of) × (tells ≡ true → new ≡ old)
-SaysOutcome tells (Own of) old new final = IsSaid program_name tells of old new final
+abbrev pub SaysMailOutcome : Bool → MailOutcome → SinkAt → SinkAt → Cause → Type 0
+SaysMailOutcome tells (OfSession of) old new final = (final ≡ of) × (tells ≡ true → new ≡ old)
+SaysMailOutcome tells (Own of) old new final = IsSaid mail_program tells of old new final
 
 -- No session was made, and this cause was said.
-pub record HasMadeNone (of : Cause) (old new : OutsideAt) (final : Cause) : Type 0 where
+pub record HasMadeNoSession (of : Cause) (old new : OutsideAt) (final : Cause) : Type 0 where
   pub session : new.session ≡ old.session
   pub spool : new.holds.spool ≡ old.holds.spool
   pub answers : new.holds.answers ≡ old.holds.answers
   pub readers : new.readers ≡ old.readers
-  pub says : IsSaid program_name old.tells.errors of old.holds.errors new.holds.errors final
+  pub says : IsSaid mail_program old.tells.errors of old.holds.errors new.holds.errors final
 
 -- The sessions, on one post, lead to the end: all that were asked for, or fewer where one ended the program. What it comes to
 -- is that of the last session, or that all was done.
 pub record PostsSessions (turns : ℕ) (begun : PostState) (old new : OutsideAt) (final : Cause) : Type 0 where
   pub items : List PostItem
-  pub last : WorkAt PostAt
+  pub last : WorkAt PostSpool
   pub few : length items ≤ turns
   pub makes : MakesSessions old.tells (work_with begun old) items last
-  pub stops : (length items ≡ turns) ⊎ IsSome (last_outcome items)
+  pub stops : (length items ≡ turns) ⊎ IsSome (last_session_outcome items)
   pub session : new.session ≡ last.spool.session
   pub spool : new.holds.spool ≡ last.spool.world
   pub answers : new.holds.answers ≡ last.clock.answers
   pub readers : new.readers ≡ last.clock.readers
-  pub says : SaysOutcome old.tells.errors (outcome_or_done (last_outcome items)) last.said new.holds.errors final
+  pub says : SaysMailOutcome old.tells.errors (outcome_or_done (last_session_outcome items)) last.said new.holds.errors final
 
 -- How the program ends, by what its words ask for. No session is on, no child is forgotten and no count has fallen; what the
 -- readings and the sink were made as stays; a fault of the output comes only where its count rose. Words that ask for nothing
@@ -67,6 +67,6 @@ pub record PostEnds (asked : Result PostRequest WordsFault) (old new : OutsideAt
   pub made : new.err.made_as ≡ old.err.made_as
   pub output_fault : final ≡ cause.OutputFault → Rose old.holds.errors.faults new.holds.errors.faults
   pub unasked : (fault : WordsFault) → asked ≡ Err fault →
-      HasMadeNone (words_cause fault) old new final ⊎ HasMadeNone cause.Memory old new final
+      HasMadeNoSession (words_cause fault) old new final ⊎ HasMadeNoSession cause.Memory old new final
   pub posts : (request : PostRequest) → asked ≡ Ok request →
-      HasMadeNone cause.Memory old new final ⊎ PostsSessions request.turns (new_post request.program) old new final
+      HasMadeNoSession cause.Memory old new final ⊎ PostsSessions request.turns (new_post request.program) old new final

@@ -21,7 +21,7 @@ mod words;
 
 pub use laws::{notices_are_handed_once, sessions_of_mail_are_events};
 pub use mail_notes::{
-    MailBook, MailStanding, NOTICE_NICE, Note, NotedJob, mail_name, mail_temp_name, notice_name,
+    MailBook, NOTICE_NICE, Note, NotedJob, NoticeState, mail_name, mail_temp_name, notice_name,
     notice_text,
 };
 pub use mail_session::{Post, PostReport};

@@ -6,10 +6,10 @@ ghost use Rattle.mail_session.specs.PostState.{may_be_program};
 ghost use Rattle.at_mail.specs.Program.{PostEnds, mail_outside};
 ghost use Rattle.at_mail.specs.Words.{post_asked};
 
-use crate::outcomes::{PROGRAM, say_outcome};
+use crate::outcomes::{MAIL_PROGRAM, say_mail_outcome};
 use crate::request::PostRequest;
 use crate::sessions::make_sessions;
-use crate::words::request;
+use crate::words::mail_request;
 use cause_output::{cause_of_words, say_cause};
 use host_calls::{Host, Readings, Sink};
 use listing_text::{Cause, Status};
@@ -31,12 +31,12 @@ pub fn post_program<H: Host, R: Readings, E: Sink>(
         (mail_outside H.Host R.Readings E.Sink host.old readings.old err.old)
         (mail_outside H.Host R.Readings E.Sink host.new readings.new err.new) result.cause }
 {
-    let cause = answer(alloc, words, host, readings, err);
+    let cause = run_words(alloc, words, host, readings, err);
     Status::of(cause)
 }
 
 // Does what the words ask for. Answers the cause, which was said.
-fn answer<H: Host, R: Readings, E: Sink>(
+fn run_words<H: Host, R: Readings, E: Sink>(
     alloc: Global,
     words: &[String],
     host: &mut H,
@@ -48,14 +48,14 @@ fn answer<H: Host, R: Readings, E: Sink>(
         (mail_outside H.Host R.Readings E.Sink host.old readings.old err.old)
         (mail_outside H.Host R.Readings E.Sink host.new readings.new err.new) result }
 {
-    match request(alloc, words) {
-        Ok(request) => carry_out(alloc, &request, host, readings, err),
-        Err(fault) => say_cause(alloc, PROGRAM, cause_of_words(fault), err),
+    match mail_request(alloc, words) {
+        Ok(request) => post_sessions(alloc, &request, host, readings, err),
+        Err(fault) => say_cause(alloc, MAIL_PROGRAM, cause_of_words(fault), err),
     }
 }
 
 // Makes the sessions that are asked for, on one post. Answers the cause, which was said.
-fn carry_out<H: Host, R: Readings, E: Sink>(
+fn post_sessions<H: Host, R: Readings, E: Sink>(
     alloc: Global,
     request: &PostRequest,
     host: &mut H,
@@ -71,8 +71,8 @@ fn carry_out<H: Host, R: Readings, E: Sink>(
     match Post::new(alloc, request.program.as_str()) {
         Ok(mut post) => {
             let outcome = make_sessions(alloc, &mut post, request.turns, host, readings, err);
-            say_outcome(alloc, outcome, err)
+            say_mail_outcome(alloc, outcome, err)
         }
-        Err(_) => say_cause(alloc, PROGRAM, Cause::Memory, err),
+        Err(_) => say_cause(alloc, MAIL_PROGRAM, Cause::Memory, err),
     }
 }

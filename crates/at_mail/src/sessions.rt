@@ -7,8 +7,8 @@ ghost use Rattle.host_calls.specs.Session.{IsOutside};
 ghost use Rattle.at_mail.specs.Program.{mail_outside, work_with};
 ghost use Rattle.at_mail.specs.inside.Progressing.{HasMade, MakesOne, rest_before};
 
-use crate::outcome::Outcome;
-use crate::outcomes::{outcome_by, say_end};
+use crate::outcome::MailOutcome;
+use crate::outcomes::{say_mail_end, session_outcome};
 use host_calls::{Host, Readings, Sink};
 use listing_text::Cause;
 use mail_session::Post;
@@ -25,7 +25,7 @@ pub(crate) fn make_sessions<H: Host, R: Readings, E: Sink>(
     host: &mut H,
     readings: &mut R,
     err: &mut E,
-) -> Outcome
+) -> MailOutcome
     requires outside { IsOutside (H.session host.old) }
     requires children { AreChildren (H.session host.old).children post.old.kids }
     ensures made { (E.outlet err.new).made_as ≡ (E.outlet err.old).made_as }
@@ -34,17 +34,17 @@ pub(crate) fn make_sessions<H: Host, R: Readings, E: Sink>(
         (work_with post.new (mail_outside H.Host R.Readings E.Sink host.new readings.new err.new)) result }
 {
     for place in 0..turns {
-        rest_before(place, readings);
+        rest_before_place(place, readings);
         match next_session(alloc, post, host, err) {
             Some(outcome) => return outcome,
             None => {}
         }
     }
-    Outcome::Own(Cause::Done)
+    MailOutcome::Own(Cause::Done)
 }
 
 // Rests before the session of this place. There is no rest before the first.
-fn rest_before<R: Readings>(place: u64, readings: &mut R)
+fn rest_before_place<R: Readings>(place: u64, readings: &mut R)
     ensures { RestsOn R.tells (rest_before place)
         (clock_at R.Readings readings.old) (clock_at R.Readings readings.new) }
 {
@@ -59,7 +59,7 @@ fn next_session<H: Host, E: Sink>(
     post: &mut Post,
     host: &mut H,
     err: &mut E,
-) -> Option<Outcome>
+) -> Option<MailOutcome>
     requires outside { IsOutside (H.session host.old) }
     requires children { AreChildren (H.session host.old).children post.old.kids }
     ensures made { (E.outlet err.new).made_as ≡ (E.outlet err.old).made_as }
@@ -69,6 +69,6 @@ fn next_session<H: Host, E: Sink>(
         (sink_at (E.content err.old) (E.outlet err.old)) (sink_at (E.content err.new) (E.outlet err.new)) result }
 {
     let report = post.session(alloc, host);
-    let said = say_end(alloc, &report.end, err);
-    outcome_by(&report.end, &said)
+    let said = say_mail_end(alloc, &report.end, err);
+    session_outcome(&report.end, &said)
 }

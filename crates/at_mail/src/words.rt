@@ -16,19 +16,19 @@ use host_calls::Text;
 use std::alloc::{AllocError, Global};
 
 // What the words ask for, the first of which stands for the program's name.
-pub(crate) fn request(alloc: Global, words: &[String]) -> Result<PostRequest, WordsFault>
+pub(crate) fn mail_request(alloc: Global, words: &[String]) -> Result<PostRequest, WordsFault>
     ensures asked { Answers (post_asked (map string_bytes words.now)) result }
     ensures program { IfOk result (λ request. IsTrue (may_be_program request.program)) }
 {
     if words.is_empty() {
         return Err(WordsFault::Usage);
     }
-    let command = command(alloc)?;
+    let command = mail_command(alloc)?;
     let matches = parsed(command, words)?;
-    asked(alloc, &matches)
+    request_of_matches(alloc, &matches)
 }
 
-fn command<'a>(alloc: Global) -> Result<Command<'a>, AllocError>
+fn mail_command<'a>(alloc: Global) -> Result<Command<'a>, AllocError>
     ensures { IfOk result (λ made. app_of made ≡ post_app) }
 {
     let send = with_send(alloc)?;
@@ -43,7 +43,7 @@ fn with_send<'a>(alloc: Global) -> Result<Command<'a>, AllocError>
 }
 
 // What the matches ask for.
-fn asked(alloc: Global, matches: &ArgMatches) -> Result<PostRequest, WordsFault>
+fn request_of_matches(alloc: Global, matches: &ArgMatches) -> Result<PostRequest, WordsFault>
     ensures asked { Answers (matches_asked (rows_of (found_of matches.now))) result }
     ensures program { IfOk result (λ request. IsTrue (may_be_program request.program)) }
 {

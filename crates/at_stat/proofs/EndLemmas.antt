@@ -22,9 +22,9 @@ use Rattle.at_stat.specs.Checks.{early_check}
 use Rattle.at_stat.specs.declared.request.StatRequest.{StatRequest}
 use Rattle.at_stat.specs.declared.status.StatStatus.{StatStatus}
 use Rattle.at_stat.specs.declared.wait.Sight.{Sight}
-use Rattle.at_stat.specs.Stating.{Ends, EndsBy, EndsChecked, HasCode, HasEnded, HasRisenStating, IsIdle, IsStopped, IsText, IsUnasked, SeesLast, stopped_status, wait_of, wait_tells}
+use Rattle.at_stat.specs.Stating.{StatEnds, EndsBy, EndsChecked, HasCode, HasStatEnded, HasRisenStating, IsStatIdle, IsStatStopped, IsText, IsStatUnasked, SeesLast, stopped_status, wait_of, wait_tells}
 use Rattle.at_stat.specs.Waiting.{HasStopped}
-use Rattle.at_stat.specs.inside.Putting.{IsWithoutText, PutsBy, PutsLines}
+use Rattle.at_stat.specs.inside.Putting.{IsWithoutText, PutsStatesBy, PutsStateLines}
 use Rattle.at_stat.proofs.FrameLemmas.{Frame, no_frame, seen_frame, stopped_stop}
 use Rattle.at_stat.proofs.LateLemmas.{IsOfSpool, stopped_of_spool}
 use Rattle.at_stat.proofs.UserLemmas.{user_fails, user_passes, zone_fails, zone_passes}
@@ -48,7 +48,7 @@ not_both request fault same = let no : ◌≡◌ {A = Result StatRequest WordsFa
 module _ (request : StatRequest) (caller : Caller) (old new : OutsideAt) where
   -- what was asked for was done or stopped
   ended_by : (status : StatStatus) → Frame (wait_tells old) (wait_of old) (wait_of new) → new.out.made_as ≡ old.out.made_as → HasRisenStating old new status.cause → HasCode status
-      → Ends request caller old new status → HasEnded (Ok request) caller old new status
+      → StatEnds request caller old new status → HasStatEnded (Ok request) caller old new status
   ended_by status frame made_as risen code ends = record {
     left = frame.left;
     goes_on = frame.goes_on;
@@ -57,18 +57,18 @@ module _ (request : StatRequest) (caller : Caller) (old new : OutsideAt) where
     risen = risen;
     code = code;
     unasked = λ fault same. absurd (not_both request fault same);
-    ends = λ other same. subst (λ (one : StatRequest). Ends one caller old new status) (same_request request other same) ends;
+    ends = λ other same. subst (λ (one : StatRequest). StatEnds one caller old new status) (same_request request other same) ends;
   }
 
   -- the checks before the spool is entered pass
   passes : IsUserName caller.context.user → is_unreadable caller.zone ≡ false → early_check caller ≡ None
   passes named readable = rw (user_passes caller.context named, zone_passes caller.zone readable) refl
 
-  checked : (status : StatStatus) → early_check caller ≡ None → EndsBy request caller old new status.code status.cause → Ends request caller old new status
+  checked : (status : StatStatus) → early_check caller ≡ None → EndsBy request caller old new status.code status.cause → StatEnds request caller old new status
   checked status none ends = inl (subst (λ (check : Option Refusal). EndsChecked check request caller old new status) (sym none) ends)
 
   -- the sessions were stopped
-  stops_by : (cause : Cause) (code : ℕ) → IsOfSpool cause → IsStopped request caller old new cause → EndsBy request caller old new code (Some cause)
+  stops_by : (cause : Cause) (code : ℕ) → IsOfSpool cause → IsStatStopped request caller old new cause → EndsBy request caller old new code (Some cause)
   stops_by FileFault code of is = is
   stops_by Memory code of is = inr is
   stops_by Busy code of is = is
@@ -84,7 +84,7 @@ module _ (request : StatRequest) (caller : Caller) (old new : OutsideAt) where
 
   pub ended_stopped : IsUserName caller.context.user → is_unreadable caller.zone ≡ false → new.holds.output ≡ old.holds.output → new.out ≡ old.out
       → (stopped : CommandError) → HasStopped (wait_tells old) caller.context.user request.wait request.which (wait_of old) (wait_of new) stopped
-      → HasEnded (Ok request) caller old new (stopped_status stopped.cause)
+      → HasStatEnded (Ok request) caller old new (stopped_status stopped.cause)
   ended_stopped named readable printed out stopped is =
       let stop = stopped_stop (wait_tells old) caller.context.user request.which request.wait (wait_of old) (wait_of new) stopped is in
       let of : IsOfSpool stopped.cause = stopped_of_spool (wait_tells old) caller.context.user request.wait request.which (wait_of old) (wait_of new) stopped is in
@@ -104,7 +104,7 @@ module _ (request : StatRequest) (caller : Caller) (old new : OutsideAt) where
   -- the lines were put, or not
   module _ (sight : Sight) (sees : SeesLast request caller (wait_tells old) (wait_of old) (wait_of new) sight.store sight.finished) where
     puts_by : (text : List ℕ) (code : ℕ) (cause : Option Cause) → IsText request caller.context.user caller.zone sight.store.table text
-        → PutsBy request sight text old.tells.output old.holds.output new.holds.output code cause → EndsBy request caller old new code cause
+        → PutsStatesBy request sight text old.tells.output old.holds.output new.holds.output code cause → EndsBy request caller old new code cause
     puts_by text code None is put = record {
       kept = sight.store;
       text = text;
@@ -126,17 +126,17 @@ module _ (request : StatRequest) (caller : Caller) (old new : OutsideAt) where
     puts_by text code (Some _) is put = absurd put
 
     -- no fault of the spool comes of it
-    no_spool : (text : List ℕ) (code : ℕ) (cause : Option Cause) → PutsBy request sight text old.tells.output old.holds.output new.holds.output code cause
+    no_spool : (text : List ℕ) (code : ℕ) (cause : Option Cause) → PutsStatesBy request sight text old.tells.output old.holds.output new.holds.output code cause
         → (cause ≡ Some FileFault → ⊥) × (cause ≡ Some Busy → ⊥)
     no_spool text code cause put = (
-      λ same. subst (PutsBy request sight text old.tells.output old.holds.output new.holds.output code) same put,
-      λ same. subst (PutsBy request sight text old.tells.output old.holds.output new.holds.output code) same put,
+      λ same. subst (PutsStatesBy request sight text old.tells.output old.holds.output new.holds.output code) same put,
+      λ same. subst (PutsStatesBy request sight text old.tells.output old.holds.output new.holds.output code) same put,
     )
 
     pub ended_shown : IsUserName caller.context.user → is_unreadable caller.zone ≡ false → (status : StatStatus) → new.out.made_as ≡ old.out.made_as
         → (status.cause ≡ Some OutputFault → Rose old.out.sink_faults new.out.sink_faults) → HasCode status
-        → PutsLines request caller.context.user caller.zone sight old.tells.output old.holds.output new.holds.output status
-        → HasEnded (Ok request) caller old new status
+        → PutsStateLines request caller.context.user caller.zone sight old.tells.output old.holds.output new.holds.output status
+        → HasStatEnded (Ok request) caller old new status
     ended_shown named readable status made_as rose code lines =
         let none = no_spool lines.0 status.code status.cause lines.2 in
         ended_by status (seen_frame (wait_tells old) caller.context.user request.which request.wait (wait_of old) (wait_of new) sight.store sight.finished sees) made_as
@@ -145,7 +145,7 @@ module _ (request : StatRequest) (caller : Caller) (old new : OutsideAt) where
 
     pub ended_without : IsUserName caller.context.user → is_unreadable caller.zone ≡ false → (status : StatStatus) → new.out.made_as ≡ old.out.made_as
         → (status.cause ≡ Some OutputFault → Rose old.out.sink_faults new.out.sink_faults) → HasCode status
-        → IsWithoutText old.tells.output old.holds.output new.holds.output status → HasEnded (Ok request) caller old new status
+        → IsWithoutText old.tells.output old.holds.output new.holds.output status → HasStatEnded (Ok request) caller old new status
     ended_without named readable status made_as rose code without =
         let cause_is : status.cause ≡ Some Memory = ap (λ (one : StatStatus). one.cause) without.status_is in
         ended_by status (seen_frame (wait_tells old) caller.context.user request.which request.wait (wait_of old) (wait_of new) sight.store sight.finished sees) made_as
@@ -159,7 +159,7 @@ module _ (request : StatRequest) (caller : Caller) (old new : OutsideAt) where
 
 -- nothing was done
 module _ (asked : Result StatRequest WordsFault) (caller : Caller) (at : OutsideAt) (outside : IsOutside at.session) where
-  idle : (cause : Cause) → IsIdle cause at at (stopped_status cause)
+  idle : (cause : Cause) → IsStatIdle cause at at (stopped_status cause)
   idle cause = record { status_is = refl; wait = refl; silent = λ known. same_silent at.holds.output }
 
   -- no such cause
@@ -183,8 +183,8 @@ module _ (asked : Result StatRequest WordsFault) (caller : Caller) (at : Outside
 
   -- the checks before the spool is entered refuse it
   pub ended_early : (request : StatRequest) → asked ≡ Ok request → (refusal : Refusal) → early_check caller ≡ Some refusal
-      → HasEnded asked caller at at (stopped_status (Refused refusal))
-  ended_early request is refusal check = subst (λ (one : Result StatRequest WordsFault). HasEnded one caller at at (stopped_status (Refused refusal))) (sym is)
+      → HasStatEnded asked caller at at (stopped_status (Refused refusal))
+  ended_early request is refusal check = subst (λ (one : Result StatRequest WordsFault). HasStatEnded one caller at at (stopped_status (Refused refusal))) (sym is)
       (ended_by request caller at at (stopped_status (Refused refusal)) (no_frame (wait_tells at) (wait_of at) outside) refl (early_risen (Refused refusal) tt)
       (stopped_code (Refused refusal))
       (inl (subst (λ (one : Option Refusal). EndsChecked one request caller at at (stopped_status (Refused refusal))) (sym check) (idle (Refused refusal)))))
@@ -196,8 +196,8 @@ module _ (asked : Result StatRequest WordsFault) (caller : Caller) (at : Outside
   no_request : (fault : WordsFault) (request : StatRequest) → Err fault ≡ asked → asked ≡ Ok request → ⊥
   no_request fault request first second = not_both request fault (sym second ∙ sym first)
 
-  ended_idle : (cause : Cause) → IsEarly cause → ((fault : WordsFault) → asked ≡ Err fault → IsUnasked fault at at (stopped_status cause))
-      → ((request : StatRequest) → asked ≡ Ok request → Ends request caller at at (stopped_status cause)) → HasEnded asked caller at at (stopped_status cause)
+  ended_idle : (cause : Cause) → IsEarly cause → ((fault : WordsFault) → asked ≡ Err fault → IsStatUnasked fault at at (stopped_status cause))
+      → ((request : StatRequest) → asked ≡ Ok request → StatEnds request caller at at (stopped_status cause)) → HasStatEnded asked caller at at (stopped_status cause)
   ended_idle cause early unasked ends =
       let frame : Frame (wait_tells at) (wait_of at) (wait_of at) = no_frame (wait_tells at) (wait_of at) outside in
       record {
@@ -211,13 +211,13 @@ module _ (asked : Result StatRequest WordsFault) (caller : Caller) (at : Outside
         ends = ends;
       }
 
-  refused : (fault : WordsFault) → Err fault ≡ asked → IsEarly (words_cause fault) → HasEnded asked caller at at (stopped_status (words_cause fault))
+  refused : (fault : WordsFault) → Err fault ≡ asked → IsEarly (words_cause fault) → HasStatEnded asked caller at at (stopped_status (words_cause fault))
   refused fault is early = ended_idle (words_cause fault) early
-      (λ other was. inl (subst (λ (one : WordsFault). IsIdle (words_cause one) at at (stopped_status (words_cause fault))) (same_fault fault other is was) (idle (words_cause fault))))
+      (λ other was. inl (subst (λ (one : WordsFault). IsStatIdle (words_cause one) at at (stopped_status (words_cause fault))) (same_fault fault other is was) (idle (words_cause fault))))
       (λ request was. absurd (no_request fault request is was))
 
   -- the words ask for nothing, or were not read
-  pub ended_unasked : (fault : WordsFault) → Answers asked (Err fault) → HasEnded asked caller at at (stopped_status (words_cause fault))
+  pub ended_unasked : (fault : WordsFault) → Answers asked (Err fault) → HasStatEnded asked caller at at (stopped_status (words_cause fault))
   ended_unasked words.Usage is = refused words.Usage is tt
   ended_unasked words.BadQueue is = refused words.BadQueue is tt
   ended_unasked words.Memory is = ended_idle Memory tt (λ fault was. inr (idle Memory)) (λ request was. inr (idle Memory))

@@ -6,19 +6,19 @@ use Rattle.cause_output.specs.declared.command_error.CommandError.{CommandError}
 use Rattle.cause_output.specs.Outside.{ClockAt}
 use Rattle.host_calls.specs.Causes.{Rose}
 use Rattle.host_calls.specs.Session.{IsLeft, IsOutside, Session}
-use Rattle.host_calls.specs.World.{GoesOn}
+use Rattle.host_calls.specs.World.{TimePasses}
 use Rattle.host_calls.proofs.WorldLemmas.{goes_on_none, goes_on_then}
 use Rattle.host_session.proofs.SessionLemmas.{counts_on, no_counts}
 use Rattle.listing_text.specs.declared.cause.Cause.{Cause}
 use Rattle.listing_text.specs.declared.cause.Cause.TheVariants.{Busy, FileFault, Memory}
 use Rattle.step_runs.specs.Current.{Kept}
 use Rattle.at_stat.specs.Looking.{SpoolAt}
-use Rattle.at_stat.specs.Waiting.{ComesAfter, HasSeen, HasStopped, LooksAt, RestsBetween, StopsAfter, StopsWaiting, WaitAt, WaitTelling, Waits, at_first, at_later, no_more, once_more}
+use Rattle.at_stat.specs.Waiting.{ComesAfter, HasSeen, HasStopped, LooksAt, RestsBetween, StopsStatAfter, StopsWaiting, WaitAt, WaitTelling, Waits, at_first, at_later, no_more, once_more}
 
 -- what is left alone from one moment to another
 pub record Frame (tells : WaitTelling) (old new : WaitAt) : Type 0 where
   pub left : IsLeft old.spool.session new.spool.session
-  pub goes_on : tells.files ≡ true → GoesOn old.spool.world new.spool.world
+  pub goes_on : tells.files ≡ true → TimePasses old.spool.world new.spool.world
   pub readers : new.clock.readers ≡ old.clock.readers
 
 same_left : (session : Session) → IsOutside session → IsLeft session session
@@ -104,7 +104,7 @@ module _ (tells : WaitTelling) (user : List ℕ) (which : Filter) where
       (look_stop stops.rested new stopped stops.stops)
 
   after_stop : (wait : Option ℕ) (seen : Kept) (start new : WaitAt) (stopped : CommandError) → IsOutside start.spool.session
-      → StopsAfter tells user wait which seen start new stopped → Stop start new stopped.cause
+      → StopsStatAfter tells user wait which seen start new stopped → Stop start new stopped.cause
   after_stop None seen start new stopped outside stops = absurd stops
   after_stop (Some turns) seen start new stopped outside (inl memory) =
       subst (λ (one : WaitAt). Stop start one stopped.cause) (sym memory.0)

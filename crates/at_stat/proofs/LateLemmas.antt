@@ -5,9 +5,9 @@ use Rattle.at_words.specs.declared.filter.Filter.{Filter}
 use Rattle.at_words.specs.declared.filter.Filter.TheVariants as filter
 use Rattle.cause_output.specs.Causes.{cause_in, cause_of_entry}
 use Rattle.cause_output.specs.declared.command_error.CommandError.{CommandError}
-use Rattle.command_rules.specs.Checks.{check_of, is_before, of_lock}
+use Rattle.command_rules.specs.Checks.{check_of, is_earlier_check, of_lock}
 use Rattle.command_rules.specs.Sessions.{IsNotOpened, faults, is_damaged, lacks_memory, lists_fault, lists_lack_memory, refuses}
-use Rattle.command_rules.specs.Verdict.{first_refusal, row_at}
+use Rattle.command_rules.specs.Verdict.{first_refusal, live_row}
 use Rattle.host_calls.specs.declared.fault.EnterFault.{EnterFault}
 use Rattle.host_calls.specs.declared.fault.EnterFault.TheVariants as entry
 use Rattle.host_calls.specs.World.{World}
@@ -22,12 +22,12 @@ use Rattle.spool_session.specs.Sessions.{IsOfSession}
 use Rattle.step_runs.specs.Current.{Kept}
 use Rattle.at_stat.specs.Checks.{number_check, numbers_check, owner_check, which_check}
 use Rattle.at_stat.specs.Looking.{LooksInside}
-use Rattle.at_stat.specs.Waiting.{HasStopped, LooksAt, StopsAfter, WaitAt, WaitTelling, at_first, at_later}
+use Rattle.at_stat.specs.Waiting.{HasStopped, LooksAt, StopsStatAfter, WaitAt, WaitTelling, at_first, at_later}
 
 -- a refusal within a session
 abbrev IsLate : Option Refusal → Type 0
 IsLate None = Unit {0}
-IsLate (Some refusal) = is_before of_lock (check_of refusal) ≡ true
+IsLate (Some refusal) = is_earlier_check of_lock (check_of refusal) ≡ true
 
 owner_late : (user : List ℕ) (number : ℕ) (row : Option Row) → IsLate (owner_check user number row)
 owner_late user number None = tt
@@ -37,9 +37,9 @@ owner_late user number (Some row) = by_test (may_see user row) where
   by_test false = refl
 
 number_late : (user : List ℕ) (table : JobTable) (number : ℕ) → IsLate (number_check user table number)
-number_late user table number = by_test (nat_le 1 number && nat_le number table.last) (owner_late user number (row_at table number)) where
-  by_test : (drawn : Bool) → IsLate (owner_check user number (row_at table number))
-      → IsLate (cond drawn (owner_check user number (row_at table number)) (Some (NoSuchJob number)))
+number_late user table number = by_test (nat_le 1 number && nat_le number table.last) (owner_late user number (live_row table number)) where
+  by_test : (drawn : Bool) → IsLate (owner_check user number (live_row table number))
+      → IsLate (cond drawn (owner_check user number (live_row table number)) (Some (NoSuchJob number)))
   by_test true late = late
   by_test false late = refl
 
@@ -92,7 +92,7 @@ look_of_spool tells user which old new stopped look = elim look.spool.looks [
   inside entered left (inr denied) = subst IsOfSpool (sym denied.cause_is) tt
 
 after_of_spool : (tells : WaitTelling) (user : List ℕ) (wait : Option ℕ) (which : Filter) (seen : Kept) (start new : WaitAt) (stopped : CommandError)
-    → StopsAfter tells user wait which seen start new stopped → IsOfSpool stopped.cause
+    → StopsStatAfter tells user wait which seen start new stopped → IsOfSpool stopped.cause
 after_of_spool tells user None which seen start new stopped stops = absurd stops
 after_of_spool tells user (Some turns) which seen start new stopped (inl memory) = subst (λ (one : CommandError). IsOfSpool one.cause) (sym memory.1) tt
 after_of_spool tells user (Some turns) which seen start new stopped (inr stops) =

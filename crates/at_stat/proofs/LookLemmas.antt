@@ -7,16 +7,16 @@ use Rattle.cause_output.specs.Causes.{cause_in}
 use Rattle.cause_output.specs.declared.command_error.CommandError.{CommandError}
 use Rattle.host_calls.specs.declared.host.Host.{Ghosts}
 use Rattle.host_session.specs.Work.{Calls}
-use Rattle.spool_session.specs.Sessions.{EndsSession, HasRisenIn, StaysQuiet}
+use Rattle.spool_session.specs.Sessions.{EndsCommandSession, HasRisenIn, StaysQuiet}
 use Rattle.step_runs.specs.Current.{Kept}
-use Rattle.at_stat.specs.Looking.{Looks, LooksInside, spool_at}
+use Rattle.at_stat.specs.Looking.{LooksAtJobs, LooksInside, stat_spool_at}
 
 module _ {H F : Type 0} (g : Ghosts H) (calls : Calls H F (Result Kept CommandError)) (work left : F) (old new : H) (result : Result Kept CommandError)
     (user : List ℕ) (which : Filter) where
   -- the session could not begin, or the work was done in it
-  pub looks_of_session : StaysQuiet g old new → HasRisenIn g old new (cause_in result) → EndsSession g calls work left old new result
+  pub looks_of_session : StaysQuiet g old new → HasRisenIn g old new (cause_in result) → EndsCommandSession g calls work left old new result
       → ((first last : H) → CalledAtMut calls work first result left last → LooksInside g.tells user which (g.world first) (g.world last) result)
-      → Looks g.tells g.alone user which (spool_at (g.session old) (g.world old)) (spool_at (g.session new) (g.world new)) result
+      → LooksAtJobs g.tells g.alone user which (stat_spool_at (g.session old) (g.world old)) (stat_spool_at (g.session new) (g.world new)) result
   looks_of_session quiet faults ends within = record {
     left = quiet.left;
     goes_on = quiet.goes_on;

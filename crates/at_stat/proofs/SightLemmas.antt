@@ -5,7 +5,7 @@ use Rattle.at_words.specs.declared.filter.Filter.{Filter}
 use Rattle.cause_output.specs.declared.command_error.CommandError.{CommandError}
 use Rattle.step_runs.specs.Current.{Kept}
 use Rattle.at_stat.specs.declared.wait.Sight.{Sight}
-use Rattle.at_stat.specs.Waiting.{ComesAfter, HasSeen, LooksAt, StopsAfter, WaitAt, WaitTelling, at_later}
+use Rattle.at_stat.specs.Waiting.{ComesAfter, HasSeen, LooksAt, StopsStatAfter, WaitAt, WaitTelling, at_later}
 use Rattle.at_stat.specs.inside.Sighting.{Awaits, Sees}
 
 module _ (tells : WaitTelling) (user : List ℕ) (wait : Option ℕ) (which : Filter) (old start new : WaitAt) (seen : Kept)
@@ -20,7 +20,7 @@ module _ (tells : WaitTelling) (user : List ℕ) (wait : Option ℕ) (which : Fi
     later = subst (λ (one : Option ℕ). ComesAfter tells user one which seen start new sight.store sight.finished) (sym is) awaits;
   }
   sees_after turns (Err stopped) is awaits =
-      at_later seen start first (subst (λ (one : Option ℕ). StopsAfter tells user one which seen start new stopped) (sym is) awaits)
+      at_later seen start first (subst (λ (one : Option ℕ). StopsStatAfter tells user one which seen start new stopped) (sym is) awaits)
 
 -- they are not
 pub sees_once : (tells : WaitTelling) (user : List ℕ) (wait : Option ℕ) (which : Filter) (old new : WaitAt) (seen : Kept)

@@ -4,12 +4,12 @@ use Rattle.std.specs.List.{list_any}
 use Rattle.at_words.specs.declared.filter.Filter.{Filter}
 use Rattle.at_words.specs.declared.filter.Filter.TheVariants.{All, Queue, Numbers}
 use Rattle.cause_output.specs.declared.caller.Caller.{Caller}
-use Rattle.command_rules.specs.Verdict.{first_refusal, row_at, user_check, zone_check}
+use Rattle.command_rules.specs.Verdict.{first_refusal, live_row, user_check, zone_check}
 use Rattle.host_calls.specs.declared.child.Ending.TheVariants.{Exit, Signal, NotStarted}
-use Rattle.job_states.specs.declared.stage.Stage.{Stage}
-use Rattle.job_states.specs.declared.stage.Stage.TheVariants as stage
+use Rattle.job_states.specs.declared.stage.JobStage.{JobStage}
+use Rattle.job_states.specs.declared.stage.JobStage.TheVariants as stage
 use Rattle.job_states.specs.Reports.{is_in_queue}
-use Rattle.job_states.specs.Stages.{stage_of}
+use Rattle.job_states.specs.Stages.{stage_of_number}
 use Rattle.listing_text.specs.declared.refusal.Refusal.{Refusal}
 use Rattle.listing_text.specs.declared.refusal.Refusal.TheVariants.{NoSuchJob, NotYours}
 use Rattle.listing_text.specs.Listing.{may_see}
@@ -33,7 +33,7 @@ owner_check user number (Some row) = if may_see user row then None else Some (No
 -- the number was never drawn, or is that of a live job of another
 abbrev pub number_check : List ℕ → JobTable → ℕ → Option Refusal
 number_check user table number =
-    if nat_le 1 number && nat_le number table.last then owner_check user number (row_at table number)
+    if nat_le 1 number && nat_le number table.last then owner_check user number (live_row table number)
     else Some (NoSuchJob number)
 
 -- the first number of the list that is refused decides
@@ -58,7 +58,7 @@ awaited_numbers user (Numbers named) table = named
 
 -- one of the jobs lives
 abbrev pub has_live : JobTable → List ℕ → Bool
-has_live table numbers = list_any (λ number. is_some (row_at table number)) numbers
+has_live table numbers = list_any (λ number. is_some (live_row table number)) numbers
 
 -- the exit status of a job that is done
 abbrev pub code_of_fate : Fate → ℕ
@@ -69,14 +69,14 @@ code_of_fate Interrupted = INTERRUPTED
 code_of_fate Removed = REMOVED
 
 -- the exit status of a job that does not live
-abbrev pub code_of_stage : Stage → ℕ
+abbrev pub code_of_stage : JobStage → ℕ
 code_of_stage (stage.Live row) = 0
 code_of_stage (stage.Done fate) = code_of_fate fate
 code_of_stage stage.Forgotten = FORGOTTEN
 
 -- that of the one job that is named, and 0 of more or none
 abbrev pub code_of_named : JobTable → List ℕ → ℕ
-code_of_named table (number ∷ []) = code_of_stage (stage_of table number)
+code_of_named table (number ∷ []) = code_of_stage (stage_of_number table number)
 code_of_named table _ = 0
 
 -- the exit status where all was done: where the end of exactly one named job was waited for, that of the job

@@ -3,11 +3,11 @@ use Rattle.std.specs.Prelude.{◌≡◌, ◌⊎◌, List, ℕ, Bool, true, Some,
 use Rattle.at_words.specs.declared.filter.Filter.{Filter}
 use Rattle.cause_output.specs.Causes.{cause_in, cause_of_entry, error_of}
 use Rattle.cause_output.specs.declared.command_error.CommandError.{CommandError}
-use Rattle.command_rules.specs.Sessions.{IsNotOpened, IsOpened}
+use Rattle.command_rules.specs.Sessions.{IsNotOpened, IsStoreOpened}
 use Rattle.host_calls.specs.Causes.{Rose}
 use Rattle.host_calls.specs.declared.fault.EnterFault.{EnterFault}
 use Rattle.host_calls.specs.Session.{IsLeft, Session}
-use Rattle.host_calls.specs.World.{GoesOn, World}
+use Rattle.host_calls.specs.World.{TimePasses, World}
 use Rattle.listing_text.specs.declared.cause.Cause.{Cause}
 use Rattle.listing_text.specs.declared.cause.Cause.TheVariants.{Busy, FileFault, Refused}
 use Rattle.listing_text.specs.declared.refusal.Refusal.{Refusal}
@@ -19,20 +19,20 @@ pub record SpoolAt : Type 0 where
   pub session : Session
   pub world : World
 
-abbrev pub spool_at : Session → World → SpoolAt
-spool_at session world = record { session = session; world = world }
+abbrev pub stat_spool_at : Session → World → SpoolAt
+stat_spool_at session world = record { session = session; world = world }
 
 -- The spool was opened for the user, and the table of the folder refuses none of the jobs. What is kept has that table, but
 -- for its scripts.
 pub record IsSeen (tells : Bool) (user : List ℕ) (which : Filter) (entered left : World) (kept : Kept) : Type 0 where
-  pub opened : IsOpened tells user entered left kept
+  pub opened : IsStoreOpened tells user entered left kept
   pub allowed : which_check user kept.table which ≡ None
 
 -- The spool was opened, and the table of the folder refuses one of the jobs.
 pub record IsDenied (tells : Bool) (user : List ℕ) (which : Filter) (entered left : World) (cause : Cause) : Type 0 where
   pub kept : Kept
   pub refusal : Refusal
-  pub opened : IsOpened tells user entered left kept
+  pub opened : IsStoreOpened tells user entered left kept
   pub checked : which_check user kept.table which ≡ Some refusal
   pub cause_is : cause ≡ Refused refusal
 
@@ -54,18 +54,18 @@ pub record HasBegun (tells alone : Bool) (user : List ℕ) (which : Filter) (old
     (result : Result Kept CommandError) : Type 0 where
   pub entered : World
   pub left : World
-  pub begun : tells ≡ true → GoesOn old entered
+  pub begun : tells ≡ true → TimePasses old entered
   pub begun_alone : tells ≡ true → alone ≡ true → entered ≡ old
   pub inside : LooksInside tells user which entered left result
-  pub over : tells ≡ true → GoesOn left new
+  pub over : tells ≡ true → TimePasses left new
   pub over_alone : tells ≡ true → alone ≡ true → new ≡ left
 
 -- A session that looks: after it none is on, no child was started and nothing handed over; a fault comes only where its
 -- count rose.
-pub record Looks (tells alone : Bool) (user : List ℕ) (which : Filter) (old new : SpoolAt)
+pub record LooksAtJobs (tells alone : Bool) (user : List ℕ) (which : Filter) (old new : SpoolAt)
     (result : Result Kept CommandError) : Type 0 where
   pub left : IsLeft old.session new.session
-  pub goes_on : tells ≡ true → GoesOn old.world new.world
+  pub goes_on : tells ≡ true → TimePasses old.world new.world
   pub file_fault : cause_in result ≡ FileFault → Rose old.session.file_faults new.session.file_faults
   pub busy : cause_in result ≡ Busy → Rose old.session.taken new.session.taken
   pub looks : IsNotBegun tells alone old.world new.world result ⊎ HasBegun tells alone user which old.world new.world result

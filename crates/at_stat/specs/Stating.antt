@@ -12,7 +12,7 @@ use Rattle.host_calls.specs.declared.host.Host as host
 use Rattle.host_calls.specs.declared.readings.Readings as readings
 use Rattle.host_calls.specs.declared.sink.Sink as sink
 use Rattle.host_calls.specs.Session.{IsLeft}
-use Rattle.host_calls.specs.World.{GoesOn}
+use Rattle.host_calls.specs.World.{TimePasses}
 use Rattle.job_states.specs.Reports.{AreAsked, IsReport}
 use Rattle.listing_text.specs.Cause.{code_of}
 use Rattle.listing_text.specs.declared.cause.Cause.{Cause}
@@ -56,7 +56,7 @@ SeesLast request caller tells old new kept finished =
     HasSeen tells caller.context.user request.wait request.which old new kept finished
 
 -- The lines were put, over the table that the last session saw, and this comes to the status.
-pub record Shows (request : StatRequest) (caller : Caller) (old new : OutsideAt) (finished : Bool) (code : ℕ) : Type 0 where
+pub record ShowsStates (request : StatRequest) (caller : Caller) (old new : OutsideAt) (finished : Bool) (code : ℕ) : Type 0 where
   pub kept : Kept
   pub text : List ℕ
   pub sees : SeesLast request caller (wait_tells old) (wait_of old) (wait_of new) kept finished
@@ -65,7 +65,7 @@ pub record Shows (request : StatRequest) (caller : Caller) (old new : OutsideAt)
   pub code_is : finished ≡ true → code ≡ done_code request.wait request.which kept.table
 
 -- The lines were put in part, and the output failed.
-pub record IsCutShort (request : StatRequest) (caller : Caller) (old new : OutsideAt) : Type 0 where
+pub record IsStatCutShort (request : StatRequest) (caller : Caller) (old new : OutsideAt) : Type 0 where
   pub kept : Kept
   pub finished : Bool
   pub text : List ℕ
@@ -74,7 +74,7 @@ pub record IsCutShort (request : StatRequest) (caller : Caller) (old new : Outsi
   pub cut : old.tells.output ≡ true → IsCut text old.holds.output new.holds.output
 
 -- The sessions were stopped, and nothing was put.
-pub record IsStopped (request : StatRequest) (caller : Caller) (old new : OutsideAt) (cause : Cause) : Type 0 where
+pub record IsStatStopped (request : StatRequest) (caller : Caller) (old new : OutsideAt) (cause : Cause) : Type 0 where
   pub stopped : HasStopped (wait_tells old) caller.context.user request.wait request.which (wait_of old) (wait_of new) (error_of cause)
   pub silent : old.tells.output ≡ true → IsSilent old.holds.output new.holds.output
 
@@ -86,37 +86,37 @@ pub record IsUnwritten (request : StatRequest) (caller : Caller) (old new : Outs
   pub silent : old.tells.output ≡ true → IsSilent old.holds.output new.holds.output
 
 -- nothing was done, for this cause
-pub record IsIdle (cause : Cause) (old new : OutsideAt) (status : StatStatus) : Type 0 where
+pub record IsStatIdle (cause : Cause) (old new : OutsideAt) (status : StatStatus) : Type 0 where
   pub status_is : status ≡ stopped_status cause
   pub wait : wait_of new ≡ wait_of old
   pub silent : old.tells.output ≡ true → IsSilent old.holds.output new.holds.output
 
 -- how the program ends after its checks, by its cause
 abbrev pub EndsBy : StatRequest → Caller → OutsideAt → OutsideAt → ℕ → Option Cause → Type 0
-EndsBy request caller old new code None = Shows request caller old new true code
-EndsBy request caller old new code (Some StillRunning) = Shows request caller old new false code
-EndsBy request caller old new code (Some OutputFault) = IsCutShort request caller old new
+EndsBy request caller old new code None = ShowsStates request caller old new true code
+EndsBy request caller old new code (Some StillRunning) = ShowsStates request caller old new false code
+EndsBy request caller old new code (Some OutputFault) = IsStatCutShort request caller old new
 EndsBy request caller old new code (Some Memory) =
-    IsUnwritten request caller old new ⊎ IsStopped request caller old new Memory
-EndsBy request caller old new code (Some FileFault) = IsStopped request caller old new FileFault
-EndsBy request caller old new code (Some Busy) = IsStopped request caller old new Busy
-EndsBy request caller old new code (Some (Damaged damage)) = IsStopped request caller old new (Damaged damage)
-EndsBy request caller old new code (Some (Refused refusal)) = IsStopped request caller old new (Refused refusal)
+    IsUnwritten request caller old new ⊎ IsStatStopped request caller old new Memory
+EndsBy request caller old new code (Some FileFault) = IsStatStopped request caller old new FileFault
+EndsBy request caller old new code (Some Busy) = IsStatStopped request caller old new Busy
+EndsBy request caller old new code (Some (Damaged damage)) = IsStatStopped request caller old new (Damaged damage)
+EndsBy request caller old new code (Some (Refused refusal)) = IsStatStopped request caller old new (Refused refusal)
 EndsBy request caller old new code (Some _) = ⊥
 
 -- the user and the zone are checked before the spool is entered
 abbrev pub EndsChecked : Option Refusal → StatRequest → Caller → OutsideAt → OutsideAt → StatStatus → Type 0
-EndsChecked (Some refusal) request caller old new status = IsIdle (Refused refusal) old new status
+EndsChecked (Some refusal) request caller old new status = IsStatIdle (Refused refusal) old new status
 EndsChecked None request caller old new status = EndsBy request caller old new status.code status.cause
 
 -- how the program ends before its last line is said, where its words ask for something; or no memory was found to read them
-abbrev pub Ends : StatRequest → Caller → OutsideAt → OutsideAt → StatStatus → Type 0
-Ends request caller old new status =
-    EndsChecked (early_check caller) request caller old new status ⊎ IsIdle Memory old new status
+abbrev pub StatEnds : StatRequest → Caller → OutsideAt → OutsideAt → StatStatus → Type 0
+StatEnds request caller old new status =
+    EndsChecked (early_check caller) request caller old new status ⊎ IsStatIdle Memory old new status
 
 -- words that ask for nothing are said to be wrong, or found no memory
-abbrev pub IsUnasked : WordsFault → OutsideAt → OutsideAt → StatStatus → Type 0
-IsUnasked fault old new status = IsIdle (words_cause fault) old new status ⊎ IsIdle Memory old new status
+abbrev pub IsStatUnasked : WordsFault → OutsideAt → OutsideAt → StatStatus → Type 0
+IsStatUnasked fault old new status = IsStatIdle (words_cause fault) old new status ⊎ IsStatIdle Memory old new status
 
 -- where there is a cause, the exit status is that of the cause
 abbrev pub HasCode : StatStatus → Type 0
@@ -130,16 +130,16 @@ pub record HasRisenStating (old new : OutsideAt) (cause : Option Cause) : Type 0
 
 -- What the program did before its last line was said: no session is on, no child was started and nothing handed over; no load
 -- was read; each fault comes only where its count rose; and how it ended.
-pub record HasEnded (asked : Result StatRequest WordsFault) (caller : Caller) (old new : OutsideAt)
+pub record HasStatEnded (asked : Result StatRequest WordsFault) (caller : Caller) (old new : OutsideAt)
     (status : StatStatus) : Type 0 where
   pub left : IsLeft old.session new.session
-  pub goes_on : old.tells.files ≡ true → GoesOn old.holds.spool new.holds.spool
+  pub goes_on : old.tells.files ≡ true → TimePasses old.holds.spool new.holds.spool
   pub readers : new.readers ≡ old.readers
   pub made_as : new.out.made_as ≡ old.out.made_as
   pub risen : HasRisenStating old new status.cause
   pub code : HasCode status
-  pub unasked : (fault : WordsFault) → asked ≡ Err fault → IsUnasked fault old new status
-  pub ends : (request : StatRequest) → asked ≡ Ok request → Ends request caller old new status
+  pub unasked : (fault : WordsFault) → asked ≡ Err fault → IsStatUnasked fault old new status
+  pub ends : (request : StatRequest) → asked ≡ Ok request → StatEnds request caller old new status
 
 -- the line of the cause, if there is one; where it found no memory the cause is that
 abbrev pub SaysCause : Bool → SinkAt → SinkAt → ℕ → Option Cause → StatStatus → Type 0
@@ -151,5 +151,5 @@ SaysCause tells old new code (Some cause) status =
 pub record Stating (asked : Result StatRequest WordsFault) (caller : Caller) (old new : OutsideAt) (errors : Bool)
     (said_old said_new : SinkAt) (status : StatStatus) : Type 0 where
   pub before : StatStatus
-  pub ended : HasEnded asked caller old new before
+  pub ended : HasStatEnded asked caller old new before
   pub says : SaysCause errors said_old said_new before.code before.cause status

@@ -11,7 +11,7 @@ use Rattle.listing_text.specs.declared.cause.Cause.TheVariants.{Memory}
 use Rattle.step_runs.specs.Current.{Kept}
 use Rattle.at_stat.specs.Checks.{awaited_numbers, has_live}
 use Rattle.at_stat.specs.declared.wait.TheConstants.{REST}
-use Rattle.at_stat.specs.Looking.{Looks, SpoolAt, spool_at}
+use Rattle.at_stat.specs.Looking.{LooksAtJobs, SpoolAt, stat_spool_at}
 
 -- the spool and the readings, at a moment
 pub record WaitAt : Type 0 where
@@ -20,7 +20,7 @@ pub record WaitAt : Type 0 where
 
 abbrev pub wait_at : Session → World → Answers → Readers → WaitAt
 wait_at session world answers readers =
-    record { spool = spool_at session world; clock = record { answers = answers; readers = readers } }
+    record { spool = stat_spool_at session world; clock = record { answers = answers; readers = readers } }
 
 -- which of the host and the readings tell what they hold, and whether the host is alone
 pub record WaitTelling : Type 0 where
@@ -34,7 +34,7 @@ wait_telling files alone clock = record { files = files; alone = alone; clock = 
 -- a session, in which no reading is asked for
 pub record LooksAt (tells : WaitTelling) (user : List ℕ) (which : Filter) (old new : WaitAt)
     (result : Result Kept CommandError) : Type 0 where
-  pub spool : Looks tells.files tells.alone user which old.spool new.spool result
+  pub spool : LooksAtJobs tells.files tells.alone user which old.spool new.spool result
   pub clock : new.clock ≡ old.clock
 
 -- a rest between two sessions, which changes nothing else
@@ -82,9 +82,9 @@ ComesAfter tells user (Some turns) which seen start new kept finished =
     HasWaited tells user turns which (awaited_numbers user which seen.table) seen start new kept finished
 
 -- and how that is stopped: no memory was found for the numbers of the jobs, or a session was stopped
-abbrev pub StopsAfter : WaitTelling → List ℕ → Option ℕ → Filter → Kept → WaitAt → WaitAt → CommandError → Type 0
-StopsAfter tells user None which seen start new stopped = ⊥
-StopsAfter tells user (Some turns) which seen start new stopped =
+abbrev pub StopsStatAfter : WaitTelling → List ℕ → Option ℕ → Filter → Kept → WaitAt → WaitAt → CommandError → Type 0
+StopsStatAfter tells user None which seen start new stopped = ⊥
+StopsStatAfter tells user (Some turns) which seen start new stopped =
     ((new ≡ start) × (stopped ≡ error_of Memory))
     ⊎ StopsWaiting tells user turns which (awaited_numbers user which seen.table) seen start new stopped
 
@@ -101,4 +101,4 @@ pub data HasStopped (tells : WaitTelling) (user : List ℕ) (wait : Option ℕ) 
     (stopped : CommandError) : Type 0 where
   at_first : LooksAt tells user which old new (Err stopped) → HasStopped tells user wait which old new stopped
   at_later : (seen : Kept) (start : WaitAt) → LooksAt tells user which old start (Ok seen)
-      → StopsAfter tells user wait which seen start new stopped → HasStopped tells user wait which old new stopped
+      → StopsStatAfter tells user wait which seen start new stopped → HasStopped tells user wait which old new stopped

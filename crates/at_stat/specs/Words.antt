@@ -78,8 +78,8 @@ request_asked (Ok wait) (Err fault) form = Err fault
 request_asked (Ok wait) (Ok which) form = Ok (record { wait = wait; form = form; which = which })
 
 -- what the matches of the words ask for
-abbrev pub matches_asked : List Row → Result StatRequest WordsFault
-matches_asked rows =
+abbrev pub stat_matches_asked : List Row → Result StatRequest WordsFault
+stat_matches_asked rows =
     request_asked
     (wait_asked (is_set (codes "wait") rows) (first_of (codes "turns") rows))
     (which_asked (first_of (codes "queue") rows) (operands_of rows))
@@ -87,4 +87,4 @@ matches_asked rows =
 
 -- what the words ask for, the first of which stands for the program's name; without it they ask for nothing
 abbrev pub stat_asked : List Text → Result StatRequest WordsFault
-stat_asked words = named_asked stat_app matches_asked words
+stat_asked words = named_asked stat_app stat_matches_asked words

@@ -3,7 +3,7 @@ ghost use Rattle.std.specs.Prelude.{◌≡◌, ◌&&◌, IfOk, filter, is_some};
 ghost use Rattle.job_states.specs.Reports.{is_in_queue};
 ghost use Rattle.listing_text.specs.Listing.{may_see};
 ghost use Rattle.queue_rules.specs.Order.{row_numbers};
-ghost use Rattle.command_rules.specs.Verdict.{row_at};
+ghost use Rattle.command_rules.specs.Verdict.{live_row};
 ghost use Rattle.at_stat.specs.Checks.{awaited_numbers, has_live, seen_numbers};
 
 use at_words::Filter;
@@ -38,11 +38,11 @@ fn seen_numbers(
 ) -> Result<Vec<u32>, AllocError>
     ensures { IfOk result (λ numbers. numbers.items ≡ seen_numbers user.now queue store.now.table) }
 {
-    numbers_of(alloc, store.rows(), user, queue)
+    numbers_of_states(alloc, store.rows(), user, queue)
 }
 
 // The numbers of the rows that the user may see, of the queue where one is given.
-fn numbers_of(
+fn numbers_of_states(
     alloc: Global,
     rows: &[Row],
     user: &UserName,
@@ -65,7 +65,7 @@ pub(crate) fn has_live(store: &Store, numbers: &[u32]) -> bool
 }
 
 fn lives(store: &Store, number: u32) -> bool
-    ensures { result ≡ is_some (row_at store.now.table number) }
+    ensures { result ≡ is_some (live_row store.now.table number) }
 {
     store.row(number).is_some()
 }

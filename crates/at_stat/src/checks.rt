@@ -1,11 +1,11 @@
 //! Which jobs are refused, and the exit status of a job.
 ghost use Rattle.std.specs.Prelude.{◌≡◌, Some};
-ghost use Rattle.command_rules.specs.Verdict.{row_at};
+ghost use Rattle.command_rules.specs.Verdict.{live_row};
 ghost use Rattle.at_stat.specs.Checks.{code_of_fate, code_of_named, code_of_stage, done_code, number_check, numbers_check, owner_check, which_check};
 
 use at_words::Filter;
 use host_calls::Ending;
-use job_states::{Stage, stage_of};
+use job_states::{JobStage, stage_of};
 use listing_text::Refusal;
 use spool_model::{Fate, Row, UserName};
 use spool_session::is_seen_by;
@@ -30,7 +30,7 @@ const FORGOTTEN: u8 = 122;
 const SIGNALS: u8 = 128;
 
 // The first refusal of the jobs that are asked for by their numbers.
-pub(crate) fn refusal_of(store: &Store, user: &UserName, which: &Filter) -> Option<Refusal>
+pub(crate) fn stat_refusal(store: &Store, user: &UserName, which: &Filter) -> Option<Refusal>
     ensures { result ≡ which_check user.now store.now.table which.now }
 {
     match which {
@@ -66,7 +66,7 @@ fn refusal_of_number(store: &Store, user: &UserName, number: u32) -> Option<Refu
 
 // The refusal of a live job of another.
 fn refusal_of_owner(store: &Store, user: &UserName, number: u32) -> Option<Refusal>
-    ensures { result ≡ owner_check user.now number (row_at store.now.table number) }
+    ensures { result ≡ owner_check user.now number (live_row store.now.table number) }
 {
     match store.row(number) {
         None => None,
@@ -103,13 +103,13 @@ fn code_of_named(numbers: &[u32], store: &Store) -> u8
     }
 }
 
-fn code_of_stage(stage: &Stage) -> u8
+fn code_of_stage(stage: &JobStage) -> u8
     ensures { result ≡ code_of_stage stage.now }
 {
     match stage {
-        Stage::Live(_) => 0,
-        Stage::Done(fate) => code_of_fate(fate),
-        Stage::Forgotten => FORGOTTEN,
+        JobStage::Live(_) => 0,
+        JobStage::Done(fate) => code_of_fate(fate),
+        JobStage::Forgotten => FORGOTTEN,
     }
 }
 

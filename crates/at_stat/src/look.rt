@@ -2,32 +2,32 @@
 ghost use Rattle.std.specs.Prelude.{IfErr, IsTrue};
 ghost use Rattle.cause_output.specs.Causes.{error_of};
 ghost use Rattle.host_calls.specs.Session.{CallsInside, IsInside, IsOutside};
-ghost use Rattle.host_calls.specs.World.{GoesOn};
+ghost use Rattle.host_calls.specs.World.{TimePasses};
 ghost use Rattle.listing_text.specs.declared.cause.Cause.TheVariants as cause;
 ghost use Rattle.spool_session.specs.Sessions.{ComesOfSession};
-ghost use Rattle.at_stat.specs.Looking.{Looks, LooksInside, spool_at};
+ghost use Rattle.at_stat.specs.Looking.{LooksAtJobs, LooksInside, stat_spool_at};
 
-use crate::checks::refusal_of;
+use crate::checks::stat_refusal;
 use at_words::Filter;
 use cause_output::CommandError;
 use host_calls::Host;
 use spool_model::UserName;
-use spool_session::{in_session, open};
+use spool_session::{in_command_session, open_store};
 use spool_store::Store;
 use std::alloc::Global;
 
 // The store, recovered in a session of its own, where neither the lists nor the table refuse the user.
-pub(crate) fn look<H: Host>(
+pub(crate) fn look_at_jobs<H: Host>(
     alloc: Global,
     user: &UserName,
     which: &Filter,
     host: &mut H,
 ) -> Result<Store, CommandError>
     requires { IsOutside (H.session host.old) }
-    ensures { Looks H.tells H.alone user.now which.now (spool_at (H.session host.old) (H.world host.old))
-        (spool_at (H.session host.new) (H.world host.new)) result }
+    ensures { LooksAtJobs H.tells H.alone user.now which.now (stat_spool_at (H.session host.old) (H.world host.old))
+        (stat_spool_at (H.session host.new) (H.world host.new)) result }
 {
-    in_session(
+    in_command_session(
         alloc,
         host,
         &mut |host| { look_inside(alloc, user, which, host) },
@@ -44,11 +44,11 @@ fn look_inside<H: Host>(
     requires { IsInside (H.session host.old) }
     ensures inside { CallsInside (error_of cause.FileFault) (H.session host.old) (H.session host.new) result }
     ensures comes { IfErr result ComesOfSession }
-    ensures goes_on { IsTrue H.tells → GoesOn (H.world host.old) (H.world host.new) }
+    ensures goes_on { IsTrue H.tells → TimePasses (H.world host.old) (H.world host.new) }
     ensures looks { LooksInside H.tells user.now which.now (H.world host.old) (H.world host.new) result }
 {
-    let store = open(alloc, host, user)?;
-    match refusal_of(&store, user, which) {
+    let store = open_store(alloc, host, user)?;
+    match stat_refusal(&store, user, which) {
         Some(refusal) => Err(CommandError::refused(refusal)),
         None => Ok(store),
     }

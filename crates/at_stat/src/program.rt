@@ -4,14 +4,14 @@ ghost use Rattle.cause_output.specs.Sinks.{sink_at};
 ghost use Rattle.civil_minute.specs.Zone.{is_unreadable};
 ghost use Rattle.host_calls.specs.Session.{IsOutside};
 ghost use Rattle.spool_model.specs.Users.{IsUserName};
-ghost use Rattle.at_stat.specs.Stating.{HasEnded, SaysCause, Stating, stat_outside};
+ghost use Rattle.at_stat.specs.Stating.{HasStatEnded, SaysCause, Stating, stat_outside};
 ghost use Rattle.at_stat.specs.Words.{stat_asked};
 
 use crate::StatStatus;
 use crate::request::StatRequest;
-use crate::show::show;
+use crate::show::show_states;
 use crate::wait::last_sight;
-use crate::words::request;
+use crate::words::stat_request;
 use cause_output::{Caller, cause_of_words, say_cause};
 use civil_minute::Zone;
 use host_calls::{Host, Readings, Sink};
@@ -40,12 +40,12 @@ pub fn stat_program<H: Host, R: Readings, O: Sink, E: Sink>(
         E.tells (sink_at (E.content err.old) (E.outlet err.old)) (sink_at (E.content err.new) (E.outlet err.new)) result }
     ensures made_as { (E.outlet err.new).made_as ≡ (E.outlet err.old).made_as }
 {
-    let ended = carry_out(alloc, words, caller, host, readings, out);
-    say(alloc, &ended, err)
+    let ended = states_by_words(alloc, words, caller, host, readings, out);
+    say_stat_end(alloc, &ended, err)
 }
 
 // Says the line of the cause, if there is one.
-fn say<E: Sink>(alloc: Global, ended: &StatStatus, err: &mut E) -> StatStatus
+fn say_stat_end<E: Sink>(alloc: Global, ended: &StatStatus, err: &mut E) -> StatStatus
     ensures says { SaysCause E.tells (sink_at (E.content err.old) (E.outlet err.old))
         (sink_at (E.content err.new) (E.outlet err.new)) ended.now.code ended.now.cause result }
     ensures made_as { (E.outlet err.new).made_as ≡ (E.outlet err.old).made_as }
@@ -57,7 +57,7 @@ fn say<E: Sink>(alloc: Global, ended: &StatStatus, err: &mut E) -> StatStatus
 }
 
 // Does what the words ask for. The line of the cause is still to be said.
-fn carry_out<H: Host, R: Readings, O: Sink>(
+fn states_by_words<H: Host, R: Readings, O: Sink>(
     alloc: Global,
     words: &[String],
     caller: &Caller,
@@ -66,11 +66,11 @@ fn carry_out<H: Host, R: Readings, O: Sink>(
     out: &mut O,
 ) -> StatStatus
     requires { IsOutside (H.session host.old) }
-    ensures { HasEnded (stat_asked (map string_bytes words.now)) caller.now
+    ensures { HasStatEnded (stat_asked (map string_bytes words.now)) caller.now
         (stat_outside H.Host R.Readings O.Sink host.old readings.old out.old)
         (stat_outside H.Host R.Readings O.Sink host.new readings.new out.new) result }
 {
-    match request(alloc, words) {
+    match stat_request(alloc, words) {
         Ok(request) => stat(alloc, &request, caller, host, readings, out),
         Err(fault) => StatStatus::of(cause_of_words(fault)),
     }
@@ -87,7 +87,7 @@ fn stat<H: Host, R: Readings, O: Sink>(
 ) -> StatStatus
     requires outside { IsOutside (H.session host.old) }
     requires turns { IfSome request.now.wait (λ turns. 1 ≤ turns) }
-    ensures { HasEnded (Ok request.now) caller.now
+    ensures { HasStatEnded (Ok request.now) caller.now
         (stat_outside H.Host R.Readings O.Sink host.old readings.old out.old)
         (stat_outside H.Host R.Readings O.Sink host.new readings.new out.new) result }
 {
@@ -111,7 +111,7 @@ fn stat_for<H: Host, R: Readings, O: Sink>(
     requires turns { IfSome request.now.wait (λ turns. 1 ≤ turns) }
     requires named { IsUserName caller.now.context.user }
     requires user { caller.now.context.user ≡ user.now }
-    ensures { HasEnded (Ok request.now) caller.now
+    ensures { HasStatEnded (Ok request.now) caller.now
         (stat_outside H.Host R.Readings O.Sink host.old readings.old out.old)
         (stat_outside H.Host R.Readings O.Sink host.new readings.new out.new) result }
 {
@@ -119,7 +119,7 @@ fn stat_for<H: Host, R: Readings, O: Sink>(
         return StatStatus::of(Cause::Refused(Refusal::BadZone));
     }
     match last_sight(alloc, user, request, host, readings) {
-        Ok(sight) => show(alloc, &sight, user, request, &caller.zone, out),
+        Ok(sight) => show_states(alloc, &sight, user, request, &caller.zone, out),
         Err(stopped) => StatStatus::of(stopped.cause),
     }
 }

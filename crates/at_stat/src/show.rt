@@ -4,7 +4,7 @@ ghost use Rattle.cause_output.specs.Sinks.{sink_at};
 ghost use Rattle.civil_minute.specs.Zone.{IsReadable};
 ghost use Rattle.host_calls.specs.Causes.{Rose};
 ghost use Rattle.at_stat.specs.Stating.{HasCode, IsText};
-ghost use Rattle.at_stat.specs.inside.Putting.{IsWithoutText, PutsBy, PutsLines, sight_status};
+ghost use Rattle.at_stat.specs.inside.Putting.{IsWithoutText, PutsStatesBy, PutsStateLines, sight_status};
 
 use crate::StatStatus;
 use crate::checks::done_code;
@@ -20,7 +20,7 @@ use spool_store::Store;
 use std::alloc::{AllocError, Global};
 
 // Puts the lines of the jobs that are asked for.
-pub(crate) fn show<O: Sink>(
+pub(crate) fn show_states<O: Sink>(
     alloc: Global,
     sight: &Sight,
     user: &UserName,
@@ -33,20 +33,20 @@ pub(crate) fn show<O: Sink>(
     ensures code { HasCode result }
     ensures output_fault { result.cause ≡ Some Cause.OutputFault
         → Rose (O.outlet out.old).sink_faults (O.outlet out.new).sink_faults }
-    ensures puts { PutsLines request.now user.now zone.now sight.now O.tells
+    ensures puts { PutsStateLines request.now user.now zone.now sight.now O.tells
         (sink_at (O.content out.old) (O.outlet out.old)) (sink_at (O.content out.new) (O.outlet out.new)) result
         ⊎ IsWithoutText O.tells (sink_at (O.content out.old) (O.outlet out.old))
         (sink_at (O.content out.new) (O.outlet out.new)) result }
 {
     // The session is over, so that a slow reader does not hold the lock.
-    match text_of(alloc, &sight.store, user, request, zone) {
+    match states_text(alloc, &sight.store, user, request, zone) {
         Ok(text) => put_text(alloc, sight, request, text.as_slice(), out),
         Err(_) => StatStatus::of(Cause::Memory),
     }
 }
 
 // The lines of the jobs that are asked for.
-fn text_of(
+fn states_text(
     alloc: Global,
     store: &Store,
     user: &UserName,
@@ -72,7 +72,7 @@ fn put_text<O: Sink>(
     ensures code { HasCode result }
     ensures output_fault { result.cause ≡ Some Cause.OutputFault
         → Rose (O.outlet out.old).sink_faults (O.outlet out.new).sink_faults }
-    ensures puts { PutsBy request.now sight.now text.now O.tells (sink_at (O.content out.old) (O.outlet out.old))
+    ensures puts { PutsStatesBy request.now sight.now text.now O.tells (sink_at (O.content out.old) (O.outlet out.old))
         (sink_at (O.content out.new) (O.outlet out.new)) result.code result.cause }
 {
     match put_whole(alloc, text, out) {

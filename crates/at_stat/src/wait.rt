@@ -5,7 +5,7 @@ ghost use Rattle.at_stat.specs.Waiting.{wait_at, wait_telling};
 ghost use Rattle.at_stat.specs.inside.Sighting.{Awaits, HasLooked, LooksAgain, Sees};
 
 use crate::awaited::{awaited_numbers, has_live};
-use crate::look::look;
+use crate::look::look_at_jobs;
 use crate::request::StatRequest;
 use at_words::Filter;
 use cause_output::CommandError;
@@ -38,7 +38,7 @@ pub(crate) fn last_sight<H: Host, R: Readings>(
         (wait_at (H.session host.old) (H.world host.old) (R.answers readings.old) (R.readers readings.old))
         (wait_at (H.session host.new) (H.world host.new) (R.answers readings.new) (R.readers readings.new)) result }
 {
-    let store = look(alloc, user, &request.which, host)?;
+    let store = look_at_jobs(alloc, user, &request.which, host)?;
     match request.wait {
         Some(turns) => wait(alloc, user, &request.which, turns, store, host, readings),
         None => Ok(Sight {
@@ -65,11 +65,11 @@ fn wait<H: Host, R: Readings>(
         (wait_at (H.session host.new) (H.world host.new) (R.answers readings.new) (R.readers readings.new)) result }
 {
     let awaited = awaited_numbers(alloc, &store, user, which)?;
-    wait_for(alloc, user, which, &awaited, turns, store, host, readings)
+    wait_for_ends(alloc, user, which, &awaited, turns, store, host, readings)
 }
 
 // Waits for the ends of these jobs.
-fn wait_for<H: Host, R: Readings>(
+fn wait_for_ends<H: Host, R: Readings>(
     alloc: Global,
     user: &UserName,
     which: &Filter,
@@ -109,5 +109,5 @@ fn look_again<H: Host, R: Readings>(
         (wait_at (H.session host.new) (H.world host.new) (R.answers readings.new) (R.readers readings.new)) result }
 {
     readings.rest(REST);
-    look(alloc, user, which, host)
+    look_at_jobs(alloc, user, which, host)
 }

@@ -8,7 +8,7 @@ ghost use Rattle.at_words.specs.Answers.{Answers, or_usage};
 ghost use Rattle.at_words.specs.Commands.{flag_rule, operands_rule};
 ghost use Rattle.at_words.specs.Queues.{queue_letter};
 ghost use Rattle.at_words.specs.Rows.{operands_of, text_of};
-ghost use Rattle.at_stat.specs.Words.{form_asked, matches_asked, queue_asked, stat_app, stat_asked, stat_numbers, wait_asked, which_asked};
+ghost use Rattle.at_stat.specs.Words.{form_asked, stat_matches_asked, queue_asked, stat_app, stat_asked, stat_numbers, wait_asked, which_asked};
 
 use crate::digits::stat_number;
 use crate::request::StatRequest;
@@ -21,19 +21,19 @@ use job_states::Form;
 use std::alloc::{AllocError, Global};
 
 // What the words ask for, the first of which stands for the program's name.
-pub(crate) fn request(alloc: Global, words: &[String]) -> Result<StatRequest, WordsFault>
+pub(crate) fn stat_request(alloc: Global, words: &[String]) -> Result<StatRequest, WordsFault>
     ensures asked { Answers (stat_asked (map string_bytes words.now)) result }
     ensures turns { IfOk result (λ request. IfSome request.wait (λ turns. 1 ≤ turns)) }
 {
     if words.is_empty() {
         return Err(WordsFault::Usage);
     }
-    let command = command(alloc)?;
+    let command = stat_command(alloc)?;
     let matches = parsed(command, words)?;
-    asked(alloc, &matches)
+    stat_request_of(alloc, &matches)
 }
 
-fn command<'a>(alloc: Global) -> Result<Command<'a>, AllocError>
+fn stat_command<'a>(alloc: Global) -> Result<Command<'a>, AllocError>
     ensures { IfOk result (λ made. app_of made ≡ stat_app) }
 {
     let wait = with_flag(bare_command(alloc, "atstat"), alloc, "wait", 'w')?;
@@ -66,8 +66,8 @@ fn with_operands<'a>(alloc: Global, command: Command<'a>) -> Result<Command<'a>,
 }
 
 // What the matches ask for.
-fn asked(alloc: Global, matches: &ArgMatches) -> Result<StatRequest, WordsFault>
-    ensures asked { Answers (matches_asked (rows_of (found_of matches.now))) result }
+fn stat_request_of(alloc: Global, matches: &ArgMatches) -> Result<StatRequest, WordsFault>
+    ensures asked { Answers (stat_matches_asked (rows_of (found_of matches.now))) result }
     ensures turns { IfOk result (λ request. IfSome request.wait (λ turns. 1 ≤ turns)) }
 {
     let wait = wait_of(has_flag(matches, "wait"), value(matches, "turns"))?;
@@ -108,24 +108,24 @@ fn which_of(alloc: Global, queue: Option<&str>, operands: &[&str]) -> Result<Fil
     ensures { Answers (which_asked (text_of queue.entry) (texts operands.entry.now)) result }
 {
     match queue {
-        Some(text) if operands.is_empty() => queue_of(text),
+        Some(text) if operands.is_empty() => stat_queue(text),
         Some(_) => Err(WordsFault::Usage),
         None if operands.is_empty() => Ok(Filter::All),
         None => Ok(Filter::Numbers(numbers(alloc, operands)?)),
     }
 }
 
-fn queue_of(text: &str) -> Result<Filter, WordsFault>
+fn stat_queue(text: &str) -> Result<Filter, WordsFault>
     ensures { result ≡ queue_asked text.now }
 {
-    match letter(text) {
+    match stat_letter(text) {
         Some(letter) => Ok(Filter::Queue(letter)),
         None => Err(WordsFault::BadQueue),
     }
 }
 
 // The queue of one letter.
-fn letter(text: &str) -> Option<u8>
+fn stat_letter(text: &str) -> Option<u8>
     ensures { result ≡ queue_letter text.now }
 {
     match text.as_bytes() {

@@ -16,8 +16,8 @@ use Rattle.at_words.specs.declared.when.When.{When}
 use Rattle.at_words.specs.declared.when.When.TheVariants.{Spec, Touch}
 
 -- the operands with a space between each two
-abbrev pub joined : List Text → Text
-joined operands = join_by (λ operand. operand) (codes " ") operands
+abbrev pub joined_operands : List Text → Text
+joined_operands operands = join_by (λ operand. operand) (codes " ") operands
 
 -- the numbers that the operands spell: at least one
 abbrev pub some_numbers : List Text → Result (List ℕ) WordsFault
@@ -42,7 +42,7 @@ filter_asked None operands = number_filter operands
 -- the time that a submission names: the value of -t or the operands, and not both
 abbrev pub when_asked : Option Text → List Text → Option When
 when_asked (Some time) [] = Some (Touch time)
-when_asked None (operand ∷ others) = Some (Spec (joined (operand ∷ others)))
+when_asked None (operand ∷ others) = Some (Spec (joined_operands (operand ∷ others)))
 when_asked _ _ = None
 
 -- the queue of a submission, which is `a` where none is named

@@ -32,9 +32,9 @@ fraction_of text =
     if length text == 1 then option_map (λ tenths. tenths * 10) (decimal_in 1 0 9 text) else decimal_in 2 0 99 text
 
 -- whole units and hundredths together
-abbrev pub hundredths : Option ℕ → Option ℕ → Option ℕ
-hundredths (Some whole) (Some fraction) = Some (whole * 100 + fraction)
-hundredths _ _ = None
+abbrev pub hundredths_after_point : Option ℕ → Option ℕ → Option ℕ
+hundredths_after_point (Some whole) (Some fraction) = Some (whole * 100 + fraction)
+hundredths_after_point _ _ = None
 
 -- a point
 abbrev pub is_point : ℕ → Bool
@@ -44,5 +44,5 @@ is_point byte = byte == 46
 abbrev pub limit_of : List ℕ → Option ℕ
 limit_of text =
     if list_any is_point text
-    then hundredths (decimal_in 6 0 MAX_WHOLE_LOAD (before_first is_point text)) (fraction_of (after_first is_point text))
-    else hundredths (decimal_in 6 0 MAX_WHOLE_LOAD text) (Some 0)
+    then hundredths_after_point (decimal_in 6 0 MAX_WHOLE_LOAD (before_first is_point text)) (fraction_of (after_first is_point text))
+    else hundredths_after_point (decimal_in 6 0 MAX_WHOLE_LOAD text) (Some 0)

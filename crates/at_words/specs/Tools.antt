@@ -33,12 +33,12 @@ abbrev pub second_tool : List (List ℕ) → Option (Tool × ℕ)
 second_tool [] = None
 second_tool (word ∷ others) = with_start 2 (tool_of_name word)
 
-abbrev pub first_or : Option (Tool × ℕ) → Option (Tool × ℕ) → Option (Tool × ℕ)
-first_or (Some found) other = Some found
-first_or None other = other
+abbrev pub first_start_or : Option (Tool × ℕ) → Option (Tool × ℕ) → Option (Tool × ℕ)
+first_start_or (Some found) other = Some found
+first_start_or None other = other
 
 -- The tool that the last part of the first word names, or else the second word, with the place at which
 -- the tool's own words begin.
 abbrev pub tool_of_words : List (List ℕ) → Option (Tool × ℕ)
 tool_of_words [] = None
-tool_of_words (word ∷ others) = first_or (with_start 1 (tool_of_name (last_part word))) (second_tool others)
+tool_of_words (word ∷ others) = first_start_or (with_start 1 (tool_of_name (last_part word))) (second_tool others)

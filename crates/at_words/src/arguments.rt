@@ -55,7 +55,11 @@ pub fn value<'a>(matches: &ArgMatches<'a>, id: &str) -> Option<&'a str>
 }
 
 /// A copy of the value of the option.
-pub fn text(alloc: Global, matches: &ArgMatches, id: &str) -> Result<Option<Text>, AllocError>
+pub fn option_text(
+    alloc: Global,
+    matches: &ArgMatches,
+    id: &str,
+) -> Result<Option<Text>, AllocError>
     ensures { IfOk result (λ text. text ≡ first_of id.now (rows_of (found_of matches.now))) }
 {
     match value(matches, id) {

@@ -9,7 +9,7 @@ ghost use Rattle.at_words.specs.Asked.{listing_asked, queue_asked, submission_as
 ghost use Rattle.at_words.specs.Commands.{at_app};
 ghost use Rattle.at_words.specs.Rows.{text_of};
 
-use crate::arguments::{has_flag, has_value, operands, parsed, text, value};
+use crate::arguments::{has_flag, has_value, operands, option_text, parsed, value};
 use crate::builder::{bare_command, with_flag, with_operands, with_value};
 use crate::jobs::{filter, one_or_more};
 use crate::{Numbers, ToolRequest, When, WordsFault, queue};
@@ -21,12 +21,12 @@ use std::alloc::{AllocError, Global};
 pub fn request(alloc: Global, words: &[String]) -> Result<ToolRequest, WordsFault>
     ensures { Answers (asked_of at_app at_asked (map string_bytes words.now)) result }
 {
-    let command = command(alloc)?;
+    let command = tool_command(alloc)?;
     let matches = parsed(command, words)?;
-    asked(alloc, &matches)
+    tool_request(alloc, &matches)
 }
 
-fn command<'a>(alloc: Global) -> Result<Command<'a>, AllocError>
+fn tool_command<'a>(alloc: Global) -> Result<Command<'a>, AllocError>
     ensures { IfOk result (λ made. app_of made ≡ at_app) }
 {
     let mail = with_flag(alloc, bare_command(alloc, "at"), "mail", 'm')?;
@@ -39,14 +39,14 @@ fn command<'a>(alloc: Global) -> Result<Command<'a>, AllocError>
     with_operands(alloc, time)
 }
 
-fn asked(alloc: Global, matches: &ArgMatches) -> Result<ToolRequest, WordsFault>
+fn tool_request(alloc: Global, matches: &ArgMatches) -> Result<ToolRequest, WordsFault>
     ensures { Answers (at_asked (rows_of (found_of matches.now))) result }
 {
     if asks_two_actions(matches) {
         return Err(WordsFault::Usage);
     }
     if has_flag(matches, "list") {
-        return listing(alloc, matches);
+        return list_request(alloc, matches);
     }
     if has_flag(matches, "remove") {
         return Ok(ToolRequest::Remove(numbers_alone(alloc, matches)?));
@@ -54,7 +54,7 @@ fn asked(alloc: Global, matches: &ArgMatches) -> Result<ToolRequest, WordsFault>
     if has_flag(matches, "show") {
         return Ok(ToolRequest::Show(numbers_alone(alloc, matches)?));
     }
-    submission(alloc, matches)
+    submit_request(alloc, matches)
 }
 
 fn asks_two_actions(matches: &ArgMatches) -> bool
@@ -73,7 +73,7 @@ fn asks_submission(matches: &ArgMatches) -> bool
     has_flag(matches, "mail") || has_value(matches, "file") || has_value(matches, "time")
 }
 
-fn listing(alloc: Global, matches: &ArgMatches) -> Result<ToolRequest, WordsFault>
+fn list_request(alloc: Global, matches: &ArgMatches) -> Result<ToolRequest, WordsFault>
     ensures { Answers (listing_asked (rows_of (found_of matches.now))) result }
 {
     if asks_submission(matches) {
@@ -93,17 +93,17 @@ fn numbers_alone(alloc: Global, matches: &ArgMatches) -> Result<Numbers, WordsFa
     one_or_more(alloc, operands(matches))
 }
 
-fn submission(alloc: Global, matches: &ArgMatches) -> Result<ToolRequest, WordsFault>
+fn submit_request(alloc: Global, matches: &ArgMatches) -> Result<ToolRequest, WordsFault>
     ensures { Answers (submission_asked (rows_of (found_of matches.now))) result }
 {
     let when = when(alloc, value(matches, "time"), operands(matches))?;
-    let Some(queue) = queue_of(value(matches, "queue")) else {
+    let Some(queue) = queue_option(value(matches, "queue")) else {
         return Err(WordsFault::BadQueue);
     };
     Ok(ToolRequest::Submit {
         queue,
         mail: has_flag(matches, "mail"),
-        file: text(alloc, matches, "file")?,
+        file: option_text(alloc, matches, "file")?,
         when,
     })
 }
@@ -119,11 +119,11 @@ fn when(alloc: Global, time: Option<&str>, operands: &[&str]) -> Result<When, Wo
     }
 }
 
-fn queue_of(value: Option<&str>) -> Option<u8>
+fn queue_option(value: Option<&str>) -> Option<u8>
     ensures { result ≡ queue_asked (text_of value.entry) }
 {
     match value {
-        Some(text) => queue::letter(text),
+        Some(text) => queue::queue_letter(text),
         None => Some(b'a'),
     }
 }

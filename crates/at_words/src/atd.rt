@@ -24,12 +24,12 @@ const MAX_INTERVAL: u32 = 999_999_999;
 pub fn request(alloc: Global, words: &[String]) -> Result<ToolRequest, WordsFault>
     ensures { Answers (asked_of atd_app atd_asked (map string_bytes words.now)) result }
 {
-    let command = command(alloc)?;
+    let command = tool_command(alloc)?;
     let matches = parsed(command, words)?;
-    asked(&matches)
+    tool_request(&matches)
 }
 
-fn command<'a>(alloc: Global) -> Result<Command<'a>, AllocError>
+fn tool_command<'a>(alloc: Global) -> Result<Command<'a>, AllocError>
     ensures { IfOk result (λ made. app_of made ≡ atd_app) }
 {
     let once = with_flag(alloc, bare_command(alloc, "atd"), "once", 's')?;
@@ -38,7 +38,7 @@ fn command<'a>(alloc: Global) -> Result<Command<'a>, AllocError>
     with_long(alloc, interval, "turns")
 }
 
-fn asked(matches: &ArgMatches) -> Result<ToolRequest, WordsFault>
+fn tool_request(matches: &ArgMatches) -> Result<ToolRequest, WordsFault>
     ensures { Answers (atd_asked (rows_of (found_of matches.now))) result }
 {
     match daemon(matches) {
@@ -85,7 +85,7 @@ pub fn turns_of(value: Option<&str>) -> Option<u64>
     ensures { result ≡ turns_asked (text_of value.entry) }
 {
     match value {
-        Some(text) => digits::number(text, 19, 1, MAX_TURNS),
+        Some(text) => digits::number_within(text, 19, 1, MAX_TURNS),
         None => Some(MAX_TURNS),
     }
 }

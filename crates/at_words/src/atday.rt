@@ -21,18 +21,18 @@ pub const MAX_EVENTS: u32 = 2_000;
 pub fn request(alloc: Global, words: &[String]) -> Result<ToolRequest, WordsFault>
     ensures { Answers (asked_of atday_app atday_asked (map string_bytes words.now)) result }
 {
-    let command = command(alloc)?;
+    let command = tool_command(alloc)?;
     let matches = parsed(command, words)?;
-    asked(&matches)
+    tool_request(&matches)
 }
 
-fn command<'a>(alloc: Global) -> Result<Command<'a>, AllocError>
+fn tool_command<'a>(alloc: Global) -> Result<Command<'a>, AllocError>
     ensures { IfOk result (λ made. app_of made ≡ atday_app) }
 {
     with_long(alloc, bare_command(alloc, "atday"), "make")
 }
 
-fn asked(matches: &ArgMatches) -> Result<ToolRequest, WordsFault>
+fn tool_request(matches: &ArgMatches) -> Result<ToolRequest, WordsFault>
     ensures { Answers (atday_asked (rows_of (found_of matches.now))) result }
 {
     match events_of(value(matches, "make")) {

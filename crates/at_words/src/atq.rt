@@ -18,18 +18,18 @@ use std::alloc::{AllocError, Global};
 pub fn request(alloc: Global, words: &[String]) -> Result<ToolRequest, WordsFault>
     ensures { Answers (asked_of atq_app atq_asked (map string_bytes words.now)) result }
 {
-    let command = command(alloc)?;
+    let command = tool_command(alloc)?;
     let matches = parsed(command, words)?;
-    asked(alloc, &matches)
+    tool_request(alloc, &matches)
 }
 
-fn command<'a>(alloc: Global) -> Result<Command<'a>, AllocError>
+fn tool_command<'a>(alloc: Global) -> Result<Command<'a>, AllocError>
     ensures { IfOk result (λ made. app_of made ≡ atq_app) }
 {
     with_value(alloc, bare_command(alloc, "atq"), "queue", 'q')
 }
 
-fn asked(alloc: Global, matches: &ArgMatches) -> Result<ToolRequest, WordsFault>
+fn tool_request(alloc: Global, matches: &ArgMatches) -> Result<ToolRequest, WordsFault>
     ensures { Answers (atq_asked (rows_of (found_of matches.now))) result }
 {
     let filter = filter(alloc, value(matches, "queue"), &[])?;

@@ -18,18 +18,18 @@ use std::alloc::{AllocError, Global};
 pub fn request(alloc: Global, words: &[String]) -> Result<ToolRequest, WordsFault>
     ensures { Answers (asked_of atrm_app atrm_asked (map string_bytes words.now)) result }
 {
-    let command = command(alloc)?;
+    let command = tool_command(alloc)?;
     let matches = parsed(command, words)?;
-    asked(alloc, &matches)
+    tool_request(alloc, &matches)
 }
 
-fn command<'a>(alloc: Global) -> Result<Command<'a>, AllocError>
+fn tool_command<'a>(alloc: Global) -> Result<Command<'a>, AllocError>
     ensures { IfOk result (λ made. app_of made ≡ atrm_app) }
 {
     with_operands(alloc, bare_command(alloc, "atrm"))
 }
 
-fn asked(alloc: Global, matches: &ArgMatches) -> Result<ToolRequest, WordsFault>
+fn tool_request(alloc: Global, matches: &ArgMatches) -> Result<ToolRequest, WordsFault>
     ensures { Answers (atrm_asked (rows_of (found_of matches.now))) result }
 {
     Ok(ToolRequest::Remove(one_or_more(alloc, operands(matches))?))

@@ -15,16 +15,16 @@ pub fn job(text: &str) -> Option<u32>
     short(text, 10, 1, u32::MAX)
 }
 
-/// The same as `number`, where the number is short.
+/// The same as `number_within`, where the number is short.
 pub fn short(text: &str, most: usize, least: u32, greatest: u32) -> Option<u32>
     ensures { result ≡ decimal_in most least greatest text.now }
 {
-    let number = number(text, most, u64::from(least), u64::from(greatest))?;
+    let number = number_within(text, most, u64::from(least), u64::from(greatest))?;
     Some(number as u32)
 }
 
 /// The number from the least to the greatest that so many digits at most write.
-pub fn number(text: &str, most: usize, least: u64, greatest: u64) -> Option<u64>
+pub fn number_within(text: &str, most: usize, least: u64, greatest: u64) -> Option<u64>
     ensures { result ≡ decimal_in most least greatest text.now }
 {
     if !is_digits(text, most) {
@@ -66,7 +66,7 @@ pub fn limit(text: &str) -> Option<u32>
 {
     match text.split_once('.') {
         Some((whole, fraction)) => {
-            let hundredths = hundredths(fraction)?;
+            let hundredths = hundredths_after_point(fraction)?;
             Some(short(whole, 6, 0, MAX_WHOLE_LOAD)? * 100 + hundredths)
         }
         None => Some(short(text, 6, 0, MAX_WHOLE_LOAD)? * 100),
@@ -74,7 +74,7 @@ pub fn limit(text: &str) -> Option<u32>
 }
 
 // What one or two digits after a point write.
-fn hundredths(text: &str) -> Option<u32>
+fn hundredths_after_point(text: &str) -> Option<u32>
     ensures value { result ≡ fraction_of text.now }
     ensures few { IfSome result (λ value. value < 100) }
 {

@@ -14,17 +14,17 @@ pub fn filter(alloc: Global, queue: Option<&str>, operands: &[&str]) -> Result<F
     ensures { Answers (filter_asked (text_of queue.entry) (texts operands.entry.now)) result }
 {
     match queue {
-        Some(text) if operands.is_empty() => letter(text),
+        Some(text) if operands.is_empty() => queue_letter(text),
         Some(_) => Err(WordsFault::Usage),
         None if operands.is_empty() => Ok(Filter::All),
         None => Ok(Filter::Numbers(numbers(alloc, operands)?)),
     }
 }
 
-fn letter(text: &str) -> Result<Filter, WordsFault>
+fn queue_letter(text: &str) -> Result<Filter, WordsFault>
     ensures { result ≡ letter_filter text.now }
 {
-    match queue::shown(text) {
+    match queue::shown_letter(text) {
         Some(letter) => Ok(Filter::Queue(letter)),
         None => Err(WordsFault::BadQueue),
     }

@@ -3,7 +3,7 @@ ghost use Rattle.std.specs.Prelude.{◌≡◌};
 ghost use Rattle.at_words.specs.Queues.{queue_letter, shown_letter};
 
 /// The queue of one letter.
-pub fn letter(text: &str) -> Option<u8>
+pub fn queue_letter(text: &str) -> Option<u8>
     ensures { result ≡ queue_letter text.now }
 {
     match text.as_bytes() {
@@ -13,7 +13,7 @@ pub fn letter(text: &str) -> Option<u8>
 }
 
 /// The letter that a listing shows: that of a queue, or `=` for jobs that run.
-pub fn shown(text: &str) -> Option<u8>
+pub fn shown_letter(text: &str) -> Option<u8>
     ensures { result ≡ shown_letter text.now }
 {
     match text.as_bytes() {

@@ -22,7 +22,7 @@ pub fn tool_of(words: &[String]) -> Option<(Tool, usize)>
 {
     match words {
         [] => None,
-        [first, others @ ..] => match named(file_name(first.as_bytes())) {
+        [first, others @ ..] => match tool_with_name(file_name(first.as_bytes())) {
             Some(tool) => Some((tool, 1)),
             None => second_tool(others),
         },
@@ -34,7 +34,7 @@ fn second_tool(words: &[String]) -> Option<(Tool, usize)>
     ensures { result ≡ second_named (map string_bytes words.now) }
 {
     let word = words.first()?;
-    Some((named(word.as_bytes())?, 2))
+    Some((tool_with_name(word.as_bytes())?, 2))
 }
 
 // The part of a word after its last slash.
@@ -51,7 +51,7 @@ fn file_name(word: &[u8]) -> &[u8]
 }
 
 #[tactic(auto, unfolding(crate::specs::Tools::tool_of_name))]
-fn named(name: &[u8]) -> Option<Tool>
+fn tool_with_name(name: &[u8]) -> Option<Tool>
     ensures { result ≡ tool_of_name name.now }
 {
     if name == b"at".as_slice() {

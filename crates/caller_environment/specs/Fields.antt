@@ -2,7 +2,7 @@
 use Rattle.std.specs.Prelude.{◌==◌, ◌&&◌, ℕ, Bool, List, Option, Some, None, length, nat_le, slice_get, if◌then◌else◌}
 use Rattle.std.specs.Char.{is_ascii_digit}
 use Rattle.std.specs.List.{after_last, list_all, slice_split}
-use Rattle.load_reading.specs.Load.{number_of}
+use Rattle.load_reading.specs.Load.{number_of_digits}
 use Rattle.caller_environment.specs.declared.digits.TheConstants.{MOST_DIGITS}
 
 -- the field at this place, counted from 0, where this byte separates fields
@@ -19,7 +19,7 @@ within_32_bits number = if nat_le number 4294967295 then Some number else None
 
 -- the user number that one to ten digits write, where it is one of 32 bits
 abbrev pub user_number : List ℕ → Option ℕ
-user_number digits = if is_short_number digits then within_32_bits (number_of digits) else None
+user_number digits = if is_short_number digits then within_32_bits (number_of_digits digits) else None
 
 -- the bytes after the last of this kind, or all
 abbrev pub part_after_last : ℕ → List ℕ → List ℕ

@@ -6,8 +6,8 @@ use Rattle.std.specs.Str.{bytes_eq}
 use Rattle.caller_environment.specs.Fields.{field, user_number}
 
 -- the name of the line's user
-abbrev pub name_in : List ℕ → List ℕ
-name_in line = unwrap_or (field 58 0 line) line
+abbrev pub name_in_user_line : List ℕ → List ℕ
+name_in_user_line line = unwrap_or (field 58 0 line) line
 
 -- the home directory of the line's user
 abbrev pub home_in : List ℕ → Option (List ℕ)
@@ -19,12 +19,12 @@ is_number number (Some other) = other == number
 is_number number None = false
 
 -- the user number of the line is this one
-abbrev pub has_number : ℕ → List ℕ → Bool
-has_number number line = is_number number (option_and_then user_number (field 58 2 line))
+abbrev pub has_user_number : ℕ → List ℕ → Bool
+has_user_number number line = is_number number (option_and_then user_number (field 58 2 line))
 
 -- the user of the line has this number and name
-abbrev pub is_named : ℕ → List ℕ → List ℕ → Bool
-is_named number name line = has_number number line && bytes_eq (name_in line) name
+abbrev pub is_user_named : ℕ → List ℕ → List ℕ → Bool
+is_user_named number name line = has_user_number number line && bytes_eq (name_in_user_line line) name
 
 -- the lines of the table
 abbrev pub lines_of : List ℕ → List (List ℕ)
@@ -32,11 +32,11 @@ lines_of table = slice_split (λ byte. byte == 10) table
 
 -- the first line of this number and name
 abbrev pub named_line : ℕ → List ℕ → List ℕ → Option (List ℕ)
-named_line number name table = find (is_named number name) (lines_of table)
+named_line number name table = find (is_user_named number name) (lines_of table)
 
 -- the first line of this number
 abbrev pub numbered_line : ℕ → List ℕ → Option (List ℕ)
-numbered_line number table = find (has_number number) (lines_of table)
+numbered_line number table = find (has_user_number number) (lines_of table)
 
 -- the one, or else the other
 abbrev pub line_or : Option (List ℕ) → Option (List ℕ) → Option (List ℕ)

@@ -16,8 +16,8 @@ abbrev pub changed_variable : CallerSettings → List ℕ × List ℕ → List �
 changed_variable settings variable = (variable.0, unwrap_or (value_for settings variable.0) variable.1)
 
 -- the variables, each in its place
-abbrev pub changed : CallerSettings → List (List ℕ × List ℕ) → List (List ℕ × List ℕ)
-changed settings variables = map (changed_variable settings) variables
+abbrev pub changed_variables : CallerSettings → List (List ℕ × List ℕ) → List (List ℕ × List ℕ)
+changed_variables settings variables = map (changed_variable settings) variables
 
 -- one of the variables has the name
 abbrev pub has_variable : List (List ℕ × List ℕ) → List ℕ → Bool
@@ -37,7 +37,7 @@ absent_variable settings variables name =
 -- the process has not.
 abbrev pub job_variables : CallerSettings → List (List ℕ × List ℕ) → List (List ℕ × List ℕ)
 job_variables settings variables =
-    changed settings variables
+    changed_variables settings variables
     ++ absent_variable settings variables (codes "PWD")
     ++ absent_variable settings variables (codes "LOGNAME")
     ++ absent_variable settings variables (codes "TZ")

@@ -2,7 +2,7 @@
 ghost use Rattle.std.specs.Prelude.{◌≡◌, ◌≤◌, ◌<◌, ◌^◌, IsTrue, length};
 ghost use Rattle.std.specs.List.{list_all};
 ghost use Rattle.std.specs.Char.{is_ascii_digit};
-ghost use Rattle.load_reading.specs.Load.{number_of};
+ghost use Rattle.load_reading.specs.Load.{number_of_digits};
 ghost use Rattle.caller_environment.specs.Fields.{is_short_number, user_number};
 
 // The greatest number of digits of a user number.
@@ -15,7 +15,7 @@ pub(crate) fn user_number(digits: &[u8]) -> Option<u32>
     if !is_short_number(digits) {
         return None;
     }
-    let number = value_of(digits);
+    let number = number_of_decimals(digits);
     if number > u64::from(u32::MAX) {
         return None;
     }
@@ -35,10 +35,10 @@ fn are_digits(bytes: &[u8]) -> bool
 }
 
 // The number that these digits write.
-fn value_of(digits: &[u8]) -> u64
+fn number_of_decimals(digits: &[u8]) -> u64
     requires each { IsTrue (list_all is_ascii_digit digits.now) }
     requires few { length digits.now ≤ MOST_DIGITS }
-    ensures { result ≡ number_of digits.now }
+    ensures { result ≡ number_of_digits digits.now }
 {
     let mut number = 0;
     for byte in digits {

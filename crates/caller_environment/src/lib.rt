@@ -21,7 +21,7 @@ pub use spool_place::{MeantSpool, SpoolSources, meant_spool};
 pub use status::user_number_in;
 pub use tool_name::ToolName;
 pub use tool_words::take_tool;
-pub use user_table::{home_in, name_in, user_line};
+pub use user_table::{home_in, name_in_user_line, user_line};
 pub use variables::{CallerSettings, job_variables};
 pub use zone_path::zone_file;
 pub use zone_rule::{MAX_RULE, MAX_ZONE_FILE, rule_in};

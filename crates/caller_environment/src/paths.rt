@@ -5,7 +5,7 @@ use host_calls::Text;
 use std::alloc::{AllocError, Global};
 
 /// One text after another.
-pub(crate) fn joined(alloc: Global, start: &str, rest: &str) -> Result<Text, AllocError>
+pub(crate) fn joined_texts(alloc: Global, start: &str, rest: &str) -> Result<Text, AllocError>
     ensures { IfOk result (λ path. path ≡ start.now ++ rest.now) }
 {
     let mut path = String::from_str(alloc, start)?;

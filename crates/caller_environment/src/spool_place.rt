@@ -2,7 +2,7 @@
 ghost use Rattle.std.specs.Prelude.{◌≡◌, IfOk};
 ghost use Rattle.caller_environment.specs.SpoolPlace.{former_places, MeansHomeSpool, MeansSpool};
 
-use crate::paths::joined;
+use crate::paths::joined_texts;
 use host_calls::Text;
 use std::alloc::{AllocError, Global};
 
@@ -43,7 +43,7 @@ pub fn meant_spool(alloc: Global, sources: &SpoolSources) -> Result<MeantSpool, 
     }
     match &sources.home {
         Some(home) => home_spool(alloc, home.as_str(), sources.state.as_str()),
-        None => Ok(MeantSpool::Fixed(joined(
+        None => Ok(MeantSpool::Fixed(joined_texts(
             alloc,
             "/var/spool/coefhird/",
             sources.user.as_str(),
@@ -56,7 +56,7 @@ fn home_spool(alloc: Global, home: &str, state: &str) -> Result<MeantSpool, Allo
     ensures { IfOk result (MeansHomeSpool home.now state.now) }
 {
     let former = former_places(alloc, home, state)?;
-    let usual = joined(alloc, home, "/.local/state/coefhird/jobs")?;
+    let usual = joined_texts(alloc, home, "/.local/state/coefhird/jobs")?;
     Ok(MeantSpool::Home { usual, former })
 }
 
@@ -66,8 +66,8 @@ fn former_places(alloc: Global, home: &str, state: &str) -> Result<Vec<Text>, Al
 {
     let mut places = Vec::new(alloc);
     if !state.is_empty() {
-        places.push(joined(alloc, state, "/coefhird/jobs")?)?;
+        places.push(joined_texts(alloc, state, "/coefhird/jobs")?)?;
     }
-    places.push(joined(alloc, home, "/.config/coefhird/jobs")?)?;
+    places.push(joined_texts(alloc, home, "/.config/coefhird/jobs")?)?;
     Ok(places)
 }

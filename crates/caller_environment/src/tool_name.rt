@@ -1,6 +1,6 @@
 //! The tools by name.
 ghost use Rattle.std.specs.Prelude.{◌≡◌};
-ghost use Rattle.caller_environment.specs.Tools.{name_of, program_named, tool_named};
+ghost use Rattle.caller_environment.specs.Tools.{name_of_tool, program_named, tool_named};
 
 /// One of the tools.
 #[derive(Clone, Copy, Debug, PartialEq, Eq)]
@@ -21,7 +21,7 @@ pub enum ToolName {
 impl ToolName {
     /// The name by which it is called.
     pub fn as_str(&self) -> &'static str
-        ensures { result.now ≡ name_of self.now }
+        ensures { result.now ≡ name_of_tool self.now }
     {
         match self {
             ToolName::At => "at",

@@ -1,6 +1,6 @@
 //! Which tool the words of a process name.
 ghost use Rattle.std.specs.Prelude.{◌≡◌, map, string_bytes};
-ghost use Rattle.caller_environment.specs.Tools.{first_tool, own_words, second_tool, tool_of_words};
+ghost use Rattle.caller_environment.specs.Tools.{first_tool, own_words, second_tool_name, tool_name_of_words};
 
 use crate::ToolName;
 use crate::fields::part_after_last;
@@ -9,13 +9,13 @@ use crate::tool_name::tool_named;
 /// The tool that the words name: by the last part of word 0, or else by word 1. Then word 0 is removed, so that the first
 /// word is the tool in each case. The words stay as they are where neither is a tool.
 pub fn take_tool(words: &mut Vec<String>) -> Option<ToolName>
-    ensures tool { result ≡ tool_of_words (map string_bytes words.old.items) }
+    ensures tool { result ≡ tool_name_of_words (map string_bytes words.old.items) }
     ensures words { map string_bytes words.new.items ≡ own_words (map string_bytes words.old.items) }
 {
     if let Some(tool) = first_tool(words.as_slice()) {
         return Some(tool);
     }
-    let tool = second_tool(words.as_slice())?;
+    let tool = second_tool_name(words.as_slice())?;
     words.remove(0);
     Some(tool)
 }
@@ -31,8 +31,8 @@ fn first_tool(words: &[String]) -> Option<ToolName>
 }
 
 // The tool that word 1 names.
-fn second_tool(words: &[String]) -> Option<ToolName>
-    ensures { result ≡ second_tool (map string_bytes words.now) }
+fn second_tool_name(words: &[String]) -> Option<ToolName>
+    ensures { result ≡ second_tool_name (map string_bytes words.now) }
 {
     match words {
         [_, word, ..] => tool_named(word.as_bytes()),

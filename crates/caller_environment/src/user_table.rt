@@ -1,6 +1,6 @@
 //! The table of users.
 ghost use Rattle.std.specs.Prelude.{◌≡◌, option_copied};
-ghost use Rattle.caller_environment.specs.UserTable.{has_number, home_in, is_named, name_in, named_line, numbered_line, user_line};
+ghost use Rattle.caller_environment.specs.UserTable.{has_user_number, home_in, is_user_named, name_in_user_line, named_line, numbered_line, user_line};
 
 use crate::digits::user_number;
 use crate::fields::field;
@@ -16,8 +16,8 @@ pub fn user_line<'a>(table: &'a [u8], number: u32, name: &[u8]) -> Option<&'a [u
 }
 
 /// The user's name that a line of the table has.
-pub fn name_in(line: &[u8]) -> &[u8]
-    ensures { result.now ≡ name_in line.now }
+pub fn name_in_user_line(line: &[u8]) -> &[u8]
+    ensures { result.now ≡ name_in_user_line line.now }
 {
     field(line, b':', 0).unwrap_or(line)
 }
@@ -35,7 +35,7 @@ fn named_line<'a>(table: &'a [u8], number: u32, name: &[u8]) -> Option<&'a [u8]>
 {
     table
         .split(|byte| *byte == b'\n')
-        .find(|line| is_named(line, number, name))
+        .find(|line| is_user_named(line, number, name))
 }
 
 // The first line with this number.
@@ -44,18 +44,18 @@ fn numbered_line(table: &[u8], number: u32) -> Option<&[u8]>
 {
     table
         .split(|byte| *byte == b'\n')
-        .find(|line| has_number(line, number))
+        .find(|line| has_user_number(line, number))
 }
 
-fn is_named(line: &[u8], number: u32, name: &[u8]) -> bool
-    ensures { result ≡ is_named number name.now line.now }
+fn is_user_named(line: &[u8], number: u32, name: &[u8]) -> bool
+    ensures { result ≡ is_user_named number name.now line.now }
 {
-    has_number(line, number) && name_in(line) == name
+    has_user_number(line, number) && name_in_user_line(line) == name
 }
 
 // Whether the user number of a line is this one.
-fn has_number(line: &[u8], number: u32) -> bool
-    ensures { result ≡ has_number number line.now }
+fn has_user_number(line: &[u8], number: u32) -> bool
+    ensures { result ≡ has_user_number number line.now }
 {
     match field(line, b':', 2) {
         Some(digits) => user_number(digits) == Some(number),

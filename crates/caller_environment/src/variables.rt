@@ -1,6 +1,6 @@
 //! The variables of a job.
 ghost use Rattle.std.specs.Prelude.{◌≡◌, ◌++◌, IfOk, OnOk, option_copied};
-ghost use Rattle.caller_environment.specs.Variables.{absent_variable, changed, has_variable, job_variables, value_for};
+ghost use Rattle.caller_environment.specs.Variables.{absent_variable, changed_variables, has_variable, job_variables, value_for};
 
 use host_calls::Text;
 use job_script::Variables;
@@ -39,7 +39,7 @@ fn changed_variables(
     variables: &[(Text, Text)],
     settings: &CallerSettings,
 ) -> Result<Variables, AllocError>
-    ensures { IfOk result (λ made. made ≡ changed settings.now variables.now) }
+    ensures { IfOk result (λ made. made ≡ changed_variables settings.now variables.now) }
 {
     let mut made = Variables::new(alloc);
     for variable in variables {

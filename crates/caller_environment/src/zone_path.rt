@@ -2,7 +2,7 @@
 ghost use Rattle.std.specs.Prelude.{◌≡◌, IfOk, option_copied};
 ghost use Rattle.caller_environment.specs.ZoneFile.{file_of_zone, has_mark, is_rule, zone_directory, zone_file, zone_name};
 
-use crate::paths::joined;
+use crate::paths::joined_texts;
 use host_calls::Text;
 use std::alloc::{AllocError, Global};
 

@@ -6,7 +6,7 @@ use crate::user::{CallingUser, calling_user};
 use caller_environment::{CallerSettings, MAX_ZONE_FILE, rule_in, zone_file};
 use cause_output::Caller;
 use host_calls::Text;
-use process_input::{entries_of, umask_in, variable};
+use process_input::{environment_variables, umask_in, variable};
 use std::alloc::AllocError;
 use std::fs::File;
 use std::io::Read;
@@ -34,7 +34,7 @@ pub fn invoker_of(rt: &HostRuntime) -> Result<Invoker, AllocError> {
         user: Text::of(rt.alloc(), user.name.as_str())?,
         zone: zone_rule(rt)?,
     };
-    let variables = entries_of(rt)?;
+    let variables = environment_variables(rt)?;
     let zone = variable(rt, "TZ")?;
     let caller = caller_by(rt.alloc(), &variables, settings, zone.as_deref(), umask)?;
     Ok(Invoker { user, caller })

@@ -18,6 +18,6 @@ pub use machine_lists::{LISTS, may_call};
 pub use own_spool::sync_folder;
 pub use owners::{is_link, is_theirs};
 pub use permission::{SpoolOwner, may_save_into, may_work_on};
-pub use spool_paths::{SpoolPaths, is_folder, paths_of, within};
+pub use spool_paths::{SpoolPaths, is_directory_there, path_within, paths_of};
 pub use tool_spool::{ToolSpool, callers_spool, make_own, spool_of};
 pub use user::CallingUser;

@@ -1,5 +1,5 @@
 //! The caller's own spool, made where it is absent.
-use crate::spool_paths::{is_folder, within};
+use crate::spool_paths::{is_directory_there, path_within};
 use std::alloc::AllocError;
 use std::fs::{DirBuilder, File, OpenOptions, Permissions};
 use std::os::unix::fs::{DirBuilderExt, OpenOptionsExt, PermissionsExt};
@@ -12,45 +12,45 @@ pub fn make_spool(rt: &HostRuntime, spool: &str) -> io::Result<()> {
     if has_list(rt, spool)? {
         return Ok(());
     }
-    make_folders(rt, spool)?;
+    create_directories(rt, spool)?;
     make_list(rt, spool)
 }
 
 // Whether the spool has one of the lists of users. Without them nobody but root may use it.
 fn has_list(rt: &HostRuntime, spool: &str) -> Result<bool, AllocError> {
-    let deny = within(rt, spool, "at.deny")?;
-    if is_there(rt, deny.as_str()) {
+    let deny = path_within(rt, spool, "at.deny")?;
+    if is_entry_there(rt, deny.as_str()) {
         return Ok(true);
     }
-    let allow = within(rt, spool, "at.allow")?;
-    Ok(is_there(rt, allow.as_str()))
+    let allow = path_within(rt, spool, "at.allow")?;
+    Ok(is_entry_there(rt, allow.as_str()))
 }
 
-fn is_there(rt: &HostRuntime, path: &str) -> bool {
+fn is_entry_there(rt: &HostRuntime, path: &str) -> bool {
     fs::symlink_metadata(rt, path).is_ok()
 }
 
 // Makes each directory of this path that is absent, the first one first.
-fn make_folders(rt: &HostRuntime, path: &str) -> io::Result<()> {
+fn create_directories(rt: &HostRuntime, path: &str) -> io::Result<()> {
     for (end, byte) in path.bytes().enumerate() {
         if byte == b'/' && end > 0 {
             if let Some(part) = path.get(..end) {
-                make_folder(rt, part)?;
+                create_directory(rt, part)?;
             }
         }
     }
-    make_folder(rt, path)
+    create_directory(rt, path)
 }
 
-fn make_folder(rt: &HostRuntime, path: &str) -> io::Result<()> {
-    if is_folder(rt, path) {
+fn create_directory(rt: &HostRuntime, path: &str) -> io::Result<()> {
+    if is_directory_there(rt, path) {
         return Ok(());
     }
     match DirBuilder::new().mode(0o700).create(rt, path) {
         // (the umask may have taken the rights of the owner too)
         Ok(()) => fs::set_permissions(rt, path, Permissions::from_mode(0o700))?,
         // Another program was faster.
-        Err(_) if is_folder(rt, path) => {}
+        Err(_) if is_directory_there(rt, path) => {}
         Err(error) => return Err(error),
     }
     // Its name is durable before anything is put into it.
@@ -68,7 +68,7 @@ pub fn sync_folder(rt: &HostRuntime, path: &str) -> io::Result<()> {
 
 // Makes the list that shuts nobody out.
 fn make_list(rt: &HostRuntime, spool: &str) -> io::Result<()> {
-    let deny = within(rt, spool, "at.deny")?;
+    let deny = path_within(rt, spool, "at.deny")?;
     let mut options = OpenOptions::new();
     options.write(true).create(true).mode(0o600);
     options.open(rt, deny.as_str())?.sync_all()?;

@@ -46,13 +46,13 @@ fn whole_path(rt: &HostRuntime, spool: &str) -> Result<Option<String>, AllocErro
         _ => ".",
     };
     match fs::canonicalize(rt, parent) {
-        Ok(parent) => Ok(Some(within(rt, parent.as_str(), name)?)),
+        Ok(parent) => Ok(Some(path_within(rt, parent.as_str(), name)?)),
         Err(_) => Ok(None),
     }
 }
 
 /// The path of a name in a directory.
-pub fn within(rt: &HostRuntime, folder: &str, name: &str) -> Result<String, AllocError> {
+pub fn path_within(rt: &HostRuntime, folder: &str, name: &str) -> Result<String, AllocError> {
     match folder {
         "/" => with_ending(rt, folder, name),
         _ => format!(in rt.alloc(); "{folder}/{name}"),
@@ -72,7 +72,7 @@ pub fn is_folder_of(rt: &HostRuntime, path: &str, user: u32) -> bool {
 }
 
 /// Whether a directory has the path.
-pub fn is_folder(rt: &HostRuntime, path: &str) -> bool {
+pub fn is_directory_there(rt: &HostRuntime, path: &str) -> bool {
     match fs::metadata(rt, path) {
         Ok(found) => found.is_dir(),
         Err(_) => false,

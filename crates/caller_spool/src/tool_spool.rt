@@ -3,11 +3,11 @@ ghost use Rattle.std.specs.Prelude.{◌≡◌};
 ghost use Rattle.caller_spool.specs.Tools.{names_spool};
 
 use crate::own_spool::make_spool;
-use crate::spool_paths::{is_folder, is_folder_of};
+use crate::spool_paths::{is_directory_there, is_folder_of};
 use crate::user::CallingUser;
 use caller_environment::{MeantSpool, SpoolSources, ToolName, meant_spool};
 use host_calls::Text;
-use process_input::{take_folder, text_of};
+use process_input::{take_folder, variable_or};
 use std::alloc::AllocError;
 
 /// The spool that a tool works on.
@@ -49,7 +49,7 @@ fn names_spool(tool: ToolName) -> bool
 
 /// The spool of this caller where no word names one.
 pub fn callers_spool(rt: &HostRuntime, user: &CallingUser) -> Result<ToolSpool, AllocError> {
-    let named = text_of(rt, "ATSPOOL", "")?;
+    let named = variable_or(rt, "ATSPOOL", "")?;
     let is_own = named.as_str().is_empty();
     let home = match &user.home {
         Some(home) => Some(Text::of(rt.alloc(), home.as_str())?),
@@ -60,7 +60,7 @@ pub fn callers_spool(rt: &HostRuntime, user: &CallingUser) -> Result<ToolSpool, 
         is_root: user.is_root(),
         user: Text::of(rt.alloc(), user.name.as_str())?,
         home,
-        state: text_of(rt, "XDG_STATE_HOME", "")?,
+        state: variable_or(rt, "XDG_STATE_HOME", "")?,
     };
     let path = match meant_spool(rt.alloc(), &sources)? {
         MeantSpool::Fixed(path) => path,
@@ -71,7 +71,7 @@ pub fn callers_spool(rt: &HostRuntime, user: &CallingUser) -> Result<ToolSpool, 
 
 // The usual place, unless it is absent and one of those before has a spool of the user's.
 fn used_place(rt: &HostRuntime, usual: Text, former: Vec<Text>, user: Option<u32>) -> Text {
-    if is_folder(rt, usual.as_str()) {
+    if is_directory_there(rt, usual.as_str()) {
         return usual;
     }
     let found = former.into_iter().find(|place| is_folder_of(

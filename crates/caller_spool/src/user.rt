@@ -1,8 +1,8 @@
 //! The user who calls.
 use crate::spool_paths::is_folder_of;
-use caller_environment::{home_in, name_in, user_line, user_number_in};
+use caller_environment::{home_in, name_in_user_line, user_line, user_number_in};
 use host_calls::Text;
-use process_input::{text_of, variable};
+use process_input::{variable, variable_or};
 use std::alloc::AllocError;
 use std::process::Command;
 use std::{fs, str};
@@ -30,7 +30,7 @@ impl CallingUser {
 /// The user of the process with this status. The entry in the table of users has the name and the home directory, and
 /// without one the variables `LOGNAME` and `HOME`.
 pub fn calling_user(rt: &HostRuntime, status: &[u8]) -> Result<CallingUser, AllocError> {
-    let called = text_of(rt, "LOGNAME", "")?;
+    let called = variable_or(rt, "LOGNAME", "")?;
     let Some(number) = user_number_in(status) else {
         return Ok(CallingUser {
             number: None,
@@ -38,7 +38,7 @@ pub fn calling_user(rt: &HostRuntime, status: &[u8]) -> Result<CallingUser, Allo
             home: None,
         });
     };
-    match entry_of(rt, number, called.as_str())? {
+    match user_entry(rt, number, called.as_str())? {
         Some((name, home)) => Ok(CallingUser {
             number: Some(number),
             name,
@@ -47,7 +47,7 @@ pub fn calling_user(rt: &HostRuntime, status: &[u8]) -> Result<CallingUser, Allo
         None => Ok(CallingUser {
             number: Some(number),
             name: called,
-            home: own_home(rt, text_of(rt, "HOME", "")?, number),
+            home: own_home(rt, variable_or(rt, "HOME", "")?, number),
         }),
     }
 }
@@ -59,7 +59,11 @@ fn own_home(rt: &HostRuntime, home: Text, number: u32) -> Option<Text> {
 }
 
 // The name and the home directory of a user, by the table of the machine, or else by what the system asks for users.
-fn entry_of(rt: &HostRuntime, number: u32, name: &str) -> Result<Option<(Text, Text)>, AllocError> {
+fn user_entry(
+    rt: &HostRuntime,
+    number: u32,
+    name: &str,
+) -> Result<Option<(Text, Text)>, AllocError> {
     if let Ok(table) = fs::read(rt, "/etc/passwd") {
         let found = entry_in(rt, table.as_slice(), number, name)?;
         if found.is_some() {
@@ -96,7 +100,10 @@ fn entry_in(
         return Ok(None);
     };
     let home = home_in(line).unwrap_or(b"");
-    match (str::from_utf8(name_in(line)), str::from_utf8(home)) {
+    match (
+        str::from_utf8(name_in_user_line(line)),
+        str::from_utf8(home),
+    ) {
         (Ok(name), Ok(home)) => Ok(Some((
             Text::of(rt.alloc(), name)?,
             Text::of(rt.alloc(), home)?,

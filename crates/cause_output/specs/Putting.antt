@@ -6,9 +6,9 @@ use Rattle.host_calls.specs.declared.fault.SinkFault.TheVariants.{Failed, Memory
 use Rattle.cause_output.specs.Sinks.{IsCut, IsPut, IsPutInPart, SinkAt}
 
 -- the lines of what is told, one after another
-abbrev pub lines_of : {T : Type 0} → (T → List ℕ) → List T → List ℕ
-lines_of line [] = []
-lines_of line (known ∷ others) = line known ++ lines_of line others
+abbrev pub joined_lines : {T : Type 0} → (T → List ℕ) → List T → List ℕ
+joined_lines line [] = []
+joined_lines line (known ∷ others) = line known ++ joined_lines line others
 
 -- all of the text was put, a prefix of it up to a put that failed, or up to a line that found no memory
 abbrev pub PutsText : List ℕ → SinkAt → SinkAt → Result (Unit {0}) SinkFault → Type 0

@@ -6,17 +6,17 @@ use Rattle.listing_text.specs.Cause.{cause_line_of}
 use Rattle.cause_output.specs.Sinks.{IsPutOrCut, IsSilent, SinkAt}
 
 -- the command was not done
-abbrev pub IsUndone : Cause → Type 0
-IsUndone Done = ⊥
-IsUndone FileFault = Unit {0}
-IsUndone InputFault = Unit {0}
-IsUndone OutputFault = Unit {0}
-IsUndone Busy = Unit {0}
-IsUndone Memory = Unit {0}
-IsUndone (Refused refusal) = Unit {0}
-IsUndone (Damaged damage) = Unit {0}
-IsUndone StillRunning = Unit {0}
-IsUndone Faulty = Unit {0}
+abbrev pub IsFailure : Cause → Type 0
+IsFailure Done = ⊥
+IsFailure FileFault = Unit {0}
+IsFailure InputFault = Unit {0}
+IsFailure OutputFault = Unit {0}
+IsFailure Busy = Unit {0}
+IsFailure Memory = Unit {0}
+IsFailure (Refused refusal) = Unit {0}
+IsFailure (Damaged damage) = Unit {0}
+IsFailure StillRunning = Unit {0}
+IsFailure Faulty = Unit {0}
 
 -- the line of the cause was put, or cut; what was done has none
 abbrev pub SaysLine : List ℕ → Cause → SinkAt → SinkAt → Type 0
@@ -35,4 +35,4 @@ SaysLine tool Faulty old new = IsPutOrCut (cause_line_of tool Faulty) old new
 abbrev pub IsSaid : List ℕ → Bool → Cause → SinkAt → SinkAt → Cause → Type 0
 IsSaid tool tells cause old new final =
     ((final ≡ cause) × (tells ≡ true → SaysLine tool cause old new))
-    ⊎ (IsUndone cause × (final ≡ Memory) × (tells ≡ true → IsSilent old new))
+    ⊎ (IsFailure cause × (final ≡ Memory) × (tells ≡ true → IsSilent old new))

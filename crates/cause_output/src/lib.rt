@@ -13,6 +13,6 @@ mod word_faults;
 pub use caller::Caller;
 pub use cause_line::{cause_of_end, say_cause, say_end};
 pub use command_error::CommandError;
-pub use lines::{Line, put_lines};
+pub use lines::{PrintedLine, put_lines};
 pub use put_cause::cause_of_put;
 pub use word_faults::cause_of_words;

@@ -1,13 +1,13 @@
 //! Lines that are put one after another.
 ghost use Rattle.std.specs.Prelude.{◌≡◌, List, ℕ};
 ghost use Rattle.cause_output.specs.Sinks.{sink_at};
-ghost use Rattle.cause_output.specs.Putting.{PutsLines, lines_of};
+ghost use Rattle.cause_output.specs.Putting.{PutsLines, joined_lines};
 
 use host_calls::{Bytes, Sink, SinkFault};
 use std::alloc::Global;
 
 /// What is told in a line, or in none.
-pub trait Line {
+pub trait PrintedLine {
     ghost line: { Self → List ℕ };
 
     /// Puts the line.
@@ -17,7 +17,7 @@ pub trait Line {
             (sink_at (O.content out.old) (O.outlet out.old)) (sink_at (O.content out.new) (O.outlet out.new)) result };
 }
 
-impl Line for Bytes {
+impl PrintedLine for Bytes {
     ghost line = { λ bytes. bytes };
 
     fn put<O: Sink>(&self, alloc: Global, out: &mut O) -> Result<(), SinkFault> {
@@ -26,9 +26,13 @@ impl Line for Bytes {
 }
 
 /// Puts the lines, in order, up to one that could not be put.
-pub fn put_lines<L: Line, O: Sink>(alloc: Global, lines: &[L], out: &mut O) -> Result<(), SinkFault>
+pub fn put_lines<L: PrintedLine, O: Sink>(
+    alloc: Global,
+    lines: &[L],
+    out: &mut O,
+) -> Result<(), SinkFault>
     ensures made_as { (O.outlet out.new).made_as ≡ (O.outlet out.old).made_as }
-    ensures puts { PutsLines O.tells (lines_of L.line lines.now)
+    ensures puts { PutsLines O.tells (joined_lines L.line lines.now)
         (sink_at (O.content out.old) (O.outlet out.old)) (sink_at (O.content out.new) (O.outlet out.new)) result }
 {
     for line in lines {

@@ -5,13 +5,13 @@ ghost use Rattle.listing_text.specs.Lines.{turn_line_of};
 ghost use Rattle.cause_output.specs.Putting.{PutsLines};
 ghost use Rattle.cause_output.specs.Steps.{step_line};
 
-use crate::Line;
+use crate::PrintedLine;
 use host_calls::{Sink, SinkFault};
 use listing_text::{TurnStepText, turn_line};
 use spool_model::TurnStep;
 use std::alloc::Global;
 
-impl Line for TurnStep {
+impl PrintedLine for TurnStep {
     ghost line = { step_line };
 
     // What is forgotten has no line.

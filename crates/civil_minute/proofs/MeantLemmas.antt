@@ -9,7 +9,7 @@ use Rattle.jiff_core.proofs.CalendarLemmas.{weekday_number-add, weekday_number_b
 use Rattle.jiff_core.proofs.SignedLemmas.{signed_arith, one_part}
 use Rattle.jiff_core.specs.Calendar.{weekday_number, IsCivilDate}
 use Rattle.jiff_core.specs.Time.{time_seconds}
-use Rattle.civil_minute.specs.Meant.{IsAwaited, IsFirstAwaited, ShowsNow, Becomes, leaves, stays, TimespecMeans, no_day, picked, IsAnswer, IsInstantOf, IsPicked, IsBaseInstant, NamesNoDay, given_second, is_instant, IsDay, TouchMeans, touch_no_day, touch_named, year_of_touch, later_day, later_seconds, zone_meant}
+use Rattle.civil_minute.specs.Meant.{IsAwaited, IsFirstAwaited, ShowsNow, Becomes, leaves, stays, TimespecMeans, no_day, picked, IsAnswer, IsInstantOf, IsPicked, IsBaseInstant, NamesNoDay, given_second, is_instant, IsDateOf, TouchMeans, touch_no_day, touch_named, year_of_touch, later_day, later_seconds, zone_meant}
 use Rattle.civil_minute.specs.Zone.{rules_of}
 use Rattle.civil_minute.specs.inside.Reckoning.{IsLocalTime, LeavesRange, days_ahead}
 use Rattle.civil_minute.specs.declared.civil.TheConstants.{SECONDS_AN_HOUR}
@@ -147,10 +147,10 @@ touch_means_no_day time now zone local year is_year at names =
     touch_no_day local.date (time_seconds local.time) (shows_now zone now local at) (subst (λ y. ¬ (IsCivilDate y time.month time.day)) is_year names)
 
 pub touch_means_named : (time : TouchTime) (now : ℤ) (zone : Zone) (local : DateTime) (year : ℤ) (date : Date) (given : ℕ) (result : Result ℕ DateFault)
-    → year ≡ year_of_touch time.year local.date → IsLocalTime zone now local → IsDay year time.month time.day date
+    → year ≡ year_of_touch time.year local.date → IsLocalTime zone now local → IsDateOf year time.month time.day date
     → given ≡ time.hour * SECONDS_AN_HOUR + time.minute * 60 → Becomes false zone now date given None result → TouchMeans time now zone result
 touch_means_named time now zone local year date given result is_year at day is_given becomes =
-    touch_named local.date date (time_seconds local.time) result (shows_now zone now local at) (subst (λ y. IsDay y time.month time.day date) is_year day)
+    touch_named local.date date (time_seconds local.time) result (shows_now zone now local at) (subst (λ y. IsDateOf y time.month time.day date) is_year day)
     (subst (λ g. Becomes false zone now date g None result) is_given becomes)
 
 -- a minute of the clock's second is in the range

@@ -11,7 +11,7 @@ use Rattle.timespec_grammar.specs.declared.date.DatePart.TheVariants.{Absent, Mo
 use Rattle.timespec_grammar.specs.declared.increment.Increment.{Increment}
 use Rattle.timespec_grammar.specs.declared.timespec.Timespec.{Timespec}
 use Rattle.touch_time.specs.declared.touch.TouchTime.{TouchTime}
-use Rattle.civil_minute.specs.Meant.{Becomes, leaves, stays, IsAnswer, IsDay, IsFirstAwaited, IsInstantOf, IsPicked, IsBaseInstant, TimespecMeans, no_day, picked, NamesNoDay, ShowsNow, TouchMeans, touch_no_day, touch_named, given_second, is_instant, later_seconds, offset_before, year_of_month, year_of_touch, zone_meant}
+use Rattle.civil_minute.specs.Meant.{Becomes, leaves, stays, IsAnswer, IsDateOf, IsFirstAwaited, IsInstantOf, IsPicked, IsBaseInstant, TimespecMeans, no_day, picked, NamesNoDay, ShowsNow, TouchMeans, touch_no_day, touch_named, given_second, is_instant, later_seconds, offset_before, year_of_month, year_of_touch, zone_meant}
 use Rattle.civil_minute.specs.declared.civil.TheConstants.{SECONDS_A_DAY, SECONDS_AN_HOUR}
 use Rattle.civil_minute.specs.declared.fault.DateFault.{DateFault}
 use Rattle.civil_minute.specs.declared.fault.DateFault.TheVariants.{NoSuchDay, OutOfRange, Past, Memory}
@@ -23,11 +23,11 @@ one_now zone now a b s t first second =
     let shows : epoch_day a *ℤ pos SECONDS_A_DAY +ℤ pos s ≡ epoch_day b *ℤ pos SECONDS_A_DAY +ℤ pos t = first.shows ∙ sym second.shows in
     (same_date a b (omega (arith, signed_arith)), omega (arith, signed_arith))
 
-one_day : (year : ℤ) (month day : ℕ) (a b : Date) → IsDay year month day a → IsDay year month day b → a ≡ b
+one_day : (year : ℤ) (month day : ℕ) (a b : Date) → IsDateOf year month day a → IsDateOf year month day b → a ≡ b
 one_day year month day a b first second =
     same_date a b (epoch_day_same a b (first.same_year ∙ sym second.same_year) (first.same_month ∙ sym second.same_month) (first.same_day ∙ sym second.same_day))
 
-is_civil : (year : ℤ) (month day : ℕ) (date : Date) → IsDay year month day date → IsCivilDate year month day
+is_civil : (year : ℤ) (month day : ℕ) (date : Date) → IsDateOf year month day date → IsCivilDate year month day
 is_civil year month day date is = rw (← is.same_year, ← is.same_month, ← is.same_day) (civil date)
 
 one_awaited : (weekday given : ℕ) (today : ℤ) (time : ℕ) (a b : ℤ) → IsFirstAwaited weekday given today time a → IsFirstAwaited weekday given today time b → a ≡ b
@@ -110,12 +110,12 @@ pub one_touch_meaning : (time : TouchTime) (now : ℤ) (zone : Zone) (a b : Resu
 one_touch_meaning time now zone a b (touch_no_day today second shows none) (touch_no_day today₂ second₂ shows₂ none₂) = refl
 one_touch_meaning time now zone a b (touch_no_day today second shows none) (touch_named today₂ date₂ second₂ result₂ shows₂ day₂ becomes₂) =
     let same = one_now zone now today₂ today second₂ second shows₂ shows in
-    absurd (none (is_civil _ time.month time.day date₂ (subst (λ d. IsDay (year_of_touch time.year d) time.month time.day date₂) same.0 day₂)))
+    absurd (none (is_civil _ time.month time.day date₂ (subst (λ d. IsDateOf (year_of_touch time.year d) time.month time.day date₂) same.0 day₂)))
 one_touch_meaning time now zone a b (touch_named today date second result shows day becomes) (touch_no_day today₂ second₂ shows₂ none₂) =
     let same = one_now zone now today today₂ second second₂ shows shows₂ in
-    absurd (none₂ (is_civil _ time.month time.day date (subst (λ d. IsDay (year_of_touch time.year d) time.month time.day date) same.0 day)))
+    absurd (none₂ (is_civil _ time.month time.day date (subst (λ d. IsDateOf (year_of_touch time.year d) time.month time.day date) same.0 day)))
 one_touch_meaning time now zone a b (touch_named today date second result shows day becomes) (touch_named today₂ date₂ second₂ result₂ shows₂ day₂ becomes₂) =
     let same = one_now zone now today₂ today second₂ second shows₂ shows in
-    let date_same = one_day _ time.month time.day date₂ date (subst (λ d. IsDay (year_of_touch time.year d) time.month time.day date₂) same.0 day₂) day in
+    let date_same = one_day _ time.month time.day date₂ date (subst (λ d. IsDateOf (year_of_touch time.year d) time.month time.day date₂) same.0 day₂) day in
     one_outcome false zone now date _ None result result₂ becomes
     (subst (λ d. Becomes false zone now d (time.hour * SECONDS_AN_HOUR + time.minute * 60) None result₂) date_same becomes₂)

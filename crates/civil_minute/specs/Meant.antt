@@ -50,7 +50,7 @@ year_of_touch (Some year) today = pos year
 year_of_touch None today = today.year
 
 -- the date is the day of this year and month
-pub record IsDay (year : ℤ) (month day : ℕ) (date : Date) : Type 0 where
+pub record IsDateOf (year : ℤ) (month day : ℕ) (date : Date) : Type 0 where
   pub same_year : date.year ≡ year
   pub same_month : date.month ≡ month
   pub same_day : date.day ≡ day
@@ -70,7 +70,7 @@ abbrev pub IsPicked : DatePart → ℕ → Date → ℕ → Date → Type 0
 IsPicked Absent given today time date =
     epoch_day date ≡ (if nat_le time given then epoch_day today else epoch_day today +ℤ pos 1)
 IsPicked (MonthDay month day year) given today time date =
-    IsDay (year_of_month year month today) month day date
+    IsDateOf (year_of_month year month today) month day date
 IsPicked (Weekday weekday) given today time date =
     IsFirstAwaited weekday given (epoch_day today) time (epoch_day date)
 IsPicked Today given today time date = epoch_day date ≡ epoch_day today
@@ -180,7 +180,7 @@ pub data TouchMeans (time : TouchTime) (now : ℤ) (zone : Zone) : Result ℕ Da
       → TouchMeans time now zone (Err NoSuchDay)
   touch_named : (today date : Date) (second : ℕ) (result : Result ℕ DateFault)
       → ShowsNow zone now today second
-      → IsDay (year_of_touch time.year today) time.month time.day date
+      → IsDateOf (year_of_touch time.year today) time.month time.day date
       → Becomes false zone now date (time.hour * SECONDS_AN_HOUR + time.minute * 60) None result
       → TouchMeans time now zone result
 

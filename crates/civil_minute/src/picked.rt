@@ -3,7 +3,7 @@ ghost use Rattle.std.specs.Prelude.{◌≡◌, ◌≤◌, ◌≤ℤ◌, pos, IfO
 ghost use Rattle.jiff.specs.Words.{epoch_day};
 ghost use Rattle.jiff_core.specs.Time.{time_seconds};
 ghost use Rattle.jiff_core.specs.Calendar.{IsCivilDate};
-ghost use Rattle.civil_minute.specs.Meant.{IsDay, IsFirstAwaited, IsPickable, IsPicked, NamesNoDay};
+ghost use Rattle.civil_minute.specs.Meant.{IsDateOf, IsFirstAwaited, IsPickable, IsPicked, NamesNoDay};
 ghost use Rattle.civil_minute.specs.Meant as meant;
 ghost use Rattle.civil_minute.specs.inside.Reckoning as reckoning;
 
@@ -40,7 +40,7 @@ pub(crate) fn picked_date(date: DatePart, given: u32, local: DateTime) -> Result
 
 /// The day of a year and a month.
 pub(crate) fn date_in(year: i16, month: u8, day: u8) -> Result<Date, DateFault>
-    ensures ok { IfOk result (IsDay year month day) }
+    ensures ok { IfOk result (IsDateOf year month day) }
     ensures err { IfErr result (λ e. (e ≡ DateFault.NoSuchDay) × ¬ (IsCivilDate year month day)) }
 {
     if month > 12 || day > 31 {

@@ -11,7 +11,7 @@ use Rattle.spool_model.specs.declared.step.Step.{Step}
 use Rattle.spool_model.specs.JobTable.{JobTable}
 use Rattle.spool_shows.specs.Shown.{shown_by}
 use Rattle.cause_output.specs.declared.caller.Caller.{Caller}
-use Rattle.command_rules.specs.Ends.{Ends, IsNoRefusal, KeepsOrder}
+use Rattle.command_rules.specs.Ends.{CommandEnds, IsNoRefusal, KeepsOrder}
 use Rattle.command_rules.specs.Found.{Asked, Found}
 use Rattle.command_rules.specs.Laws.{CrashesLeavePrefixes, RefusalsChangeNothing, WhatIsAllowedIsDone, WhatIsDoneStands, WhatIsRefusedHasNoStep}
 use Rattle.command_rules.specs.Requested.{AreAskedSteps, OrNone}
@@ -41,7 +41,7 @@ done_or_memory AreSteps old new table _ shown none ends files input output busy 
 module _ (Notes : Cause → (List ℕ → Type 0) → SinkAt → SinkAt → Type 0) where
   pub allowed_is_done : WhatIsAllowedIsDone Notes
   allowed_is_done asked caller tells before after cause known table shown none files input output busy =
-      let ends : Ends Notes asked caller tells before after cause = known.ends in
+      let ends : CommandEnds Notes asked caller tells before after cause = known.ends in
       let verdict : verdict_of asked caller ends.found ends.shown ≡ None =
       ap (verdict_of asked caller ends.found) ((ends.folder known.files known.alone).table ∙ shown) ∙ none in
       done_or_memory (AreAskedSteps asked caller ends.found) before.spool after.spool table cause shown

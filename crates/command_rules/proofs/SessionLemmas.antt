@@ -11,7 +11,7 @@ use Rattle.listing_text.specs.declared.cause.Cause.TheVariants.{Done, Refused, F
 use Rattle.spool_model.specs.declared.step.Step.{Step}
 use Rattle.spool_model.specs.JobTable.{JobTable}
 use Rattle.command_rules.specs.Requested.{AreNoSteps, OrNone}
-use Rattle.command_rules.specs.Sessions.{IsRecovery, IsWorkedOn, IsWorkedOut, Works}
+use Rattle.command_rules.specs.Sessions.{IsRecovery, IsWorkedOn, IsWorkedOut, CommandWorks}
 use Rattle.command_rules.specs.Spool.{SpoolEnds}
 use Rattle.command_rules.proofs.SpoolLemmas.{without_steps}
 
@@ -41,7 +41,7 @@ module _ (AreSteps : JobTable → List Step → Type 0) (old middle new : World)
     | inr worked ↦ inr (table, worked.steps, inl worked.are, runs_after_recoveries table worked.steps old middle new is.shown is.changes worked.legal worked.run)
   ]
 
-  pub works_end : (cause : Cause) → Works AreSteps table middle new cause → SpoolEnds AreSteps old new cause
+  pub works_end : (cause : Cause) → CommandWorks AreSteps table middle new cause → SpoolEnds AreSteps old new cause
   works_end Done works = worked_out works
   works_end OutputFault works = worked_out works
   works_end FileFault works = worked_on works

@@ -13,7 +13,7 @@ use Rattle.step_runs.proofs.AttemptLemmas.{recoveries_begin_nothing}
 use Rattle.listing_text.specs.declared.cause.Cause.{Cause}
 use Rattle.listing_text.specs.declared.cause.Cause.TheVariants.{Done, Refused, FileFault, InputFault, OutputFault, Busy, Memory, Damaged}
 use Rattle.listing_text.specs.declared.refusal.Refusal.{Refusal}
-use Rattle.command_rules.specs.Checks.{check_of, is_before, of_folder}
+use Rattle.command_rules.specs.Checks.{check_of, is_earlier_check, of_folder}
 use Rattle.command_rules.specs.Requested.{AreNoSteps, OrNone}
 use Rattle.command_rules.specs.Spool.{RefusalLeaves, SpoolEnds}
 
@@ -37,7 +37,7 @@ refusal_cases true old new leaves = inl leaves
 refusal_cases false old new leaves = inr leaves
 
 pub refusal_left : (refusal : Refusal) (old new : World) → RefusalLeaves refusal old new → Achieves AreNoSteps old new ⊎ (new ≡ old)
-refusal_left refusal old new leaves = refusal_cases (is_before of_folder (check_of refusal)) old new leaves
+refusal_left refusal old new leaves = refusal_cases (is_earlier_check of_folder (check_of refusal)) old new leaves
 
 -- after no steps the folder shows what it showed
 pub shown_as_before : (old new : World) → Achieves AreNoSteps old new → shown_by (reading new) ≡ shown_by (reading old)

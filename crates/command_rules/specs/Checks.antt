@@ -26,30 +26,30 @@ pub data Check : Type 0 where
   of_output : Check
 
 -- the place of a check in the order
-abbrev pub place_of : Check → ℕ
-place_of of_words = 1
-place_of of_user = 2
-place_of of_directory = 3
-place_of of_variables = 4
-place_of of_clock = 5
-place_of of_zone = 6
-place_of of_spelling = 7
-place_of of_date = 8
-place_of of_input = 9
-place_of of_length = 10
-place_of of_lock = 11
-place_of of_lists = 12
-place_of of_access = 13
-place_of of_folder = 14
-place_of of_room = 15
-place_of of_number = 16
-place_of of_jobs = 17
-place_of of_steps = 18
-place_of of_output = 19
+abbrev pub place_of_check : Check → ℕ
+place_of_check of_words = 1
+place_of_check of_user = 2
+place_of_check of_directory = 3
+place_of_check of_variables = 4
+place_of_check of_clock = 5
+place_of_check of_zone = 6
+place_of_check of_spelling = 7
+place_of_check of_date = 8
+place_of_check of_input = 9
+place_of_check of_length = 10
+place_of_check of_lock = 11
+place_of_check of_lists = 12
+place_of_check of_access = 13
+place_of_check of_folder = 14
+place_of_check of_room = 15
+place_of_check of_number = 16
+place_of_check of_jobs = 17
+place_of_check of_steps = 18
+place_of_check of_output = 19
 
 -- the check comes before the other
-abbrev pub is_before : Check → Check → Bool
-is_before check other = nat_lt (place_of check) (place_of other)
+abbrev pub is_earlier_check : Check → Check → Bool
+is_earlier_check check other = nat_lt (place_of_check check) (place_of_check other)
 
 -- the check that a refusal comes of
 abbrev pub check_of : Refusal → Check
@@ -79,4 +79,4 @@ check_of (RunningJob number) = of_jobs
 -- a command that is refused comes no further than the check that refuses it
 abbrev pub ComesUpTo : Option Refusal → Check → Type 0
 ComesUpTo None reached = Unit {0}
-ComesUpTo (Some refusal) reached = is_before (check_of refusal) reached ≡ false
+ComesUpTo (Some refusal) reached = is_earlier_check (check_of refusal) reached ≡ false

@@ -12,7 +12,7 @@ use Rattle.listing_text.specs.declared.cause.Cause.TheVariants.{Done, Refused, F
 use Rattle.listing_text.specs.declared.refusal.Refusal.{Refusal}
 use Rattle.spool_model.specs.JobTable.{JobTable}
 use Rattle.cause_output.specs.declared.caller.Caller.{Caller}
-use Rattle.command_rules.specs.Checks.{Check, ComesUpTo, check_of, is_before, of_input, of_lock, of_folder, of_output}
+use Rattle.command_rules.specs.Checks.{Check, ComesUpTo, check_of, is_earlier_check, of_input, of_lock, of_folder, of_output}
 use Rattle.command_rules.specs.Found.{AreInFolder, Asked, Finds, Found, answers_read, is_listing}
 use Rattle.command_rules.specs.Requested.{AreAskedSteps, IsAskedLine, IsAskedText}
 use Rattle.cause_output.specs.Outside.{Holding, Telling}
@@ -22,10 +22,10 @@ use Rattle.command_rules.specs.Verdict.{verdict_of}
 
 -- the fault comes before this check
 abbrev pub ComesBefore : Cause → Check → Type 0
-ComesBefore InputFault check = is_before of_input check ≡ true
-ComesBefore Busy check = is_before of_lock check ≡ true
-ComesBefore FileFault check = is_before of_lock check ≡ true
-ComesBefore (Damaged damage) check = is_before of_folder check ≡ true
+ComesBefore InputFault check = is_earlier_check of_input check ≡ true
+ComesBefore Busy check = is_earlier_check of_lock check ≡ true
+ComesBefore FileFault check = is_earlier_check of_lock check ≡ true
+ComesBefore (Damaged damage) check = is_earlier_check of_folder check ≡ true
 ComesBefore _ check = ⊥
 
 -- the cause is no refusal
@@ -47,13 +47,13 @@ KeepsOrder (Some refusal) cause = (cause ≡ Refused refusal) ⊎ ((cause ≡ Me
 
 -- the cause stops a command before it asks for the lock
 abbrev pub StopsBeforeLock : Cause → Type 0
-StopsBeforeLock (Refused refusal) = is_before (check_of refusal) of_lock ≡ true
+StopsBeforeLock (Refused refusal) = is_earlier_check (check_of refusal) of_lock ≡ true
 StopsBeforeLock InputFault = Unit {0}
 StopsBeforeLock _ = ⊥
 
 -- a fault of the spool comes at the lock, at the lists, at the folder, or at the steps
-abbrev pub IsOfSpool : Check → Type 0
-IsOfSpool check = (is_before check of_lock ≡ false) × (is_before check of_output ≡ true)
+abbrev pub IsSpoolCheck : Check → Type 0
+IsSpoolCheck check = (is_earlier_check check of_lock ≡ false) × (is_earlier_check check of_output ≡ true)
 
 -- how far in the order of checks a command came that ends so
 abbrev pub Reaches : Cause → Check → Type 0
@@ -62,7 +62,7 @@ Reaches OutputFault check = check ≡ of_output
 Reaches (Refused refusal) check = check ≡ check_of refusal
 Reaches InputFault check = check ≡ of_input
 Reaches Busy check = check ≡ of_lock
-Reaches FileFault check = IsOfSpool check
+Reaches FileFault check = IsSpoolCheck check
 Reaches (Damaged damage) check = check ≡ of_folder
 Reaches Memory check = Unit {0}
 Reaches _ check = ⊥
@@ -70,7 +70,7 @@ Reaches _ check = ⊥
 -- How a command ends that was asked for so: over what it found outside, which is what was told, and over how far it came.
 -- The output of a listing can fail only where it has a line. What is said to the caller is a parameter: before the line of
 -- the cause, or with it.
-pub record Ends (Notes : Cause → (List ℕ → Type 0) → SinkAt → SinkAt → Type 0) (asked : Asked) (caller : Caller)
+pub record CommandEnds (Notes : Cause → (List ℕ → Type 0) → SinkAt → SinkAt → Type 0) (asked : Asked) (caller : Caller)
     (tells : Telling) (before after : Holding) (cause : Cause) : Type 0 where
   pub found : Found
   pub shown : Result JobTable Damage
@@ -81,7 +81,7 @@ pub record Ends (Notes : Cause → (List ℕ → Type 0) → SinkAt → SinkAt �
   pub clock : tells.clock ≡ true → after.answers ≡ answers_read asked reached found.now before.answers
   pub finds : Finds tells.input asked caller.zone before.contents reached found
   pub folder : tells.files ≡ true → tells.alone ≡ true → AreInFolder (reading before.spool) found shown
-  pub apart : tells.files ≡ true → tells.alone ≡ true → is_before reached of_folder ≡ true → after.spool ≡ before.spool
+  pub apart : tells.files ≡ true → tells.alone ≡ true → is_earlier_check reached of_folder ≡ true → after.spool ≡ before.spool
   pub spool : tells.files ≡ true → tells.alone ≡ true → SpoolEnds (AreAskedSteps asked caller found) before.spool after.spool cause
   pub prints : tells.files ≡ true → tells.alone ≡ true → tells.output ≡ true →
       PrintsBy cause (IsAskedText asked caller found shown) before.output after.output

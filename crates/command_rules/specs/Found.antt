@@ -9,12 +9,12 @@ use Rattle.civil_minute.specs.declared.zone.Zone.{Zone}
 use Rattle.host_calls.specs.declared.damage.Damage.{Damage}
 use Rattle.host_calls.specs.Clock.{Answers, with_now}
 use Rattle.host_calls.specs.Folder.{Files}
-use Rattle.host_calls.specs.Inputs.{Contents, IsPrefixOf}
+use Rattle.host_calls.specs.Inputs.{Contents, IsInputPrefix}
 use Rattle.job_script.specs.declared.writer.TheConstants.{MAX_COMMANDS}
 use Rattle.listing_text.specs.declared.refusal.Refusal.{Refusal}
 use Rattle.spool_model.specs.JobTable.{JobTable}
 use Rattle.spool_shows.specs.Shown.{shown_by}
-use Rattle.command_rules.specs.Checks.{Check, is_before, of_variables, of_zone, of_input}
+use Rattle.command_rules.specs.Checks.{Check, is_earlier_check, of_variables, of_zone, of_input}
 use Rattle.command_rules.specs.Times.{IsMeant}
 
 -- the answer of the clock, what the time means, the commands, and the texts of at.allow and at.deny where they exist
@@ -63,7 +63,7 @@ is_listing (Err fault) = false
 -- the answers of the clock after a command: a submission that comes to the check of the clock reads it once
 abbrev pub answers_read : Asked → Check → ℤ → Answers → Answers
 answers_read asked reached now answers =
-    if is_submission asked && is_before of_variables reached then with_now now answers else answers
+    if is_submission asked && is_earlier_check of_variables reached then with_now now answers else answers
 
 -- the content that commands are read from: that of the file, or of standard input where none is named
 abbrev pub content_of : Option (List ℕ) → Contents → Option (List ℕ)
@@ -71,14 +71,14 @@ content_of (Some path) contents = contents.file path
 content_of None contents = Some contents.standard
 
 -- the commands are the first bytes of the content, and one more at most than a job may have
-abbrev pub AreRead : Option (List ℕ) → Contents → List ℕ → Type 0
-AreRead file contents commands = IsPrefixOf (content_of file contents) (MAX_COMMANDS + 1) commands
+abbrev pub AreReadCommands : Option (List ℕ) → Contents → List ℕ → Type 0
+AreReadCommands file contents commands = IsInputPrefix (content_of file contents) (MAX_COMMANDS + 1) commands
 
 -- What a submission found: its time, where it came beyond the check of the zone, and its commands, where they were read.
 pub record FindsInput (tells : Bool) (file : Option (List ℕ)) (when : When) (zone : Zone) (contents : Contents)
     (reached : Check) (found : Found) : Type 0 where
-  pub time : is_before of_zone reached ≡ true → IsMeant when found.now zone found.time
-  pub commands : tells ≡ true → is_before of_input reached ≡ true → AreRead file contents found.commands
+  pub time : is_earlier_check of_zone reached ≡ true → IsMeant when found.now zone found.time
+  pub commands : tells ≡ true → is_earlier_check of_input reached ≡ true → AreReadCommands file contents found.commands
 
 -- a submission finds a time and commands, another request none
 abbrev pub Finds : Bool → Asked → Zone → Contents → Check → Found → Type 0

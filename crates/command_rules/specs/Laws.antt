@@ -11,7 +11,7 @@ use Rattle.spool_model.specs.JobTable.{JobTable}
 use Rattle.spool_model.specs.Steps.{after_steps}
 use Rattle.spool_shows.specs.Shown.{shown_by}
 use Rattle.cause_output.specs.declared.caller.Caller.{Caller}
-use Rattle.command_rules.specs.Ends.{Ends}
+use Rattle.command_rules.specs.Ends.{CommandEnds}
 use Rattle.cause_output.specs.Outside.{Holding, Telling}
 use Rattle.command_rules.specs.Found.{Asked}
 use Rattle.command_rules.specs.Requested.{AreAskedSteps, OrNone}
@@ -19,9 +19,9 @@ use Rattle.cause_output.specs.Sinks.{SinkAt}
 use Rattle.command_rules.specs.Verdict.{verdict_of}
 
 -- the command ended so, on a host that tells its files and is alone
-pub record IsKnown (Notes : Cause → (List ℕ → Type 0) → SinkAt → SinkAt → Type 0) (asked : Asked) (caller : Caller) (tells : Telling)
+pub record EndsExposed (Notes : Cause → (List ℕ → Type 0) → SinkAt → SinkAt → Type 0) (asked : Asked) (caller : Caller) (tells : Telling)
     (before after : Holding) (cause : Cause) : Type 0 where
-  pub ends : Ends Notes asked caller tells before after cause
+  pub ends : CommandEnds Notes asked caller tells before after cause
   pub files : tells.files ≡ true
   pub alone : tells.alone ≡ true
 
@@ -29,20 +29,20 @@ module _ (Notes : Cause → (List ℕ → Type 0) → SinkAt → SinkAt → Type
   -- What is not refused on a folder that shows a table, and meets no fault of the outside, is done or finds no memory.
   abbrev pub WhatIsAllowedIsDone : Type 0
   WhatIsAllowedIsDone = (asked : Asked) (caller : Caller) (tells : Telling) (before after : Holding) (cause : Cause) →
-      (known : IsKnown Notes asked caller tells before after cause) → (table : JobTable) → shown_by (reading before.spool) ≡ Ok table →
+      (known : EndsExposed Notes asked caller tells before after cause) → (table : JobTable) → shown_by (reading before.spool) ≡ Ok table →
       verdict_of asked caller known.ends.found (Ok table) ≡ None → cause ≢ FileFault → cause ≢ InputFault → cause ≢ OutputFault →
       cause ≢ Busy → (cause ≡ Done) ⊎ (cause ≡ Memory)
 
   -- After a refusal the folder shows what it showed.
   abbrev pub RefusalsChangeNothing : Type 0
   RefusalsChangeNothing = (asked : Asked) (caller : Caller) (tells : Telling) (before after : Holding) (refusal : Refusal) →
-      IsKnown Notes asked caller tells before after (Refused refusal) →
+      EndsExposed Notes asked caller tells before after (Refused refusal) →
       shown_by (reading after.spool) ≡ shown_by (reading before.spool)
 
   -- What the verdict refuses has no step, whatever is answered.
   abbrev pub WhatIsRefusedHasNoStep : Type 0
   WhatIsRefusedHasNoStep = (asked : Asked) (caller : Caller) (tells : Telling) (before after : Holding) (cause : Cause)
-      (refusal : Refusal) → (known : IsKnown Notes asked caller tells before after cause) →
+      (refusal : Refusal) → (known : EndsExposed Notes asked caller tells before after cause) →
       verdict_of asked caller known.ends.found (shown_by (reading before.spool)) ≡ Some refusal →
       IsUnbegun before.spool after.spool ⊎ ((table : JobTable) × IsBegun table [] before.spool after.spool)
 
@@ -50,12 +50,12 @@ module _ (Notes : Cause → (List ℕ → Type 0) → SinkAt → SinkAt → Type
   -- its steps.
   abbrev pub CrashesLeavePrefixes : Type 0
   CrashesLeavePrefixes = (asked : Asked) (caller : Caller) (tells : Telling) (before after : Holding) (cause : Cause) →
-      (known : IsKnown Notes asked caller tells before after cause) →
+      (known : EndsExposed Notes asked caller tells before after cause) →
       Attempts (OrNone (AreAskedSteps asked caller known.ends.found)) before.spool after.spool
 
   -- What is done stands: each image shows the table after all steps of the command.
   abbrev pub WhatIsDoneStands : Type 0
   WhatIsDoneStands = (asked : Asked) (caller : Caller) (tells : Telling) (before after : Holding) →
-      (known : IsKnown Notes asked caller tells before after Done) →
+      (known : EndsExposed Notes asked caller tells before after Done) →
       (table : JobTable) × (steps : List Step) × (shown_by (reading before.spool) ≡ Ok table)
       × AreAskedSteps asked caller known.ends.found table steps × EachShows after.spool.now.folder (after_steps table steps)

@@ -30,26 +30,26 @@ abbrev pub removes : List ℕ → List Step
 removes numbers = map step.Remove numbers
 
 -- the numbers are forgotten, in order
-abbrev pub forgets : List ℕ → List Step
-forgets numbers = map step.Forget numbers
+abbrev pub forget_steps : List ℕ → List Step
+forget_steps numbers = map step.Forget numbers
 
 -- a removal: the numbers are removed, and then the surplus of done ones is forgotten
-abbrev pub removal : JobTable → List ℕ → List Step
-removal table numbers = removes numbers ++ forgets (surplus (after_steps table (removes numbers)))
+abbrev pub removal_steps : JobTable → List ℕ → List Step
+removal_steps table numbers = removes numbers ++ forget_steps (surplus (after_steps table (removes numbers)))
 
 -- the steps of a request that is not refused
-abbrev pub steps_of : ToolRequest → Caller → Found → JobTable → List Step
-steps_of (request.Submit queue mail file when) caller found table =
+abbrev pub steps_of_request : ToolRequest → Caller → Found → JobTable → List Step
+steps_of_request (request.Submit queue mail file when) caller found table =
     submission table (job_for caller.context queue mail (minute_in found.time) found.commands)
-steps_of (request.Remove numbers) caller found table = removal table numbers
-steps_of (request.List filter) caller found table = []
-steps_of (request.Show numbers) caller found table = []
-steps_of (request.Daemon limit interval once turns) caller found table = []
-steps_of (request.Make count) caller found table = []
+steps_of_request (request.Remove numbers) caller found table = removal_steps table numbers
+steps_of_request (request.List filter) caller found table = []
+steps_of_request (request.Show numbers) caller found table = []
+steps_of_request (request.Daemon limit interval once turns) caller found table = []
+steps_of_request (request.Make count) caller found table = []
 
 -- and of words that ask for nothing
 abbrev pub steps_asked : Asked → Caller → Found → JobTable → List Step
-steps_asked (Ok asked) caller found table = steps_of asked caller found table
+steps_asked (Ok asked) caller found table = steps_of_request asked caller found table
 steps_asked (Err fault) caller found table = []
 
 -- The steps of a command on the table that the folder shows. A refused one has none, whatever it answers.
@@ -82,18 +82,18 @@ abbrev pub scripts_of : JobTable → List ℕ → List ℕ
 scripts_of table numbers = concat (map (λ number. script_in (entry_at table number)) numbers)
 
 -- what a request prints on standard output where it is done: a listing, scripts, or nothing
-abbrev pub Prints : ToolRequest → Caller → JobTable → List ℕ → Type 0
-Prints (request.List filter) caller table text = IsListing caller.zone table caller.context.user (passes_of filter) text
-Prints (request.Show numbers) caller table text = text ≡ scripts_of table numbers
-Prints (request.Submit queue mail file when) caller table text = text ≡ []
-Prints (request.Remove numbers) caller table text = text ≡ []
-Prints (request.Daemon limit interval once turns) caller table text = text ≡ []
-Prints (request.Make count) caller table text = text ≡ []
+abbrev pub RequestPrints : ToolRequest → Caller → JobTable → List ℕ → Type 0
+RequestPrints (request.List filter) caller table text = IsListing caller.zone table caller.context.user (passes_of filter) text
+RequestPrints (request.Show numbers) caller table text = text ≡ scripts_of table numbers
+RequestPrints (request.Submit queue mail file when) caller table text = text ≡ []
+RequestPrints (request.Remove numbers) caller table text = text ≡ []
+RequestPrints (request.Daemon limit interval once turns) caller table text = text ≡ []
+RequestPrints (request.Make count) caller table text = text ≡ []
 
 -- The text is what the command prints where it is done, on the table that the folder shows.
 abbrev pub IsAskedText : Asked → Caller → Found → Result JobTable Damage → List ℕ → Type 0
 IsAskedText (Ok asked) caller found shown text =
-    (table : JobTable) × (shown ≡ Ok table) × (verdict_of (Ok asked) caller found shown ≡ None) × Prints asked caller table text
+    (table : JobTable) × (shown ≡ Ok table) × (verdict_of (Ok asked) caller found shown ≡ None) × RequestPrints asked caller table text
 IsAskedText (Err fault) caller found shown text = ⊥
 
 -- the number that a submission draws on what the folder shows
@@ -108,16 +108,16 @@ pub record IsAcceptedLine (number minute : ℕ) (zone : Zone) (line : List ℕ) 
   pub text : line ≡ accepted_line_of number (date_text_of civil)
 
 -- what a request says to its caller where it is done: a submission the accepted line, another request nothing
-abbrev pub Says : ToolRequest → Zone → Found → ℕ → List ℕ → Type 0
-Says (request.Submit queue mail file when) zone found number line = IsAcceptedLine number (minute_in found.time) zone line
-Says (request.List filter) zone found number line = line ≡ []
-Says (request.Remove numbers) zone found number line = line ≡ []
-Says (request.Show numbers) zone found number line = line ≡ []
-Says (request.Daemon limit interval once turns) zone found number line = line ≡ []
-Says (request.Make count) zone found number line = line ≡ []
+abbrev pub RequestSays : ToolRequest → Zone → Found → ℕ → List ℕ → Type 0
+RequestSays (request.Submit queue mail file when) zone found number line = IsAcceptedLine number (minute_in found.time) zone line
+RequestSays (request.List filter) zone found number line = line ≡ []
+RequestSays (request.Remove numbers) zone found number line = line ≡ []
+RequestSays (request.Show numbers) zone found number line = line ≡ []
+RequestSays (request.Daemon limit interval once turns) zone found number line = line ≡ []
+RequestSays (request.Make count) zone found number line = line ≡ []
 
 -- The line is what the command says to its caller where it is done, on the table that the folder shows.
 abbrev pub IsAskedLine : Asked → Caller → Found → Result JobTable Damage → List ℕ → Type 0
 IsAskedLine (Ok asked) caller found shown line =
-    (verdict_of (Ok asked) caller found shown ≡ None) × Says asked caller.zone found (next_number shown) line
+    (verdict_of (Ok asked) caller found shown ≡ None) × RequestSays asked caller.zone found (next_number shown) line
 IsAskedLine (Err fault) caller found shown line = ⊥

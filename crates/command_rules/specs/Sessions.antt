@@ -19,9 +19,9 @@ use Rattle.spool_model.specs.JobTable.{JobTable}
 use Rattle.spool_model.specs.Steps.{AreLegal}
 use Rattle.spool_shows.specs.Shown.{shown_by}
 use Rattle.whole_file.specs.Others.{ChangesFiles}
-use Rattle.command_rules.specs.Checks.{check_of, is_before, of_folder}
+use Rattle.command_rules.specs.Checks.{check_of, is_earlier_check, of_folder}
 use Rattle.command_rules.specs.Found.{allow_file, deny_file}
-use Rattle.command_rules.specs.Spool.{IsDamage}
+use Rattle.command_rules.specs.Spool.{FindsDamage}
 
 -- a table as a store keeps it: without its scripts, or, where no files are told, just as it is
 abbrev pub IsKeptOf : JobTable → JobTable → Type 0
@@ -40,7 +40,7 @@ pub record IsRecovery (old new : World) (table : JobTable) (kept : Kept) : Type 
   pub current : IsCurrent kept new.now.folder table
 
 -- The lists permit the user, and the store was recovered, whose table this is.
-pub record IsOpened (tells : Bool) (user : List ℕ) (old new : World) (kept : Kept) : Type 0 where
+pub record IsStoreOpened (tells : Bool) (user : List ℕ) (old new : World) (kept : Kept) : Type 0 where
   pub allow : Option (List ℕ)
   pub deny : Option (List ℕ)
   pub table : JobTable
@@ -64,7 +64,7 @@ pub data IsNotOpened (tells : Bool) (user : List ℕ) (old new : World) : Cause 
       → (tells ≡ true → AreListsIn (reading old) allow deny) → (tells ≡ true → IsUnbegun old new)
       → IsNotOpened tells user old new Memory
   is_damaged : (damage : Damage) (allow deny : Option (List ℕ)) → may_use user allow deny ≡ true
-      → (tells ≡ true → AreListsIn (reading old) allow deny) → (tells ≡ true → IsDamage old new damage)
+      → (tells ≡ true → AreListsIn (reading old) allow deny) → (tells ≡ true → FindsDamage old new damage)
       → IsNotOpened tells user old new (Damaged damage)
 
 -- what the work after a recovery leaves that may be stopped: all steps or a prefix of them, or nothing was begun
@@ -82,10 +82,10 @@ pub record IsWorkedOut (AreSteps : JobTable → List Step → Type 0) (table : J
   pub made : AreMade table steps [] [] kept old new
 
 -- What the work after a recovery leaves, by its cause. A refusal there comes of the table.
-abbrev pub Works : (JobTable → List Step → Type 0) → JobTable → World → World → Cause → Type 0
-Works AreSteps table old new Done = IsWorkedOut AreSteps table old new
-Works AreSteps table old new OutputFault = IsWorkedOut AreSteps table old new
-Works AreSteps table old new FileFault = (new ≡ old) ⊎ IsWorkedOn AreSteps table old new
-Works AreSteps table old new Memory = (new ≡ old) ⊎ IsWorkedOn AreSteps table old new
-Works AreSteps table old new (Refused refusal) = (is_before of_folder (check_of refusal) ≡ true) × (new ≡ old)
-Works AreSteps table old new _ = ⊥
+abbrev pub CommandWorks : (JobTable → List Step → Type 0) → JobTable → World → World → Cause → Type 0
+CommandWorks AreSteps table old new Done = IsWorkedOut AreSteps table old new
+CommandWorks AreSteps table old new OutputFault = IsWorkedOut AreSteps table old new
+CommandWorks AreSteps table old new FileFault = (new ≡ old) ⊎ IsWorkedOn AreSteps table old new
+CommandWorks AreSteps table old new Memory = (new ≡ old) ⊎ IsWorkedOn AreSteps table old new
+CommandWorks AreSteps table old new (Refused refusal) = (is_earlier_check of_folder (check_of refusal) ≡ true) × (new ≡ old)
+CommandWorks AreSteps table old new _ = ⊥

@@ -75,8 +75,8 @@ abbrev pub number_check : JobTable → Option Refusal
 number_check table = if nat_le LAST_NUMBER table.last then Some NumbersUsedUp else None
 
 -- the row of the live job of the number, if there is one
-abbrev pub row_at : JobTable → ℕ → Option Row
-row_at table number = option_and_then (row_under number) (entry_at table number)
+abbrev pub live_row : JobTable → ℕ → Option Row
+live_row table number = option_and_then (row_under number) (entry_at table number)
 
 -- The job is not there, is another's, or runs where it is to be removed.
 abbrev pub row_check : List ℕ → Bool → ℕ → Option Row → Option Refusal
@@ -94,7 +94,7 @@ first_refusal (None ∷ later) = first_refusal later
 -- the first number of the list whose job is refused decides
 abbrev pub jobs_check : List ℕ → Bool → JobTable → List ℕ → Option Refusal
 jobs_check user removing table numbers =
-    first_refusal (map (λ number. row_check user removing number (row_at table number)) numbers)
+    first_refusal (map (λ number. row_check user removing number (live_row table number)) numbers)
 
 -- only a listing by numbers asks for jobs
 abbrev pub filter_check : List ℕ → JobTable → Filter → Option Refusal

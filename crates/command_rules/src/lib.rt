@@ -7,9 +7,9 @@
 //! 3. `Times`: the minute that the time of a submission means
 //! 4. `Checks` and `Found`: a check and its place in the order; what a command found outside
 //! 5. `Verdict`: the refusal that stands earliest, or none (`verdict_of`)
-//! 6. `Requested`: the steps of a request, and what it prints where it is done (`steps_of`, `IsAskedText`)
-//! 7. `Spool` and `Sessions`: what is left in the spool, by the cause (`SpoolEnds`), and in its session (`Works`)
-//! 8. `Ends`: all of this in one record, for every request
+//! 6. `Requested`: the steps of a request, and what it prints where it is done (`steps_of_request`, `IsAskedText`)
+//! 7. `Spool` and `Sessions`: what is left in the spool, by the cause (`SpoolEnds`), and in its session (`CommandWorks`)
+//! 8. `CommandEnds`: all of this in one record, for every request
 //! 9. `Laws`: what follows of it
 #![tactic(auto)]
 

@@ -1,7 +1,7 @@
 -- The crontab of a file, as inputs give it (own).
 use Rattle.std.specs.Prelude.{◌≡◌, ◌⊎◌, ◌+◌, ◌≤◌, ◌<◌, ℕ, Bool, true, List, Result, Ok, Err, length}
 use Rattle.host_calls.specs.Causes.{Rose}
-use Rattle.host_calls.specs.Inputs.{AreReadOnce, IsPrefixOf}
+use Rattle.host_calls.specs.Inputs.{AreReadOnce, IsInputPrefix}
 use Rattle.listing_text.specs.declared.cause.Cause.{Cause}
 use Rattle.listing_text.specs.declared.cause.Cause.TheVariants as cause
 use Rattle.listing_text.specs.declared.refusal.Refusal.TheVariants.{BadCrontab, TooLong}
@@ -20,7 +20,7 @@ pub record AsksFile (old new : InputAt) : Type 0 where
 -- they gave these first bytes of it: one more at most than a crontab has
 pub record ReadsFile (tells : Bool) (path bytes : List ℕ) (old new : InputAt) : Type 0 where
   pub asks : AsksFile old new
-  pub given : tells ≡ true → IsPrefixOf (old.contents.file path) (MAX_CRONTAB + 1) bytes
+  pub given : tells ≡ true → IsInputPrefix (old.contents.file path) (MAX_CRONTAB + 1) bytes
 
 -- the text is no longer than a crontab, and this is its first bad line
 pub record IsBadAt (line : ℕ) (bytes : List ℕ) : Type 0 where
@@ -46,12 +46,12 @@ pub record GaveText (tells : Bool) (path : List ℕ) (old new : InputAt) (result
   pub of_text : IsOfText bytes result
 
 -- why the file gave no text
-abbrev pub IsUnread : InputAt → InputAt → Cause → Type 0
-IsUnread old new cause.InputFault = AsksFile old new × Rose old.sources.input_faults new.sources.input_faults
-IsUnread old new cause.Memory = AsksFile old new
-IsUnread old new _ = ⊥
+abbrev pub IsCrontabUnread : InputAt → InputAt → Cause → Type 0
+IsCrontabUnread old new cause.InputFault = AsksFile old new × Rose old.sources.input_faults new.sources.input_faults
+IsCrontabUnread old new cause.Memory = AsksFile old new
+IsCrontabUnread old new _ = ⊥
 
 -- the entries of the file, or why there are none
 abbrev pub ReadsEntries : Bool → List ℕ → InputAt → InputAt → Result (List CronEntry) CommandError → Type 0
 ReadsEntries tells path old new (Ok entries) = GaveText tells path old new (Ok entries)
-ReadsEntries tells path old new (Err stopped) = GaveText tells path old new (Err stopped) ⊎ IsUnread old new stopped.cause
+ReadsEntries tells path old new (Err stopped) = GaveText tells path old new (Err stopped) ⊎ IsCrontabUnread old new stopped.cause

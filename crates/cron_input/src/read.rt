@@ -21,11 +21,11 @@ pub fn read_entries<I: Inputs>(
     ensures few { IfOk result (All (λ entry. length entry.command ≤ MAX_CRONTAB)) }
 {
     let text = inputs.file(alloc, path, MAX_CRONTAB + 1)?;
-    entries_of(alloc, text.as_slice())
+    crontab_entries(alloc, text.as_slice())
 }
 
 // The entries of the text, which may be too long.
-fn entries_of(alloc: Global, text: &[u8]) -> Result<Entries, CommandError>
+fn crontab_entries(alloc: Global, text: &[u8]) -> Result<Entries, CommandError>
     ensures of_text { IsOfText text.now result }
     ensures few { IfOk result (All (λ entry. length entry.command ≤ MAX_CRONTAB)) }
 {

@@ -9,20 +9,20 @@ use Rattle.cron_text.specs.declared.entry.CronEntry.{CronEntry}
 use Rattle.cron_schedule.specs.Schedule.{AreNextDue}
 
 -- a line: when it is, a tab, and the command
-abbrev pub line_of : List ℕ → List ℕ → List ℕ
-line_of when command = when ++ 9 ∷ (command ++ 10 ∷ [])
+abbrev pub dated_line : List ℕ → List ℕ → List ℕ
+dated_line when command = when ++ 9 ∷ (command ++ 10 ∷ [])
 
 -- the line of a minute: the date that a clock in the zone shows at its first second
 pub record ShowsMinute (zone : Zone) (command : List ℕ) (minute : ℕ) (line : List ℕ) : Type 0 where
   pub civil : CivilMinute
   pub shown : IsCivilTime zone (pos (60 * minute)) civil
-  pub line_is : line ≡ line_of (date_text_of civil) command
+  pub line_is : line ≡ dated_line (date_text_of civil) command
 
 -- the text has a line for each of the minutes, in order
-pub data AreLines (zone : Zone) (command : List ℕ) : List ℕ → List ℕ → Type 0 where
-  no_line : AreLines zone command [] []
-  line_more : (minutes text line : List ℕ) (minute : ℕ) → AreLines zone command minutes text → ShowsMinute zone command minute line
-      → AreLines zone command (minutes ++ minute ∷ []) (text ++ line)
+pub data AreMinuteLines (zone : Zone) (command : List ℕ) : List ℕ → List ℕ → Type 0 where
+  no_line : AreMinuteLines zone command [] []
+  line_more : (minutes text line : List ℕ) (minute : ℕ) → AreMinuteLines zone command minutes text → ShowsMinute zone command minute line
+      → AreMinuteLines zone command (minutes ++ minute ∷ []) (text ++ line)
 
 -- what an entry without a minute has in place of a date
 abbrev pub never : List ℕ
@@ -30,17 +30,17 @@ never = codes "not within nine years"
 
 -- the lines of an entry's minutes, or the line that there is none
 abbrev pub ShowsMinutes : Zone → List ℕ → List ℕ → List ℕ → Type 0
-ShowsMinutes zone command [] text = text ≡ line_of never command
-ShowsMinutes zone command (minute ∷ later) text = AreLines zone command (minute ∷ later) text
+ShowsMinutes zone command [] text = text ≡ dated_line never command
+ShowsMinutes zone command (minute ∷ later) text = AreMinuteLines zone command (minute ∷ later) text
 
 -- The text is that of the entry: of the next minutes from this one on at which it is due, so many at most.
-pub record ShowsEntry (zone : Zone) (from count : ℕ) (entry : CronEntry) (text : List ℕ) : Type 0 where
+pub record ListsEntry (zone : Zone) (from count : ℕ) (entry : CronEntry) (text : List ℕ) : Type 0 where
   pub minutes : List ℕ
   pub are : AreNextDue zone entry from count minutes
   pub shows : ShowsMinutes zone entry.command minutes text
 
 -- The text is that of all entries, in order.
-pub data IsListing (zone : Zone) (from count : ℕ) : List CronEntry → List ℕ → Type 0 where
-  no_entry : IsListing zone from count [] []
-  entry_more : (entries : List CronEntry) (entry : CronEntry) (text more : List ℕ) → IsListing zone from count entries text
-      → ShowsEntry zone from count entry more → IsListing zone from count (entries ++ entry ∷ []) (text ++ more)
+pub data IsCronListing (zone : Zone) (from count : ℕ) : List CronEntry → List ℕ → Type 0 where
+  no_entry : IsCronListing zone from count [] []
+  entry_more : (entries : List CronEntry) (entry : CronEntry) (text more : List ℕ) → IsCronListing zone from count entries text
+      → ListsEntry zone from count entry more → IsCronListing zone from count (entries ++ entry ∷ []) (text ++ more)

@@ -20,7 +20,7 @@ use Rattle.listing_text.specs.declared.cause.Cause.{Cause}
 use Rattle.listing_text.specs.declared.cause.Cause.TheVariants.{Done, Refused, OutputFault, Memory}
 use Rattle.listing_text.specs.declared.refusal.Refusal.TheVariants.{BadClock, BadZone}
 use Rattle.cron_listing.specs.declared.words.NextRequest.{NextRequest}
-use Rattle.cron_listing.specs.Listing.{IsListing}
+use Rattle.cron_listing.specs.Listing.{IsCronListing}
 
 -- the clock and the inputs
 pub record ReadAt : Type 0 where
@@ -43,7 +43,7 @@ abbrev pub listing_telling : {R I O : Type 0} → readings.Ghosts R → inputs.G
 listing_telling r i o = telling false false r.tells i.tells o.tells false
 
 -- The clock answered a second in its range, and the file was read, with this result.
-pub record HasRead (clock input : Bool) (request : NextRequest) (old new : ReadAt) (result : Result (List CronEntry) CommandError)
+pub record HasReadCrontab (clock input : Bool) (request : NextRequest) (old new : ReadAt) (result : Result (List CronEntry) CommandError)
     : Type 0 where
   pub now : ℤ
   pub range : IsClockSecond now
@@ -56,12 +56,12 @@ pub data GivesListing (clock input : Bool) (zone : Zone) (request : NextRequest)
     : Result (List ℕ) CommandError → Type 0 where
   bad_clock : (now : ℤ) → ¬ (IsClockSecond now) → ReadsClock clock now old.clock new.clock → new.input ≡ old.input
       → GivesListing clock input zone request old new (Err (error_of (Refused BadClock)))
-  no_entries : (stopped : CommandError) → HasRead clock input request old new (Err stopped)
+  no_entries : (stopped : CommandError) → HasReadCrontab clock input request old new (Err stopped)
       → GivesListing clock input zone request old new (Err stopped)
-  no_memory : (entries : List CronEntry) → HasRead clock input request old new (Ok entries)
+  no_memory : (entries : List CronEntry) → HasReadCrontab clock input request old new (Ok entries)
       → GivesListing clock input zone request old new (Err (error_of Memory))
-  the_listing : (entries : List CronEntry) (text : List ℕ) → (read : HasRead clock input request old new (Ok entries))
-      → IsListing zone (minute_at read.now + 1) request.count entries text
+  the_listing : (entries : List CronEntry) (text : List ℕ) → (read : HasReadCrontab clock input request old new (Ok entries))
+      → IsCronListing zone (minute_at read.now + 1) request.count entries text
       → GivesListing clock input zone request old new (Ok text)
 
 -- all of the text was put, a prefix of it where the output failed, or nothing for want of memory
@@ -82,16 +82,16 @@ pub data IsListed (tells : Telling) (zone : Zone) (request : NextRequest) (old n
       → PutsListing tells.output text old.out new.out cause → IsListed tells zone request old new cause
 
 -- what the words ask for is done, or they ask for nothing, or there was no memory for them
-abbrev pub Does : Result NextRequest WordsFault → Telling → Zone → ListingAt → ListingAt → Cause → Type 0
-Does (Err fault) tells zone old new cause = (cause ≡ words_cause fault) × (new ≡ old)
-Does (Ok request) tells zone old new cause = IsListed tells zone request old new cause
+abbrev pub ListsAsRequested : Result NextRequest WordsFault → Telling → Zone → ListingAt → ListingAt → Cause → Type 0
+ListsAsRequested (Err fault) tells zone old new cause = (cause ≡ words_cause fault) × (new ≡ old)
+ListsAsRequested (Ok request) tells zone old new cause = IsListed tells zone request old new cause
 
-abbrev pub Lists : Result NextRequest WordsFault → Telling → Zone → ListingAt → ListingAt → Cause → Type 0
-Lists asked tells zone old new cause = ((cause ≡ Memory) × (new ≡ old)) ⊎ Does asked tells zone old new cause
+abbrev pub ListsOrLacksMemory : Result NextRequest WordsFault → Telling → Zone → ListingAt → ListingAt → Cause → Type 0
+ListsOrLacksMemory asked tells zone old new cause = ((cause ≡ Memory) × (new ≡ old)) ⊎ ListsAsRequested asked tells zone old new cause
 
 -- How the program runs: what the words ask for is done, and the line of its cause is said.
 pub record NextRuns (asked : Result NextRequest WordsFault) (tells : Telling) (says : Bool) (zone : Zone) (old new : ListingAt)
     (was now : SinkAt) (final : Cause) : Type 0 where
   pub cause : Cause
-  pub lists : Lists asked tells zone old new cause
+  pub lists : ListsOrLacksMemory asked tells zone old new cause
   pub line : IsSaid (codes "atcron") says cause was now final

@@ -25,15 +25,15 @@ count_asked (Some text) = few_of (turns_asked (Some text))
 count_asked None = None
 
 -- a crontab and a number of minutes, where there are both
-abbrev pub request_of : Option Text → Option ℕ → Result NextRequest WordsFault
-request_of (Some file) (Some count) = Ok (record { file = file; count = count })
-request_of (Some file) None = Err Usage
-request_of None count = Err Usage
+abbrev pub listing_request : Option Text → Option ℕ → Result NextRequest WordsFault
+listing_request (Some file) (Some count) = Ok (record { file = file; count = count })
+listing_request (Some file) None = Err Usage
+listing_request None count = Err Usage
 
 -- the path of the crontab, and the number of minutes
-abbrev pub rows_asked : List Row → Result NextRequest WordsFault
-rows_asked rows = request_of (first_of (codes "file") rows) (count_asked (first_of (codes "next") rows))
+abbrev pub listing_rows_asked : List Row → Result NextRequest WordsFault
+listing_rows_asked rows = listing_request (first_of (codes "file") rows) (count_asked (first_of (codes "next") rows))
 
 -- what the words ask for, the first of which stands for the program's name; without it they ask for nothing
 abbrev pub next_asked : List Text → Result NextRequest WordsFault
-next_asked words = named_asked next_app rows_asked words
+next_asked words = named_asked next_app listing_rows_asked words

@@ -3,7 +3,7 @@ ghost use Rattle.std.specs.Prelude.{◌≡◌, ◌≤◌, ◌+◌, ◌++◌, ◌
 ghost use Rattle.civil_minute.specs.Zone.{IsReadable};
 ghost use Rattle.clock_range.specs.ClockRange.{IsClockMinute};
 ghost use Rattle.clock_range.specs.declared.range.TheConstants.{LAST_MINUTE};
-ghost use Rattle.cron_listing.specs.Listing.{AreLines, IsListing, ShowsEntry, ShowsMinute, ShowsMinutes, line_of};
+ghost use Rattle.cron_listing.specs.Listing.{AreMinuteLines, IsCronListing, ListsEntry, ShowsMinute, ShowsMinutes, dated_line};
 ghost use Rattle.cron_listing.specs.inside.Adding.{Adds};
 
 use civil_minute::{Zone, civil_of};
@@ -17,7 +17,7 @@ use std::alloc::{AllocError, Global};
 const NEVER: &[u8] = b"not within nine years";
 
 // The lines of the entries, in order: the next minutes of each from this one on.
-pub(crate) fn listing(
+pub(crate) fn crontab_listing(
     alloc: Global,
     entries: &[CronEntry],
     zone: &Zone,
@@ -26,7 +26,7 @@ pub(crate) fn listing(
 ) -> Result<Bytes, AllocError>
     requires from { from ≤ LAST_MINUTE + 1 }
     requires zone { IsReadable zone.now }
-    ensures { IfOk result (IsListing zone.now from count entries.now) }
+    ensures { IfOk result (IsCronListing zone.now from count entries.now) }
 {
     let mut text = Vec::new(alloc);
     for entry in entries {
@@ -46,7 +46,7 @@ fn add_entry(
 ) -> Result<(), AllocError>
     requires from { from ≤ LAST_MINUTE + 1 }
     requires zone { IsReadable zone.now }
-    ensures { OnOk result (Adds (ShowsEntry zone.now from count entry.now) text.old.items text.new.items) }
+    ensures { OnOk result (Adds (ListsEntry zone.now from count entry.now) text.old.items text.new.items) }
 {
     let minutes = next_due(alloc, entry, zone, from, count)?;
     add_found(alloc, text, &minutes, zone, entry.command.as_slice())?;
@@ -66,7 +66,7 @@ fn add_found(
     ensures { OnOk result (Adds (ShowsMinutes zone.now command.now minutes.now) text.old.items text.new.items) }
 {
     if is_none(minutes) {
-        add_line(text, NEVER, command)?;
+        add_minute_line(text, NEVER, command)?;
         return Ok(());
     }
     add_minutes(alloc, text, minutes, zone, command)?;
@@ -89,7 +89,7 @@ fn add_minutes(
 ) -> Result<(), AllocError>
     requires minutes { All IsClockMinute minutes.now }
     requires zone { IsReadable zone.now }
-    ensures { OnOk result (Adds (AreLines zone.now command.now minutes.now) text.old.items text.new.items) }
+    ensures { OnOk result (Adds (AreMinuteLines zone.now command.now minutes.now) text.old.items text.new.items) }
 {
     for minute in minutes {
         add_minute(alloc, text, *minute, zone, command)?;
@@ -110,13 +110,13 @@ fn add_minute(
     ensures { OnOk result (Adds (ShowsMinute zone.now command.now minute) text.old.items text.new.items) }
 {
     let civil = civil_of(alloc, minute, zone)?;
-    add_line(text, &date_text(&civil), command)?;
+    add_minute_line(text, &date_text(&civil), command)?;
     Ok(())
 }
 
 // Adds a line: when it is, and the command.
-fn add_line(text: &mut Vec<u8>, when: &[u8], command: &[u8]) -> Result<(), AllocError>
-    ensures { OnOk result (text.new.items ≡ text.old.items ++ line_of when.now command.now) }
+fn add_minute_line(text: &mut Vec<u8>, when: &[u8], command: &[u8]) -> Result<(), AllocError>
+    ensures { OnOk result (text.new.items ≡ text.old.items ++ dated_line when.now command.now) }
 {
     text.extend_from_slice(when)?;
     text.push(b'\t')?;

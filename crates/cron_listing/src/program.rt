@@ -3,11 +3,11 @@ ghost use Rattle.std.specs.Prelude.{◌≡◌, codes, map, string_bytes};
 ghost use Rattle.cause_output.specs.Sinks.{sink_at};
 ghost use Rattle.civil_minute.specs.Zone.{is_unreadable};
 ghost use Rattle.listing_text.specs.Cause.{status_of};
-ghost use Rattle.cron_listing.specs.Running.{IsListed, Lists, NextRuns, PutsListing, listing_at, listing_telling};
+ghost use Rattle.cron_listing.specs.Running.{IsListed, ListsOrLacksMemory, NextRuns, PutsListing, listing_at, listing_telling};
 ghost use Rattle.cron_listing.specs.Words.{next_asked};
 
 use crate::read::read_listing;
-use crate::words::{NextRequest, request};
+use crate::words::{NextRequest, listing_request};
 use cause_output::{cause_of_put, cause_of_words, say_cause};
 use civil_minute::Zone;
 use host_calls::{Inputs, Readings, Sink};
@@ -37,12 +37,12 @@ pub fn next_program<R: Readings, I: Inputs, O: Sink, E: Sink>(
         (listing_at R.Readings I.Inputs O.Sink readings.new inputs.new out.new)
         (sink_at (E.content err.old) (E.outlet err.old)) (sink_at (E.content err.new) (E.outlet err.new)) result.cause }
 {
-    let cause = carry_out(alloc, words, zone, readings, inputs, out);
+    let cause = list_by_words(alloc, words, zone, readings, inputs, out);
     Status::of(say_cause(alloc, PROGRAM, cause, err))
 }
 
 // Does what the words ask for. The line of the cause is still to be said.
-fn carry_out<R: Readings, I: Inputs, O: Sink>(
+fn list_by_words<R: Readings, I: Inputs, O: Sink>(
     alloc: Global,
     words: &[String],
     zone: &Zone,
@@ -51,12 +51,12 @@ fn carry_out<R: Readings, I: Inputs, O: Sink>(
     out: &mut O,
 ) -> Cause
     ensures out_made { (O.outlet out.new).made_as ≡ (O.outlet out.old).made_as }
-    ensures lists { Lists (next_asked (map string_bytes words.now))
+    ensures lists { ListsOrLacksMemory (next_asked (map string_bytes words.now))
         (listing_telling R.Readings I.Inputs O.Sink) zone.now
         (listing_at R.Readings I.Inputs O.Sink readings.old inputs.old out.old)
         (listing_at R.Readings I.Inputs O.Sink readings.new inputs.new out.new) result }
 {
-    match request(alloc, words) {
+    match listing_request(alloc, words) {
         Ok(request) => list_unless(alloc, &request, zone, readings, inputs, out),
         Err(fault) => cause_of_words(fault),
     }

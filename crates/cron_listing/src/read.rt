@@ -5,7 +5,7 @@ ghost use Rattle.clock_range.specs.declared.range.TheConstants.{LAST_MINUTE};
 ghost use Rattle.cron_listing.specs.Running.{GivesListing, read_at};
 ghost use Rattle.cron_listing.specs.inside.Adding.{GivesText};
 
-use crate::lines::listing;
+use crate::lines::crontab_listing;
 use crate::words::NextRequest;
 use cause_output::CommandError;
 use civil_minute::Zone;
@@ -36,14 +36,14 @@ pub(crate) fn read_listing<R: Readings, I: Inputs>(
     match read_entries(alloc, request.file.as_str(), inputs) {
         Ok(entries) => {
             let from = minute_at(now) + 1;
-            text_of(alloc, entries.as_slice(), zone, from, request.count)
+            crontab_listing_text(alloc, entries.as_slice(), zone, from, request.count)
         }
         Err(stopped) => Err(stopped),
     }
 }
 
 // The listing of the entries, or want of memory.
-fn text_of(
+fn crontab_listing_text(
     alloc: Global,
     entries: &[CronEntry],
     zone: &Zone,
@@ -54,7 +54,7 @@ fn text_of(
     requires zone { IsReadable zone.now }
     ensures { GivesText zone.now from count entries.now result }
 {
-    match listing(alloc, entries, zone, from, count) {
+    match crontab_listing(alloc, entries, zone, from, count) {
         Ok(text) => Ok(text),
         Err(_) => Err(CommandError {
             cause: Cause::Memory,

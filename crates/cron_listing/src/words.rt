@@ -5,7 +5,7 @@ ghost use Rattle.clap.specs.Simple.{app_of};
 ghost use Rattle.clap.specs.Walk.{rows_of};
 ghost use Rattle.at_words.specs.Answers.{Answers};
 ghost use Rattle.at_words.specs.Rows.{text_of};
-ghost use Rattle.cron_listing.specs.Words.{count_asked, few_of, next_app, next_asked, rows_asked};
+ghost use Rattle.cron_listing.specs.Words.{count_asked, few_of, next_app, next_asked, listing_rows_asked};
 
 use at_words::{WordsFault, bare_command, parsed, turns_of, value, with_long, with_value};
 use clap::{ArgMatches, Command};
@@ -23,26 +23,26 @@ pub(crate) struct NextRequest {
 }
 
 // What the words ask for, the first of which stands for the program's name; without it they ask for nothing.
-pub(crate) fn request(alloc: Global, words: &[String]) -> Result<NextRequest, WordsFault>
+pub(crate) fn listing_request(alloc: Global, words: &[String]) -> Result<NextRequest, WordsFault>
     ensures { Answers (next_asked (map string_bytes words.now)) result }
 {
     if words.is_empty() {
         return Err(WordsFault::Usage);
     }
-    let command = command(alloc)?;
+    let command = listing_command(alloc)?;
     let matches = parsed(command, words)?;
-    asked(alloc, &matches)
+    listing_request_of(alloc, &matches)
 }
 
-fn command<'a>(alloc: Global) -> Result<Command<'a>, AllocError>
+fn listing_command<'a>(alloc: Global) -> Result<Command<'a>, AllocError>
     ensures { IfOk result (λ made. app_of made ≡ next_app) }
 {
     let file = with_value(alloc, bare_command(alloc, "atcron"), "file", 'f')?;
     with_long(alloc, file, "next")
 }
 
-fn asked(alloc: Global, matches: &ArgMatches) -> Result<NextRequest, WordsFault>
-    ensures { Answers (rows_asked (rows_of (found_of matches.now))) result }
+fn listing_request_of(alloc: Global, matches: &ArgMatches) -> Result<NextRequest, WordsFault>
+    ensures { Answers (listing_rows_asked (rows_of (found_of matches.now))) result }
 {
     let Some(file) = value(matches, "file") else {
         return Err(WordsFault::Usage);

@@ -10,7 +10,7 @@ use Rattle.std.proofs.lemmas.List.Folds.{list_all-append}
 use Rattle.std.proofs.lemmas.List.Sums.{fold-append}
 use Rattle.std.proofs.lemmas.Nat.{pow_pos}
 use Rattle.hex_digits.specs.Digits.{SpellsNumber, digits_of}
-use Rattle.hex_digits.specs.Values.{are_digits, digit_value, is_digit, value_of}
+use Rattle.hex_digits.specs.Values.{are_digits, digit_value, is_digit, value_of_digits}
 use Rattle.hex_digits.proofs.DigitLemmas.{one_number, power_of_two}
 use Rattle.hex_digits.proofs.EightDigits.{digits_spelled, spelled_eight}
 use Rattle.hex_digits.proofs.ValueLemmas.{digits_spell, spelled_digits, value_spelled, zeros_digits}
@@ -42,7 +42,7 @@ mark_from bytes number spelled few low =
     let zeros : List ℕ = replicate count 48 in
     let minute : ℕ = number * 16 ^ count in
     let digits : are_digits (bytes ++ zeros) ≡ true = list_all-append is_digit bytes zeros ∙ and_from (are_digits bytes) (are_digits zeros) (spelled_digits bytes number spelled) (zeros_digits count) in
-    let value : value_of (bytes ++ zeros) ≡ minute = fold-append (λ value byte. value * 16 + digit_value byte) 0 bytes zeros
+    let value : value_of_digits (bytes ++ zeros) ≡ minute = fold-append (λ value byte. value * 16 + digit_value byte) 0 bytes zeros
     ∙ ap (λ n. fold (λ value byte. value * 16 + digit_value byte) n zeros) (value_spelled bytes number spelled) ∙ fold_zeros number count in
     let whole : SpellsNumber (bytes ++ zeros) minute = subst (SpellsNumber (bytes ++ zeros)) value (digits_spell (bytes ++ zeros) digits) in
     let counted : length (bytes ++ zeros) ≡ 8 = omega (arith, length-append bytes zeros, length-replicate {A = ℕ} count 48) in
@@ -57,7 +57,7 @@ digits_begun bytes mark few =
     sym (take-append-drop (length bytes) digits) ∙ ap (λ list. list ++ drop (length bytes) digits) taken
 
 -- what starts a mark are digits, and of a minute of the clock with zeros after them
-mark_spells : (bytes : List ℕ) → length bytes ≤ 8 → BeginsMark bytes → SpellsNumber bytes (value_of bytes) × (value_of bytes * 16 ^ (8 - length bytes) ≤ 4222846079)
+mark_spells : (bytes : List ℕ) → length bytes ≤ 8 → BeginsMark bytes → SpellsNumber bytes (value_of_digits bytes) × (value_of_digits bytes * 16 ^ (8 - length bytes) ≤ 4222846079)
 mark_spells bytes few mark =
     let digits : List ℕ = digits_of mark.minute in
     let after : List ℕ = drop (length bytes) digits in
@@ -66,14 +66,14 @@ mark_spells bytes few mark =
     let spelled : SpellsNumber digits mark.minute = digits_spelled mark.minute (omega arith) in
     let all : are_digits (bytes ++ after) ≡ true = subst (λ list. are_digits list ≡ true) begun (spelled_digits digits mark.minute spelled) in
     let mine : are_digits bytes ≡ true = (and_parts (are_digits bytes) (are_digits after) (sym (list_all-append is_digit bytes after) ∙ all)).0 in
-    let value : fold (λ value byte. value * 16 + digit_value byte) (value_of bytes) after ≡ mark.minute =
-    sym (fold-append (λ value byte. value * 16 + digit_value byte) 0 bytes after) ∙ ap value_of (sym begun) ∙ value_spelled digits mark.minute spelled in
+    let value : fold (λ value byte. value * 16 + digit_value byte) (value_of_digits bytes) after ≡ mark.minute =
+    sym (fold-append (λ value byte. value * 16 + digit_value byte) 0 bytes after) ∙ ap value_of_digits (sym begun) ∙ value_spelled digits mark.minute spelled in
     let lengths : 8 ≡ length bytes + length after = ap length begun ∙ length-append bytes after in
     let counted : length after ≡ 8 - length bytes = omega arith in
-    let grows : value_of bytes * 16 ^ length after ≤ fold (λ value byte. value * 16 + digit_value byte) (value_of bytes) after = fold_grows (value_of bytes) after in
-    let less : value_of bytes * 16 ^ length after ≤ mark.minute = subst (λ n. value_of bytes * 16 ^ length after ≤ n) value grows in
-    let small : value_of bytes * 16 ^ length after ≤ 4222846079 = omega (arith, less, low) in
-    (digits_spell bytes mine, subst (λ count. value_of bytes * 16 ^ count ≤ 4222846079) counted small)
+    let grows : value_of_digits bytes * 16 ^ length after ≤ fold (λ value byte. value * 16 + digit_value byte) (value_of_digits bytes) after = fold_grows (value_of_digits bytes) after in
+    let less : value_of_digits bytes * 16 ^ length after ≤ mark.minute = subst (λ n. value_of_digits bytes * 16 ^ length after ≤ n) value grows in
+    let small : value_of_digits bytes * 16 ^ length after ≤ 4222846079 = omega (arith, less, low) in
+    (digits_spell bytes mine, subst (λ count. value_of_digits bytes * 16 ^ count ≤ 4222846079) counted small)
 
 -- what is no more than the first digits of a number is so with zeros after it, and the other way round
 shifted : (number count : ℕ) → (number ≤ 4222846079 / 2 ^ (4 * count)) ↔ (number * 16 ^ count ≤ 4222846079)
@@ -90,7 +90,7 @@ digits_start bytes number spelled few = (λ is. from ((test_le number (422284607
 
   to : BeginsMark bytes → number ≤ 4222846079 / 2 ^ (4 * (8 - length bytes))
   to mark =
-      let same : value_of bytes ≡ number = value_spelled bytes number spelled in
+      let same : value_of_digits bytes ≡ number = value_spelled bytes number spelled in
       (shifted number (8 - length bytes)).1 (subst (λ n. n * 16 ^ (8 - length bytes) ≤ 4222846079) same (mark_spells bytes few mark).1)
 
 pub never : {P : Type 0} → false ≡ true → P
@@ -98,7 +98,7 @@ never wrong = cc
 
 -- what is no digits starts no mark
 pub no_digits_start : (bytes : List ℕ) → ((number : ℕ) → ¬ (SpellsNumber bytes number)) → length bytes ≤ 8 → IsTrue false ↔ BeginsMark bytes
-no_digits_start bytes none few = (never, λ mark. absurd (none (value_of bytes) (mark_spells bytes few mark).0))
+no_digits_start bytes none few = (never, λ mark. absurd (none (value_of_digits bytes) (mark_spells bytes few mark).0))
 
 no_rest : (rest : List ℕ) → length rest ≡ 0 → rest ≡ []
 no_rest [] none = refl

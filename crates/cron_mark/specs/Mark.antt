@@ -7,20 +7,20 @@ use Rattle.host_calls.specs.Damages.{damage_at}
 use Rattle.cron_mark.specs.Names.{mark_file}
 
 -- the text of the mark of a minute
-abbrev pub mark_text : ℕ → List ℕ
-mark_text minute = digits_of minute ++ 10 ∷ []
+abbrev pub cron_mark_text : ℕ → List ℕ
+cron_mark_text minute = digits_of minute ++ 10 ∷ []
 
 -- the text is that of the mark of the minute, which is one of the clock
 pub record IsMarkText (text : List ℕ) (minute : ℕ) : Type 0 where
   pub minute_is : IsClockMinute minute
-  pub text_is : text ≡ mark_text minute
+  pub text_is : text ≡ cron_mark_text minute
 
 -- the text of some mark starts with the bytes
 pub record BeginsMark (bytes : List ℕ) : Type 0 where
   pub minute : ℕ
   pub minute_is : IsClockMinute minute
   pub rest : List ℕ
-  pub text : mark_text minute ≡ bytes ++ rest
+  pub text : cron_mark_text minute ≡ bytes ++ rest
 
 -- so many of the bytes start a mark, and no more of them do
 pub record IsLongestStart (bytes : List ℕ) (count : ℕ) : Type 0 where

@@ -6,5 +6,5 @@ mod read;
 mod text;
 
 pub use names::{mark_name, mark_temporary_name};
-pub use read::read_mark;
-pub use text::{mark_text, minute_in};
+pub use read::read_cron_mark;
+pub use text::{cron_mark_text, minute_in};

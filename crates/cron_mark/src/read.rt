@@ -5,7 +5,7 @@ ghost use Rattle.clock_range.specs.ClockRange.{IsClockMinute};
 ghost use Rattle.host_calls.specs.Damages.{IfDamaged};
 ghost use Rattle.host_calls.specs.Session.{CallsInside, IsInside};
 ghost use Rattle.host_calls.specs.World.{reading};
-ghost use Rattle.host_calls.specs.StoreFaults.{IsOfReading};
+ghost use Rattle.host_calls.specs.StoreFaults.{IsReadingFault};
 ghost use Rattle.cron_mark.specs.Mark.{IsMark, IsMarkDamage};
 ghost use Rattle.cron_mark.specs.Names.{mark_file};
 
@@ -16,10 +16,10 @@ use whole_file::content;
 
 /// The minute of the folder's mark, if there is one. Another text of its file is damaged at the length of its longest
 /// start with which the text of some mark starts too.
-pub fn read_mark<H: Host>(alloc: Global, host: &mut H) -> Result<Option<u32>, StoreFault>
+pub fn read_cron_mark<H: Host>(alloc: Global, host: &mut H) -> Result<Option<u32>, StoreFault>
     requires { IsInside (H.session host.old) }
     ensures inside { CallsInside StoreFault.FileFault (H.session host.old) (H.session host.new) result }
-    ensures of_reading { IfErr result IsOfReading }
+    ensures of_reading { IfErr result IsReadingFault }
     ensures looks { IsTrue H.tells → H.world host.new ≡ H.world host.old }
     ensures minute { IfOk result (λ marked. IfSome marked IsClockMinute) }
     ensures mark { IsTrue H.tells → IfOk result (IsMark (map.get (reading (H.world host.old)) mark_file)) }

@@ -2,7 +2,7 @@
 ghost use Rattle.std.specs.Prelude.{◌≡◌, ◌≢◌, ◌↔◌, ◌≤◌, ℕ, IfErr, IfNone, IfOk, IfSome, IsTrue, Some, length};
 ghost use Rattle.clock_range.specs.ClockRange.{IsClockMinute};
 ghost use Rattle.hex_digits.specs.Digits.{digits_of};
-ghost use Rattle.cron_mark.specs.Mark.{BeginsMark, IsLongestStart, IsMarkDamage, IsMarkText, mark_text};
+ghost use Rattle.cron_mark.specs.Mark.{BeginsMark, IsLongestStart, IsMarkDamage, IsMarkText, cron_mark_text};
 
 use crate::mark_name;
 use clock_range::LAST_MINUTE;
@@ -13,8 +13,8 @@ use host_calls::Damage;
 const DIGITS: usize = 8;
 
 /// The text of the mark of a minute.
-pub fn mark_text(minute: u32) -> [u8; 9]
-    ensures { result ≡ mark_text minute }
+pub fn cron_mark_text(minute: u32) -> [u8; 9]
+    ensures { result ≡ cron_mark_text minute }
 {
     let [a, b, c, d, e, f, g, h] = digits_of(minute);
     [a, b, c, d, e, f, g, h, b'\n']
@@ -26,14 +26,14 @@ pub fn minute_in(bytes: &[u8]) -> Result<u32, Damage>
     ensures minute { IfOk result (IsMarkText bytes.now) }
     ensures damaged { IfErr result (IsMarkDamage (Some bytes.now)) }
 {
-    match minute_of(bytes) {
+    match minute_in_mark(bytes) {
         Some(minute) => Ok(minute),
         None => Err(Damage::at(mark_name(), bytes, longest_start(bytes))),
     }
 }
 
 // The minute of the mark with this text, if it is one.
-fn minute_of(bytes: &[u8]) -> Option<u32>
+fn minute_in_mark(bytes: &[u8]) -> Option<u32>
     ensures some { IfSome result (IsMarkText bytes.now) }
     ensures none { IfNone result ((minute : ℕ) → ¬ (IsMarkText bytes.now minute)) }
 {
@@ -49,7 +49,7 @@ fn minute_of_digits(digits: &[u8]) -> Option<u32>
     ensures some { IfSome result (λ minute. IsClockMinute minute × (digits.now ≡ digits_of minute)) }
     ensures none { IfNone result ((minute : ℕ) → IsClockMinute minute → digits.now ≢ digits_of minute) }
 {
-    let number = hex_digits::read(digits)?;
+    let number = hex_digits::read_hex(digits)?;
     if number > LAST_MINUTE as u64 {
         return None;
     }
@@ -75,7 +75,7 @@ fn starts(bytes: &[u8]) -> bool
     if bytes.len() <= DIGITS {
         start_digits(bytes)
     } else {
-        minute_of(bytes).is_some()
+        minute_in_mark(bytes).is_some()
     }
 }
 
@@ -84,7 +84,7 @@ fn start_digits(bytes: &[u8]) -> bool
     requires { length bytes.now ≤ 8 }
     ensures { IsTrue result ↔ BeginsMark bytes.now }
 {
-    match hex_digits::read(bytes) {
+    match hex_digits::read_hex(bytes) {
         Some(number) => number <= (LAST_MINUTE as u64) >> (4 * (DIGITS - bytes.len())),
         None => false,
     }

@@ -4,7 +4,7 @@ use Rattle.std.specs.List.{flat_map, onto_first}
 use Rattle.cron_minutes.specs.Commands.{commands_of_parts, parts, piped, with_newline}
 use Rattle.cron_minutes.specs.declared.pieces.Piece.{Piece}
 use Rattle.cron_minutes.specs.declared.pieces.Piece.TheVariants.{Byte, Cut}
-use Rattle.cron_minutes.specs.inside.Lines.{after_cut, byte_of, first_part, input}
+use Rattle.cron_minutes.specs.inside.Lines.{after_cut, piece_byte, first_part, input}
 
 -- the parts of the pieces after a cut, if there is one
 abbrev pub other_parts : Option (List Piece) → List (List ℕ)
@@ -35,9 +35,9 @@ input-lines (Cut ∷ pieces) = ap (λ lines. 10 ∷ lines) (input-lines pieces)
 
 -- a piece more is put after the text as one byte of the input
 pub input-more : (text : List ℕ) (all : List Piece) (piece : Piece) (others : List Piece) → all ≡ piece ∷ others
-    → (text ++ byte_of piece ∷ []) ++ input others ≡ text ++ input all
+    → (text ++ piece_byte piece ∷ []) ++ input others ≡ text ++ input all
 unfolding input
-input-more text all piece others same = rw same (append_assoc text (byte_of piece ∷ []) (input others))
+input-more text all piece others same = rw same (append_assoc text (piece_byte piece ∷ []) (input others))
 
 -- with no piece left, a newline ends the input
 pub input-end : (text : List ℕ) (all : List Piece) → all ≡ [] → text ++ 10 ∷ [] ≡ text ++ input all

@@ -13,20 +13,20 @@ abbrev pub has : Field → ℕ → Bool
 has field value = bit_at field.bits value == 1
 
 -- month and day hold the civil day together
-abbrev pub is_day : CronEntry → CivilMinute → Bool
-is_day entry civil = has entry.month civil.month && has entry.day civil.day
+abbrev pub has_civil_day : CronEntry → CivilMinute → Bool
+has_civil_day entry civil = has entry.month civil.month && has entry.day civil.day
 
 -- the weekday holds the civil day
-abbrev pub is_weekday : CronEntry → CivilMinute → Bool
-is_weekday entry civil = has entry.weekday civil.weekday
+abbrev pub has_civil_weekday : CronEntry → CivilMinute → Bool
+has_civil_weekday entry civil = has entry.weekday civil.weekday
 
 -- the day is due: by the weekday where month and day are asterisks, else by month and day where the weekday is one,
 -- else by either
 abbrev pub is_date_due : CronEntry → CivilMinute → Bool
 is_date_due entry civil =
-    if entry.month.star && entry.day.star then is_weekday entry civil
-    else (if entry.weekday.star then is_day entry civil else is_day entry civil || is_weekday entry civil)
+    if entry.month.star && entry.day.star then has_civil_weekday entry civil
+    else (if entry.weekday.star then has_civil_day entry civil else has_civil_day entry civil || has_civil_weekday entry civil)
 
 -- the minute, the hour and the day are due
-abbrev pub is_due : CronEntry → CivilMinute → Bool
-is_due entry civil = has entry.minute civil.minute && has entry.hour civil.hour && is_date_due entry civil
+abbrev pub is_entry_due : CronEntry → CivilMinute → Bool
+is_entry_due entry civil = has entry.minute civil.minute && has entry.hour civil.hour && is_date_due entry civil

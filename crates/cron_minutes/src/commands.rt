@@ -2,7 +2,7 @@
 ghost use Rattle.std.specs.Prelude.{◌≡◌, ◌++◌, IfOk, OnOk, option_map};
 ghost use Rattle.std.specs.List.{flat_map};
 ghost use Rattle.cron_minutes.specs.Commands.{commands, parts, pieces, piped, with_newline};
-ghost use Rattle.cron_minutes.specs.inside.Lines.{after_cut, byte_of, first_part, input};
+ghost use Rattle.cron_minutes.specs.inside.Lines.{after_cut, piece_byte, first_part, input};
 
 use crate::pieces::{Piece, next_piece};
 use cron_text::CronEntry;
@@ -29,7 +29,7 @@ fn with_input(alloc: Global, first: &[u8], rest: &[u8]) -> Result<Bytes, AllocEr
     ensures { IfOk result (λ made. made ≡ piped first.now (parts (pieces rest.now))) }
 {
     let mut input = Vec::new(alloc);
-    put_lines(&mut input, rest)?;
+    put_parts(&mut input, rest)?;
     let mut text = Vec::from_slice(alloc, b"printf %s ")?;
     put_quoted(&mut text, &input)?;
     text.extend_from_slice(b" | {\n")?;
@@ -55,20 +55,20 @@ fn put_part<'a>(text: &mut Vec<u8>, command: &'a [u8]) -> Result<Option<&'a [u8]
 }
 
 // Puts the parts of the command after the text, a newline after each.
-fn put_lines(text: &mut Vec<u8>, command: &[u8]) -> Result<(), AllocError>
+fn put_parts(text: &mut Vec<u8>, command: &[u8]) -> Result<(), AllocError>
     ensures { OnOk result (text.new.items ≡ text.old.items ++ flat_map with_newline (parts (pieces command.now))) }
 {
     let mut rest = command;
     while let Some((piece, after)) = next_piece(rest) {
         rest = after;
-        text.push(byte_of(piece))?;
+        text.push(piece_byte(piece))?;
     }
     text.push(b'\n')?;
     Ok(())
 }
 
-fn byte_of(piece: Piece) -> u8
-    ensures { result ≡ byte_of piece }
+fn piece_byte(piece: Piece) -> u8
+    ensures { result ≡ piece_byte piece }
 {
     match piece {
         Piece::Byte(byte) => byte,

@@ -1,13 +1,13 @@
 //! Whether an entry is due.
 ghost use Rattle.std.specs.Prelude.{◌≡◌};
-ghost use Rattle.cron_minutes.specs.Due.{has, is_date_due, is_due};
+ghost use Rattle.cron_minutes.specs.Due.{has, is_date_due, is_entry_due};
 
 use civil_minute::CivilMinute;
 use cron_text::{CronEntry, Field};
 
 /// Whether the entry is due at the civil minute.
 pub fn matches(entry: &CronEntry, civil: &CivilMinute) -> bool
-    ensures { result ≡ is_due entry.now civil.now }
+    ensures { result ≡ is_entry_due entry.now civil.now }
 {
     has(&entry.minute, civil.minute) && has(&entry.hour, civil.hour) && is_date_due(entry, civil)
 }

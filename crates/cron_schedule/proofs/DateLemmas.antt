@@ -15,8 +15,8 @@ use Rattle.civil_minute.specs.declared.civil.CivilMinute.{CivilMinute}
 use Rattle.civil_minute.specs.declared.zone.Zone.{Zone}
 use Rattle.civil_minute.specs.Zone.{offset_in, rules_of}
 use Rattle.cron_text.specs.declared.entry.CronEntry.{CronEntry}
-use Rattle.cron_minutes.specs.Due.{has, is_date_due, is_due}
-use Rattle.cron_schedule.specs.Schedule.{IsDueAt, IsIdle}
+use Rattle.cron_minutes.specs.Due.{has, is_date_due, is_entry_due}
+use Rattle.cron_schedule.specs.Schedule.{IsDueAt, IsNotDueWithin}
 use Rattle.cron_schedule.specs.inside.Dates.{AreIdleDates, HasDate, IsIdleDate, IsOnDay}
 
 -- a zone is at most 25:59:59 east or west of UTC
@@ -52,7 +52,7 @@ last_fails true false c is all = cc
 last_fails false b c is all = cc
 
 -- on an idle date nothing is due
-pub idle_civil : (entry : CronEntry) (civil : CivilMinute) → is_date_due entry civil ≡ false → IsTrue (is_due entry civil) → ⊥
+pub idle_civil : (entry : CronEntry) (civil : CivilMinute) → is_date_due entry civil ≡ false → IsTrue (is_entry_due entry civil) → ⊥
 idle_civil entry civil idle due = last_fails (has entry.minute civil.minute) (has entry.hour civil.hour) (is_date_due entry civil) idle due
 
 -- a number from 0 on is natural
@@ -62,7 +62,7 @@ as_natural (negsuc n) from = absurd (omega (arith, signed_arith, from))
 
 -- nor at a minute of a day of UTC around which the dates are idle
 pub idle_day : (zone : Zone) (entry : CronEntry) (day minute : ℕ) → AreIdleDates entry day (day + 5) → minute ≡ 1440 * day
-    → IsIdle zone entry minute (minute + 1440)
+    → IsNotDueWithin zone entry minute (minute + 1440)
 idle_day zone entry day minute idle is k late early due =
     let shown = due.shown in
     let bound = offset_bound (rules_of zone) (nanos_of_seconds (pos (60 * k))) in
@@ -82,11 +82,11 @@ idle_day zone entry day minute idle is k late early due =
     due.due
 
 same_due : (entry : CronEntry) (a b : CivilMinute) → a.minute ≡ b.minute → a.hour ≡ b.hour → a.month ≡ b.month → a.day ≡ b.day → a.weekday ≡ b.weekday
-    → is_due entry a ≡ is_due entry b
+    → is_entry_due entry a ≡ is_entry_due entry b
 same_due entry a b minute hour month day weekday = rw (minute, hour, month, day, weekday) refl
 
 -- a clock shows one time
-one_time : (entry : CronEntry) (zone : Zone) (at : ℤ) (a b : CivilMinute) → IsCivilTime zone at a → IsCivilTime zone at b → is_due entry a ≡ is_due entry b
+one_time : (entry : CronEntry) (zone : Zone) (at : ℤ) (a b : CivilMinute) → IsCivilTime zone at a → IsCivilTime zone at b → is_entry_due entry a ≡ is_entry_due entry b
 one_time entry zone at a b first second =
     let shows = first.shows ∙ sym second.shows in
     let day : day_of a ≡ day_of b = omega (arith, signed_arith, shows, first.time.hour, first.time.minute, first.time.second, second.time.hour, second.time.minute, second.time.second) in
@@ -98,7 +98,7 @@ one_time entry zone at a b first second =
 
 -- a minute whose civil time is not due is idle
 pub idle_minute : (zone : Zone) (entry : CronEntry) (minute : ℕ) (civil : CivilMinute) → IsCivilTime zone (pos (60 * minute)) civil
-    → is_due entry civil ≡ false → IsIdle zone entry minute (minute + 1)
+    → is_entry_due entry civil ≡ false → IsNotDueWithin zone entry minute (minute + 1)
 idle_minute zone entry minute civil shown idle k late early due =
     let same : k ≡ minute = omega (arith, late, early) in
     let at : IsCivilTime zone (pos (60 * minute)) due.civil = rw (sym same) due.shown in

@@ -9,11 +9,11 @@ use Rattle.cron_text.specs.declared.entry.CronEntry.{CronEntry}
 use Rattle.std.proofs.lemmas.Bool.Decides.{nat_tests}
 use Rattle.clock_range.specs.declared.range.TheConstants.{LAST_MINUTE}
 use Rattle.cron_schedule.specs.declared.next.TheConstants.{SEARCHED_MINUTES}
-use Rattle.cron_schedule.specs.Schedule.{AreDueWithin, AreNextDue, IsDueWithin, IsIdle, end_of_search}
+use Rattle.cron_schedule.specs.Schedule.{AreDueWithin, AreNextDue, IsDueWithin, IsNotDueWithin, end_of_search}
 use Rattle.cron_schedule.specs.inside.Dates.{IsFirstDue}
 
 -- the first part of an idle stretch is one
-pub idle_up_to : (zone : Zone) (entry : CronEntry) (from middle end : ℕ) → middle ≤ end → IsIdle zone entry from end → IsIdle zone entry from middle
+pub idle_up_to : (zone : Zone) (entry : CronEntry) (from middle end : ℕ) → middle ≤ end → IsNotDueWithin zone entry from end → IsNotDueWithin zone entry from middle
 idle_up_to zone entry from middle end few idle minute late early due = idle minute late (omega (arith, few, early)) due
 
 module _ (zone : Zone) (entry : CronEntry) (from : ℕ) where
@@ -26,7 +26,7 @@ module _ (zone : Zone) (entry : CronEntry) (from : ℕ) where
   }
 
   -- there is no other up to an end
-  pub no_more : (now end : ℕ) (minutes : List ℕ) → AreDueWithin zone entry from now minutes → now ≤ end → IsIdle zone entry now end → AreDueWithin zone entry from end minutes
+  pub no_more : (now end : ℕ) (minutes : List ℕ) → AreDueWithin zone entry from now minutes → now ≤ end → IsNotDueWithin zone entry now end → AreDueWithin zone entry from end minutes
   no_more now end minutes has few idle = record {
     ascending = has.ascending;
     due = All-weaker (IsDueWithin zone entry from now) (IsDueWithin zone entry from end) (λ minute due. record { late = due.late; early = omega (arith, due.early, few); due = due.due }) minutes has.due;
@@ -37,7 +37,7 @@ module _ (zone : Zone) (entry : CronEntry) (from : ℕ) where
   }
 
   -- the next one
-  pub one_more : (now end found : ℕ) (minutes : List ℕ) → AreDueWithin zone entry from now minutes → from ≤ now → IsDueWithin zone entry now end found → IsIdle zone entry now found
+  pub one_more : (now end found : ℕ) (minutes : List ℕ) → AreDueWithin zone entry from now minutes → from ≤ now → IsDueWithin zone entry now end found → IsNotDueWithin zone entry now found
       → AreDueWithin zone entry from (found + 1) (minutes ++ found ∷ [])
   one_more now end found minutes has after is idle =
       let before = no_more now found minutes has is.late idle in

@@ -5,18 +5,18 @@ use Rattle.civil_minute.specs.Civil.{IsCivilTime}
 use Rattle.civil_minute.specs.declared.civil.CivilMinute.{CivilMinute}
 use Rattle.civil_minute.specs.declared.zone.Zone.{Zone}
 use Rattle.cron_text.specs.declared.entry.CronEntry.{CronEntry}
-use Rattle.cron_minutes.specs.Due.{is_due}
+use Rattle.cron_minutes.specs.Due.{is_entry_due}
 use Rattle.cron_schedule.specs.declared.next.TheConstants.{SEARCHED_MINUTES}
 
 -- the entry is due at the minute, by what a clock in the zone shows then
 pub record IsDueAt (zone : Zone) (entry : CronEntry) (minute : ℕ) : Type 0 where
   pub civil : CivilMinute
   pub shown : IsCivilTime zone (pos (60 * minute)) civil
-  pub due : IsTrue (is_due entry civil)
+  pub due : IsTrue (is_entry_due entry civil)
 
 -- from one minute up to another the entry is not due
-abbrev pub IsIdle : Zone → CronEntry → ℕ → ℕ → Type 0
-IsIdle zone entry from end = (minute : ℕ) → from ≤ minute → minute < end → ¬ (IsDueAt zone entry minute)
+abbrev pub IsNotDueWithin : Zone → CronEntry → ℕ → ℕ → Type 0
+IsNotDueWithin zone entry from end = (minute : ℕ) → from ≤ minute → minute < end → ¬ (IsDueAt zone entry minute)
 
 -- the minute is one from the first up to the end at which the entry is due
 pub record IsDueWithin (zone : Zone) (entry : CronEntry) (from end minute : ℕ) : Type 0 where

@@ -3,7 +3,7 @@ ghost use Rattle.std.specs.Prelude.{◌≡◌, ◌≤◌, ◌+◌, IfOk};
 ghost use Rattle.civil_minute.specs.Zone.{IsReadable};
 ghost use Rattle.clock_range.specs.ClockRange.{IsClockMinute};
 ghost use Rattle.clock_range.specs.declared.range.TheConstants.{LAST_MINUTE};
-ghost use Rattle.cron_schedule.specs.Schedule.{IsDueAt, IsIdle};
+ghost use Rattle.cron_schedule.specs.Schedule.{IsDueAt, IsNotDueWithin};
 ghost use Rattle.cron_schedule.specs.inside.Dates.{IsFirstDue};
 
 use crate::dates::is_idle_day;
@@ -50,7 +50,7 @@ fn idle_minutes(
     requires zone { IsReadable zone.now }
     ensures few { IfOk result (λ idle. idle ≤ MINUTES_A_DAY) }
     ensures due { IfOk result (λ idle. idle ≡ 0 → IsDueAt zone.now entry.now minute) }
-    ensures idle { IfOk result (λ idle. IsIdle zone.now entry.now minute (minute + idle)) }
+    ensures idle { IfOk result (λ idle. IsNotDueWithin zone.now entry.now minute (minute + idle)) }
 {
     if minute % MINUTES_A_DAY == 0 && is_idle_day(entry, minute / MINUTES_A_DAY) {
         return Ok(MINUTES_A_DAY);

@@ -35,7 +35,7 @@ pub fn next_due(
         match next {
             None => return Ok(minutes),
             Some(minute) => {
-                add(&mut minutes, minute)?;
+                add_due_minute(&mut minutes, minute)?;
                 now = minute + 1;
             }
         }
@@ -43,7 +43,7 @@ pub fn next_due(
     Ok(minutes)
 }
 
-fn add(minutes: &mut Vec<u32>, minute: u32) -> Result<(), AllocError>
+fn add_due_minute(minutes: &mut Vec<u32>, minute: u32) -> Result<(), AllocError>
     ensures { OnOk result (minutes.new.items ≡ minutes.old.items ++ minute ∷ []) }
 {
     minutes.push(minute)?;

@@ -5,7 +5,7 @@ use Rattle.std.proofs.lemmas.List.{append_cancel_right}
 use Rattle.clock_range.specs.ClockRange.{IsClockSecond}
 use Rattle.host_calls.specs.declared.child.Handed.{Handed}
 use Rattle.host_calls.specs.Folder.{Files, IsImage}
-use Rattle.host_calls.specs.World.{AtEach, AtSome, HasEachImage, LeavesOnly, Moment, World, moments, reading}
+use Rattle.host_calls.specs.World.{AllMoments, AnyMoment, HasEachImage, LeavesOnly, Moment, World, moments, reading}
 use Rattle.host_calls.proofs.WorldLemmas.{AtEach-append, leaves_none}
 use Rattle.whole_file.specs.Others.{ChangesFiles}
 use Rattle.whole_file.proofs.ChangesJoined.{left_alone}
@@ -15,13 +15,13 @@ use Rattle.spool_shows.specs.Shown.{shown_by}
 use Rattle.cron_mark.specs.Names.{mark_file}
 use Rattle.cron_session.specs.declared.report.CronEnd.{CronEnd}
 use Rattle.cron_session.specs.declared.report.CronEnd.TheVariants.{Done, Busy, FileFault, Damaged, QueueFull, NumbersUsedUp, Memory}
-use Rattle.cron_session.specs.Leaving.{CronLeaves, IsIdle, IsOnTheMark, IsSpoolOrTemp, IsStopped, IsUnmarked, Submits}
-use Rattle.cron_session.specs.Minutes.{CutOff, CutSessionsPass, IsCrash, PassesAs}
+use Rattle.cron_session.specs.Leaving.{CronLeaves, IsCronIdle, IsOnTheMark, IsSpoolOrTemp, IsCronStopped, IsUnmarked, Submits}
+use Rattle.cron_session.specs.Minutes.{CutOff, CutSessionsPass, IsCrashOfSession, PassesAs}
 use Rattle.cron_session.specs.Steps.{Cron, minute_of, submissions}
 use Rattle.cron_session.proofs.MinuteLemmas.{IsMarkedSo, unmarked_has_nothing_new}
 
 -- what each of the moments has, one of them has
-one_of_each : (P : Moment → Type 0) (list : List Moment) (at : Moment) → AtEach P list → AtSome (λ moment. moment ≡ at) list → P at
+one_of_each : (P : Moment → Type 0) (list : List Moment) (at : Moment) → AllMoments P list → AnyMoment (λ moment. moment ≡ at) list → P at
 one_of_each P [] at each some = absurd some
 one_of_each P (here ∷ others) at each some = elim some [
   | inl same ↦ subst P same each.0
@@ -29,13 +29,13 @@ one_of_each P (here ∷ others) at each some = elim some [
 ]
 
 -- what each image of each moment of a call has, and each of its start, the image of a crash has
-module _ (old during new : World) (crash : IsCrash old during new) where
+module _ (old during new : World) (crash : IsCrashOfSession old during new) where
   crash_of : (P : Files → List Handed → Type 0) → LeavesOnly P old during → HasEachImage P old.now →
       P crash.image crash.at.handed
   crash_of P leaves start =
       let same : leaves.more ≡ crash.more = append_cancel_right leaves.more crash.more (moments old) (sym leaves.run ∙ crash.run) in
-      let each : AtEach (HasEachImage P) (crash.more ++ old.now ∷ []) =
-      AtEach-append (HasEachImage P) crash.more (old.now ∷ []) (subst (AtEach (HasEachImage P)) same leaves.each) (start, tt) in
+      let each : AllMoments (HasEachImage P) (crash.more ++ old.now ∷ []) =
+      AtEach-append (HasEachImage P) crash.more (old.now ∷ []) (subst (AllMoments (HasEachImage P)) same leaves.each) (start, tt) in
       one_of_each (HasEachImage P) (crash.more ++ old.now ∷ []) crash.at each crash.is_one crash.image crash.was
 
   changes_crash : (Q : Files → Type 0) → ChangesFiles Q old during → ((image : Files) → IsImage old.now.folder image → Q image) →
@@ -46,7 +46,7 @@ module _ (old during new : World) (crash : IsCrash old during new) where
   at_start : (image : Files) → IsImage old.now.folder image → IsUnmarked old.now.folder image
   at_start image is = record { alone = left_alone IsSpoolOrTemp old.now.folder image is; same = refl }
 
-  idle_crash : (cron : Cron) (numbers : List ℕ) → IsIdle numbers old during → IsMarkedSo cron old crash.image
+  idle_crash : (cron : Cron) (numbers : List ℕ) → IsCronIdle numbers old during → IsMarkedSo cron old crash.image
   idle_crash cron numbers idle =
       inl (unmarked_has_nothing_new old crash.image (changes_crash (IsUnmarked old.now.folder) idle.unmarked at_start))
 
@@ -59,7 +59,7 @@ module _ (old during new : World) (crash : IsCrash old during new) where
         | inr marked ↦ inr (table, jobs, submits.are, marked.come.marked)
       ]
 
-  either_crash : (cron : Cron) (numbers : List ℕ) → IsIdle numbers old during ⊎ IsStopped cron numbers old during →
+  either_crash : (cron : Cron) (numbers : List ℕ) → IsCronIdle numbers old during ⊎ IsCronStopped cron numbers old during →
       IsMarkedSo cron old crash.image
   either_crash cron numbers leaves = elim leaves [
     | inl idle ↦ idle_crash cron numbers idle

@@ -14,7 +14,7 @@ use Rattle.host_calls.specs.declared.store_fault.StoreFault.{StoreFault}
 use Rattle.spool_store.proofs.AddedJobs.{submissions_add_one_job}
 use Rattle.step_runs.specs.Current.{IsCurrent, Kept}
 use Rattle.step_runs.specs.WithoutScripts.{job_without_script}
-use Rattle.cron_session.specs.Steps.{numbers_after, submissions}
+use Rattle.cron_session.specs.Steps.{next_numbers, submissions}
 use Rattle.cron_session.specs.inside.Due.{cron_job, cron_jobs}
 use Rattle.cron_session.specs.inside.Submitting.{SubmitsAll, SubmitsOne}
 use Rattle.cron_session.proofs.CauseLemmas.{ok_is_none, same_fault}
@@ -36,7 +36,7 @@ submits_at tells before after old new kept jobs was is fault (Err other) same su
 module _ (tells : Bool) (before between : Session) (old here : World) (kept store : Kept) (context : Context) (minute : ℕ) (due : List (List ℕ)) where
   -- all were submitted
   pub all_submitted : (place : ℕ) (was is : List ℕ) → place ≡ length due → StaysInside before between → before.file_faults ≤ between.file_faults →
-      is ≡ was ++ numbers_after kept.table.last place →
+      is ≡ was ++ next_numbers kept.table.last place →
       AllSoFar tells kept store (cron_jobs context minute due) (cron_jobs context minute (take place due)) old here →
       SubmitsAll tells before between old here kept (cron_jobs context minute due) was is (Ok tt)
   all_submitted place was is whole stays later written so_far = record {
@@ -44,7 +44,7 @@ module _ (tells : Bool) (before between : Session) (old here : World) (kept stor
     faults = tt;
     part = record { made = jobs; next = []; later = [] };
     is_part = record { are = sym (append-nil jobs); few = omega arith; all = refl };
-    written = written ∙ ap (λ (count : ℕ). was ++ numbers_after kept.table.last count) (whole ∙ sym (length-map due (cron_job context minute)));
+    written = written ∙ ap (λ (count : ℕ). was ++ next_numbers kept.table.last count) (whole ∙ sym (length-map due (cron_job context minute)));
     leaves = λ known table current.
         let at : SoFar table jobs jobs store old here =
         subst (λ (first : List Job). SoFar table jobs first store old here)
@@ -85,7 +85,7 @@ module _ (tells : Bool) (before between : Session) (old here : World) (kept stor
 
     -- it was stopped at this one
     pub stopped_submitting : (after : Session) (new : World) (was numbers : List ℕ) (fault : StoreFault) → StaysInside before between →
-        numbers ≡ was ++ numbers_after kept.table.last place → AllSoFar tells kept store jobs first old here →
+        numbers ≡ was ++ next_numbers kept.table.last place → AllSoFar tells kept store jobs first old here →
         SubmitsOne tells between after here new store job (Err fault) → SubmitsAll tells before after old new kept jobs was numbers (Err fault)
     stopped_submitting after new was numbers fault stays written so_far call = record {
       inside = record {
@@ -102,7 +102,7 @@ module _ (tells : Bool) (before between : Session) (old here : World) (kept stor
       faults = call.faults;
       part = record { made = first; next = job ∷ []; later = later };
       is_part = record { are = jobs_are; few = omega arith; all = tt };
-      written = written ∙ ap (λ (count : ℕ). was ++ numbers_after kept.table.last count) (sym counted);
+      written = written ∙ ap (λ (count : ℕ). was ++ next_numbers kept.table.last count) (sym counted);
       leaves = λ known table current.
           let at : SoFar table jobs first store old here = so_far known table current in
           let files = (call.files known (after_steps table (submissions table.last first)) at.current).files in
@@ -134,13 +134,13 @@ pub live_more : (store next : Kept) (of : Job) → next.table ≡ after_steps st
 live_more store next of is =
     subst (λ (table : JobTable). live_count table ≤ live_count store.table + 1) (sym is) (submissions_add_one_job store.table (job_without_script of))
 
-pub written_more : (last place number stored : ℕ) (was is more : List ℕ) → stored ≡ last + place → is ≡ was ++ numbers_after last place → number ≡ stored + 1 →
-    more ≡ is ++ number ∷ [] → more ≡ was ++ numbers_after last (place + 1)
+pub written_more : (last place number stored : ℕ) (was is more : List ℕ) → stored ≡ last + place → is ≡ was ++ next_numbers last place → number ≡ stored + 1 →
+    more ≡ is ++ number ∷ [] → more ≡ was ++ next_numbers last (place + 1)
 written_more last place number stored was is more at written next pushed =
-    pushed ∙ ap (λ (l : List ℕ). l ++ number ∷ []) written ∙ append_assoc was (numbers_after last place) (number ∷ [])
-    ∙ ap (λ (n : ℕ). was ++ (numbers_after last place ++ n ∷ [])) is_next
+    pushed ∙ ap (λ (l : List ℕ). l ++ number ∷ []) written ∙ append_assoc was (next_numbers last place) (number ∷ [])
+    ∙ ap (λ (n : ℕ). was ++ (next_numbers last place ++ n ∷ [])) is_next
     ∙ ap (λ (l : List ℕ). was ++ l) (sym (numbers_after-push last place))
-    ∙ ap (λ (count : ℕ). was ++ numbers_after last count) one_more_is where
+    ∙ ap (λ (count : ℕ). was ++ next_numbers last count) one_more_is where
       is_next : number ≡ last + (place + 1)
       is_next = omega (arith, at, next)
 

@@ -17,17 +17,17 @@ use Rattle.whole_file.specs.Others.{ChangesFiles, IsEither}
 use Rattle.whole_file.specs.Placing.{IsPlaced, IsPlacing}
 use Rattle.whole_file.proofs.ChangesJoined.{changes_end, changes_on, changes_weaker, left_alone}
 use Rattle.whole_file.proofs.OthersLemmas.{one_or_other}
-use Rattle.cron_mark.specs.Mark.{mark_text}
+use Rattle.cron_mark.specs.Mark.{cron_mark_text}
 use Rattle.cron_mark.specs.Names.{mark_file, mark_temp}
-use Rattle.cron_session.specs.Leaving.{HasCome, IsMarked, IsOnTheMark, IsUnmarked}
+use Rattle.cron_session.specs.Leaving.{HasCome, HasCronMark, IsOnTheMark, IsUnmarked}
 use Rattle.cron_session.specs.Steps.{submissions}
 use Rattle.cron_session.specs.inside.Marking.{MarkingEnds, MarkingLeaves}
-use Rattle.cron_session.specs.inside.Submitting.{IsPartOf, Part, SubmissionsLeave}
+use Rattle.cron_session.specs.inside.Submitting.{IsPartOf, CronPart, SubmissionsLeave}
 use Rattle.cron_session.proofs.NameLemmas.{both_beside, file_beside}
 
 -- what is placed is the mark of the minute
 abbrev pub IsMarking : ℕ → Folder → Files → Type 0
-IsMarking minute start image = IsPlacing mark_temp mark_file (mark_text minute) start image
+IsMarking minute start image = IsPlacing mark_temp mark_file (cron_mark_text minute) start image
 
 -- an image of the start
 not_marked_yet : (minute : ℕ) (start : Folder) (image : Files) → IsImage start image → IsMarking minute start image
@@ -55,7 +55,7 @@ module _ (minute : ℕ) (table : JobTable) (start : Folder) (shows : EachShows s
       shows_the_same (IsEither mark_temp mark_file) both_beside start image is.alone ∙ shows is.alone.from is.alone.was
 
   -- one that has that of the minute shows the table
-  come : (steps : List Step) (image : Files) → IsMarking minute start image → finite.get image mark_file ≡ Some (mark_text minute) → HasCome minute table [] steps image
+  come : (steps : List Step) (image : Files) → IsMarking minute start image → finite.get image mark_file ≡ Some (cron_mark_text minute) → HasCome minute table [] steps image
   come steps image is put = record {
     marked = put;
     shows = record {
@@ -92,7 +92,7 @@ mark_failed minute table jobs old new fault shows marks = record {
 
 -- The mark was placed.
 module _ (minute : ℕ) (table : JobTable) (kept : Kept) (old middle : World) (current : IsCurrent kept old.now.folder table)
-    (marks : ChangesFiles (IsMarking minute old.now.folder) old middle) (mark : IsPlaced mark_temp mark_file (mark_text minute) old.now.folder middle.now.folder) where
+    (marks : ChangesFiles (IsMarking minute old.now.folder) old middle) (mark : IsPlaced mark_temp mark_file (cron_mark_text minute) old.now.folder middle.now.folder) where
   -- what is kept is current still
   pub current_then : IsCurrent kept middle.now.folder table
   current_then = stays_current (IsEither mark_temp mark_file) both_beside kept table old.now.folder middle.now.folder current (record {
@@ -102,10 +102,10 @@ module _ (minute : ℕ) (table : JobTable) (kept : Kept) (old middle : World) (c
   })
 
   -- an image on the way of the submissions has the mark
-  stepping_marked : (steps : List Step) (image : Files) → IsSteppingOn table steps middle.now.folder image → finite.get image mark_file ≡ Some (mark_text minute)
+  stepping_marked : (steps : List Step) (image : Files) → IsSteppingOn table steps middle.now.folder image → finite.get image mark_file ≡ Some (cron_mark_text minute)
   stepping_marked steps image is = is.others.others mark_file file_beside ∙ mark.placed is.others.from is.others.was
 
-  stepping_on : (steps : List Step) (image : Files) → IsSteppingOn table steps middle.now.folder image → IsMarked minute table steps old.now.folder image
+  stepping_on : (steps : List Step) (image : Files) → IsSteppingOn table steps middle.now.folder image → HasCronMark minute table steps old.now.folder image
   stepping_on steps image is =
       let at : IsMarking minute old.now.folder is.others.from =
       changes_end (IsMarking minute old.now.folder) old middle marks (not_marked_yet minute old.now.folder) is.others.from is.others.was in
@@ -121,7 +121,7 @@ module _ (minute : ℕ) (table : JobTable) (kept : Kept) (old middle : World) (c
         };
       }
 
-  module _ (jobs : List Job) (part : Part) (new : World) where
+  module _ (jobs : List Job) (part : CronPart) (new : World) where
     abbrev all : List Step
     all = submissions table.last jobs
 

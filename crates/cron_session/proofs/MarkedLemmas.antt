@@ -9,11 +9,11 @@ use Rattle.host_session.proofs.SessionLemmas.{counts_on}
 use Rattle.spool_model.specs.declared.job.Job.{Job}
 use Rattle.host_calls.specs.declared.store_fault.StoreFault.{StoreFault}
 use Rattle.host_calls.specs.declared.store_fault.StoreFault.TheVariants.{FileFault, Memory}
-use Rattle.host_calls.specs.StoreFaults.{IsOfStep, fault_of}
+use Rattle.host_calls.specs.StoreFaults.{IsOfStep, store_fault_of}
 use Rattle.step_runs.specs.Current.{Kept}
 use Rattle.whole_file.specs.Others.{ChangesFiles}
 use Rattle.whole_file.specs.Placing.{IsPlaced}
-use Rattle.cron_mark.specs.Mark.{mark_text}
+use Rattle.cron_mark.specs.Mark.{cron_mark_text}
 use Rattle.cron_mark.specs.Names.{mark_file, mark_temp}
 use Rattle.cron_session.specs.inside.Marking.{MarksAndSubmits}
 use Rattle.cron_session.specs.inside.Submitting.{SubmitsAll}
@@ -43,7 +43,7 @@ module _ (tells : Bool) (before between : Session) (old middle : World) (kept : 
   }
 
   pub marks_failed : (fault : HostFault) → CallsInside {T = Unit {0}} host.Failed before between (Err fault) →
-      MarksAndSubmits tells before between old middle kept minute jobs was was (Err (fault_of fault))
+      MarksAndSubmits tells before between old middle kept minute jobs was was (Err (store_fault_of fault))
   marks_failed host.Failed inside =
       not_marked FileFault (record { stays = inside.stays; cause = record { later = inside.cause.later; rose = λ bad. inside.cause.rose refl } }) tt
   marks_failed host.Memory inside =
@@ -51,7 +51,7 @@ module _ (tells : Bool) (before between : Session) (old middle : World) (kept : 
 
   -- it was placed
   pub marks_submitted : (after : Session) (new : World) (is : List ℕ) (result : Result (Unit {0}) StoreFault) → CallsInside {T = Unit {0}} host.Failed before between (Ok tt) →
-      (tells ≡ true → IsPlaced mark_temp mark_file (mark_text minute) old.now.folder middle.now.folder) → SubmitsAll tells between after middle new kept jobs was is result →
+      (tells ≡ true → IsPlaced mark_temp mark_file (cron_mark_text minute) old.now.folder middle.now.folder) → SubmitsAll tells between after middle new kept jobs was is result →
       MarksAndSubmits tells before after old new kept minute jobs was is result
   marks_submitted after new is result inside mark submits = record {
     inside = record {

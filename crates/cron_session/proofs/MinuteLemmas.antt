@@ -16,14 +16,14 @@ use Rattle.host_calls.proofs.FolderLemmas.{reading_is_image}
 use Rattle.whole_file.proofs.ChangesJoined.{changes_end, left_alone}
 use Rattle.spool_model.specs.declared.job.Job.{Job}
 use Rattle.spool_model.specs.JobTable.{JobTable}
-use Rattle.cron_mark.specs.Mark.{IsMark, IsMarkText, mark_text}
+use Rattle.cron_mark.specs.Mark.{IsMark, IsMarkText, cron_mark_text}
 use Rattle.cron_mark.specs.Names.{mark_file}
 use Rattle.cron_session.proofs.NameLemmas.{file_beside, temp_apart}
 use Rattle.cron_session.specs.declared.report.CronEnd.{CronEnd}
 use Rattle.cron_session.specs.declared.report.CronEnd.TheVariants.{Done, Busy, FileFault, Damaged, QueueFull, NumbersUsedUp, Memory}
-use Rattle.cron_session.specs.Leaving.{CronLeaves, IsIdle, IsSpoolOrTemp, IsStopped, IsUnmarked, IsWhole}
+use Rattle.cron_session.specs.Leaving.{CronLeaves, IsCronIdle, IsSpoolOrTemp, IsCronStopped, IsUnmarked, IsCronDone}
 use Rattle.cron_session.specs.Minutes.{AcceptApart, Beside, CronEvent, CronPassFrom, CronPassed, CutOff, Ended, HasNothingNew, KeepsMark, MayAcceptAt, NoMinuteComesTwice, PassesAs, SetsMark, SubmitsNothing}
-use Rattle.cron_session.specs.Steps.{AreToSubmit, Cron, IsBefore, minute_of, numbers_after}
+use Rattle.cron_session.specs.Steps.{AreToSubmit, Cron, IsMarkedBefore, minute_of, next_numbers}
 
 -- each image of the folder has the mark of this minute or of a later one
 record HasMarkFrom (minute : ℕ) (folder : Folder) : Type 0 where
@@ -36,7 +36,7 @@ clock_minutes_fit minute is = omega arith
 
 one_minute : (text : List ℕ) (first second : ℕ) → IsMarkText text first → IsMarkText text second → first ≡ second
 one_minute text first second of_first of_second =
-    let texts : mark_text first ≡ mark_text second = sym of_first.text_is ∙ of_second.text_is in
+    let texts : cron_mark_text first ≡ cron_mark_text second = sym of_first.text_is ∙ of_second.text_is in
     let digits : digits_of first ≡ digits_of second = ap (take 8) texts in
     one_number (digits_of second) first second
     (subst (λ bytes. SpellsNumber bytes first) digits (digits_spelled first (clock_minutes_fit first of_first.minute_is)))
@@ -49,7 +49,7 @@ one_mark None minute marked is other = absurd (let none : Some minute ≡ None =
 one_mark (Some text) minute None is other = absurd other
 one_mark (Some text) minute (Some another) is other = ap Some (one_minute text another minute other is)
 
-mark_of : (content : Option (List ℕ)) (minute : ℕ) → IsClockMinute minute → content ≡ Some (mark_text minute) → IsMark content (Some minute)
+mark_of : (content : Option (List ℕ)) (minute : ℕ) → IsClockMinute minute → content ≡ Some (cron_mark_text minute) → IsMark content (Some minute)
 mark_of content minute clock is = subst (λ at. IsMark at (Some minute)) (sym is) (record { minute_is = clock; text_is = refl })
 
 -- the minute of a second of the clock is one of its minutes
@@ -67,7 +67,7 @@ abbrev pub IsMarkedSo : Cron → World → Files → Type 0
 IsMarkedSo cron old image =
     HasNothingNew old.now.folder image
     ⊎ ((table : JobTable) × (jobs : List Job) × AreToSubmit cron (reading old) table jobs
-    × (finite.get image mark_file ≡ Some (mark_text (minute_of cron))))
+    × (finite.get image mark_file ≡ Some (cron_mark_text (minute_of cron))))
 
 -- the name of the mark is none that a session changes before it sets the mark
 mark_is_beside : ¬ (IsSpoolOrTemp mark_file)
@@ -78,12 +78,12 @@ pub unmarked_has_nothing_new : (old : World) (image : Files) → IsUnmarked old.
 unmarked_has_nothing_new old image is =
     record { from = is.alone.from; was = is.alone.was; mark = is.alone.others mark_file mark_is_beside; shows = is.same }
 
-idle_submits_nothing : (numbers : List ℕ) (old new : World) → IsIdle numbers old new → SubmitsNothing old.now.folder new.now.folder
+idle_submits_nothing : (numbers : List ℕ) (old new : World) → IsCronIdle numbers old new → SubmitsNothing old.now.folder new.now.folder
 idle_submits_nothing numbers old new idle image is =
     unmarked_has_nothing_new old image (changes_end (IsUnmarked old.now.folder) old new idle.unmarked
     (λ files was. record { alone = left_alone IsSpoolOrTemp old.now.folder files was; same = refl }) image is)
 
-whole_sets : (cron : Cron) (numbers : List ℕ) (old new : World) → IsWhole cron numbers old new → SetsMark cron old new
+whole_sets : (cron : Cron) (numbers : List ℕ) (old new : World) → IsCronDone cron numbers old new → SetsMark cron old new
 whole_sets cron numbers old new whole = record {
   table = whole.table;
   jobs = whole.jobs;
@@ -91,7 +91,7 @@ whole_sets cron numbers old new whole = record {
   marked = λ image is. (whole.stands image is).0;
 }
 
-stopped_marks : (cron : Cron) (numbers : List ℕ) (old new : World) → IsStopped cron numbers old new → (image : Files) →
+stopped_marks : (cron : Cron) (numbers : List ℕ) (old new : World) → IsCronStopped cron numbers old new → (image : Files) →
     IsImage new.now.folder image → IsMarkedSo cron old image
 stopped_marks cron numbers old new stopped image is = elim (stopped.ends image is) [
   | inl before ↦ inl (unmarked_has_nothing_new old image before.1)
@@ -99,19 +99,19 @@ stopped_marks cron numbers old new stopped image is = elim (stopped.ends image i
 ]
 
 -- where numbers were accepted, it was stopped after the mark
-stopped_sets : (cron : Cron) (numbers : List ℕ) (old new : World) → numbers ≢ [] → IsStopped cron numbers old new → SetsMark cron old new
+stopped_sets : (cron : Cron) (numbers : List ℕ) (old new : World) → numbers ≢ [] → IsCronStopped cron numbers old new → SetsMark cron old new
 stopped_sets cron numbers old new some stopped = record {
   table = stopped.table;
   jobs = stopped.made ++ (stopped.next ++ stopped.later);
   are = stopped.submits.are;
   marked = λ image is. elim (stopped.ends image is) [
     | inl before ↦ absurd (some (stopped.numbers_are
-        ∙ ap (λ (made : List Job). numbers_after stopped.table.last (length made)) before.0))
+        ∙ ap (λ (made : List Job). next_numbers stopped.table.last (length made)) before.0))
     | inr come ↦ come.marked
   ];
 }
 
-either_marks : (cron : Cron) (numbers : List ℕ) (old new : World) → IsIdle numbers old new ⊎ IsStopped cron numbers old new →
+either_marks : (cron : Cron) (numbers : List ℕ) (old new : World) → IsCronIdle numbers old new ⊎ IsCronStopped cron numbers old new →
     (image : Files) → IsImage new.now.folder image → IsMarkedSo cron old image
 either_marks cron numbers old new leaves image is = elim leaves [
   | inl idle ↦ inl (idle_submits_nothing numbers old new idle image is)
@@ -119,7 +119,7 @@ either_marks cron numbers old new leaves image is = elim leaves [
 ]
 
 either_sets : (cron : Cron) (numbers : List ℕ) (old new : World) → numbers ≢ [] →
-    IsIdle numbers old new ⊎ IsStopped cron numbers old new → SetsMark cron old new
+    IsCronIdle numbers old new ⊎ IsCronStopped cron numbers old new → SetsMark cron old new
 either_sets cron numbers old new some leaves = elim leaves [
   | inl idle ↦ absurd (some idle.none)
   | inr stopped ↦ stopped_sets cron numbers old new some stopped
@@ -162,7 +162,7 @@ later_than : (minute : ℕ) (cron : Cron) (old : World) (table : JobTable) (jobs
 later_than minute cron old table jobs from are =
     let here = from.marked_in (reading old) (reading_is_image old.now.folder) in
     let marked : are.marked ≡ Some here.0 = one_mark (finite.get (reading old) mark_file) here.0 are.marked here.2 are.mark in
-    let before : here.0 < minute_of cron = subst (IsBefore (minute_of cron)) marked are.before in
+    let before : here.0 < minute_of cron = subst (IsMarkedBefore (minute_of cron)) marked are.before in
     let least : minute ≤ here.0 = here.1 in
     omega arith
 

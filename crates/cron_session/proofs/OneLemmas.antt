@@ -4,7 +4,7 @@ use Rattle.std.specs.Prelude.{IfErr, IfOk, IsErrAnd, IsSome, Result, Ok, Err, is
 use Rattle.host_calls.specs.Session.{CallsInside, IsInside, Session}
 use Rattle.host_calls.specs.World.{World}
 use Rattle.host_session.proofs.SessionLemmas.{stays_inside}
-use Rattle.job_script.specs.Check.{IsFit}
+use Rattle.job_script.specs.Check.{IsUsableContext}
 use Rattle.job_script.specs.declared.context.Context.{Context}
 use Rattle.job_script.specs.HeaderIn.{header_in}
 use Rattle.job_script.specs.JobText.{text_for}
@@ -14,7 +14,7 @@ use Rattle.spool_model.specs.Steps.{after_steps, submission}
 use Rattle.host_calls.specs.declared.store_fault.StoreFault.{StoreFault}
 use Rattle.host_calls.specs.declared.store_fault.StoreFault.TheVariants.{Damaged, FileFault, Memory, NumbersUsedUp, QueueFull}
 use Rattle.host_calls.specs.StoreFaults.{IsOfStep}
-use Rattle.spool_store.specs.Submitting.{HasRoom, IsAnswerOn, job_of_script, kept_of}
+use Rattle.spool_store.specs.Submitting.{HasRoom, IsAnswerOn, job_of_script, kept_after_submission}
 use Rattle.spool_store.proofs.WrittenJobs.{header_of_written, job_of_written}
 use Rattle.step_runs.specs.Calls.{IsSteppingOn, StoreCall}
 use Rattle.step_runs.specs.Current.{IsCurrent, Kept}
@@ -46,7 +46,7 @@ no_memory tells session world kept job inside = record {
   };
 }
 
-pub script_has_header : (context : Context) (commands script : List ℕ) → IsFit context → script ≡ text_for context false commands → IsSome (header_in script)
+pub script_has_header : (context : Context) (commands script : List ℕ) → IsUsableContext context → script ≡ text_for context false commands → IsSome (header_in script)
 script_has_header context commands script fit is = ap is_some (ap header_in is ∙ header_of_written context false commands fit.user)
 
 -- there is room, so neither that nor numbers may be wanting
@@ -63,16 +63,16 @@ next_number table (Ok stored) answer = answer.1
 next_number table (Err fault) answer = tt
 
 pub submitted_one : (tells : Bool) (before after : Session) (old new : World) (kept : Kept) (context : Context) (minute : ℕ) (commands script : List ℕ) (result : Result (Kept × ℕ) StoreFault) →
-    IsFit context → script ≡ text_for context false commands → HasRoom kept.table → CallsInside FileFault before after result → IsAnswerOn kept.table result →
+    IsUsableContext context → script ≡ text_for context false commands → HasRoom kept.table → CallsInside FileFault before after result → IsAnswerOn kept.table result →
     IfOk result (λ stored. stored.0.table ≡ after_steps kept.table (submission kept.table (job_without_script (job_of_script CRON_QUEUE minute script)))) →
-    (tells ≡ true → (table : JobTable) → IsCurrent kept old.now.folder table → StoreCall table (submission table (job_of_script CRON_QUEUE minute script)) old new (kept_of result)) →
+    (tells ≡ true → (table : JobTable) → IsCurrent kept old.now.folder table → StoreCall table (submission table (job_of_script CRON_QUEUE minute script)) old new (kept_after_submission result)) →
     SubmitsOne tells before after old new kept (cron_job context minute commands) result
 submitted_one tells before after old new kept context minute commands script result fit is room inside answer table_is files = record {
   inside = inside;
   faults = of_step kept.table result room answer;
   number = next_number kept.table result answer;
   table_is = subst (λ (job : Job). IfOk result (λ stored. stored.0.table ≡ after_steps kept.table (submission kept.table (job_without_script job)))) same table_is;
-  files = λ known table current. subst (λ (job : Job). StoreCall table (submission table job) old new (kept_of result)) same (files known table current);
+  files = λ known table current. subst (λ (job : Job). StoreCall table (submission table job) old new (kept_after_submission result)) same (files known table current);
 } where
   same : job_of_script CRON_QUEUE minute script ≡ cron_job context minute commands
   same = ap (λ (of : List ℕ). job_of_script CRON_QUEUE minute of) is ∙ job_of_written context CRON_QUEUE minute false commands fit.user

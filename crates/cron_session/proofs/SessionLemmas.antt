@@ -9,25 +9,25 @@ use Rattle.host_calls.specs.declared.fault.EnterFault.TheVariants as entry
 use Rattle.host_calls.specs.declared.host.Host.{Ghosts}
 use Rattle.host_calls.specs.Session.{Session}
 use Rattle.host_calls.specs.World.{World}
-use Rattle.host_session.specs.Work.{Calls, EndsSession, IsUndone}
+use Rattle.host_session.specs.Work.{Calls, EndsSession, IsWorkUndone}
 use Rattle.host_session.proofs.SessionLemmas.{counts_on}
 use Rattle.host_calls.specs.declared.store_fault.StoreFault.{StoreFault}
 use Rattle.host_calls.specs.declared.store_fault.StoreFault.TheVariants as fault
 use Rattle.whole_file.proofs.OthersLemmas.{changes_none}
 use Rattle.cron_session.specs.declared.report.CronEnd.{CronEnd}
 use Rattle.cron_session.specs.declared.report.CronEnd.TheVariants.{Busy, FileFault, Memory}
-use Rattle.cron_session.specs.Leaving.{CronAt, CronLeaves, CronsTo, IsIdle, IsUnmarked}
+use Rattle.cron_session.specs.Leaving.{CronAt, CronLeaves, CronsTo, IsCronIdle, IsUnmarked}
 use Rattle.cron_session.specs.Steps.{Cron}
-use Rattle.cron_session.specs.inside.Working.{Works, end_after, end_of_session}
+use Rattle.cron_session.specs.inside.Working.{CronWorks, cron_end_after, end_of_cron_session}
 
 abbrev stand : Session → World → CronAt
 stand session world = record { session = session; world = world }
 
 -- where nothing changed, nothing was submitted
-idle_same : (old new : World) → new ≡ old → IsIdle [] old new
-idle_same old new same = subst (IsIdle [] old) (sym same) (record { none = refl; unmarked = changes_none (IsUnmarked old.now.folder) old })
+idle_same : (old new : World) → new ≡ old → IsCronIdle [] old new
+idle_same old new same = subst (IsCronIdle [] old) (sym same) (record { none = refl; unmarked = changes_none (IsUnmarked old.now.folder) old })
 
-not_busy : (result : Result (Unit {0}) StoreFault) → end_after result ≡ Busy → ⊥
+not_busy : (result : Result (Unit {0}) StoreFault) → cron_end_after result ≡ Busy → ⊥
 not_busy (Ok done) is = cc
 not_busy (Err fault.FileFault) is = cc
 not_busy (Err (fault.Damaged damage)) is = cc
@@ -35,7 +35,7 @@ not_busy (Err fault.Memory) is = cc
 not_busy (Err fault.QueueFull) is = cc
 not_busy (Err fault.NumbersUsedUp) is = cc
 
-is_fault : (result : Result (Unit {0}) StoreFault) → end_after result ≡ FileFault → result ≡ Err fault.FileFault
+is_fault : (result : Result (Unit {0}) StoreFault) → cron_end_after result ≡ FileFault → result ≡ Err fault.FileFault
 is_fault (Ok done) is = cc
 is_fault (Err fault.FileFault) is = refl
 is_fault (Err (fault.Damaged damage)) is = cc
@@ -47,12 +47,12 @@ is_fault (Err fault.NumbersUsedUp) is = cc
 module _ {H F : Type 0} (g : Ghosts H) (calls : Calls H F (Result (Unit {0}) StoreFault)) (work left : F) (old new : H) (cron : Cron) (numbers : List ℕ)
     (still : left ≡ work → numbers ≡ [])
     (within : (first last : H) (done : Result (Unit {0}) StoreFault) → CalledAtMut calls work first done left last →
-    Works g.tells cron (stand (g.session first) (g.world first)) (stand (g.session last) (g.world last)) numbers done) where
+    CronWorks g.tells cron (stand (g.session first) (g.world first)) (stand (g.session last) (g.world last)) numbers done) where
   abbrev Ended : List ℕ → CronEnd → Type 0
   Ended of end = CronsTo g.tells g.alone cron (stand (g.session old) (g.world old)) (stand (g.session new) (g.world new)) end of
 
   -- it could not begin
-  module _ (of : EnterFault) (undone : IsUndone g work left old new of) where
+  module _ (of : EnterFault) (undone : IsWorkUndone g work left old new of) where
     none : numbers ≡ []
     none = still undone.same
 
@@ -62,9 +62,9 @@ module _ {H F : Type 0} (g : Ghosts H) (calls : Calls H F (Result (Unit {0}) Sto
     same : g.tells ≡ true → g.alone ≡ true → g.world new ≡ g.world old
     same = undone.refused.quiet.alone
 
-  pub cron_of_session : (result : Result (Result (Unit {0}) StoreFault) EnterFault) → EndsSession g calls work left old new result → Ended numbers (end_of_session result)
+  pub cron_of_session : (result : Result (Result (Unit {0}) StoreFault) EnterFault) → EndsSession g calls work left old new result → Ended numbers (end_of_cron_session result)
   cron_of_session (Ok done) ends =
-      let works : Works g.tells cron (stand (g.session ends.first) (g.world ends.first)) (stand (g.session ends.last) (g.world ends.last)) numbers done =
+      let works : CronWorks g.tells cron (stand (g.session ends.first) (g.world ends.first)) (stand (g.session ends.last) (g.world ends.last)) numbers done =
       within ends.first ends.last done ends.did in
       record {
         left = record {
@@ -79,8 +79,8 @@ module _ {H F : Type 0} (g : Ghosts H) (calls : Calls H F (Result (Unit {0}) Sto
             omega (arith, ends.begun.counts.file_faults, rose, ends.over.counts.file_faults);
         unread = works.unread;
         leaves = λ known is_alone.
-            subst (λ (world : World). CronLeaves cron numbers world (g.world new) (end_after done)) (ends.begun.quiet.alone known is_alone)
-            (subst (λ (world : World). CronLeaves cron numbers (g.world ends.first) world (end_after done)) (sym (ends.quiet.alone known is_alone)) (works.leaves known));
+            subst (λ (world : World). CronLeaves cron numbers world (g.world new) (cron_end_after done)) (ends.begun.quiet.alone known is_alone)
+            (subst (λ (world : World). CronLeaves cron numbers (g.world ends.first) world (cron_end_after done)) (sym (ends.quiet.alone known is_alone)) (works.leaves known));
       }
   cron_of_session (Err entry.Taken) undone = at_none entry.Taken undone Busy (record {
     left = undone.refused.left;

@@ -20,7 +20,7 @@ use Rattle.step_runs.proofs.RunLemmas.{others_then}
 use Rattle.whole_file.specs.Others.{ChangesFiles}
 use Rattle.whole_file.proofs.ChangesJoined.{changes_end, changes_on, left_alone}
 use Rattle.whole_file.proofs.OthersLemmas.{changes_none}
-use Rattle.cron_session.specs.Steps.{numbers_after, submissions}
+use Rattle.cron_session.specs.Steps.{next_numbers, submissions}
 
 -- Steps and numbers of jobs, one after another.
 
@@ -41,13 +41,13 @@ submissions-append last (job ∷ first) later =
     (submissions-append (last + 1) first later
     ∙ ap (λ (number : ℕ). submissions (last + 1) first ++ submissions number later) same)
 
-pub numbers_after-push : (last count : ℕ) → numbers_after last (suc count) ≡ numbers_after last count ++ (last + (count + 1)) ∷ []
+pub numbers_after-push : (last count : ℕ) → next_numbers last (suc count) ≡ next_numbers last count ++ (last + (count + 1)) ∷ []
 numbers_after-push last zero = let one : last + 1 ≡ last + (0 + 1) = omega arith in ap (λ (number : ℕ). number ∷ []) one
 numbers_after-push last (suc count) =
     let same : (last + 1) + (count + 1) ≡ last + (suc count + 1) = omega arith in
     ap (λ (numbers : List ℕ). (last + 1) ∷ numbers)
     (numbers_after-push (last + 1) count
-    ∙ ap (λ (number : ℕ). numbers_after (last + 1) count ++ number ∷ []) same)
+    ∙ ap (λ (number : ℕ). next_numbers (last + 1) count ++ number ∷ []) same)
 
 -- the steps are legal where there is a number for each job
 pub submissions_legal : (table : JobTable) (jobs : List Job) → IsSound table → table.last + length jobs ≤ LAST_NUMBER → AreLegal table (submissions table.last jobs)

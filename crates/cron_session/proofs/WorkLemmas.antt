@@ -32,13 +32,13 @@ use Rattle.cron_text.specs.declared.entry.CronEntry.{CronEntry}
 use Rattle.cron_mark.specs.Mark.{IsMark, IsMarkDamage}
 use Rattle.cron_mark.specs.Names.{mark_file, mark_temp}
 use Rattle.cron_session.specs.declared.report.CronEnd.TheVariants.{Damaged}
-use Rattle.cron_session.specs.Leaving.{CronLeaves, IsIdle, IsOnTheMark, IsQuiet, IsStopped, IsUnmarked, IsWhole, Submits}
-use Rattle.cron_session.specs.Steps.{AreDueJobs, AreToSubmit, Cron, HasRoomFor, IsBefore, minute_of, numbers_after, submissions}
+use Rattle.cron_session.specs.Leaving.{CronLeaves, IsCronIdle, IsOnTheMark, HasNothingToDo, IsCronStopped, IsUnmarked, IsCronDone, Submits}
+use Rattle.cron_session.specs.Steps.{AreDueJobs, AreToSubmit, Cron, HasRoomFor, IsMarkedBefore, minute_of, next_numbers, submissions}
 use Rattle.cron_session.specs.inside.Due.{AreDueAt, cron_jobs}
 use Rattle.cron_session.specs.inside.Marking.{MarksAndSubmits}
 use Rattle.whole_file.specs.Replacing.{IsCertainAt}
 use Rattle.cron_session.specs.inside.Room.{IsRoomFault}
-use Rattle.cron_session.specs.inside.Working.{DueLeaves, IsBegun, IsRefused, IsUntouched, SubmitsDue, end_after}
+use Rattle.cron_session.specs.inside.Working.{DueLeaves, AreSubmissionsBegun, AreJobsRefused, IsCronUntouched, SubmitsDue, cron_end_after}
 use Rattle.cron_session.proofs.CauseLemmas.{full_is_none, memory_is_none, used_up_is_none}
 use Rattle.cron_session.proofs.DueLemmas.{jobs_are_due}
 use Rattle.cron_session.proofs.NameLemmas.{file_beside, temp_beside}
@@ -94,22 +94,22 @@ submits_due_at tells before after old new kept cron numbers of (Err other) same 
 -- The numbers are distinct.
 
 -- each is past the last one
-none_below : (last count number : ℕ) → number ≤ last → list_any (λ other. other == number) (numbers_after last count) ≡ false
+none_below : (last count number : ℕ) → number ≤ last → list_any (λ other. other == number) (next_numbers last count) ≡ false
 none_below last zero number below = refl
 none_below last (suc count) number below =
     let apart : (last + 1 == number) ≡ false = grind (arith, nat_tests) in
     rw apart (none_below (last + 1) count number (omega (arith, below)))
 
-pub numbers_are_distinct : (last count : ℕ) → are_distinct (numbers_after last count) ≡ true
+pub numbers_are_distinct : (last count : ℕ) → are_distinct (next_numbers last count) ≡ true
 numbers_are_distinct last zero = refl
 numbers_are_distinct last (suc count) = rw (none_below (last + 1) count (last + 1) (omega arith)) (numbers_are_distinct (last + 1) count)
 
-pub distinct_at : (last count : ℕ) (numbers : List ℕ) → numbers ≡ numbers_after last count → are_distinct numbers ≡ true
+pub distinct_at : (last count : ℕ) (numbers : List ℕ) → numbers ≡ next_numbers last count → are_distinct numbers ≡ true
 distinct_at last count numbers is = subst (λ (l : List ℕ). are_distinct l ≡ true) (sym is) (numbers_are_distinct last count)
 
 -- Nothing was begun.
 module _ (tells : Bool) (session : Session) (old : World) (kept : Kept) (cron : Cron) (inside : IsInside session) (numbers : List ℕ) (none : numbers ≡ []) where
-  untouched : IsUntouched numbers old old
+  untouched : IsCronUntouched numbers old old
   untouched = record { none = none; same = refl }
 
   distinct : are_distinct numbers ≡ true
@@ -124,7 +124,7 @@ module _ (tells : Bool) (session : Session) (old : World) (kept : Kept) (cron : 
   }
 
   module _ (due : List (List ℕ)) (are : AreDueAt cron.entries (minute_of cron) cron.zone due) where
-    refused_on : (of : StoreFault) → IsRoomFault kept.table (length due) of → (table : JobTable) → kept.table ≡ without_scripts table → IsRefused cron table numbers old old of
+    refused_on : (of : StoreFault) → IsRoomFault kept.table (length due) of → (table : JobTable) → kept.table ≡ without_scripts table → AreJobsRefused cron table numbers old old of
     refused_on of because table is = record {
       jobs = jobs_due cron due are;
       are = due_jobs cron due are;
@@ -152,7 +152,7 @@ module _ (tells : Bool) (session : Session) (old : World) (kept : Kept) (cron : 
 module _ (tells : Bool) (before after : Session) (old new : World) (kept : Kept) (cron : Cron) (due : List (List ℕ)) (are : AreDueAt cron.entries (minute_of cron) cron.zone due)
     (room : HasRoomFor kept.table (length due)) (was numbers : List ℕ) (none : was ≡ []) where
   begun : (result : Result (Unit {0}) StoreFault) → MarksAndSubmits tells before after old new kept (minute_of cron) (jobs_due cron due are) was numbers result →
-      tells ≡ true → (table : JobTable) → IsCurrent kept old.now.folder table → IsCertainAt mark_temp old.now.folder → IsBegun cron table numbers old new result
+      tells ≡ true → (table : JobTable) → IsCurrent kept old.now.folder table → IsCertainAt mark_temp old.now.folder → AreSubmissionsBegun cron table numbers old new result
   begun result marks known table current certain = record {
     jobs = jobs_due cron due are;
     are = due_jobs cron due are;
@@ -164,15 +164,15 @@ module _ (tells : Bool) (before after : Session) (old new : World) (kept : Kept)
     };
     part = marks.part;
     is_part = marks.is_part;
-    written = marks.written ∙ ap (λ (l : List ℕ). l ++ numbers_after kept.table.last (length marks.part.made)) none
-        ∙ ap (λ (last : ℕ). numbers_after last (length marks.part.made)) (same_last kept table current.without_scripts_is);
+    written = marks.written ∙ ap (λ (l : List ℕ). l ++ next_numbers kept.table.last (length marks.part.made)) none
+        ∙ ap (λ (last : ℕ). next_numbers last (length marks.part.made)) (same_last kept table current.without_scripts_is);
     leaves = marks.leaves known table current certain;
   }
 
   numbers_distinct : (result : Result (Unit {0}) StoreFault) → MarksAndSubmits tells before after old new kept (minute_of cron) (jobs_due cron due are) was numbers result → are_distinct numbers ≡ true
   numbers_distinct result marks =
       distinct_at kept.table.last (length marks.part.made) numbers
-      (marks.written ∙ ap (λ (l : List ℕ). l ++ numbers_after kept.table.last (length marks.part.made)) none)
+      (marks.written ∙ ap (λ (l : List ℕ). l ++ next_numbers kept.table.last (length marks.part.made)) none)
 
   pub due_submitted : (result : Result (Unit {0}) StoreFault) → MarksAndSubmits tells before after old new kept (minute_of cron) (jobs_due cron due are) was numbers result →
       SubmitsDue tells before after old new kept cron numbers result
@@ -196,7 +196,7 @@ recovery_is_unmarked start image is = record {
   same = is.same;
 }
 
-pub idle_after : (old middle : World) (numbers : List ℕ) → numbers ≡ [] → ChangesFiles (ShowsAsBefore old.now.folder) old middle → IsIdle numbers old middle
+pub idle_after : (old middle : World) (numbers : List ℕ) → numbers ≡ [] → ChangesFiles (ShowsAsBefore old.now.folder) old middle → IsCronIdle numbers old middle
 idle_after old middle numbers none recovery = record {
   none = none;
   unmarked = changes_weaker (ShowsAsBefore old.now.folder) (IsUnmarked old.now.folder) old middle (recovery_is_unmarked old.now.folder) recovery;
@@ -243,7 +243,7 @@ module _ (cron : Cron) (old middle : World) (kept : Kept) (recovery : ChangesFil
 
   -- The mark was of the minute already, or of a later one.
   pub quiet_after : (numbers : List ℕ) → numbers ≡ [] → (marked : ℕ) → IsMark (finite.get (reading middle) mark_file) (Some marked) → minute_of cron ≤ marked →
-      IsQuiet cron numbers old middle
+      HasNothingToDo cron numbers old middle
   quiet_after numbers none marked mark late = record {
     already = record {
       table = recovered.table;
@@ -265,7 +265,7 @@ module _ (cron : Cron) (old middle : World) (kept : Kept) (recovery : ChangesFil
   )
 
   -- The mark is of an earlier minute.
-  module _ (marked : Option ℕ) (mark : IsMark (finite.get (reading middle) mark_file) marked) (before : IsBefore (minute_of cron) marked) where
+  module _ (marked : Option ℕ) (mark : IsMark (finite.get (reading middle) mark_file) marked) (before : IsMarkedBefore (minute_of cron) marked) where
     to_submit : (jobs : List Job) → AreDueJobs cron jobs → AreToSubmit cron (reading old) recovered.table jobs
     to_submit jobs are = record {
       shown = recovered.shown;
@@ -276,7 +276,7 @@ module _ (cron : Cron) (old middle : World) (kept : Kept) (recovery : ChangesFil
     }
 
     module _ (numbers : List ℕ) (new : World) where
-      submits_all : (result : Result (Unit {0}) StoreFault) (is : IsBegun cron recovered.table numbers middle new result) → Submits cron recovered.table is.jobs old new
+      submits_all : (result : Result (Unit {0}) StoreFault) (is : AreSubmissionsBegun cron recovered.table numbers middle new result) → Submits cron recovered.table is.jobs old new
       submits_all result is = record {
         are = to_submit is.jobs is.are;
         room = is.room;
@@ -286,17 +286,17 @@ module _ (cron : Cron) (old middle : World) (kept : Kept) (recovery : ChangesFil
             (λ image at. inl (recovery_is_unmarked old.now.folder image at)) (on_mark_since (minute_of cron) recovered.table is.jobs) recovery is.leaves.files;
       }
 
-      whole_after : IsBegun cron recovered.table numbers middle new (Ok tt) → IsWhole cron numbers old new
+      whole_after : AreSubmissionsBegun cron recovered.table numbers middle new (Ok tt) → IsCronDone cron numbers old new
       whole_after is = record {
         table = recovered.table;
         jobs = is.jobs;
         submits = submits_all (Ok tt) is;
         stands = is.leaves.ends.0;
         others = λ name other. is.leaves.ends.1 name other ∙ recovered.others name (λ spool. other (inl spool));
-        numbers_are = is.written ∙ ap (λ (made : List Job). numbers_after recovered.table.last (length made)) is.is_part.all;
+        numbers_are = is.written ∙ ap (λ (made : List Job). next_numbers recovered.table.last (length made)) is.is_part.all;
       }
 
-      stopped_after : (of : StoreFault) → IsBegun cron recovered.table numbers middle new (Err of) → IsStopped cron numbers old new
+      stopped_after : (of : StoreFault) → AreSubmissionsBegun cron recovered.table numbers middle new (Err of) → IsCronStopped cron numbers old new
       stopped_after of is = record {
         table = recovered.table;
         made = is.part.made;
@@ -311,10 +311,10 @@ module _ (cron : Cron) (old middle : World) (kept : Kept) (recovery : ChangesFil
         numbers_are = is.written;
       }
 
-      idle_same : IsUntouched numbers middle new → IsIdle numbers old new
-      idle_same is = subst (IsIdle numbers old) (sym is.same) (idle_after old middle numbers is.none recovery)
+      idle_same : IsCronUntouched numbers middle new → IsCronIdle numbers old new
+      idle_same is = subst (IsCronIdle numbers old) (sym is.same) (idle_after old middle numbers is.none recovery)
 
-      pub due_leaves : (result : Result (Unit {0}) StoreFault) → DueLeaves cron recovered.table numbers middle new result → CronLeaves cron numbers old new (end_after result)
+      pub due_leaves : (result : Result (Unit {0}) StoreFault) → DueLeaves cron recovered.table numbers middle new result → CronLeaves cron numbers old new (cron_end_after result)
       due_leaves (Ok done) leaves = inr (whole_after leaves)
       due_leaves (Err fault.FileFault) leaves = inr (stopped_after fault.FileFault leaves)
       due_leaves (Err fault.Memory) (inl nothing) = inl (idle_same nothing)

@@ -11,7 +11,7 @@ use Rattle.host_calls.specs.World.{World, reading}
 use Rattle.host_session.proofs.SessionLemmas.{counts_on}
 use Rattle.host_calls.specs.declared.store_fault.StoreFault.{StoreFault}
 use Rattle.host_calls.specs.declared.store_fault.StoreFault.TheVariants as fault
-use Rattle.host_calls.specs.StoreFaults.{IsOfReading}
+use Rattle.host_calls.specs.StoreFaults.{IsReadingFault}
 use Rattle.spool_store.specs.Recovering.{IsRecovered, Recovered}
 use Rattle.step_runs.specs.Calls.{ShowsAsBefore}
 use Rattle.step_runs.specs.Current.{Kept}
@@ -20,10 +20,10 @@ use Rattle.clock_range.specs.ClockRange.{minute_at}
 use Rattle.cron_mark.specs.Mark.{IsMark, IsMarkDamage}
 use Rattle.cron_mark.specs.Names.{mark_file, mark_temp}
 use Rattle.cron_session.specs.Leaving.{CronAt, CronLeaves}
-use Rattle.cron_session.specs.Steps.{Cron, IsBefore, minute_of}
+use Rattle.cron_session.specs.Steps.{Cron, IsMarkedBefore, minute_of}
 use Rattle.whole_file.specs.Replacing.{IsCertainAt}
 use Rattle.cron_session.specs.declared.report.CronEnd.TheVariants.{Damaged}
-use Rattle.cron_session.specs.inside.Working.{SubmitsDue, Works, end_by, is_since}
+use Rattle.cron_session.specs.inside.Working.{SubmitsDue, CronWorks, cron_end_by, is_since}
 use Rattle.cron_session.proofs.CauseLemmas.{ok_is_none, same_fault}
 use Rattle.cron_session.proofs.WorkLemmas.{due_leaves, idle_after, mark_damaged, quiet_after, temp_certain}
 
@@ -38,7 +38,7 @@ late_enough minute now marked same is =
     let late : (of : ℕ) × (marked ≡ Some of) × (minute ≤ of) = marked_since minute marked is in
     (late.0, late.1, subst (λ (at : ℕ). at ≤ late.0) same late.2)
 
-pub marked_before : (minute : ℕ) (marked : Option ℕ) → is_since minute marked ≡ false → IsBefore minute marked
+pub marked_before : (minute : ℕ) (marked : Option ℕ) → is_since minute marked ≡ false → IsMarkedBefore minute marked
 marked_before minute None is = tt
 marked_before minute (Some of) is = grind (arith, nat_tests)
 
@@ -59,9 +59,9 @@ calls_then of other before between after first second one two = record {
 
 -- a fault that is handed on
 pub works_at : (tells : Bool) (cron : Cron) (old new : CronAt) (numbers : List ℕ) (of : StoreFault) (result : Result (Unit {0}) StoreFault) →
-    IsErrAnd result (λ other. other ≡ of) → Works tells cron old new numbers (Err of) → Works tells cron old new numbers result
+    IsErrAnd result (λ other. other ≡ of) → CronWorks tells cron old new numbers (Err of) → CronWorks tells cron old new numbers result
 works_at tells cron old new numbers of (Ok done) same works = absurd same
-works_at tells cron old new numbers of (Err other) same works = subst (λ (one : StoreFault). Works tells cron old new numbers (Err one)) (sym same) works
+works_at tells cron old new numbers of (Err other) same works = subst (λ (one : StoreFault). CronWorks tells cron old new numbers (Err one)) (sym same) works
 
 none_distinct : (numbers : List ℕ) → numbers ≡ [] → are_distinct numbers ≡ true
 none_distinct numbers none = subst (λ (l : List ℕ). are_distinct l ≡ true) (sym none) refl
@@ -76,10 +76,10 @@ same_cause before after of inside =
 
 module _ (tells : Bool) (cron : Cron) (before between : Session) (old middle : World) (numbers : List ℕ) (none : numbers ≡ []) where
   -- it ends by a fault of reading, and nothing was done
-  by_fault : (after : Session) (of : StoreFault) → IsOfReading of → CallsInside fault.FileFault before after (fails_with of) →
+  by_fault : (after : Session) (of : StoreFault) → IsReadingFault of → CallsInside fault.FileFault before after (fails_with of) →
       (tells ≡ true → ChangesFiles (ShowsAsBefore old.now.folder) old middle) →
       ((damage : Damage) → of ≡ fault.Damaged damage → tells ≡ true → CronLeaves cron numbers old middle (Damaged damage)) →
-      Works tells cron (record { session = before; world = old }) (record { session = after; world = middle }) numbers (Err of)
+      CronWorks tells cron (record { session = before; world = old }) (record { session = after; world = middle }) numbers (Err of)
   by_fault after fault.FileFault reads inside recovery damaged =
       record { inside = inside; unread = tt; distinct = none_distinct numbers none; leaves = λ known. inl (idle_after old middle numbers none (recovery known)) }
   by_fault after fault.Memory reads inside recovery damaged =
@@ -89,9 +89,9 @@ module _ (tells : Bool) (cron : Cron) (before between : Session) (old middle : W
   by_fault after _ reads inside recovery damaged = absurd reads
 
   -- The recovery failed.
-  pub not_recovered : (of : StoreFault) → IsOfReading of → CallsInside {T = Kept} fault.FileFault before between (Err of) →
+  pub not_recovered : (of : StoreFault) → IsReadingFault of → CallsInside {T = Kept} fault.FileFault before between (Err of) →
       (tells ≡ true → ChangesFiles (ShowsAsBefore old.now.folder) old middle) → (tells ≡ true → Recovered old.now.folder middle.now.folder (Err of)) →
-      Works tells cron (record { session = before; world = old }) (record { session = between; world = middle }) numbers (Err of)
+      CronWorks tells cron (record { session = before; world = old }) (record { session = between; world = middle }) numbers (Err of)
   not_recovered of reads inside recovery recovered =
       by_fault between of reads (same_cause before between of inside) recovery
       (λ damage is known.
@@ -110,16 +110,16 @@ module _ (tells : Bool) (cron : Cron) (before between : Session) (old middle : W
     certain_on known = temp_certain old read kept (recovered_on known)
 
     -- The mark couldn't be read, or is damaged.
-    pub not_read : (of : StoreFault) → IsOfReading of → CallsInside {T = Option ℕ} fault.FileFault between stood (Err of) →
+    pub not_read : (of : StoreFault) → IsReadingFault of → CallsInside {T = Option ℕ} fault.FileFault between stood (Err of) →
         (tells ≡ true → IfDamaged {T = Option ℕ} fault.Damaged (IsMarkDamage (finite.get (reading middle) mark_file)) (Err of)) →
-        Works tells cron (record { session = before; world = old }) (record { session = stood; world = read }) numbers (Err of)
+        CronWorks tells cron (record { session = before; world = old }) (record { session = stood; world = read }) numbers (Err of)
     not_read of reads inside damaged = record {
       inside = works.inside;
       unread = works.unread;
       distinct = works.distinct;
-      leaves = λ known. subst (λ (world : World). CronLeaves cron numbers old world (end_by of)) (sym (looks known)) (works.leaves known);
+      leaves = λ known. subst (λ (world : World). CronLeaves cron numbers old world (cron_end_by of)) (sym (looks known)) (works.leaves known);
     } where
-      works : Works tells cron (record { session = before; world = old }) (record { session = stood; world = middle }) numbers (Err of)
+      works : CronWorks tells cron (record { session = before; world = old }) (record { session = stood; world = middle }) numbers (Err of)
       works = by_fault stood of reads
           (same_cause before stood of (calls_then {T = Kept} {U = Option ℕ} fault.FileFault fault.FileFault before between stood (Ok kept) (Err of) entered inside)) recovery
           (λ damage is known. mark_damaged cron old middle kept (recovery known) (recovered known) numbers none damage (damaged known damage (ap (λ (one : StoreFault). Err one) is)))
@@ -134,7 +134,7 @@ module _ (tells : Bool) (cron : Cron) (before between : Session) (old middle : W
 
       -- The minute was had already.
       pub marked_already : (minute : ℕ) → marked ≡ Some minute → minute_of cron ≤ minute →
-          Works tells cron (record { session = before; world = old }) (record { session = stood; world = read }) numbers (Ok tt)
+          CronWorks tells cron (record { session = before; world = old }) (record { session = stood; world = read }) numbers (Ok tt)
       marked_already minute is late = record {
         inside = record { stays = so_far.stays; cause = record { later = so_far.cause.later; rose = λ bad. absurd (ok_is_none tt bad) } };
         unread = tt;
@@ -145,9 +145,9 @@ module _ (tells : Bool) (cron : Cron) (before between : Session) (old middle : W
       }
 
       -- What is due was submitted, or not.
-      pub due_worked : (after : Session) (new : World) (is : List ℕ) (result : Result (Unit {0}) StoreFault) → IsBefore (minute_of cron) marked →
+      pub due_worked : (after : Session) (new : World) (is : List ℕ) (result : Result (Unit {0}) StoreFault) → IsMarkedBefore (minute_of cron) marked →
           SubmitsDue tells stood after read new kept cron is result →
-          Works tells cron (record { session = before; world = old }) (record { session = after; world = new }) is result
+          CronWorks tells cron (record { session = before; world = old }) (record { session = after; world = new }) is result
       due_worked after new is result early due = record {
         inside = calls_then {T = Option ℕ} {U = Unit {0}} fault.FileFault fault.FileFault before stood after (Ok marked) result so_far due.inside;
         unread = due.unread;

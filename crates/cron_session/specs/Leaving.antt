@@ -15,11 +15,11 @@ use Rattle.spool_shows.specs.Shown.{Shows, shown_by}
 use Rattle.step_runs.specs.Calls.{KeepsOthers}
 use Rattle.step_runs.specs.Current.{IsSpoolName}
 use Rattle.step_runs.specs.Made.{ShowsAfterPrefix}
-use Rattle.cron_mark.specs.Mark.{IsMarkDamage, mark_text}
+use Rattle.cron_mark.specs.Mark.{IsMarkDamage, cron_mark_text}
 use Rattle.cron_mark.specs.Names.{mark_file, mark_temp}
 use Rattle.cron_session.specs.declared.report.CronEnd.{CronEnd}
 use Rattle.cron_session.specs.declared.report.CronEnd.TheVariants.{Done, Busy, FileFault, Damaged, QueueFull, NumbersUsedUp, Memory}
-use Rattle.cron_session.specs.Steps.{AreToSubmit, AreTooMany, Cron, HasRoomFor, IsMarkedAlready, LackNumbers, minute_of, numbers_after, submissions}
+use Rattle.cron_session.specs.Steps.{AreToSubmit, AreTooManyJobs, Cron, HasRoomFor, IsMarkedAlready, LackNumbers, minute_of, next_numbers, submissions}
 
 -- a host at one moment
 pub record CronAt : Type 0 where
@@ -41,18 +41,18 @@ pub record IsUnmarked (start : Folder) (image : Files) : Type 0 where
 
 -- The image has the mark of the minute, and shows the table after these steps and a prefix of the next ones.
 pub record HasCome (minute : ℕ) (table : JobTable) (steps next : List Step) (image : Files) : Type 0 where
-  pub marked : finite.get image mark_file ≡ Some (mark_text minute)
+  pub marked : finite.get image mark_file ≡ Some (cron_mark_text minute)
   pub shows : ShowsAfterPrefix table steps next image
 
 -- The image has the mark of the minute, shows the table after a prefix of the steps, and has the other files of an image
 -- of the start.
-pub record IsMarked (minute : ℕ) (table : JobTable) (steps : List Step) (start : Folder) (image : Files) : Type 0 where
+pub record HasCronMark (minute : ℕ) (table : JobTable) (steps : List Step) (start : Folder) (image : Files) : Type 0 where
   pub come : HasCome minute table [] steps image
   pub others : LeavesOthers IsCronName start image
 
 -- what an image of each moment of a session is
 abbrev pub IsOnTheMark : ℕ → JobTable → List Step → Folder → Files → Type 0
-IsOnTheMark minute table steps start image = IsUnmarked start image ⊎ IsMarked minute table steps start image
+IsOnTheMark minute table steps start image = IsUnmarked start image ⊎ HasCronMark minute table steps start image
 
 -- the names of other files read as before
 abbrev pub KeepsOtherFiles : Folder → Folder → Type 0
@@ -60,14 +60,14 @@ KeepsOtherFiles old new =
     (name : List ℕ) → ¬ (IsCronName name) → finite.get (reading_of new) name ≡ finite.get (reading_of old) name
 
 -- Nothing was submitted, and the mark stays: each image is unmarked.
-pub record IsIdle (numbers : List ℕ) (old new : World) : Type 0 where
+pub record IsCronIdle (numbers : List ℕ) (old new : World) : Type 0 where
   pub none : numbers ≡ []
   pub unmarked : ChangesFiles (IsUnmarked old.now.folder) old new
 
 -- The mark was there already: there was nothing to do. It and all other files read as before.
-pub record IsQuiet (cron : Cron) (numbers : List ℕ) (old new : World) : Type 0 where
+pub record HasNothingToDo (cron : Cron) (numbers : List ℕ) (old new : World) : Type 0 where
   pub already : IsMarkedAlready cron (reading old)
-  pub idle : IsIdle numbers old new
+  pub idle : IsCronIdle numbers old new
   pub others : KeepsOthers old.now.folder new.now.folder
 
 -- There was room for the jobs that were to be submitted, and each image of each moment is on the mark.
@@ -81,21 +81,21 @@ pub record Submits (cron : Cron) (table : JobTable) (jobs : List Job) (old new :
 abbrev pub EachIsWhole : ℕ → JobTable → List Step → Folder → Type 0
 EachIsWhole minute table steps folder =
     (image : Files) → IsImage folder image →
-    (finite.get image mark_file ≡ Some (mark_text minute)) × Shows image (after_steps table steps)
+    (finite.get image mark_file ≡ Some (cron_mark_text minute)) × Shows image (after_steps table steps)
 
 -- All jobs were submitted, under the numbers after the last one.
-pub record IsWhole (cron : Cron) (numbers : List ℕ) (old new : World) : Type 0 where
+pub record IsCronDone (cron : Cron) (numbers : List ℕ) (old new : World) : Type 0 where
   pub table : JobTable
   pub jobs : List Job
   pub submits : Submits cron table jobs old new
   pub stands : EachIsWhole (minute_of cron) table (submissions table.last jobs) new.now.folder
   pub others : KeepsOtherFiles old.now.folder new.now.folder
-  pub numbers_are : numbers ≡ numbers_after table.last (length jobs)
+  pub numbers_are : numbers ≡ next_numbers table.last (length jobs)
 
 -- Some jobs were submitted, under the numbers after the last one, and it was stopped there or at the next job: each image
 -- has the mark, and shows the table after the steps of these jobs and a prefix of the next one's. Where it was stopped
 -- before the first job, an image may be unmarked, and shows the table.
-pub record IsStopped (cron : Cron) (numbers : List ℕ) (old new : World) : Type 0 where
+pub record IsCronStopped (cron : Cron) (numbers : List ℕ) (old new : World) : Type 0 where
   pub table : JobTable
   pub made : List Job
   pub next : List Job
@@ -105,33 +105,33 @@ pub record IsStopped (cron : Cron) (numbers : List ℕ) (old new : World) : Type
   pub ends : (image : Files) → IsImage new.now.folder image →
       ((made ≡ []) × IsUnmarked old.now.folder image × Shows image table)
       ⊎ HasCome (minute_of cron) table (submissions table.last made) (submissions (table.last + length made) next) image
-  pub numbers_are : numbers ≡ numbers_after table.last (length made)
+  pub numbers_are : numbers ≡ next_numbers table.last (length made)
 
 -- the store is damaged, or else the mark
-abbrev pub IsDamage : Files → Damage → Type 0
-IsDamage files damage =
+abbrev pub IsSpoolOrMarkDamage : Files → Damage → Type 0
+IsSpoolOrMarkDamage files damage =
     (shown_by files ≡ Err damage)
     ⊎ ((table : JobTable) × Shows files table × IsMarkDamage (finite.get files mark_file) damage)
 
 -- what a session leaves, by its end
 abbrev pub CronLeaves : Cron → List ℕ → World → World → CronEnd → Type 0
-CronLeaves cron numbers old new Done = IsQuiet cron numbers old new ⊎ IsWhole cron numbers old new
+CronLeaves cron numbers old new Done = HasNothingToDo cron numbers old new ⊎ IsCronDone cron numbers old new
 CronLeaves cron numbers old new Busy = (numbers ≡ []) × (new ≡ old)
-CronLeaves cron numbers old new (Damaged damage) = IsDamage (reading old) damage × IsIdle numbers old new
-CronLeaves cron numbers old new QueueFull = AreTooMany cron (reading old) × IsIdle numbers old new
-CronLeaves cron numbers old new NumbersUsedUp = LackNumbers cron (reading old) × IsIdle numbers old new
-CronLeaves cron numbers old new FileFault = IsIdle numbers old new ⊎ IsStopped cron numbers old new
-CronLeaves cron numbers old new Memory = IsIdle numbers old new ⊎ IsStopped cron numbers old new
+CronLeaves cron numbers old new (Damaged damage) = IsSpoolOrMarkDamage (reading old) damage × IsCronIdle numbers old new
+CronLeaves cron numbers old new QueueFull = AreTooManyJobs cron (reading old) × IsCronIdle numbers old new
+CronLeaves cron numbers old new NumbersUsedUp = LackNumbers cron (reading old) × IsCronIdle numbers old new
+CronLeaves cron numbers old new FileFault = IsCronIdle numbers old new ⊎ IsCronStopped cron numbers old new
+CronLeaves cron numbers old new Memory = IsCronIdle numbers old new ⊎ IsCronStopped cron numbers old new
 
 -- where no job was begun, no number was accepted
-abbrev pub IfUnread : CronEnd → Type 0 → Type 0
-IfUnread Busy none = none
-IfUnread (Damaged damage) none = none
-IfUnread QueueFull none = none
-IfUnread NumbersUsedUp none = none
-IfUnread Done none = Unit {0}
-IfUnread FileFault none = Unit {0}
-IfUnread Memory none = Unit {0}
+abbrev pub IfNoJobBegun : CronEnd → Type 0 → Type 0
+IfNoJobBegun Busy none = none
+IfNoJobBegun (Damaged damage) none = none
+IfNoJobBegun QueueFull none = none
+IfNoJobBegun NumbersUsedUp none = none
+IfNoJobBegun Done none = Unit {0}
+IfNoJobBegun FileFault none = Unit {0}
+IfNoJobBegun Memory none = Unit {0}
 
 -- A session of a crontab. Of every host: it is left, no child came or went, and why it ended so. Of a host that tells its
 -- files and is alone: what it leaves.
@@ -139,5 +139,5 @@ pub record CronsTo (tells alone : Bool) (cron : Cron) (old new : CronAt) (end : 
   pub left : IsLeft old.session new.session
   pub busy : end ≡ Busy → Rose old.session.taken new.session.taken
   pub fault : end ≡ FileFault → Rose old.session.file_faults new.session.file_faults
-  pub unread : IfUnread end (numbers ≡ [])
+  pub unread : IfNoJobBegun end (numbers ≡ [])
   pub leaves : tells ≡ true → alone ≡ true → CronLeaves cron numbers old.world new.world end

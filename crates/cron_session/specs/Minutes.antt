@@ -4,11 +4,11 @@ use Rattle.std.specs.Prelude.{◌≡◌, ◌≢◌, ◌⊎◌, ◌++◌, [], ◌
 use Rattle.std.specs.FinMap as finite
 use Rattle.clock_range.specs.ClockRange.{IsClockSecond}
 use Rattle.host_calls.specs.Folder.{Files, Folder, IsImage}
-use Rattle.host_calls.specs.World.{AtSome, Moment, World, moments, reading}
+use Rattle.host_calls.specs.World.{AnyMoment, Moment, World, moments, reading}
 use Rattle.spool_model.specs.declared.job.Job.{Job}
 use Rattle.spool_model.specs.JobTable.{JobTable}
 use Rattle.spool_shows.specs.Shown.{shown_by}
-use Rattle.cron_mark.specs.Mark.{mark_text}
+use Rattle.cron_mark.specs.Mark.{cron_mark_text}
 use Rattle.cron_mark.specs.Names.{mark_file}
 use Rattle.cron_session.specs.declared.report.CronEnd.{CronEnd}
 use Rattle.cron_session.specs.Leaving.{CronLeaves}
@@ -35,7 +35,7 @@ pub record SetsMark (cron : Cron) (old new : World) : Type 0 where
   pub table : JobTable
   pub jobs : List Job
   pub are : AreToSubmit cron (reading old) table jobs
-  pub marked : (image : Files) → IsImage new.now.folder image → finite.get image mark_file ≡ Some (mark_text (minute_of cron))
+  pub marked : (image : Files) → IsImage new.now.folder image → finite.get image mark_file ≡ Some (cron_mark_text (minute_of cron))
 
 -- What passes: a session that ended so, and accepted these numbers; one that a crash cut off, after the mark was set or
 -- before its first job; or anything else that keeps the mark.
@@ -52,11 +52,11 @@ PassesAs (CutOff cron false) old new = SubmitsNothing old.now.folder new.now.fol
 PassesAs Beside old new = KeepsMark old.now.folder new.now.folder
 
 -- A crash at a moment of a session, after which the folder has one image of that moment alone.
-pub record IsCrash (old during new : World) : Type 0 where
+pub record IsCrashOfSession (old during new : World) : Type 0 where
   pub more : List Moment
   pub run : moments during ≡ more ++ moments old
   pub at : Moment
-  pub is_one : AtSome (λ moment. moment ≡ at) (more ++ old.now ∷ [])
+  pub is_one : AnyMoment (λ moment. moment ≡ at) (more ++ old.now ∷ [])
   pub image : Files
   pub was : IsImage at.folder image
   pub only : (other : Files) → IsImage new.now.folder other → other ≡ image
@@ -64,7 +64,7 @@ pub record IsCrash (old during new : World) : Type 0 where
 -- a session in which there was a crash passes as one that was cut off, after the mark was set or before
 abbrev pub CutSessionsPass : Type 0
 CutSessionsPass = (cron : Cron) (end : CronEnd) (numbers : List ℕ) (old during new : World) → IsClockSecond cron.now →
-    CronLeaves cron numbers old during end → IsCrash old during new →
+    CronLeaves cron numbers old during end → IsCrashOfSession old during new →
     PassesAs (CutOff cron true) old new ⊎ PassesAs (CutOff cron false) old new
 
 -- it may have accepted a job at the minute

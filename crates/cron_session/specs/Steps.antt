@@ -20,7 +20,7 @@ use Rattle.civil_minute.specs.declared.civil.CivilMinute.{CivilMinute}
 use Rattle.civil_minute.specs.declared.zone.Zone.{Zone}
 use Rattle.cron_text.specs.declared.entry.CronEntry.{CronEntry}
 use Rattle.cron_minutes.specs.Commands.{commands}
-use Rattle.cron_minutes.specs.Due.{is_due}
+use Rattle.cron_minutes.specs.Due.{is_entry_due}
 use Rattle.cron_mark.specs.Mark.{IsMark}
 use Rattle.cron_mark.specs.Names.{mark_file}
 use Rattle.cron_session.specs.declared.session.TheConstants.{CRON_QUEUE}
@@ -44,7 +44,7 @@ job_of_entry cron entry = job_for cron.context CRON_QUEUE false (minute_of cron)
 pub record AreDueJobs (cron : Cron) (jobs : List Job) : Type 0 where
   pub civil : CivilMinute
   pub shown : IsCivilTime cron.zone (pos (60 * minute_of cron)) civil
-  pub are : jobs ≡ map (job_of_entry cron) (filter (λ entry. is_due entry civil) cron.entries)
+  pub are : jobs ≡ map (job_of_entry cron) (filter (λ entry. is_entry_due entry civil) cron.entries)
 
 -- the steps that submit the jobs after a last number: for each the next number is drawn, and it is accepted under that
 abbrev pub submissions : ℕ → List Job → List Step
@@ -52,21 +52,21 @@ submissions last [] = []
 submissions last (job ∷ later) = Draw ∷ Accept (last + 1) job ∷ submissions (last + 1) later
 
 -- the numbers after a last one, as many
-abbrev pub numbers_after : ℕ → ℕ → List ℕ
-numbers_after last zero = []
-numbers_after last (suc count) = (last + 1) ∷ numbers_after (last + 1) count
+abbrev pub next_numbers : ℕ → ℕ → List ℕ
+next_numbers last zero = []
+next_numbers last (suc count) = (last + 1) ∷ next_numbers (last + 1) count
 
 -- the mark is of a minute before this one, or there is none
-abbrev pub IsBefore : ℕ → Option ℕ → Type 0
-IsBefore minute None = Unit {0}
-IsBefore minute (Some marked) = marked < minute
+abbrev pub IsMarkedBefore : ℕ → Option ℕ → Type 0
+IsMarkedBefore minute None = Unit {0}
+IsMarkedBefore minute (Some marked) = marked < minute
 
 -- The files show the table, and their mark is of a minute before that of the session: these jobs are to be submitted.
 pub record AreToSubmit (cron : Cron) (files : Files) (table : JobTable) (jobs : List Job) : Type 0 where
   pub shown : Shows files table
   pub marked : Option ℕ
   pub mark : IsMark (finite.get files mark_file) marked
-  pub before : IsBefore (minute_of cron) marked
+  pub before : IsMarkedBefore (minute_of cron) marked
   pub jobs_are : AreDueJobs cron jobs
 
 -- The files show a table, and their mark is of the minute of the session or of a later one: there is nothing to do.
@@ -83,7 +83,7 @@ pub record HasRoomFor (table : JobTable) (count : ℕ) : Type 0 where
   pub numbers : table.last + count ≤ LAST_NUMBER
 
 -- there is no room for all jobs that are to be submitted
-pub record AreTooMany (cron : Cron) (files : Files) : Type 0 where
+pub record AreTooManyJobs (cron : Cron) (files : Files) : Type 0 where
   pub table : JobTable
   pub jobs : List Job
   pub are : AreToSubmit cron files table jobs

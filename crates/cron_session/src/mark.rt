@@ -2,21 +2,21 @@
 ghost use Rattle.std.specs.Prelude.{◌≡◌, ◌+◌, ◌≤◌, ◌<◌, All, IsTrue, OnOk, length, vec_capacity, vec_len};
 ghost use Rattle.clock_range.specs.ClockRange.{IsClockMinute};
 ghost use Rattle.host_calls.specs.Session.{CallsInside, IsInside};
-ghost use Rattle.job_script.specs.Check.{IsFit};
+ghost use Rattle.job_script.specs.Check.{IsUsableContext};
 ghost use Rattle.job_script.specs.declared.writer.TheConstants.{MAX_COMMANDS};
 ghost use Rattle.spool_model.specs.JobTable.{JobTable};
 ghost use Rattle.step_runs.specs.Current.{IsCurrent};
 ghost use Rattle.whole_file.specs.Others.{ChangesFiles};
 ghost use Rattle.whole_file.specs.Placing.{IsPlaced, IsPlacing};
 ghost use Rattle.whole_file.specs.Replacing.{IsCertainAt};
-ghost use Rattle.cron_mark.specs.Mark.{mark_text};
+ghost use Rattle.cron_mark.specs.Mark.{cron_mark_text};
 ghost use Rattle.cron_mark.specs.Names.{mark_file, mark_temp};
 ghost use Rattle.cron_session.specs.Steps.{HasRoomFor};
 ghost use Rattle.cron_session.specs.inside.Due.{cron_jobs};
 ghost use Rattle.cron_session.specs.inside.Marking.{MarksAndSubmits};
 
 use crate::submit::submit_all;
-use cron_mark::{mark_name, mark_temporary_name, mark_text};
+use cron_mark::{cron_mark_text, mark_name, mark_temporary_name};
 use host_calls::{Bytes, Host, HostFault};
 use job_script::Context;
 use spool_store::{Store, StoreFault};
@@ -34,7 +34,7 @@ pub(crate) fn mark_and_submit<H: Host>(
     numbers: &mut Vec<u32>,
 ) -> Result<(), StoreFault>
     requires inside { IsInside (H.session host.old) }
-    requires fit { IsFit context.now }
+    requires fit { IsUsableContext context.now }
     requires umask { context.now.umask < 512 }
     requires minute { IsClockMinute minute }
     requires short { All (λ commands. length commands ≤ MAX_COMMANDS) due.now }
@@ -56,10 +56,10 @@ fn place_mark<H: Host>(alloc: Global, host: &mut H, minute: u32) -> Result<(), H
     requires certain { IsTrue H.tells → IsCertainAt mark_temp (H.world host.old).now.folder }
     ensures inside { CallsInside HostFault.Failed (H.session host.old) (H.session host.new) result }
     ensures files { IsTrue H.tells
-        → ChangesFiles (IsPlacing mark_temp mark_file (mark_text minute) (H.world host.old).now.folder)
+        → ChangesFiles (IsPlacing mark_temp mark_file (cron_mark_text minute) (H.world host.old).now.folder)
         (H.world host.old) (H.world host.new) }
     ensures placed { IsTrue H.tells
-        → OnOk result (IsPlaced mark_temp mark_file (mark_text minute)
+        → OnOk result (IsPlaced mark_temp mark_file (cron_mark_text minute)
         (H.world host.old).now.folder (H.world host.new).now.folder) }
 {
     replace(
@@ -67,6 +67,6 @@ fn place_mark<H: Host>(alloc: Global, host: &mut H, minute: u32) -> Result<(), H
         host,
         &mark_temporary_name(),
         &mark_name(),
-        &mark_text(minute),
+        &cron_mark_text(minute),
     )
 }

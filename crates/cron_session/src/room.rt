@@ -9,7 +9,7 @@ use spool_store::{MAX_LIVE, Store, StoreFault};
 
 // Sees that there is room for the jobs that are due, and then a number for each, and has room for these numbers: no job is
 // submitted whose number could not be written down.
-pub(crate) fn make_room(
+pub(crate) fn check_room_and_numbers(
     store: &Store,
     due: &[Bytes],
     numbers: &mut Vec<u32>,

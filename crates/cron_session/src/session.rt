@@ -6,9 +6,9 @@ ghost use Rattle.cron_text.specs.declared.crontab.TheConstants.{MAX_CRONTAB};
 ghost use Rattle.host_calls.specs.Session.{IsOutside};
 ghost use Rattle.job_script.specs.Check.{first_fault};
 ghost use Rattle.cron_session.specs.Leaving.{CronsTo};
-ghost use Rattle.cron_session.specs.inside.Working.{end_after, end_of_session};
+ghost use Rattle.cron_session.specs.inside.Working.{cron_end_after, end_of_cron_session};
 
-use crate::work::work;
+use crate::work::cron_session_body;
 use crate::{CronEnd, CronReport};
 use at_words::Numbers;
 use civil_minute::Zone;
@@ -51,7 +51,7 @@ pub fn cron_session<H: Host>(
     let worked = in_session(
         alloc,
         host,
-        &mut |host| work(alloc, host, context, zone, entries, minute, &mut numbers),
+        &mut |host| cron_session_body(alloc, host, context, zone, entries, minute, &mut numbers),
     );
     CronReport {
         end: end_of(worked),
@@ -61,10 +61,10 @@ pub fn cron_session<H: Host>(
 
 // The end of a session, by what came of it.
 fn end_of(worked: Result<Result<(), StoreFault>, EnterFault>) -> CronEnd
-    ensures { result ≡ end_of_session worked }
+    ensures { result ≡ end_of_cron_session worked }
 {
     match worked {
-        Ok(done) => end_of_work(done),
+        Ok(done) => cron_end_of_work(done),
         Err(EnterFault::Taken) => CronEnd::Busy,
         Err(EnterFault::Failed) => CronEnd::FileFault,
         Err(EnterFault::Memory) => CronEnd::Memory,
@@ -72,8 +72,8 @@ fn end_of(worked: Result<Result<(), StoreFault>, EnterFault>) -> CronEnd
 }
 
 // The end of a session, by what came of its work.
-fn end_of_work(worked: Result<(), StoreFault>) -> CronEnd
-    ensures { result ≡ end_after worked }
+fn cron_end_of_work(worked: Result<(), StoreFault>) -> CronEnd
+    ensures { result ≡ cron_end_after worked }
 {
     match worked {
         Ok(()) => CronEnd::Done,

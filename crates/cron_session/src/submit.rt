@@ -2,7 +2,7 @@
 ghost use Rattle.std.specs.Prelude.{◌≡◌, ◌+◌, ◌≤◌, ◌<◌, All, IfErr, IfOk, IsTrue, false, length, vec_capacity, vec_len};
 ghost use Rattle.clock_range.specs.ClockRange.{IsClockMinute};
 ghost use Rattle.host_calls.specs.Session.{IsInside};
-ghost use Rattle.job_script.specs.Check.{IsFit};
+ghost use Rattle.job_script.specs.Check.{IsUsableContext};
 ghost use Rattle.job_script.specs.JobText.{text_for};
 ghost use Rattle.job_script.specs.declared.writer.TheConstants.{MAX_COMMANDS};
 ghost use Rattle.spool_model.specs.JobTable.{JobTable};
@@ -29,7 +29,7 @@ pub(crate) fn submit_all<H: Host>(
     numbers: &mut Vec<u32>,
 ) -> Result<(), StoreFault>
     requires inside { IsInside (H.session host.old) }
-    requires fit { IsFit context.now }
+    requires fit { IsUsableContext context.now }
     requires umask { context.now.umask < 512 }
     requires minute { IsClockMinute minute }
     requires short { All (λ commands. length commands ≤ MAX_COMMANDS) due.now }
@@ -41,7 +41,14 @@ pub(crate) fn submit_all<H: Host>(
 {
     let mut store = store;
     for commands in due {
-        let (next, number) = submit(alloc, host, store, context, minute, commands.as_slice())?;
+        let (next, number) = submit_entry(
+            alloc,
+            host,
+            store,
+            context,
+            minute,
+            commands.as_slice(),
+        )?;
         store = next;
         numbers.push_reserved(number);
     }
@@ -49,7 +56,7 @@ pub(crate) fn submit_all<H: Host>(
 }
 
 // Submits the job of the commands at the minute.
-fn submit<H: Host>(
+fn submit_entry<H: Host>(
     alloc: Global,
     host: &mut H,
     store: Store,
@@ -58,7 +65,7 @@ fn submit<H: Host>(
     commands: &[u8],
 ) -> Result<(Store, u32), StoreFault>
     requires inside { IsInside (H.session host.old) }
-    requires fit { IsFit context.now }
+    requires fit { IsUsableContext context.now }
     requires umask { context.now.umask < 512 }
     requires minute { IsClockMinute minute }
     requires short { length commands.now ≤ MAX_COMMANDS }
@@ -73,7 +80,7 @@ fn submit<H: Host>(
 
 // The script of the commands. Nothing but want of memory is answered.
 fn script_of(alloc: Global, context: &Context, commands: &[u8]) -> Result<Bytes, StoreFault>
-    requires fit { IsFit context.now }
+    requires fit { IsUsableContext context.now }
     requires umask { context.now.umask < 512 }
     requires short { length commands.now ≤ MAX_COMMANDS }
     ensures script { IfOk result (λ script. script ≡ text_for context.now false commands.now) }

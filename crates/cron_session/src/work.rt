@@ -5,17 +5,17 @@ ghost use Rattle.civil_minute.specs.Zone.{IsReadable};
 ghost use Rattle.cron_mark.specs.Names.{mark_temp};
 ghost use Rattle.cron_text.specs.declared.crontab.TheConstants.{MAX_CRONTAB};
 ghost use Rattle.host_calls.specs.Session.{IsInside};
-ghost use Rattle.job_script.specs.Check.{IsFit};
+ghost use Rattle.job_script.specs.Check.{IsUsableContext};
 ghost use Rattle.spool_model.specs.JobTable.{JobTable};
 ghost use Rattle.step_runs.specs.Current.{IsCurrent};
 ghost use Rattle.whole_file.specs.Replacing.{IsCertainAt};
-ghost use Rattle.cron_session.specs.inside.Working.{SubmitsDue, Works, is_since};
+ghost use Rattle.cron_session.specs.inside.Working.{SubmitsDue, CronWorks, is_since};
 
 use crate::due::due_at;
 use crate::mark::mark_and_submit;
-use crate::room::make_room;
+use crate::room::check_room_and_numbers;
 use civil_minute::Zone;
-use cron_mark::read_mark;
+use cron_mark::read_cron_mark;
 use cron_text::CronEntry;
 use host_calls::Host;
 use job_script::Context;
@@ -23,7 +23,7 @@ use spool_store::{Store, StoreFault};
 use std::alloc::Global;
 
 // Recovers the store, and submits what is due at the minute, unless the mark is of it or of a later one.
-pub(crate) fn work<H: Host>(
+pub(crate) fn cron_session_body<H: Host>(
     alloc: Global,
     host: &mut H,
     context: &Context,
@@ -33,19 +33,19 @@ pub(crate) fn work<H: Host>(
     numbers: &mut Vec<u32>,
 ) -> Result<(), StoreFault>
     requires inside { IsInside (H.session host.old) }
-    requires fit { IsFit context.now }
+    requires fit { IsUsableContext context.now }
     requires umask { context.now.umask < 512 }
     requires zone { IsReadable zone.now }
     requires minute { IsClockMinute minute }
     requires commands { All (λ entry. length entry.command ≤ MAX_CRONTAB) entries.now }
     requires none { numbers.old.items ≡ [] }
     ensures { (now : ℤ) → minute ≡ minute_at now
-        → Works H.tells (record { context = context.now; zone = zone.now; entries = entries.now; now = now })
+        → CronWorks H.tells (record { context = context.now; zone = zone.now; entries = entries.now; now = now })
         (record { session = H.session host.old; world = H.world host.old })
         (record { session = H.session host.new; world = H.world host.new }) numbers.new.items result }
 {
     let store = Store::recover(alloc, host)?;
-    let marked = read_mark(alloc, host)?;
+    let marked = read_cron_mark(alloc, host)?;
     if is_since(marked, minute) {
         return Ok(());
     }
@@ -74,7 +74,7 @@ fn submit_due<H: Host>(
     numbers: &mut Vec<u32>,
 ) -> Result<(), StoreFault>
     requires inside { IsInside (H.session host.old) }
-    requires fit { IsFit context.now }
+    requires fit { IsUsableContext context.now }
     requires umask { context.now.umask < 512 }
     requires zone { IsReadable zone.now }
     requires minute { IsClockMinute minute }
@@ -88,6 +88,6 @@ fn submit_due<H: Host>(
 {
     let found = due_at(alloc, entries, minute, zone)?;
     let due = found.as_slice();
-    make_room(&store, due, numbers)?;
+    check_room_and_numbers(&store, due, numbers)?;
     mark_and_submit(alloc, host, store, context, minute, due, numbers)
 }

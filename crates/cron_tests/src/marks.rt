@@ -1,5 +1,5 @@
 //! Texts of marks, and the places of those that are damaged.
-use cron_mark::{mark_text, minute_in};
+use cron_mark::{cron_mark_text, minute_in};
 use std::test::Fail;
 
 #[test]
@@ -12,7 +12,7 @@ fn minutes_of_marks(rt: HostRuntime) -> Result<(), Fail> {
     ];
     for (text, minute) in cases {
         assert_eq!(rt; minute_in(text).ok(), Some(minute), "{text:?}");
-        assert_eq!(rt; mark_text(minute).as_slice(), text);
+        assert_eq!(rt; cron_mark_text(minute).as_slice(), text);
     }
     Ok(())
 }

@@ -7,12 +7,12 @@ use Rattle.cron_text.specs.Entry.{BeginsWithField, IsBadLine, SpellsEntry, is_co
 use Rattle.cron_text.specs.declared.entry.CronEntry.{CronEntry}
 use Rattle.cron_text.specs.declared.entry.Schedule.{Schedule}
 use Rattle.cron_text.specs.declared.field.Field.{Field}
-use Rattle.cron_text.specs.inside.Reader.{number_in, span_in, element_in, elements_in, field_in, first_in, schedule_in, line_in, entry_in, entry_of, with_line}
+use Rattle.cron_text.specs.inside.Reader.{number_before, span_in, element_in, elements_in, field_in, first_in, schedule_in, line_in, entry_in_line, cron_entry, with_line}
 use Rattle.cron_text.proofs.OptionLemmas.{and_then_some, cond_some, cond_either, map_some}
 use Rattle.cron_text.proofs.FieldLemmas.{field_complete}
 use Rattle.cron_text.proofs.FirstLemmas.{first_sound, first_complete}
 
-pub entry_complete : (line : List ℕ) (entry : CronEntry) → SpellsEntry line entry → entry_in line ≡ Some entry
+pub entry_complete : (line : List ℕ) (entry : CronEntry) → SpellsEntry line entry → entry_in_line line ≡ Some entry
 unfolding line_in schedule_in
 entry_complete line entry spelled =
     rw (
@@ -24,10 +24,10 @@ entry_complete line entry spelled =
       spelled.command,
     )
 
-pub entry_sound : (line : List ℕ) (entry : CronEntry) → entry_in line ≡ Some entry → SpellsEntry line entry
+pub entry_sound : (line : List ℕ) (entry : CronEntry) → entry_in_line line ≡ Some entry → SpellsEntry line entry
 unfolding line_in schedule_in
 entry_sound line entry e =
-    let (found, got, made) = map_some (λ (found : Schedule × List ℕ). entry_of found.0 found.1) (line_in line) entry e in
+    let (found, got, made) = map_some (λ (found : Schedule × List ℕ). cron_entry found.0 found.1) (line_in line) entry e in
     and_then_some _ (schedule_in line) found got λ scheduled got_schedule e₁.
     let (command, kept) = cond_some (is_command scheduled.1) scheduled found e₁ in
     and_then_some _ (first_in 0 59 (after_blanks line)) scheduled got_schedule λ minute got_minute e₂.
@@ -37,7 +37,7 @@ entry_sound line entry e =
     and_then_some _ (first_in 0 6 month.1) scheduled e₅ λ weekday got_weekday e₆.
     let schedule : Schedule = record { minute = minute.0; hour = hour.0; day = day.0; month = month.0; weekday = weekday.0 } in
     let same = same_Some (schedule, weekday.1) scheduled e₆ in
-    let shown : SpellsEntry line (entry_of schedule weekday.1) = record {
+    let shown : SpellsEntry line (cron_entry schedule weekday.1) = record {
       after_minute = minute.1;
       after_hour = hour.1;
       after_day = day.1;
@@ -49,11 +49,11 @@ entry_sound line entry e =
       weekday = first_sound 0 6 month.1 weekday.0 weekday.1 got_weekday;
       command = ap (λ (s : Schedule × List ℕ). is_command s.1) same ∙ command;
     } in
-    subst (SpellsEntry line) (ap (λ (s : Schedule × List ℕ). entry_of s.0 s.1) (same ∙ kept) ∙ made) shown
+    subst (SpellsEntry line) (ap (λ (s : Schedule × List ℕ). cron_entry s.0 s.1) (same ∙ kept) ∙ made) shown
 
 -- a number sign begins no number, and so no pattern
-number_none : (rest : List ℕ) → number_in (35 ∷ rest) ≡ None
-unfolding number_in
+number_none : (rest : List ℕ) → number_before (35 ∷ rest) ≡ None
+unfolding number_before
 number_none [] = refl
 number_none (byte ∷ rest) = refl
 
@@ -109,11 +109,11 @@ unfolding with_line
 good_line entries line more e = go (cond_either _ _ _ _ e)
   where
     go : ((is_ignored line ≡ true) × (entries ≡ more))
-        ⊎ ((is_ignored line ≡ false) × (option_map (λ (entry : CronEntry). entries ++ entry ∷ []) (entry_in line) ≡ Some more))
+        ⊎ ((is_ignored line ≡ false) × (option_map (λ (entry : CronEntry). entries ++ entry ∷ []) (entry_in_line line) ≡ Some more))
         → IsGoodLine entries line more
     go (inl ignored) = inl ignored
     go (inr (counts, read)) =
-        let (entry, got, same) = map_some (λ (entry : CronEntry). entries ++ entry ∷ []) (entry_in line) more read in
+        let (entry, got, same) = map_some (λ (entry : CronEntry). entries ++ entry ∷ []) (entry_in_line line) more read in
         inr (entry, entry_sound line entry got, same)
 
 pub ignored_line : (entries : List CronEntry) (line : List ℕ) → is_ignored line ≡ true → with_line entries line ≡ Some entries
@@ -126,10 +126,10 @@ entry_line entries line entry spelled = rw (entry_counts line entry spelled, ent
 
 pub bad_line_is : (entries : List CronEntry) (line : List ℕ) → IsBadLine line → with_line entries line ≡ None
 unfolding with_line
-bad_line_is entries line bad = go (is_ignored line) refl (entry_in line) refl
+bad_line_is entries line bad = go (is_ignored line) refl (entry_in_line line) refl
   where
-    go : (test : Bool) → is_ignored line ≡ test → (o : Option CronEntry) → entry_in line ≡ o
-        → cond (is_ignored line) (Some entries) (option_map (λ (entry : CronEntry). entries ++ entry ∷ []) (entry_in line)) ≡ None
+    go : (test : Bool) → is_ignored line ≡ test → (o : Option CronEntry) → entry_in_line line ≡ o
+        → cond (is_ignored line) (Some entries) (option_map (λ (entry : CronEntry). entries ++ entry ∷ []) (entry_in_line line)) ≡ None
     go true e o _ = absurd (bad.counts e)
     go false e (Some entry) read = absurd (bad.no_entry entry (entry_sound line entry read))
     go false e None read = rw (e, read) refl

@@ -4,7 +4,7 @@ use Rattle.std.proofs.lemmas.List.Elements.{All-nil, All-cons, All-head, All-tai
 use Rattle.std.proofs.lemmas.List.Splits.{slice_split-cons_yes, slice_split-cons_no}
 use Rattle.std.specs.List.{All, onto_first}
 use Rattle.blanks.specs.Blanks.{after_blanks, is_blank}
-use Rattle.cron_text.specs.Crontab.{AreLines, no_line, ignored, an_entry, SpellsCrontab, lines_of}
+use Rattle.cron_text.specs.Crontab.{AreCrontabLines, no_line, ignored, an_entry, SpellsCrontab, lines_of}
 use Rattle.cron_text.specs.Entry.{BeginsWithField, SpellsEntry}
 use Rattle.cron_text.specs.declared.entry.CronEntry.{CronEntry}
 use Rattle.cron_text.specs.declared.field.Field.{Field}
@@ -64,7 +64,7 @@ lines-few (byte ∷ text) = go (byte == 10) refl (lines-few text)
         All-same (HasFew (length (byte ∷ text))) (lines_of (byte ∷ text)) (onto_first byte (lines_of text)) (slice_split-cons_no (λ (b : ℕ). b == 10) byte text e)
         (first-few byte (length text) (length (byte ∷ text)) (lines_of text) (omega arith) few)
 
-entries-few : (most : ℕ) (lines : List (List ℕ)) (entries : List CronEntry) → All (HasFew most) lines → AreLines lines entries → All (HasFewInCommand most) entries
+entries-few : (most : ℕ) (lines : List (List ℕ)) (entries : List CronEntry) → All (HasFew most) lines → AreCrontabLines lines entries → All (HasFewInCommand most) entries
 entries-few most [] [] few no_line = All-nil (HasFewInCommand most)
 entries-few most [] (entry ∷ entries) few are = elim are [ ]
 entries-few most (line ∷ lines) entries few (ignored _ is_ignored are) = entries-few most lines entries (All-tail (HasFew most) line lines few) are

@@ -1,7 +1,7 @@
 -- The reader of a crontab reads its lines, one after another.
 use Rattle.std.proofs.Common.{◌≡◌, ◌∙◌, ℕ, ◌+◌, ◌≤◌, inl, inr, List, [], ◌∷◌, ◌++◌, length, drop, Option, Some, None, Result, Ok, Err, refl, sym, ap, subst, arith, append_assoc, append-nil}
 use Rattle.std.proofs.lemmas.List.{at_drop_all}
-use Rattle.cron_text.specs.Crontab.{AreLines, no_line, ignored, an_entry, lines_of, SpellsCrontab, IsFirstBad}
+use Rattle.cron_text.specs.Crontab.{AreCrontabLines, no_line, ignored, an_entry, lines_of, SpellsCrontab, IsFirstBad}
 use Rattle.cron_text.specs.Entry.{IsBadLine, is_ignored}
 use Rattle.cron_text.specs.declared.entry.CronEntry.{CronEntry}
 use Rattle.cron_text.specs.inside.Reader.{lines_in, with_line}
@@ -52,7 +52,7 @@ no_Ok entries number e = cc
 
 -- the lines spell what was read of them
 abbrev Reads : List CronEntry → List (List ℕ) → List CronEntry → Type 0
-Reads entries lines all = (more : List CronEntry) × AreLines lines more × (all ≡ entries ++ more)
+Reads entries lines all = (more : List CronEntry) × AreCrontabLines lines more × (all ≡ entries ++ more)
 
 lines_sound : (entries : List CronEntry) (count : ℕ) (lines : List (List ℕ)) (all : List CronEntry) → lines_in entries count lines ≡ Ok all → Reads entries lines all
 unfolding lines_in
@@ -77,7 +77,7 @@ record StopsAt (count : ℕ) (lines : List (List ℕ)) (number : ℕ) : Type 0 w
   after : List (List ℕ)
   entries : List CronEntry
   same : lines ≡ before ++ bad ∷ after
-  good : AreLines before entries
+  good : AreCrontabLines before entries
   is_bad : IsBadLine bad
   counted : number ≡ count + length before + 1
 
@@ -129,7 +129,7 @@ lines_stop entries count (line ∷ lines) number e = go (λ more. lines_stop mor
           counted = omega arith;
         }
 
-lines_complete : (entries : List CronEntry) (count : ℕ) (lines : List (List ℕ)) (more : List CronEntry) → AreLines lines more → lines_in entries count lines ≡ Ok (entries ++ more)
+lines_complete : (entries : List CronEntry) (count : ℕ) (lines : List (List ℕ)) (more : List CronEntry) → AreCrontabLines lines more → lines_in entries count lines ≡ Ok (entries ++ more)
 unfolding lines_in
 lines_complete entries count [] [] no_line = ap Ok (sym (append-nil entries))
 lines_complete entries count [] (entry ∷ more) are = elim are [ ]
@@ -140,7 +140,7 @@ lines_complete entries count (line ∷ lines) (entry ∷ more) (an_entry _ _ spe
     ∙ lines_complete (entries ++ entry ∷ []) (count + 1) lines more are ∙ ap Ok (append_assoc entries (entry ∷ []) more)
 
 bad_complete : (entries : List CronEntry) (count : ℕ) (before : List (List ℕ)) (more : List CronEntry) (bad : List ℕ) (after : List (List ℕ))
-    → AreLines before more → IsBadLine bad → lines_in entries count (before ++ bad ∷ after) ≡ Err (count + length before + 1)
+    → AreCrontabLines before more → IsBadLine bad → lines_in entries count (before ++ bad ∷ after) ≡ Err (count + length before + 1)
 bad_complete entries count [] [] bad after no_line is_bad = lines_in-bad entries count bad after (bad_line_is entries bad is_bad) ∙ ap Err (omega arith)
 bad_complete entries count [] (entry ∷ more) bad after are is_bad = elim are [ ]
 bad_complete entries count (line ∷ before) more bad after (ignored _ is_ignored are) is_bad =
@@ -153,7 +153,7 @@ bad_complete entries count (line ∷ before) (entry ∷ more) bad after (an_entr
 -- what was read of a text is what it spells
 pub crontab_sound : (text : List ℕ) (entries : List CronEntry) → lines_in [] 0 (lines_of text) ≡ Ok entries → SpellsCrontab text entries
 crontab_sound text entries e =
-    let (more, are, same) = lines_sound [] 0 (lines_of text) entries e in subst (AreLines (lines_of text)) (sym same) are
+    let (more, are, same) = lines_sound [] 0 (lines_of text) entries e in subst (AreCrontabLines (lines_of text)) (sym same) are
 
 pub crontab_bad : (text : List ℕ) (number : ℕ) → lines_in [] 0 (lines_of text) ≡ Err number → IsFirstBad text number
 crontab_bad text number e =

@@ -5,25 +5,25 @@ use Rattle.std.proofs.lemmas.Bool.Decides.{nat_tests}
 use Rattle.std.proofs.lemmas.List.{nil_from_length}
 use Rattle.std.proofs.lemmas.Option.{none-some, same_Some}
 use Rattle.std.specs.Char.{is_ascii_digit}
-use Rattle.cron_text.specs.Field.{SpellsNumber, one_digit, two_digits, SpellsSpan, one_number, two_numbers, SpellsElement}
-use Rattle.cron_text.specs.inside.Reader.{number_in, range_to, range_from, span_in, element_in}
+use Rattle.cron_text.specs.Field.{SpellsCronNumber, one_digit, two_digits, SpellsSpan, one_number, two_numbers, SpellsElement}
+use Rattle.cron_text.specs.inside.Reader.{number_before, range_to, range_from, span_in, element_in}
 use Rattle.cron_text.proofs.OptionLemmas.{cond_some, cond_either, cond_then, and_then_some}
 
 -- a number and nothing after it
-pub number_alone : (text : List ℕ) (number : ℕ) → SpellsNumber text number → number_in text ≡ Some (number, [])
-unfolding number_in
+pub number_alone : (text : List ℕ) (number : ℕ) → SpellsCronNumber text number → number_before text ≡ Some (number, [])
+unfolding number_before
 number_alone text number (one_digit ones digit spelled value) = rw (spelled, digit, value)
 number_alone text number (two_digits tens ones first second spelled value) = rw (spelled, first, second, value)
 
 -- a number with a hyphen after it
-pub number_hyphen : (text : List ℕ) (number : ℕ) (rest : List ℕ) → SpellsNumber text number → number_in (text ++ 45 ∷ rest) ≡ Some (number, 45 ∷ rest)
-unfolding number_in
+pub number_hyphen : (text : List ℕ) (number : ℕ) (rest : List ℕ) → SpellsCronNumber text number → number_before (text ++ 45 ∷ rest) ≡ Some (number, 45 ∷ rest)
+unfolding number_before
 number_hyphen text number rest (one_digit ones digit spelled value) = rw (spelled, digit, value)
 number_hyphen text number rest (two_digits tens ones first second spelled value) = rw (spelled, first, second, value)
 
 -- what was read as a number is one, with the rest after it
 abbrev pub BeginsWithNumber : List ℕ → ℕ → List ℕ → Type 0
-BeginsWithNumber text number rest = (spelled : List ℕ) × SpellsNumber spelled number × (text ≡ spelled ++ rest)
+BeginsWithNumber text number rest = (spelled : List ℕ) × SpellsCronNumber spelled number × (text ≡ spelled ++ rest)
 
 -- the number and the rest are these
 abbrev IsRead : ℕ → List ℕ → ℕ → List ℕ → Type 0
@@ -32,8 +32,8 @@ IsRead found more number rest = ◌≡◌ {A = ℕ × List ℕ} (found, more) (n
 abbrev read : ℕ → List ℕ → Option (ℕ × List ℕ)
 read number rest = Some (number, rest)
 
-pub number_sound : (text rest : List ℕ) (number : ℕ) → number_in text ≡ Some (number, rest) → BeginsWithNumber text number rest
-unfolding number_in
+pub number_sound : (text rest : List ℕ) (number : ℕ) → number_before text ≡ Some (number, rest) → BeginsWithNumber text number rest
+unfolding number_before
 number_sound [] rest number e = absurd (none-some _ e)
 number_sound (ones ∷ []) rest number e =
     let (digit, same) = cond_some _ _ _ e in
@@ -57,18 +57,18 @@ number_sound (tens ∷ ones ∷ more) rest number e = go (cond_either _ _ _ _ e)
         (tens ∷ [], one_digit tens digit refl (sym value), ap (λ r. tens ∷ r) left)
 
 -- a number and nothing after it spells this number
-whole_sound : (text rest : List ℕ) (number : ℕ) → BeginsWithNumber text number rest → length rest ≡ 0 → SpellsNumber text number
+whole_sound : (text rest : List ℕ) (number : ℕ) → BeginsWithNumber text number rest → length rest ≡ 0 → SpellsCronNumber text number
 whole_sound text rest number begins none =
     let nothing : rest ≡ [] = nil_from_length rest none in
     let same : text ≡ begins.0 = begins.2 ∙ ap (λ r. begins.0 ++ r) nothing ∙ append-nil begins.0 in
-    subst (λ (t : List ℕ). SpellsNumber t number) (sym same) begins.1
+    subst (λ (t : List ℕ). SpellsCronNumber t number) (sym same) begins.1
 
 from_sound : (text rest : List ℕ) (first : ℕ) (span : ℕ × ℕ) → BeginsWithNumber text first rest → range_from first rest ≡ Some span → SpellsSpan text span
 unfolding range_from range_to
 from_sound text [] first span begins e = one_number first (whole_sound text [] first begins refl) (sym (same_Some _ _ e))
 from_sound text (hyphen ∷ rest) first span begins e =
     let (is_hyphen, read) = cond_then _ _ _ e in
-    and_then_some _ (number_in rest) span read λ last got e₁.
+    and_then_some _ (number_before rest) span read λ last got e₁.
     let (ended, same) = cond_some _ _ _ e₁ in
     let at : hyphen ≡ 45 = eqb-true _ _ is_hyphen in
     let spelled : text ≡ begins.0 ++ 45 ∷ rest = begins.2 ∙ ap (λ h. begins.0 ++ h ∷ rest) at in
@@ -78,7 +78,7 @@ from_sound text (hyphen ∷ rest) first span begins e =
 pub span_sound : (text : List ℕ) (span : ℕ × ℕ) → span_in text ≡ Some span → SpellsSpan text span
 unfolding span_in
 span_sound text span e =
-    and_then_some _ (number_in text) span e λ first got e₁.
+    and_then_some _ (number_before text) span e λ first got e₁.
     from_sound text first.1 first.0 span (number_sound text first.1 first.0 got) e₁
 
 pub span_complete : (text : List ℕ) (span : ℕ × ℕ) → SpellsSpan text span → span_in text ≡ Some span

@@ -13,16 +13,16 @@ abbrev pub lines_of : List ℕ → List (List ℕ)
 lines_of text = slice_split (λ byte. byte == 10) text
 
 -- the lines that aren't ignored spell the entries, one each, in order
-pub data AreLines : List (List ℕ) → List CronEntry → Type 0 where
-  no_line : AreLines [] []
+pub data AreCrontabLines : List (List ℕ) → List CronEntry → Type 0 where
+  no_line : AreCrontabLines [] []
   ignored : {lines : List (List ℕ)} {entries : List CronEntry} → (line : List ℕ) → IsTrue (is_ignored line)
-      → AreLines lines entries → AreLines (line ∷ lines) entries
+      → AreCrontabLines lines entries → AreCrontabLines (line ∷ lines) entries
   an_entry : {lines : List (List ℕ)} {entries : List CronEntry} → (line : List ℕ) (entry : CronEntry)
-      → SpellsEntry line entry → AreLines lines entries → AreLines (line ∷ lines) (entry ∷ entries)
+      → SpellsEntry line entry → AreCrontabLines lines entries → AreCrontabLines (line ∷ lines) (entry ∷ entries)
 
 -- the text spells the entries
 abbrev pub SpellsCrontab : List ℕ → List CronEntry → Type 0
-SpellsCrontab text entries = AreLines (lines_of text) entries
+SpellsCrontab text entries = AreCrontabLines (lines_of text) entries
 
 -- this line of the text, counted from 1, is bad, and none before it is
 pub record IsFirstBad (text : List ℕ) (number : ℕ) : Type 0 where
@@ -31,7 +31,7 @@ pub record IsFirstBad (text : List ℕ) (number : ℕ) : Type 0 where
   pub after : List (List ℕ)
   pub entries : List CronEntry
   pub lines : lines_of text ≡ before ++ bad ∷ after
-  pub good : AreLines before entries
+  pub good : AreCrontabLines before entries
   pub is_bad : IsBadLine bad
   pub counted : number ≡ length before + 1
 

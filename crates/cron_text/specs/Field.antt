@@ -9,16 +9,16 @@ use Rattle.std.specs.Int.{bit_at}
 use Rattle.cron_text.specs.declared.field.Field.{Field}
 
 -- the text is one or two decimal digits, which spell the number
-pub data SpellsNumber (text : List ℕ) (number : ℕ) : Type 0 where
-  one_digit : (ones : ℕ) → IsTrue (is_ascii_digit ones) → text ≡ ones ∷ [] → number ≡ ones - 48 → SpellsNumber text number
+pub data SpellsCronNumber (text : List ℕ) (number : ℕ) : Type 0 where
+  one_digit : (ones : ℕ) → IsTrue (is_ascii_digit ones) → text ≡ ones ∷ [] → number ≡ ones - 48 → SpellsCronNumber text number
   two_digits : (tens ones : ℕ) → IsTrue (is_ascii_digit tens) → IsTrue (is_ascii_digit ones)
-      → text ≡ tens ∷ ones ∷ [] → number ≡ (tens - 48) * 10 + (ones - 48) → SpellsNumber text number
+      → text ≡ tens ∷ ones ∷ [] → number ≡ (tens - 48) * 10 + (ones - 48) → SpellsCronNumber text number
 
 -- the text is a number, which is its own range, or two with a hyphen between them: the first and the last of a range
 pub data SpellsSpan (text : List ℕ) (span : ℕ × ℕ) : Type 0 where
-  one_number : (number : ℕ) → SpellsNumber text number → span ≡ (number, number) → SpellsSpan text span
+  one_number : (number : ℕ) → SpellsCronNumber text number → span ≡ (number, number) → SpellsSpan text span
   two_numbers : (left right : List ℕ) (first last : ℕ) → text ≡ left ++ 45 ∷ right
-      → SpellsNumber left first → SpellsNumber right last → span ≡ (first, last) → SpellsSpan text span
+      → SpellsCronNumber left first → SpellsCronNumber right last → span ≡ (first, last) → SpellsSpan text span
 
 -- the range stands from low to high, and doesn't run backwards
 pub record IsSpanIn (low high : ℕ) (span : ℕ × ℕ) : Type 0 where

@@ -35,17 +35,17 @@ pub(crate) struct Schedule {
 
 /// The entry that the line spells, if it spells one.
 pub(crate) fn read_entry(alloc: Global, line: &[u8]) -> Result<Option<CronEntry>, AllocError>
-    ensures { IfOk result (λ entry. entry ≡ Reader.entry_in line.now) }
+    ensures { IfOk result (λ entry. entry ≡ Reader.entry_in_line line.now) }
 {
     let Some((schedule, command)) = read_line(line) else {
         return Ok(None);
     };
     let command = Bytes::of(alloc, command)?;
-    Ok(Some(entry_of(&schedule, command)))
+    Ok(Some(cron_entry(&schedule, command)))
 }
 
-fn entry_of(schedule: &Schedule, command: Bytes) -> CronEntry
-    ensures { result ≡ Reader.entry_of schedule.now command }
+fn cron_entry(schedule: &Schedule, command: Bytes) -> CronEntry
+    ensures { result ≡ Reader.cron_entry schedule.now command }
 {
     CronEntry {
         minute: schedule.minute,

@@ -70,9 +70,9 @@ fn read_span(text: &[u8]) -> Option<(u8, u8)>
 }
 
 // The number of one or two digits that the text begins with, and the rest.
-#[tactic(auto, unfolding(crate::specs::inside::Reader::number_in))]
+#[tactic(auto, unfolding(crate::specs::inside::Reader::number_before))]
 fn read_number(text: &[u8]) -> Option<(u8, &[u8])>
-    ensures { Reader.read_view result ≡ Reader.number_in text.now }
+    ensures { Reader.read_view result ≡ Reader.number_before text.now }
 {
     match text {
         [tens @ b'0'..=b'9', ones @ b'0'..=b'9', rest @ ..] => {

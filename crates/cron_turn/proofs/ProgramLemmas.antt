@@ -18,26 +18,26 @@ use Rattle.job_script.specs.declared.fault.ScriptFault.TheVariants as script
 use Rattle.listing_text.specs.declared.cause.Cause.{Cause}
 use Rattle.listing_text.specs.declared.cause.Cause.TheVariants as cause
 use Rattle.cron_turn.specs.declared.words.CronRequest.{CronRequest}
-use Rattle.cron_turn.specs.Items.{Item, program_name}
-use Rattle.cron_turn.specs.Running.{CarriesOut, Does, EndsAfter, HasRisenInTurns, IsEnded, Serves, Works, WorksUnless, all_made, caller_refused, cut_short, next_session, no_session, refused_by, refused_zone}
+use Rattle.cron_turn.specs.Items.{CronItem, cron_program_name}
+use Rattle.cron_turn.specs.Running.{RunsOrLacksMemory, RunsAsRequested, EndsAfter, HasRisenInTurns, IsEnded, MakesCronSessions, RunsSessions, WorksUnless, all_made, caller_refused, cut_short, next_session, no_session, refused_by, refused_zone}
 use Rattle.cron_turn.specs.Sessions.{Stops}
 
 module _ (tells : Telling) (caller : Caller) (old new : WorkAt CronAt) where
   -- what the words ask for was done
-  pub does_taken : (asked : Result CronRequest WordsFault) (request : CronRequest) (why : Cause) → Answers asked (Ok request) → WorksUnless (caller_refused caller) tells caller request old new why → CarriesOut asked tells caller old new why
-  does_taken asked request why answers works = inr (subst (λ of. Does of tells caller old new why) answers works)
+  pub does_taken : (asked : Result CronRequest WordsFault) (request : CronRequest) (why : Cause) → Answers asked (Ok request) → WorksUnless (caller_refused caller) tells caller request old new why → RunsOrLacksMemory asked tells caller old new why
+  does_taken asked request why answers works = inr (subst (λ of. RunsAsRequested of tells caller old new why) answers works)
 
   -- they ask for nothing
-  pub does_refused : (asked : Result CronRequest WordsFault) (fault : WordsFault) → Answers asked (Err fault) → new ≡ old → CarriesOut asked tells caller old new (words_cause fault)
-  does_refused asked Usage answers same = inr (subst (λ of. Does of tells caller old new (words_cause Usage)) answers (refl, same))
-  does_refused asked BadQueue answers same = inr (subst (λ of. Does of tells caller old new (words_cause BadQueue)) answers (refl, same))
+  pub does_refused : (asked : Result CronRequest WordsFault) (fault : WordsFault) → Answers asked (Err fault) → new ≡ old → RunsOrLacksMemory asked tells caller old new (words_cause fault)
+  does_refused asked Usage answers same = inr (subst (λ of. RunsAsRequested of tells caller old new (words_cause Usage)) answers (refl, same))
+  does_refused asked BadQueue answers same = inr (subst (λ of. RunsAsRequested of tells caller old new (words_cause BadQueue)) answers (refl, same))
   does_refused asked NoMemory answers same = inl (refl, same)
 
   -- the caller is refused, or not
   pub works_refused : (request : CronRequest) (refused : Option Cause) (why : Cause) → refused ≡ caller_refused caller → refused ≡ Some why → new ≡ old → WorksUnless (caller_refused caller) tells caller request old new why
   works_refused request refused why is some same = subst (λ of. WorksUnless of tells caller request old new why) (sym some ∙ is) (refl, same)
 
-  pub works_taken : (request : CronRequest) (refused : Option Cause) (why : Cause) → refused ≡ caller_refused caller → refused ≡ None → Works tells caller request old new why → WorksUnless (caller_refused caller) tells caller request old new why
+  pub works_taken : (request : CronRequest) (refused : Option Cause) (why : Cause) → refused ≡ caller_refused caller → refused ≡ None → RunsSessions tells caller request old new why → WorksUnless (caller_refused caller) tells caller request old new why
   works_taken request refused why is none works = subst (λ of. WorksUnless of tells caller request old new why) (sym none ∙ is) works
 
 readable : (zone : Zone) → refused_zone zone ≡ None → IsReadable zone
@@ -67,7 +67,7 @@ later_rested tells rest old new rests = record {
 later_on : (old middle new : WorkAt CronAt) → Later old middle → Later middle new → Later old new
 later_on old middle new first then = record { input = omega (arith, first.input, then.input); said = omega (arith, first.said, then.said) }
 
-later_served : (tells : Telling) (caller : Caller) (path : List ℕ) (first now : WorkAt CronAt) (items : List Item) (rest : Option ℕ) → Serves tells caller path first items rest now → Later first now
+later_served : (tells : Telling) (caller : Caller) (path : List ℕ) (first now : WorkAt CronAt) (items : List CronItem) (rest : Option ℕ) → MakesCronSessions tells caller path first items rest now → Later first now
 later_served tells caller path first _ _ _ no_session = record { input = le_refl first.input.sources.input_faults; said = le_refl first.said.faults }
 later_served tells caller path first _ _ _ (next_session before rest item last rested after serves rests made says) =
     later_on first last after (later_served tells caller path first last before rest serves)
@@ -105,7 +105,7 @@ ends_risen tells caller path turns count rest last _ _ (all_made all) = neither 
 ends_risen tells caller path turns count rest last _ _ (cut_short new why few short) =
     risen_from last short.rested new why (later_rested tells.clock rest last short.rested short.rests) (stops_risen tells caller path short.rested new why short.stops)
 
-works_risen : (tells : Telling) (caller : Caller) (request : CronRequest) (old new : WorkAt CronAt) (why : Cause) → Works tells caller request old new why → HasRisenInTurns old new why
+works_risen : (tells : Telling) (caller : Caller) (request : CronRequest) (old new : WorkAt CronAt) (why : Cause) → RunsSessions tells caller request old new why → HasRisenInTurns old new why
 works_risen tells caller request old new why works =
     risen_from old works.last new why (later_served tells caller request.file old works.last works.items works.rest works.serves)
     (ends_risen tells caller request.file request.turns (length works.items) works.rest works.last new why works.ends)
@@ -131,7 +131,7 @@ unless_risen : (fault : Option ScriptFault) (zone : Zone) (tells : Telling) (cal
 unless_risen (Some fault) zone tells caller request old new why works = neither old new why (λ is. (script_none fault).0 (sym works.0 ∙ is)) (λ is. (script_none fault).1 (sym works.0 ∙ is))
 unless_risen None zone tells caller request old new why works = zone_risen zone tells caller request old new why works
 
-does_risen : (asked : Result CronRequest WordsFault) (tells : Telling) (caller : Caller) (old new : WorkAt CronAt) (why : Cause) → CarriesOut asked tells caller old new why → HasRisenInTurns old new why
+does_risen : (asked : Result CronRequest WordsFault) (tells : Telling) (caller : Caller) (old new : WorkAt CronAt) (why : Cause) → RunsOrLacksMemory asked tells caller old new why → HasRisenInTurns old new why
 does_risen asked tells caller old new why (inl none) = neither old new why (λ is. (let other = sym none.0 ∙ is in cc)) (λ is. (let other = sym none.0 ∙ is in cc))
 does_risen (Err fault) tells caller old new why (inr refused) = neither old new why (λ is. (words_none fault).0 (sym refused.0 ∙ is)) (λ is. (words_none fault).1 (sym refused.0 ∙ is))
 does_risen (Ok request) tells caller old new why (inr works) = unless_risen (first_fault caller.context) caller.zone tells caller request old new why works
@@ -140,12 +140,12 @@ rose_to : (was middle now : ℕ) → Rose was middle → middle ≤ now → Rose
 rose_to was middle now rose more = omega (arith, rose, more)
 
 -- and so of the program, whose last line is said after all else
-pub runs_risen : (asked : Result CronRequest WordsFault) (tells : Telling) (caller : Caller) (old done new : WorkAt CronAt) (why final : Cause) → CarriesOut asked tells caller old done why → IsEnded tells.errors why done new final → done.said.faults ≤ new.said.faults → HasRisenInTurns old new final
+pub runs_risen : (asked : Result CronRequest WordsFault) (tells : Telling) (caller : Caller) (old done new : WorkAt CronAt) (why final : Cause) → RunsOrLacksMemory asked tells caller old done why → IsEnded tells.errors why done new final → done.said.faults ≤ new.said.faults → HasRisenInTurns old new final
 runs_risen asked tells caller old done new why final does ended later = by_saying ended.said where
   risen : HasRisenInTurns old done why
   risen = does_risen asked tells caller old done why does
 
-  by_saying : IsSaid program_name tells.errors why done.said new.said final → HasRisenInTurns old new final
+  by_saying : IsSaid cron_program_name tells.errors why done.said new.said final → HasRisenInTurns old new final
   by_saying (inl same) = record {
     input_fault = λ is. subst (λ (at : InputAt). Rose old.input.sources.input_faults at.sources.input_faults) (sym ended.input) (risen.input_fault (sym same.0 ∙ is));
     output_fault = λ is. rose_to old.said.faults done.said.faults new.said.faults (risen.output_fault (sym same.0 ∙ is)) later;

@@ -7,11 +7,11 @@ use Rattle.listing_text.specs.declared.cause.Cause.TheVariants as cause
 use Rattle.listing_text.specs.declared.refusal.Refusal.{Refusal}
 use Rattle.listing_text.specs.declared.refusal.Refusal.TheVariants.{TooLong, BadCrontab}
 use Rattle.cause_output.specs.declared.command_error.CommandError.{CommandError}
-use Rattle.cron_input.specs.Reading.{AsksFile, IsUnread, ReadsEntries, ReadsFile, StopsText}
+use Rattle.cron_input.specs.Reading.{AsksFile, IsCrontabUnread, ReadsEntries, ReadsFile, StopsText}
 use Rattle.cron_turn.specs.Sessions.{StopsAtFile, StopsBefore}
 
 -- the inputs were asked once, whatever came of it
-asked_unread : (old new : InputAt) (cause : Cause) → IsUnread old new cause → AsksFile old new
+asked_unread : (old new : InputAt) (cause : Cause) → IsCrontabUnread old new cause → AsksFile old new
 asked_unread old new cause.InputFault unread = unread.0
 asked_unread old new cause.Memory unread = unread
 asked_unread old new _ unread = absurd unread
@@ -33,7 +33,7 @@ module _ (tells : Telling) (path : List ℕ) (old new : WorkAt CronAt) (at : Sto
   stops_text _ bytes reads text = absurd text
 
   -- there was no text
-  stops_unread : (why : Cause) → IsUnread old.input new.input why → StopsBefore tells path old new why
+  stops_unread : (why : Cause) → IsCrontabUnread old.input new.input why → StopsBefore tells path old new why
   stops_unread cause.InputFault unread = (at, unread.1)
   stops_unread cause.Memory unread = at
   stops_unread _ unread = absurd unread

@@ -8,11 +8,11 @@ use Rattle.listing_text.specs.declared.cause.Cause.{Cause}
 use Rattle.listing_text.specs.declared.cause.Cause.TheVariants.{Done}
 use Rattle.cause_output.specs.declared.caller.Caller.{Caller}
 use Rattle.cron_turn.specs.declared.words.CronRequest.{CronRequest}
-use Rattle.cron_turn.specs.Items.{Item, rest_after}
+use Rattle.cron_turn.specs.Items.{CronItem, rest_after_session}
 use Rattle.cron_turn.specs.Outside.{StaysSo}
-use Rattle.cron_turn.specs.Running.{EndsAfter, Serves, Works, all_made, cut_short, next_session, no_session}
-use Rattle.cron_turn.specs.Sessions.{IsMade, Stops}
-use Rattle.cron_turn.specs.inside.Turning.{GoesOn, HasServed, Says, Turns}
+use Rattle.cron_turn.specs.Running.{EndsAfter, MakesCronSessions, RunsSessions, all_made, cut_short, next_session, no_session}
+use Rattle.cron_turn.specs.Sessions.{IsSessionMade, Stops}
+use Rattle.cron_turn.specs.inside.Turning.{ContinuesAfter, HasMadeSessions, SaysSession, Turns}
 
 -- a session that is not on stays so
 pub left_so : (session : Session) → IsOutside session → IsLeft session session
@@ -64,45 +64,45 @@ pub rests_before : (tells : Bool) (rest : Option ℕ) (at : WorkAt CronAt) (new 
 rests_before tells rest at new rests = record { clock = rests; spool = refl; input = refl; said = refl }
 
 -- one session more, by whether another may come
-pub turned : (tells : Telling) (caller : Caller) (path : List ℕ) (next : Option ℕ) (item : Item) (old new : WorkAt CronAt) (result : Option Cause) → IsMade tells caller path item old new
-    → Says tells.errors item.end old.said new.said result → next ≡ Some (rest_after item.end item.now) → Turns tells caller path next old new result
+pub turned : (tells : Telling) (caller : Caller) (path : List ℕ) (next : Option ℕ) (item : CronItem) (old new : WorkAt CronAt) (result : Option Cause) → IsSessionMade tells caller path item old new
+    → SaysSession tells.errors item.end old.said new.said result → next ≡ Some (rest_after_session item.end item.now) → Turns tells caller path next old new result
 turned tells caller path next item old new None made says next_is = record { item = item; made = made; says = says; next_is = next_is }
 turned tells caller path next item old new (Some cause) made says next_is = inr (record { item = item; made = made; says = says })
 
 module _ (tells : Telling) (caller : Caller) (path : List ℕ) (first : WorkAt CronAt) where
   -- no session was made
-  pub none_served : (rest : Option ℕ) → rest ≡ None → HasServed tells caller path 0 rest first first
-  none_served rest none = record { items = []; counted = refl; serves = subst (λ seconds. Serves tells caller path first [] seconds first) (sym none) no_session }
+  pub none_served : (rest : Option ℕ) → rest ≡ None → HasMadeSessions tells caller path 0 rest first first
+  none_served rest none = record { items = []; counted = refl; serves = subst (λ seconds. MakesCronSessions tells caller path first [] seconds first) (sym none) no_session }
 
   -- one more was made
-  pub one_served : (count : ℕ) (rest next : Option ℕ) (now rested after : WorkAt CronAt) → HasServed tells caller path count rest first now → RestsBefore tells.clock rest now rested
-      → GoesOn tells caller path next rested after → HasServed tells caller path (count + 1) next first after
+  pub one_served : (count : ℕ) (rest next : Option ℕ) (now rested after : WorkAt CronAt) → HasMadeSessions tells caller path count rest first now → RestsBefore tells.clock rest now rested
+      → ContinuesAfter tells caller path next rested after → HasMadeSessions tells caller path (count + 1) next first after
   one_served count rest next now rested after has rests goes = record {
     items = has.items ++ goes.item ∷ [];
     counted = omega (arith, length-append has.items (goes.item ∷ []), has.counted);
-    serves = subst (λ seconds. Serves tells caller path first (has.items ++ goes.item ∷ []) seconds after) (sym goes.next_is)
+    serves = subst (λ seconds. MakesCronSessions tells caller path first (has.items ++ goes.item ∷ []) seconds after) (sym goes.next_is)
         (next_session has.items rest goes.item now rested after has.serves rests goes.made goes.says);
   }
 
   -- the next one ended it
-  pub served_short : (request : CronRequest) (count : ℕ) (rest : Option ℕ) (now rested after : WorkAt CronAt) (cause : Cause) → request.file ≡ path → count < request.turns → HasServed tells caller path count rest first now
-      → RestsBefore tells.clock rest now rested → Stops tells caller path rested after cause → Works tells caller request first after cause
+  pub served_short : (request : CronRequest) (count : ℕ) (rest : Option ℕ) (now rested after : WorkAt CronAt) (cause : Cause) → request.file ≡ path → count < request.turns → HasMadeSessions tells caller path count rest first now
+      → RestsBefore tells.clock rest now rested → Stops tells caller path rested after cause → RunsSessions tells caller request first after cause
   served_short request count rest now rested after cause same few has rests stops = record {
     items = has.items;
     rest = rest;
     last = now;
-    serves = subst (λ name. Serves tells caller name first has.items rest now) (sym same) has.serves;
+    serves = subst (λ name. MakesCronSessions tells caller name first has.items rest now) (sym same) has.serves;
     ends = subst (λ name. EndsAfter tells caller name request.turns (length has.items) rest now after cause) (sym same)
         (cut_short after cause (omega (arith, few, has.counted)) (record { rested = rested; rests = rests; stops = stops }));
   }
 
   -- all were made
-  pub served_all : (request : CronRequest) (count : ℕ) (rest : Option ℕ) (now : WorkAt CronAt) → request.file ≡ path → count ≡ request.turns → HasServed tells caller path count rest first now
-      → Works tells caller request first now Done
+  pub served_all : (request : CronRequest) (count : ℕ) (rest : Option ℕ) (now : WorkAt CronAt) → request.file ≡ path → count ≡ request.turns → HasMadeSessions tells caller path count rest first now
+      → RunsSessions tells caller request first now Done
   served_all request count rest now same all has = record {
     items = has.items;
     rest = rest;
     last = now;
-    serves = subst (λ name. Serves tells caller name first has.items rest now) (sym same) has.serves;
+    serves = subst (λ name. MakesCronSessions tells caller name first has.items rest now) (sym same) has.serves;
     ends = all_made (has.counted ∙ all);
   }

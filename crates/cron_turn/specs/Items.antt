@@ -12,7 +12,7 @@ use Rattle.cron_session.specs.declared.report.CronEnd.TheVariants.{Done, Busy, F
 use Rattle.cron_turn.specs.declared.item.TheConstants.{LONGEST_REST, SHORT_REST}
 
 -- A session: the clock's answer, what the file gave, the entries that it spells, and what the session reported.
-pub record Item : Type 0 where
+pub record CronItem : Type 0 where
   pub now : ℤ
   pub bytes : List ℕ
   pub entries : List CronEntry
@@ -20,43 +20,43 @@ pub record Item : Type 0 where
   pub numbers : List ℕ
 
 -- the name of the program, which begins its lines
-abbrev pub program_name : List ℕ
-program_name = codes "atcron"
+abbrev pub cron_program_name : List ℕ
+cron_program_name = codes "atcron"
 
 -- the seconds of the rest after a session: up to the next full minute where it was done, else a short one
-abbrev pub rest_after : CronEnd → ℤ → ℕ
-rest_after Done now = LONGEST_REST - unsigned_abs now % LONGEST_REST
-rest_after Busy now = SHORT_REST
-rest_after FileFault now = SHORT_REST
-rest_after (Damaged damage) now = SHORT_REST
-rest_after QueueFull now = SHORT_REST
-rest_after NumbersUsedUp now = SHORT_REST
-rest_after Memory now = SHORT_REST
+abbrev pub rest_after_session : CronEnd → ℤ → ℕ
+rest_after_session Done now = LONGEST_REST - unsigned_abs now % LONGEST_REST
+rest_after_session Busy now = SHORT_REST
+rest_after_session FileFault now = SHORT_REST
+rest_after_session (Damaged damage) now = SHORT_REST
+rest_after_session QueueFull now = SHORT_REST
+rest_after_session NumbersUsedUp now = SHORT_REST
+rest_after_session Memory now = SHORT_REST
 
 -- the cause of a session's end
-abbrev pub cause_of_end : CronEnd → Cause
-cause_of_end Done = cause.Done
-cause_of_end Busy = cause.Busy
-cause_of_end FileFault = cause.FileFault
-cause_of_end (Damaged damage) = cause.Damaged damage
-cause_of_end QueueFull = cause.Refused refusal.QueueFull
-cause_of_end NumbersUsedUp = cause.Refused refusal.NumbersUsedUp
-cause_of_end Memory = cause.Memory
+abbrev pub cause_of_cron_end : CronEnd → Cause
+cause_of_cron_end Done = cause.Done
+cause_of_cron_end Busy = cause.Busy
+cause_of_cron_end FileFault = cause.FileFault
+cause_of_cron_end (Damaged damage) = cause.Damaged damage
+cause_of_cron_end QueueFull = cause.Refused refusal.QueueFull
+cause_of_cron_end NumbersUsedUp = cause.Refused refusal.NumbersUsedUp
+cause_of_cron_end Memory = cause.Memory
 
 -- the line of a session's end; one that was done has none
-abbrev pub end_line : CronEnd → List ℕ
-end_line end = cause_line_of program_name (cause_of_end end)
+abbrev pub cron_end_line : CronEnd → List ℕ
+cron_end_line end = cause_line_of cron_program_name (cause_of_cron_end end)
 
 -- What is said of a session after which another may come: its line. That of want of memory may be wanting. Where it was
 -- done nothing is put: the sink is as it was.
-abbrev pub SaysEnd : CronEnd → SinkAt → SinkAt → Type 0
-SaysEnd Memory old new = IsSilent old new ⊎ IsPut (end_line Memory) old new
-SaysEnd Done old new = new ≡ old
-SaysEnd Busy old new = IsPut (end_line Busy) old new
-SaysEnd FileFault old new = IsPut (end_line FileFault) old new
-SaysEnd (Damaged damage) old new = ⊥
-SaysEnd QueueFull old new = IsPut (end_line QueueFull) old new
-SaysEnd NumbersUsedUp old new = IsPut (end_line NumbersUsedUp) old new
+abbrev pub SaysCronEnd : CronEnd → SinkAt → SinkAt → Type 0
+SaysCronEnd Memory old new = IsSilent old new ⊎ IsPut (cron_end_line Memory) old new
+SaysCronEnd Done old new = new ≡ old
+SaysCronEnd Busy old new = IsPut (cron_end_line Busy) old new
+SaysCronEnd FileFault old new = IsPut (cron_end_line FileFault) old new
+SaysCronEnd (Damaged damage) old new = ⊥
+SaysCronEnd QueueFull old new = IsPut (cron_end_line QueueFull) old new
+SaysCronEnd NumbersUsedUp old new = IsPut (cron_end_line NumbersUsedUp) old new
 
 -- the session found no damage, so another may come
 abbrev pub MayGoOn : CronEnd → Type 0
@@ -82,13 +82,13 @@ HasLine Memory = Unit {0}
 pub record GoesOnSaying (tells : Bool) (end : CronEnd) (old new : SinkAt) : Type 0 where
   pub goes_on : MayGoOn end
   pub later : old.faults ≤ new.faults
-  pub says : tells ≡ true → SaysEnd end old new
+  pub says : tells ≡ true → SaysCronEnd end old new
 
 -- its line was cut, since its put failed
 pub record IsCutOff (tells : Bool) (end : CronEnd) (old new : SinkAt) : Type 0 where
   pub has_line : HasLine end
   pub rose : Rose old.faults new.faults
-  pub cut : tells ≡ true → IsCut (end_line end) old new
+  pub cut : tells ≡ true → IsCut (cron_end_line end) old new
 
 -- its line found no memory, and is not that of want of memory
 pub record IsUnsaid (tells : Bool) (end : CronEnd) (old new : SinkAt) : Type 0 where

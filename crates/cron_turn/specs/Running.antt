@@ -15,20 +15,20 @@ use Rattle.listing_text.specs.declared.cause.Cause.{Cause}
 use Rattle.listing_text.specs.declared.cause.Cause.TheVariants.{Done, Refused, InputFault, Memory, OutputFault}
 use Rattle.listing_text.specs.declared.refusal.Refusal.TheVariants.{BadZone}
 use Rattle.cron_turn.specs.declared.words.CronRequest.{CronRequest}
-use Rattle.cron_turn.specs.Items.{GoesOnSaying, Item, program_name, rest_after}
-use Rattle.cron_turn.specs.Sessions.{IsMade, Stops}
+use Rattle.cron_turn.specs.Items.{GoesOnSaying, CronItem, cron_program_name, rest_after_session}
+use Rattle.cron_turn.specs.Sessions.{IsSessionMade, Stops}
 
 -- The sessions lead from the first state to this one: each begins where the one before it ended, after a rest. So many
 -- seconds are to be rested before the next one.
-pub data Serves (tells : Telling) (caller : Caller) (path : List ℕ) (first : WorkAt CronAt)
-    : List Item → Option ℕ → WorkAt CronAt → Type 0 where
-  no_session : Serves tells caller path first [] None first
-  next_session : (before : List Item) (rest : Option ℕ) (item : Item) (last rested after : WorkAt CronAt)
-      → Serves tells caller path first before rest last
+pub data MakesCronSessions (tells : Telling) (caller : Caller) (path : List ℕ) (first : WorkAt CronAt)
+    : List CronItem → Option ℕ → WorkAt CronAt → Type 0 where
+  no_session : MakesCronSessions tells caller path first [] None first
+  next_session : (before : List CronItem) (rest : Option ℕ) (item : CronItem) (last rested after : WorkAt CronAt)
+      → MakesCronSessions tells caller path first before rest last
       → RestsBefore tells.clock rest last rested
-      → IsMade tells caller path item rested after
+      → IsSessionMade tells caller path item rested after
       → GoesOnSaying tells.errors item.end rested.said after.said
-      → Serves tells caller path first (before ++ item ∷ []) (Some (rest_after item.end item.now)) after
+      → MakesCronSessions tells caller path first (before ++ item ∷ []) (Some (rest_after_session item.end item.now)) after
 
 -- After the last of the sessions there was a rest, and one more was begun, at which it ended.
 pub record IsCutShort (tells : Telling) (caller : Caller) (path : List ℕ) (rest : Option ℕ)
@@ -46,11 +46,11 @@ pub data EndsAfter (tells : Telling) (caller : Caller) (path : List ℕ) (turns 
       → EndsAfter tells caller path turns count rest last new cause
 
 -- how the program works on a crontab: its sessions, and why there are no more
-pub record Works (tells : Telling) (caller : Caller) (request : CronRequest) (old new : WorkAt CronAt) (cause : Cause) : Type 0 where
-  pub items : List Item
+pub record RunsSessions (tells : Telling) (caller : Caller) (request : CronRequest) (old new : WorkAt CronAt) (cause : Cause) : Type 0 where
+  pub items : List CronItem
   pub rest : Option ℕ
   pub last : WorkAt CronAt
-  pub serves : Serves tells caller request.file old items rest last
+  pub serves : MakesCronSessions tells caller request.file old items rest last
   pub ends : EndsAfter tells caller request.file request.turns (length items) rest last new cause
 
 -- what the caller is refused for before the first session: its user, its directory, its variables, then its zone
@@ -66,30 +66,30 @@ caller_refused caller = refused_by (first_fault caller.context) caller.zone
 
 abbrev pub WorksUnless : Option Cause → Telling → Caller → CronRequest → WorkAt CronAt → (WorkAt CronAt) → Cause → Type 0
 WorksUnless (Some refused) tells caller request old new cause = (cause ≡ refused) × (new ≡ old)
-WorksUnless None tells caller request old new cause = Works tells caller request old new cause
+WorksUnless None tells caller request old new cause = RunsSessions tells caller request old new cause
 
 -- what the words ask for is done: words that ask for nothing are refused first, and then the caller
-abbrev pub Does : Result CronRequest WordsFault → Telling → Caller → WorkAt CronAt → (WorkAt CronAt) → Cause → Type 0
-Does (Err fault) tells caller old new cause = (cause ≡ words_cause fault) × (new ≡ old)
-Does (Ok request) tells caller old new cause = WorksUnless (caller_refused caller) tells caller request old new cause
+abbrev pub RunsAsRequested : Result CronRequest WordsFault → Telling → Caller → WorkAt CronAt → (WorkAt CronAt) → Cause → Type 0
+RunsAsRequested (Err fault) tells caller old new cause = (cause ≡ words_cause fault) × (new ≡ old)
+RunsAsRequested (Ok request) tells caller old new cause = WorksUnless (caller_refused caller) tells caller request old new cause
 
 -- or the words were not read, for want of memory
-abbrev pub CarriesOut : Result CronRequest WordsFault → Telling → Caller → WorkAt CronAt → (WorkAt CronAt) → Cause → Type 0
-CarriesOut asked tells caller old new cause = ((cause ≡ Memory) × (new ≡ old)) ⊎ Does asked tells caller old new cause
+abbrev pub RunsOrLacksMemory : Result CronRequest WordsFault → Telling → Caller → WorkAt CronAt → (WorkAt CronAt) → Cause → Type 0
+RunsOrLacksMemory asked tells caller old new cause = ((cause ≡ Memory) × (new ≡ old)) ⊎ RunsAsRequested asked tells caller old new cause
 
 -- the line of the cause was said after all else
 pub record IsEnded (tells : Bool) (cause : Cause) (old new : WorkAt CronAt) (final : Cause) : Type 0 where
   pub spool : new.spool ≡ old.spool
   pub clock : new.clock ≡ old.clock
   pub input : new.input ≡ old.input
-  pub said : IsSaid program_name tells cause old.said new.said final
+  pub said : IsSaid cron_program_name tells cause old.said new.said final
 
 -- How the program runs: what the words ask for is done, and the line of its cause is said.
 pub record CronRuns (asked : Result CronRequest WordsFault) (tells : Telling) (caller : Caller)
     (old new : WorkAt CronAt) (final : Cause) : Type 0 where
   pub cause : Cause
   pub done : WorkAt CronAt
-  pub does : CarriesOut asked tells caller old done cause
+  pub does : RunsOrLacksMemory asked tells caller old done cause
   pub ended : IsEnded tells.errors cause done new final
 
 -- The faults of the outside come only where their counts rose; those of the folder, and that it is held, end no program.

@@ -4,7 +4,7 @@ use Rattle.std.specs.Prelude.{◌≡◌, ◌⊎◌, ◌+◌, ◌≤◌, ◌<◌,
 use Rattle.cause_output.specs.Outside.{Telling, WorkAt}
 use Rattle.clock_range.specs.ClockRange.{IsClockSecond}
 use Rattle.host_calls.specs.Causes.{Rose}
-use Rattle.host_calls.specs.Inputs.{IsPrefixOf}
+use Rattle.host_calls.specs.Inputs.{IsInputPrefix}
 use Rattle.listing_text.specs.declared.cause.Cause.{Cause}
 use Rattle.listing_text.specs.declared.cause.Cause.TheVariants.{Refused, InputFault, Memory}
 use Rattle.listing_text.specs.declared.refusal.Refusal.TheVariants.{BadClock, BadCrontab, TooLong}
@@ -15,20 +15,20 @@ use Rattle.cron_input.specs.Clock.{ReadsClock}
 use Rattle.cron_input.specs.Reading.{AsksFile, IsBadAt, ReadsFile}
 use Rattle.cron_session.specs.Leaving.{CronAt, CronsTo}
 use Rattle.cron_session.specs.Steps.{Cron}
-use Rattle.cron_turn.specs.Items.{EndsSaying, Item}
+use Rattle.cron_turn.specs.Items.{EndsSaying, CronItem}
 
 -- what the session of an item is to do
-abbrev pub cron_of : Caller → Item → Cron
-cron_of caller item = record { context = caller.context; zone = caller.zone; entries = item.entries; now = item.now }
+abbrev pub cron_of_item : Caller → CronItem → Cron
+cron_of_item caller item = record { context = caller.context; zone = caller.zone; entries = item.entries; now = item.now }
 
 -- The session of the item was made: at the second that the clock answered, on the entries that the file spelled then.
-pub record IsMade (tells : Telling) (caller : Caller) (path : List ℕ) (item : Item) (old new : WorkAt CronAt) : Type 0 where
+pub record IsSessionMade (tells : Telling) (caller : Caller) (path : List ℕ) (item : CronItem) (old new : WorkAt CronAt) : Type 0 where
   pub now : IsClockSecond item.now
   pub clock : ReadsClock tells.clock item.now old.clock new.clock
   pub input : ReadsFile tells.input path item.bytes old.input new.input
   pub few : length item.bytes ≤ MAX_CRONTAB
   pub spelled : SpellsCrontab item.bytes item.entries
-  pub session : CronsTo tells.files tells.alone (cron_of caller item) old.spool new.spool item.end item.numbers
+  pub session : CronsTo tells.files tells.alone (cron_of_item caller item) old.spool new.spool item.end item.numbers
 
 -- no session was made, and nothing was said
 pub record IsUnmade (old new : WorkAt CronAt) : Type 0 where
@@ -36,7 +36,7 @@ pub record IsUnmade (old new : WorkAt CronAt) : Type 0 where
   pub said : new.said ≡ old.said
 
 -- the clock answered a second out of its range
-pub record StopsAtClock (tells : Telling) (old new : WorkAt CronAt) : Type 0 where
+pub record CronStopsAtClock (tells : Telling) (old new : WorkAt CronAt) : Type 0 where
   pub now : ℤ
   pub out : ¬ (IsClockSecond now)
   pub clock : ReadsClock tells.clock now old.clock new.clock
@@ -55,12 +55,12 @@ pub record StopsAtFile (tells : Telling) (old new : WorkAt CronAt) : Type 0 wher
 pub record StopsAtText (tells : Telling) (path : List ℕ) (IsSo : List ℕ → Type 0) (old new : WorkAt CronAt) : Type 0 where
   pub at_file : StopsAtFile tells old new
   pub bytes : List ℕ
-  pub given : tells.input ≡ true → IsPrefixOf (old.input.contents.file path) (MAX_CRONTAB + 1) bytes
+  pub given : tells.input ≡ true → IsInputPrefix (old.input.contents.file path) (MAX_CRONTAB + 1) bytes
   pub so : IsSo bytes
 
 -- Why no session was made: the clock, the inputs, a text that is too long or has a bad line, or want of memory.
 abbrev pub StopsBefore : Telling → List ℕ → WorkAt CronAt → (WorkAt CronAt) → Cause → Type 0
-StopsBefore tells path old new (Refused BadClock) = StopsAtClock tells old new
+StopsBefore tells path old new (Refused BadClock) = CronStopsAtClock tells old new
 StopsBefore tells path old new (Refused TooLong) = StopsAtText tells path (λ bytes. MAX_CRONTAB < length bytes) old new
 StopsBefore tells path old new (Refused (BadCrontab line)) = StopsAtText tells path (IsBadAt line) old new
 StopsBefore tells path old new InputFault =
@@ -70,8 +70,8 @@ StopsBefore tells path old new _ = ⊥
 
 -- a session was made, and is the last one for this cause
 pub record StopsAfter (tells : Telling) (caller : Caller) (path : List ℕ) (old new : WorkAt CronAt) (cause : Cause) : Type 0 where
-  pub item : Item
-  pub made : IsMade tells caller path item old new
+  pub item : CronItem
+  pub made : IsSessionMade tells caller path item old new
   pub says : EndsSaying tells.errors item.end old.said new.said cause
 
 -- how the program ends at one session more

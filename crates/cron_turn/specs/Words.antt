@@ -14,14 +14,14 @@ unfoldable pub cron_app : App
 cron_app = app_with (codes "atcron") (value_rule (codes "file") 102 ∷ long_rule (codes "turns") ∷ [])
 
 -- a crontab and a number of sessions, where there are both
-abbrev pub request_of : Option Text → Option ℕ → Result CronRequest WordsFault
-request_of (Some file) (Some turns) = Ok (record { file = file; turns = turns })
-request_of (Some file) None = Err Usage
-request_of None turns = Err Usage
+abbrev pub cron_request : Option Text → Option ℕ → Result CronRequest WordsFault
+cron_request (Some file) (Some turns) = Ok (record { file = file; turns = turns })
+cron_request (Some file) None = Err Usage
+cron_request None turns = Err Usage
 
 -- the path of the crontab, and the number of sessions, which is the greatest where none is given
 abbrev pub crontab_asked : List Row → Result CronRequest WordsFault
-crontab_asked rows = request_of (first_of (codes "file") rows) (turns_asked (first_of (codes "turns") rows))
+crontab_asked rows = cron_request (first_of (codes "file") rows) (turns_asked (first_of (codes "turns") rows))
 
 -- what the words ask for, the first of which stands for the program's name; without it they ask for nothing
 abbrev pub cron_asked : List Text → Result CronRequest WordsFault

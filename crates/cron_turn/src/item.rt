@@ -1,7 +1,7 @@
 //! What comes of a session's end: the rest after it, and the cause that is said of it.
 ghost use Rattle.std.specs.Prelude.{◌≡◌};
 ghost use Rattle.clock_range.specs.ClockRange.{IsClockSecond};
-ghost use Rattle.cron_turn.specs.Items.{cause_of_end, rest_after};
+ghost use Rattle.cron_turn.specs.Items.{cause_of_cron_end, rest_after_session};
 
 use cron_session::CronEnd;
 use listing_text::{Cause, Refusal};
@@ -13,9 +13,9 @@ pub const LONGEST_REST: u32 = 60;
 pub const SHORT_REST: u32 = 1;
 
 // The seconds of the rest after a session.
-pub(crate) fn rest_after(end: &CronEnd, now: i64) -> u32
+pub(crate) fn rest_after_session(end: &CronEnd, now: i64) -> u32
     requires { IsClockSecond now }
-    ensures { result ≡ rest_after end.now now }
+    ensures { result ≡ rest_after_session end.now now }
 {
     match end {
         CronEnd::Done => LONGEST_REST - (now.unsigned_abs() % u64::from(LONGEST_REST)) as u32,
@@ -29,8 +29,8 @@ pub(crate) fn rest_after(end: &CronEnd, now: i64) -> u32
 }
 
 // The end of a session, as the cause of a line.
-pub(crate) fn cause_of_end(end: &CronEnd) -> Cause
-    ensures { result ≡ cause_of_end end.now }
+pub(crate) fn cause_of_cron_end(end: &CronEnd) -> Cause
+    ensures { result ≡ cause_of_cron_end end.now }
 {
     match end {
         CronEnd::Done => Cause::Done,

@@ -3,12 +3,12 @@ ghost use Rattle.std.specs.Prelude.{◌≡◌, ◌<◌, map, string_bytes};
 ghost use Rattle.host_calls.specs.Session.{IsOutside};
 ghost use Rattle.listing_text.specs.Cause.{status_of};
 ghost use Rattle.cron_turn.specs.Outside.{StaysSo, run_at, cron_telling};
-ghost use Rattle.cron_turn.specs.Running.{CarriesOut, CronRuns, HasRisenInTurns, WorksUnless, caller_refused, refused_zone};
+ghost use Rattle.cron_turn.specs.Running.{RunsOrLacksMemory, CronRuns, HasRisenInTurns, WorksUnless, caller_refused, refused_zone};
 ghost use Rattle.cron_turn.specs.Words.{cron_asked};
 
-use crate::run::run;
-use crate::say::PROGRAM;
-use crate::words::{CronRequest, request};
+use crate::run::run_sessions;
+use crate::say::CRON_PROGRAM;
+use crate::words::{CronRequest, cron_request};
 use cause_output::{Caller, CommandError, cause_of_words, say_cause};
 use civil_minute::Zone;
 use host_calls::{Host, Inputs, Readings, Sink};
@@ -41,12 +41,12 @@ pub fn cron_program<H: Host, R: Readings, I: Inputs, E: Sink>(
         (run_at H.Host R.Readings I.Inputs E.Sink host.old readings.old inputs.old err.old)
         (run_at H.Host R.Readings I.Inputs E.Sink host.new readings.new inputs.new err.new) result.cause }
 {
-    let cause = carry_out(alloc, words, caller, host, readings, inputs, err);
-    Status::of(say_cause(alloc, PROGRAM, cause, err))
+    let cause = run_by_words(alloc, words, caller, host, readings, inputs, err);
+    Status::of(say_cause(alloc, CRON_PROGRAM, cause, err))
 }
 
 // Does what the words ask for. The line of the cause is still to be said.
-fn carry_out<H: Host, R: Readings, I: Inputs, E: Sink>(
+fn run_by_words<H: Host, R: Readings, I: Inputs, E: Sink>(
     alloc: Global,
     words: &[String],
     caller: &Caller,
@@ -60,19 +60,19 @@ fn carry_out<H: Host, R: Readings, I: Inputs, E: Sink>(
     ensures err_made { (E.outlet err.new).made_as ≡ (E.outlet err.old).made_as }
     ensures stays { StaysSo (run_at H.Host R.Readings I.Inputs E.Sink host.old readings.old inputs.old err.old)
         (run_at H.Host R.Readings I.Inputs E.Sink host.new readings.new inputs.new err.new) }
-    ensures does { CarriesOut (cron_asked (map string_bytes words.now))
+    ensures does { RunsOrLacksMemory (cron_asked (map string_bytes words.now))
         (cron_telling H.Host R.Readings I.Inputs E.Sink) caller.now
         (run_at H.Host R.Readings I.Inputs E.Sink host.old readings.old inputs.old err.old)
         (run_at H.Host R.Readings I.Inputs E.Sink host.new readings.new inputs.new err.new) result }
 {
-    match request(alloc, words) {
-        Ok(request) => run_unless(alloc, &request, caller, host, readings, inputs, err),
+    match cron_request(alloc, words) {
+        Ok(request) => run_unless_refused(alloc, &request, caller, host, readings, inputs, err),
         Err(fault) => cause_of_words(fault),
     }
 }
 
 // Makes the sessions, unless the caller is refused.
-fn run_unless<H: Host, R: Readings, I: Inputs, E: Sink>(
+fn run_unless_refused<H: Host, R: Readings, I: Inputs, E: Sink>(
     alloc: Global,
     request: &CronRequest,
     caller: &Caller,
@@ -91,14 +91,14 @@ fn run_unless<H: Host, R: Readings, I: Inputs, E: Sink>(
         (run_at H.Host R.Readings I.Inputs E.Sink host.old readings.old inputs.old err.old)
         (run_at H.Host R.Readings I.Inputs E.Sink host.new readings.new inputs.new err.new) result }
 {
-    match refused(caller) {
+    match caller_refusal(caller) {
         Some(cause) => cause,
-        None => run(alloc, request, caller, host, readings, inputs, err),
+        None => run_sessions(alloc, request, caller, host, readings, inputs, err),
     }
 }
 
 // What the caller is refused for: its user, its directory, its variables, then its zone.
-fn refused(caller: &Caller) -> Option<Cause>
+fn caller_refusal(caller: &Caller) -> Option<Cause>
     ensures { result ≡ caller_refused caller.now }
 {
     match check(&caller.context) {

@@ -4,9 +4,9 @@ ghost use Rattle.civil_minute.specs.Zone.{IsReadable};
 ghost use Rattle.host_calls.specs.Session.{IsOutside};
 ghost use Rattle.job_script.specs.Check.{first_fault};
 ghost use Rattle.cron_turn.specs.Outside.{StaysSo, run_at, cron_telling};
-ghost use Rattle.cron_turn.specs.Running.{Works};
+ghost use Rattle.cron_turn.specs.Running.{RunsSessions};
 
-use crate::turn::{rest_before, turn};
+use crate::turn::{make_session, rest_before_session};
 use crate::words::CronRequest;
 use cause_output::Caller;
 use host_calls::{Host, Inputs, Readings, Sink};
@@ -14,7 +14,7 @@ use listing_text::Cause;
 use std::alloc::Global;
 
 // Makes so many sessions, or as many as there are up to one that ends it, with a rest between each two.
-pub(crate) fn run<H: Host, R: Readings, I: Inputs, E: Sink>(
+pub(crate) fn run_sessions<H: Host, R: Readings, I: Inputs, E: Sink>(
     alloc: Global,
     request: &CronRequest,
     caller: &Caller,
@@ -30,15 +30,15 @@ pub(crate) fn run<H: Host, R: Readings, I: Inputs, E: Sink>(
     ensures err_made { (E.outlet err.new).made_as ≡ (E.outlet err.old).made_as }
     ensures stays { StaysSo (run_at H.Host R.Readings I.Inputs E.Sink host.old readings.old inputs.old err.old)
         (run_at H.Host R.Readings I.Inputs E.Sink host.new readings.new inputs.new err.new) }
-    ensures works { Works (cron_telling H.Host R.Readings I.Inputs E.Sink) caller.now request.now
+    ensures works { RunsSessions (cron_telling H.Host R.Readings I.Inputs E.Sink) caller.now request.now
         (run_at H.Host R.Readings I.Inputs E.Sink host.old readings.old inputs.old err.old)
         (run_at H.Host R.Readings I.Inputs E.Sink host.new readings.new inputs.new err.new) result }
 {
     let path = request.file.as_str();
     let mut rest = None;
     for _turn in 0..request.turns {
-        rest_before(rest, readings);
-        match turn(alloc, path, caller, &mut rest, host, readings, inputs, err) {
+        rest_before_session(rest, readings);
+        match make_session(alloc, path, caller, &mut rest, host, readings, inputs, err) {
             Some(cause) => return cause,
             None => {}
         }

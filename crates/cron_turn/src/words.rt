@@ -19,25 +19,25 @@ pub(crate) struct CronRequest {
 }
 
 // What the words ask for, the first of which stands for the program's name; without it they ask for nothing.
-pub(crate) fn request(alloc: Global, words: &[String]) -> Result<CronRequest, WordsFault>
+pub(crate) fn cron_request(alloc: Global, words: &[String]) -> Result<CronRequest, WordsFault>
     ensures { Answers (cron_asked (map string_bytes words.now)) result }
 {
     if words.is_empty() {
         return Err(WordsFault::Usage);
     }
-    let command = command(alloc)?;
+    let command = cron_command(alloc)?;
     let matches = parsed(command, words)?;
-    asked(alloc, &matches)
+    cron_request_of(alloc, &matches)
 }
 
-fn command<'a>(alloc: Global) -> Result<Command<'a>, AllocError>
+fn cron_command<'a>(alloc: Global) -> Result<Command<'a>, AllocError>
     ensures { IfOk result (λ made. app_of made ≡ cron_app) }
 {
     let file = with_value(alloc, bare_command(alloc, "atcron"), "file", 'f')?;
     with_long(alloc, file, "turns")
 }
 
-fn asked(alloc: Global, matches: &ArgMatches) -> Result<CronRequest, WordsFault>
+fn cron_request_of(alloc: Global, matches: &ArgMatches) -> Result<CronRequest, WordsFault>
     ensures { Answers (crontab_asked (rows_of (found_of matches.now))) result }
 {
     let Some(file) = value(matches, "file") else {

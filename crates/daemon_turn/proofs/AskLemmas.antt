@@ -16,17 +16,17 @@ use Rattle.daemon_turn.specs.declared.kid.Kid.{Kid}
 use Rattle.spool_model.specs.declared.turn_step.TurnStep.{TurnStep}
 use Rattle.daemon_turn.specs.inside.Asking.{AsksAll}
 use Rattle.daemon_turn.specs.Kids.{AreChildren}
-use Rattle.daemon_turn.specs.Decisions.{end_of, ends, questions}
+use Rattle.daemon_turn.specs.Decisions.{end_of, end_steps, questions}
 
 -- so many of the kids have answered
 pub record HasAsked (tells : Bool) (kids : List Kid) (count : ℕ) (known : List TurnStep) (old new : World) : Type 0 where
   pub answers : List (Option Ending)
   pub counted : length answers ≡ count
-  pub ended : known ≡ ends kids answers
+  pub ended : known ≡ end_steps kids answers
   pub asked : tells ≡ true → (kept : Kept) (table : JobTable) → IsCurrent kept old.now.folder table →
       AreMade table [] [] (questions kids answers) kept old new
 
-pub ends_of_none : (kids : List Kid) → ends kids [] ≡ []
+pub ends_of_none : (kids : List Kid) → end_steps kids [] ≡ []
 ends_of_none [] = refl
 ends_of_none (kid ∷ kids) = refl
 
@@ -45,14 +45,14 @@ none_asked tells kids world = record {
 
 -- one answer more
 ends_of_next : (kids : List Kid) (answers : List (Option Ending)) (kid : Kid) (answer : Option Ending) → length answers < length kids →
-    kid ≡ get_or kids (length answers) kid → ends kids (answers ++ answer ∷ []) ≡ ends kids answers ++ end_of kid.number answer
+    kid ≡ get_or kids (length answers) kid → end_steps kids (answers ++ answer ∷ []) ≡ end_steps kids answers ++ end_of kid.number answer
 ends_of_next [] answers kid answer below at = absurd (omega arith)
 ends_of_next (first ∷ kids) [] kid answer below at =
     ap (λ (l : List TurnStep). end_of first.number answer ++ l) (ends_of_none kids) ∙ append-nil (end_of first.number answer)
     ∙ ap (λ (k : Kid). end_of k.number answer) (sym at)
 ends_of_next (first ∷ kids) (one ∷ answers) kid answer below at =
     ap (λ (l : List TurnStep). end_of first.number one ++ l) (ends_of_next kids answers kid answer (omega arith) at)
-    ∙ sym (append_assoc (end_of first.number one) (ends kids answers) (end_of kid.number answer))
+    ∙ sym (append_assoc (end_of first.number one) (end_steps kids answers) (end_of kid.number answer))
 
 questions_of_next : (kids : List Kid) (answers : List (Option Ending)) (kid : Kid) (answer : Option Ending) → length answers < length kids →
     kid ≡ get_or kids (length answers) kid →

@@ -11,7 +11,7 @@ use Rattle.host_calls.specs.declared.host.Host.{Ghosts}
 use Rattle.host_calls.specs.Causes.{Rose}
 use Rattle.host_calls.specs.Session.{Enters, IsLeft, Session}
 use Rattle.host_calls.specs.World.{World, reading}
-use Rattle.host_session.specs.Work.{Calls, EndsSession, IsUndone}
+use Rattle.host_session.specs.Work.{Calls, EndsSession, IsWorkUndone}
 use Rattle.spool_model.specs.JobTable.{JobTable}
 use Rattle.spool_shows.specs.Shown.{shown_by}
 use Rattle.whole_file.proofs.OthersLemmas.{changes_none}
@@ -28,12 +28,12 @@ use Rattle.host_session.specs.declared.turn_end.TurnEnd.{TurnEnd}
 use Rattle.host_session.specs.declared.turn_end.TurnEnd.TheVariants.{Done, Busy, FileFault, Damaged, Memory}
 use Rattle.spool_model.specs.declared.turn_step.TurnStep.{TurnStep}
 use Rattle.daemon_turn.specs.Daemons.{DaemonState}
-use Rattle.daemon_turn.specs.Kids.{AreByNumber, AreChildren}
-use Rattle.daemon_turn.specs.Leaving.{Gave, IfUnread, IsIdle, IsNone, IsStopped, IsWhole, DaemonAt, TurnLeaves, TurnsTo}
+use Rattle.daemon_turn.specs.Kids.{AreKidsByNumber, AreChildren}
+use Rattle.daemon_turn.specs.Leaving.{TurnHandsOver, IfNoTableRead, IsTurnIdle, IsNoStepMade, IsTurnStopped, IsTurnDone, DaemonAt, TurnLeaves, TurnsTo}
 use Rattle.daemon_turn.specs.Starting.{Turn, turn_of}
-use Rattle.host_calls.specs.StoreFaults.{IsOfReading}
+use Rattle.host_calls.specs.StoreFaults.{IsReadingFault}
 use Rattle.host_session.specs.Ends.{end_after, end_of_session}
-use Rattle.daemon_turn.specs.inside.Working.{Works}
+use Rattle.daemon_turn.specs.inside.Working.{TurnWorks}
 use Rattle.host_session.proofs.EndLemmas.{is_fault, not_busy}
 
 abbrev stand : Session → World → DaemonState → DaemonAt
@@ -43,7 +43,7 @@ stand session world daemon = record { session = session; world = world; daemon =
 unbegun_same : (old new : World) → new ≡ old → IsUnbegun old new
 unbegun_same old new same = subst (IsUnbegun old) (sym same) (recoveries_begin_nothing old old (changes_none (ShowsAsBefore old.now.folder) old))
 
-idle_same : (before after : Session) (old new : World) (daemon : DaemonState) → new ≡ old → IsIdle [] (stand before old daemon) (stand after new daemon)
+idle_same : (before after : Session) (old new : World) (daemon : DaemonState) → new ≡ old → IsTurnIdle [] (stand before old daemon) (stand after new daemon)
 idle_same before after old new daemon same = record {
   none = record { none = refl; kids = refl };
   unbegun = unbegun_same old new same;
@@ -53,9 +53,9 @@ idle_same before after old new daemon same = record {
 
 -- a session that could not be entered
 module _ (tells alone : Bool) (at : TurnInput) (before after : Session) (old new : World) (daemon : DaemonState) (of : EnterFault) (enters : Enters {T = Unit {0}} before after (Err of))
-    (same : tells ≡ true → alone ≡ true → new ≡ old) (children : AreChildren before.children daemon.kids) (ordered : AreByNumber daemon.kids) where
+    (same : tells ≡ true → alone ≡ true → new ≡ old) (children : AreChildren before.children daemon.kids) (ordered : AreKidsByNumber daemon.kids) where
   not_entered : (end : TurnEnd) → (end ≡ Busy → Rose before.taken after.taken) → (end ≡ FileFault → Rose before.file_faults after.file_faults) →
-      (tells ≡ true → alone ≡ true → TurnLeaves (turn_of daemon at) [] (stand before old daemon) (stand after new daemon) end) → IfUnread end (IsNone [] daemon daemon) →
+      (tells ≡ true → alone ≡ true → TurnLeaves (turn_of daemon at) [] (stand before old daemon) (stand after new daemon) end) → IfNoTableRead end (IsNoStepMade [] daemon daemon) →
       TurnsTo tells alone at (stand before old daemon) (stand after new daemon) end []
   not_entered end busy fault leaves unread = record {
     outside = enters.inside;
@@ -95,7 +95,7 @@ module _ (tells alone : Bool) (at : TurnInput) (before after : Session) (old new
 -- What is left within the session is left by the turn.
 module _ (turn : Turn) (before between worked after : Session) (entered : between.children ≡ before.children) (left : after.children ≡ worked.children) (old new : World) (daemon now : DaemonState) where
   gave_at : (table : JobTable) (steps : List TurnStep) (given : List Handed) (answers : List (Option Ending)) →
-      Gave table steps given answers (stand between old daemon) (stand worked new now) → Gave table steps given answers (stand before old daemon) (stand after new now)
+      TurnHandsOver table steps given answers (stand between old daemon) (stand worked new now) → TurnHandsOver table steps given answers (stand before old daemon) (stand after new now)
   gave_at table steps given answers gave = record {
     handed = gave.handed;
     hands = gave.hands;
@@ -107,7 +107,7 @@ module _ (turn : Turn) (before between worked after : Session) (entered : betwee
     kids = gave.kids;
   }
 
-  whole_at : (steps : List TurnStep) → IsWhole turn steps (stand between old daemon) (stand worked new now) → IsWhole turn steps (stand before old daemon) (stand after new now)
+  whole_at : (steps : List TurnStep) → IsTurnDone turn steps (stand between old daemon) (stand worked new now) → IsTurnDone turn steps (stand before old daemon) (stand after new now)
   whole_at steps whole = record {
     table = whole.table;
     given = whole.given;
@@ -117,7 +117,7 @@ module _ (turn : Turn) (before between worked after : Session) (entered : betwee
     gave = gave_at whole.table steps whole.given whole.answers whole.gave;
   }
 
-  stopped_at : (steps : List TurnStep) → IsStopped turn steps (stand between old daemon) (stand worked new now) → IsStopped turn steps (stand before old daemon) (stand after new now)
+  stopped_at : (steps : List TurnStep) → IsTurnStopped turn steps (stand between old daemon) (stand worked new now) → IsTurnStopped turn steps (stand before old daemon) (stand after new now)
   stopped_at steps stopped = record {
     table = stopped.table;
     given = stopped.given;
@@ -130,7 +130,7 @@ module _ (turn : Turn) (before between worked after : Session) (entered : betwee
     gave = gave_at stopped.table steps stopped.given stopped.answers stopped.gave;
   }
 
-  idle_at : (steps : List TurnStep) → IsIdle steps (stand between old daemon) (stand worked new now) → IsIdle steps (stand before old daemon) (stand after new now)
+  idle_at : (steps : List TurnStep) → IsTurnIdle steps (stand between old daemon) (stand worked new now) → IsTurnIdle steps (stand before old daemon) (stand after new now)
   idle_at steps idle = record { none = idle.none; unbegun = idle.unbegun; shown = idle.shown; asked = idle.asked }
 
   pub leaves_at : (end : TurnEnd) (steps : List TurnStep) → TurnLeaves turn steps (stand between old daemon) (stand worked new now) end → TurnLeaves turn steps (stand before old daemon) (stand after new now) end
@@ -146,8 +146,8 @@ module _ (turn : Turn) (before between worked after : Session) (entered : betwee
 
 module _ (tells alone : Bool) (at : TurnInput) (before between worked after : Session) (old entered stood new : World) (daemon now : DaemonState) (limit : now.limit ≡ daemon.limit) (interval : now.interval ≡ daemon.interval)
     (steps : List TurnStep) (result : Result (Unit {0}) StoreFault) (enters : Enters {T = Unit {0}} {E = EnterFault} before between (Ok tt)) (same : tells ≡ true → alone ≡ true → entered ≡ old)
-    (works : Works tells (turn_of daemon at) (stand between entered daemon) (stand worked stood now) steps result) (left : IsLeft worked after) (kept : tells ≡ true → alone ≡ true → new ≡ stood) where
-  unread_by : (of : Result (Unit {0}) StoreFault) → Works tells (turn_of daemon at) (stand between entered daemon) (stand worked stood now) steps of → IfUnread (end_after of) (IsNone steps daemon now)
+    (works : TurnWorks tells (turn_of daemon at) (stand between entered daemon) (stand worked stood now) steps result) (left : IsLeft worked after) (kept : tells ≡ true → alone ≡ true → new ≡ stood) where
+  unread_by : (of : Result (Unit {0}) StoreFault) → TurnWorks tells (turn_of daemon at) (stand between entered daemon) (stand worked stood now) steps of → IfNoTableRead (end_after of) (IsNoStepMade steps daemon now)
   unread_by (Ok done) is = tt
   unread_by (Err fault.FileFault) is = tt
   unread_by (Err (fault.Damaged damage)) is = is.unread damage refl
@@ -178,30 +178,30 @@ module _ (tells alone : Bool) (at : TurnInput) (before between worked after : Se
 
 -- the second as it is written
 pub works_at : (tells : Bool) (daemon : DaemonState) (written now : ℤ) (load : Option ℕ) (mode : Mode) (old new : DaemonAt) (steps : List TurnStep) (result : Result (Unit {0}) StoreFault) → written ≡ now →
-    Works tells (turn_of daemon (record { now = written; load = load; mode = mode })) old new steps result → Works tells (turn_of daemon (record { now = now; load = load; mode = mode })) old new steps result
+    TurnWorks tells (turn_of daemon (record { now = written; load = load; mode = mode })) old new steps result → TurnWorks tells (turn_of daemon (record { now = now; load = load; mode = mode })) old new steps result
 works_at tells daemon written now load mode old new steps result same works =
-    subst (λ (of : ℤ). Works tells (turn_of daemon (record { now = of; load = load; mode = mode })) old new steps result) same works
+    subst (λ (of : ℤ). TurnWorks tells (turn_of daemon (record { now = of; load = load; mode = mode })) old new steps result) same works
 
 -- What came of the session: it could not begin, or the work was done in it.
 module _ {H F : Type 0} (g : Ghosts H) (calls : Calls H F (Result (Unit {0}) StoreFault)) (work left : F) (old new : H) where
   pub reads_of_session : (result : Result (Result (Unit {0}) StoreFault) EnterFault) → EndsSession g calls work left old new result →
-      ((first last : H) (done : Result (Unit {0}) StoreFault) → CalledAtMut calls work first done left last → IfErr done IsOfReading) →
-      IfOk result (λ done. IfErr done IsOfReading)
+      ((first last : H) (done : Result (Unit {0}) StoreFault) → CalledAtMut calls work first done left last → IfErr done IsReadingFault) →
+      IfOk result (λ done. IfErr done IsReadingFault)
   reads_of_session (Ok done) ends within = within ends.first ends.last done ends.did
   reads_of_session (Err fault) ends within = tt
 
   module _ (at : TurnInput) (daemon now : DaemonState) (limit : now.limit ≡ daemon.limit) (interval : now.interval ≡ daemon.interval)
-      (children : AreChildren (g.session old).children daemon.kids) (ordered : AreByNumber daemon.kids) (steps : List TurnStep)
+      (children : AreChildren (g.session old).children daemon.kids) (ordered : AreKidsByNumber daemon.kids) (steps : List TurnStep)
       (still : left ≡ work → (now ≡ daemon) × (steps ≡ []))
       (within : (first last : H) (done : Result (Unit {0}) StoreFault) → CalledAtMut calls work first done left last →
-      Works g.tells (turn_of daemon at) (stand (g.session first) (g.world first) daemon) (stand (g.session last) (g.world last) now) steps done) where
+      TurnWorks g.tells (turn_of daemon at) (stand (g.session first) (g.world first) daemon) (stand (g.session last) (g.world last) now) steps done) where
     abbrev Turned : DaemonState → TurnEnd → Type 0
     Turned is end = TurnsTo g.tells g.alone at (stand (g.session old) (g.world old) daemon) (stand (g.session new) (g.world new) is) end steps
 
-    as_it_was : (fault : EnterFault) → IsUndone g work left old new fault → (end : TurnEnd) → Turned daemon end → Turned now end
+    as_it_was : (fault : EnterFault) → IsWorkUndone g work left old new fault → (end : TurnEnd) → Turned daemon end → Turned now end
     as_it_was fault undone end turned = subst (λ (is : DaemonState). Turned is end) (sym (still undone.same).0) turned
 
-    unentered : (fault : EnterFault) → IsUndone g work left old new fault → Enters {T = Unit {0}} (g.session old) (g.session new) (Err fault)
+    unentered : (fault : EnterFault) → IsWorkUndone g work left old new fault → Enters {T = Unit {0}} (g.session old) (g.session new) (Err fault)
     unentered fault undone =
         record { inside = undone.refused.left.outside; children = undone.refused.left.children; counts = undone.refused.left.counts }
 

@@ -23,13 +23,13 @@ use Rattle.spool_shows.proofs.Membership.{Has, has_left, made_has}
 use Rattle.daemon_turn.specs.declared.kid.Kid.{Kid}
 use Rattle.spool_model.specs.declared.turn_step.TurnStep.{TurnStep}
 use Rattle.spool_model.specs.declared.turn_step.TurnStep.TheVariants.{Ended, Interrupted}
-use Rattle.daemon_turn.specs.Decisions.{ends, interrupts, is_without_kid, questions, runs_in}
-use Rattle.daemon_turn.specs.Kids.{AreByNumber, AreChildren, tells_end_of}
-use Rattle.spool_model.specs.StepsOf.{number_of, steps_of}
+use Rattle.daemon_turn.specs.Decisions.{end_steps, interrupts, is_job_without_kid, questions, runs_in}
+use Rattle.daemon_turn.specs.Kids.{AreKidsByNumber, AreChildren, tells_end_of}
+use Rattle.spool_model.specs.StepsOf.{number_of_step, steps_of_turn}
 use Rattle.daemon_turn.specs.inside.Asking.{AsksAll}
-use Rattle.daemon_turn.specs.inside.Deciding.{AreDecided, MakesDecisions, MayDecide}
+use Rattle.daemon_turn.specs.inside.Deciding.{AreEndsRecorded, MakesDecisions, MayDecide}
 use Rattle.daemon_turn.specs.inside.Ended.{AreEndsByNumber, is_end, without_ended}
-use Rattle.daemon_turn.specs.inside.Going.{Part, joined, quiet_part}
+use Rattle.daemon_turn.specs.inside.Going.{TurnPart, joined_parts, quiet_part}
 use Rattle.daemon_turn.specs.inside.Making.{MakesAll}
 use Rattle.step_runs.proofs.ApartLemmas.{Apart, all_each, each_all, filter_alike, pairs_cons, pairs_head, pairs_nil, pairs_tail, rise_apart}
 use Rattle.daemon_turn.proofs.AskLemmas.{ends_of_none, questions_of_none}
@@ -42,11 +42,11 @@ abbrev kid_number : Kid → ℕ
 kid_number kid = kid.number
 
 -- steps that give up or end hand nothing over
-quiet_interrupts : (rows : List Row) → AreChanges (steps_of (map (λ (row : Row). Interrupted row.number) rows))
+quiet_interrupts : (rows : List Row) → AreChanges (steps_of_turn (map (λ (row : Row). Interrupted row.number) rows))
 quiet_interrupts [] = tt
 quiet_interrupts (row ∷ rows) = (tt, quiet_interrupts rows)
 
-quiet_ends : (kids : List Kid) (answers : List (Option Ending)) → AreChanges (steps_of (ends kids answers))
+quiet_ends : (kids : List Kid) (answers : List (Option Ending)) → AreChanges (steps_of_turn (end_steps kids answers))
 quiet_ends [] answers = tt
 quiet_ends (kid ∷ kids) [] = tt
 quiet_ends (kid ∷ kids) (None ∷ answers) = quiet_ends kids answers
@@ -59,27 +59,27 @@ module _ (tells : Bool) (session : Session) (world : World) (kept : Kept) (kids 
   pub kids_apart : Apart (map kid_number kids)
   kids_apart = rise_apart kid_number kids may.ordered
 
-  legal_parts : (answers : List (Option Ending)) → PrefixAndRest kept.table (steps_of (interrupts kept.table kids)) (steps_of (ends kids answers))
+  legal_parts : (answers : List (Option Ending)) → PrefixAndRest kept.table (steps_of_turn (interrupts kept.table kids)) (steps_of_turn (end_steps kids answers))
   legal_parts answers =
-      prefixes_are_legal kept.table (steps_of (interrupts kept.table kids)) (steps_of (ends kids answers))
-      (subst (AreLegal kept.table) (steps_join (interrupts kept.table kids) (ends kids answers)) (decisions_legal kept.table kids kids_apart each_runs answers))
+      prefixes_are_legal kept.table (steps_of_turn (interrupts kept.table kids)) (steps_of_turn (end_steps kids answers))
+      (subst (AreLegal kept.table) (steps_join (interrupts kept.table kids) (end_steps kids answers)) (decisions_legal kept.table kids kids_apart each_runs answers))
 
-  pub may_give_up : (interrupted : List TurnStep) → interrupted ≡ interrupts kept.table kids → MayMakeSteps tells session world kept (steps_of interrupted)
+  pub may_give_up : (interrupted : List TurnStep) → interrupted ≡ interrupts kept.table kids → MayMakeSteps tells session world kept (steps_of_turn interrupted)
   may_give_up interrupted is = record {
     inside = may.go.inside;
-    legal = subst (λ (steps : List TurnStep). AreLegal kept.table (steps_of steps)) (sym is) (legal_parts []).prefix_legal;
-    changes = subst (λ (steps : List TurnStep). AreChanges (steps_of steps)) (sym is) (quiet_interrupts (filter (is_without_kid kids) (live_rows kept.table)));
+    legal = subst (λ (steps : List TurnStep). AreLegal kept.table (steps_of_turn steps)) (sym is) (legal_parts []).prefix_legal;
+    changes = subst (λ (steps : List TurnStep). AreChanges (steps_of_turn steps)) (sym is) (quiet_interrupts (filter (is_job_without_kid kids) (live_rows kept.table)));
     current = may.go.current;
   }
 
   pub may_end_all : (now : Kept) (between : Session) (middle : World) (known : List TurnStep) (answers : List (Option Ending)) → IsInside between →
-      now.table ≡ after_steps kept.table (steps_of (interrupts kept.table kids)) → known ≡ ends kids answers →
-      (tells ≡ true → (table : JobTable) × IsCurrent now middle.now.folder table) → MayMakeSteps tells between middle now (steps_of known)
+      now.table ≡ after_steps kept.table (steps_of_turn (interrupts kept.table kids)) → known ≡ end_steps kids answers →
+      (tells ≡ true → (table : JobTable) × IsCurrent now middle.now.folder table) → MayMakeSteps tells between middle now (steps_of_turn known)
   may_end_all now between middle known answers inside table_is is current = record {
     inside = inside;
-    legal = subst (λ (steps : List TurnStep). AreLegal now.table (steps_of steps)) (sym is)
-        (subst (λ (table : JobTable). AreLegal table (steps_of (ends kids answers))) (sym table_is) (legal_parts answers).rest_legal);
-    changes = subst (λ (steps : List TurnStep). AreChanges (steps_of steps)) (sym is) (quiet_ends kids answers);
+    legal = subst (λ (steps : List TurnStep). AreLegal now.table (steps_of_turn steps)) (sym is)
+        (subst (λ (table : JobTable). AreLegal table (steps_of_turn (end_steps kids answers))) (sym table_is) (legal_parts answers).rest_legal);
+    changes = subst (λ (steps : List TurnStep). AreChanges (steps_of_turn steps)) (sym is) (quiet_ends kids answers);
     current = current;
   }
 
@@ -102,7 +102,7 @@ module _ (tells : Bool) (before : Session) (old : World) (kept : Kept) (kids : L
       few = omega arith;
       prefix = (
         makes.prefix.0,
-        ap (λ (l : List TurnStep). l ++ ends kids []) (sym lost_is) ∙ ap (λ (l : List TurnStep). interrupted ++ l) (ends_of_none kids) ∙ append-nil interrupted ∙ makes.prefix.1,
+        ap (λ (l : List TurnStep). l ++ end_steps kids []) (sym lost_is) ∙ ap (λ (l : List TurnStep). interrupted ++ l) (ends_of_none kids) ∙ append-nil interrupted ∙ makes.prefix.1,
       );
       all = tt;
       asked = sym (questions_of_none kids);
@@ -114,29 +114,29 @@ module _ (tells : Bool) (before : Session) (old : World) (kept : Kept) (kids : L
 
   -- after all of them
   module _ (first : Session) (given_up : World) (now : Kept) (between : List TurnStep) (makes : MakesAll tells before first old given_up kept interrupted was between (Ok now)) where
-    abbrev giving : Part
+    abbrev giving : TurnPart
     giving = quiet_part makes.made makes.next
 
     given_are : makes.made ≡ interrupts kept.table kids
     given_are = makes.all ∙ lost_is
 
-    pub given_up_table : now.table ≡ after_steps kept.table (steps_of (interrupts kept.table kids))
-    given_up_table = makes.goes.table_is ∙ ap (λ (steps : List TurnStep). after_steps kept.table (steps_of steps)) given_are
+    pub given_up_table : now.table ≡ after_steps kept.table (steps_of_turn (interrupts kept.table kids))
+    given_up_table = makes.goes.table_is ∙ ap (λ (steps : List TurnStep). after_steps kept.table (steps_of_turn steps)) given_are
 
     -- stopped at a question
     pub stopped_asking : {E : Type 0} (after : Session) (new : World) (asked : Result (Vec TurnStep Global) E) (result : Result Kept StoreFault) → IsErrAnd result (λ other. other ≡ Memory) →
         StaysInside first after → AsksAll tells kids given_up new asked → MakesDecisions tells before after old new kept kids was between result
     stopped_asking after new asked (Ok store) err stays asks = absurd err
     stopped_asking after new asked (Err other) err stays asks = subst (λ (of : StoreFault). MakesDecisions tells before after old new kept kids was between (Err of)) (sym err) (record {
-      part = joined giving (asked_part (questions kids asks.answers));
+      part = joined_parts giving (asked_part (questions kids asks.answers));
       goes = goes_then tells before first after old given_up new kept now giving (asked_part (questions kids asks.answers)) (Err Memory) makes.goes
           (memory_goes tells first after given_up new now (questions kids asks.answers) stays asks.asked);
       decided = record {
         answers = asks.answers;
         few = asks.few;
         prefix = (
-          ends kids asks.answers,
-          ap (λ (l : List TurnStep). l ++ ends kids asks.answers) (sym (append-nil (makes.made ++ []) ∙ append-nil makes.made ∙ given_are)),
+          end_steps kids asks.answers,
+          ap (λ (l : List TurnStep). l ++ end_steps kids asks.answers) (sym (append-nil (makes.made ++ []) ∙ append-nil makes.made ∙ given_are)),
         );
         all = tt;
         asked = refl;
@@ -152,7 +152,7 @@ module _ (tells : Bool) (before : Session) (old : World) (kept : Kept) (kids : L
         MakesDecisions tells before after old new kept kids was is result
     ended_all asked_at after middle new told known is result stays asks same ended = record {
       part = whole;
-      goes = goes_then tells before asked_at after old middle new kept now (joined giving (asked_part (questions kids asks.answers))) ending result
+      goes = goes_then tells before asked_at after old middle new kept now (joined_parts giving (asked_part (questions kids asks.answers))) ending result
           (goes_then tells before first asked_at old given_up middle kept now giving (asked_part (questions kids asks.answers)) (Ok now) makes.goes
           (asks_go tells first asked_at given_up middle now (questions kids asks.answers) stays asks.asked))
           ended.goes;
@@ -161,7 +161,7 @@ module _ (tells : Bool) (before : Session) (old : World) (kept : Kept) (kids : L
         few = asks.few;
         prefix = (
           ended.prefix.0,
-          ap (λ (l : List TurnStep). l ++ ends kids asks.answers) (sym first_part)
+          ap (λ (l : List TurnStep). l ++ end_steps kids asks.answers) (sym first_part)
               ∙ ap (λ (l : List TurnStep). (makes.made ++ []) ++ l) (sym known_is ∙ ended.prefix.1)
               ∙ regroup (makes.made ++ []) ended.made ended.next ended.prefix.0,
         );
@@ -173,13 +173,13 @@ module _ (tells : Bool) (before : Session) (old : World) (kept : Kept) (kids : L
       written = ended.written ∙ ap (λ (l : List TurnStep). l ++ ended.made) makes.written ∙ append_assoc was makes.made (ended.made)
           ∙ ap (λ (l : List TurnStep). was ++ (l ++ ended.made)) (sym (append-nil makes.made));
     } where
-      ending : Part
+      ending : TurnPart
       ending = quiet_part ended.made ended.next
 
-      whole : Part
-      whole = joined (joined giving (asked_part (questions kids asks.answers))) ending
+      whole : TurnPart
+      whole = joined_parts (joined_parts giving (asked_part (questions kids asks.answers))) ending
 
-      known_is : known ≡ ends kids asks.answers
+      known_is : known ≡ end_steps kids asks.answers
       known_is = same ∙ asks.all.1
 
       first_part : makes.made ++ [] ≡ interrupts kept.table kids
@@ -189,7 +189,7 @@ module _ (tells : Bool) (before : Session) (old : World) (kept : Kept) (kids : L
       regroup a b c d = simp append_assoc
 
       all_of : (of : Result Kept StoreFault) (makes_ends : MakesAll tells asked_at after middle new now known between is of) →
-          IfOk of (λ store. (length asks.answers ≡ length kids) × ((makes.made ++ []) ++ makes_ends.made ≡ interrupts kept.table kids ++ ends kids asks.answers))
+          IfOk of (λ store. (length asks.answers ≡ length kids) × ((makes.made ++ []) ++ makes_ends.made ≡ interrupts kept.table kids ++ end_steps kids asks.answers))
       all_of (Ok store) makes_ends = (
         asks.all.0,
         ap (λ (l : List TurnStep). l ++ makes_ends.made) first_part
@@ -215,24 +215,24 @@ pairs_left R [] ys pairs = pairs_nil R
 pairs_left R (x ∷ xs) ys pairs = pairs_cons R x xs (λ y has. pairs_head R x (xs ++ ys) pairs y (has_left xs ys y has)) (pairs_left R xs ys (pairs_tail R x (xs ++ ys) pairs))
 
 abbrev IsBelow : TurnStep → TurnStep → Type 0
-IsBelow one other = number_of one < number_of other
+IsBelow one other = number_of_step one < number_of_step other
 
-ends_rise : (kids : List Kid) (answers : List (Option Ending)) → AreByNumber kids → AllPairs IsBelow (ends kids answers)
+ends_rise : (kids : List Kid) (answers : List (Option Ending)) → AreKidsByNumber kids → AllPairs IsBelow (end_steps kids answers)
 ends_rise [] answers rise = pairs_nil IsBelow
 ends_rise (kid ∷ kids) [] rise = pairs_nil IsBelow
 ends_rise (kid ∷ kids) (None ∷ answers) rise = ends_rise kids answers (pairs_tail (λ one other. one.number < other.number) kid kids rise)
 ends_rise (kid ∷ kids) (Some ending ∷ answers) rise =
-    pairs_cons IsBelow (Ended kid.number ending) (ends kids answers)
+    pairs_cons IsBelow (Ended kid.number ending) (end_steps kids answers)
     (λ step has. (let of : (other : Kid) × (known : Ending) × Has kids other × (Ended other.number known ≡ step) = end_of_kid kids answers step has in
-    subst (λ (one : TurnStep). kid.number < number_of one) of.3 (pairs_head (λ one other. one.number < other.number) kid kids rise of.0 of.2)))
+    subst (λ (one : TurnStep). kid.number < number_of_step one) of.3 (pairs_head (λ one other. one.number < other.number) kid kids rise of.0 of.2)))
     (ends_rise kids answers (pairs_tail (λ one other. one.number < other.number) kid kids rise))
 
-ends_each : (kids : List Kid) (answers : List (Option Ending)) (step : TurnStep) → Has (ends kids answers) step → is_end step ≡ true
+ends_each : (kids : List Kid) (answers : List (Option Ending)) (step : TurnStep) → Has (end_steps kids answers) step → is_end step ≡ true
 ends_each kids answers step has =
     let of : (other : Kid) × (known : Ending) × Has kids other × (Ended other.number known ≡ step) = end_of_kid kids answers step has in
     ap is_end (sym of.3)
 
-prefix_of_ends : (kids : List Kid) (answers : List (Option Ending)) (prefix beyond : List TurnStep) → AreByNumber kids → ends kids answers ≡ prefix ++ beyond → AreEndsByNumber prefix
+prefix_of_ends : (kids : List Kid) (answers : List (Option Ending)) (prefix beyond : List TurnStep) → AreKidsByNumber kids → end_steps kids answers ≡ prefix ++ beyond → AreEndsByNumber prefix
 prefix_of_ends kids answers prefix beyond rise is = record {
   each = each_all (λ step. is_end step ≡ true) prefix (λ step has. ends_each kids answers step (subst (λ (l : List TurnStep). Has l step) (sym is) (has_left prefix beyond step has)));
   ordered = pairs_left IsBelow prefix beyond (subst (AllPairs IsBelow) is (ends_rise kids answers rise));
@@ -244,12 +244,12 @@ no_end rows number step has =
     let of : (row : Row) × Has rows row × (Interrupted row.number ≡ step) = made_has (λ (row : Row). Interrupted row.number) rows step has in
     ap (tells_end_of number) (sym of.2)
 
-module _ (table : JobTable) (kids : List Kid) (part : Part) (result : Result Kept StoreFault) (decided : AreDecided table kids part result) (rise : AreByNumber kids) where
+module _ (table : JobTable) (kids : List Kid) (part : TurnPart) (result : Result Kept StoreFault) (decided : AreEndsRecorded table kids part result) (rise : AreKidsByNumber kids) where
   abbrev interrupted : List TurnStep
   interrupted = interrupts table kids
 
-  parts : ((beyond : List TurnStep) × (ends kids decided.answers ≡ drop (length interrupted) part.steps ++ beyond)) × ((others : List TurnStep) × (interrupted ≡ take (length interrupted) part.steps ++ others))
-  parts = split interrupted (ends kids decided.answers) part.steps (part.next ++ decided.prefix.0)
+  parts : ((beyond : List TurnStep) × (end_steps kids decided.answers ≡ drop (length interrupted) part.steps ++ beyond)) × ((others : List TurnStep) × (interrupted ≡ take (length interrupted) part.steps ++ others))
+  parts = split interrupted (end_steps kids decided.answers) part.steps (part.next ++ decided.prefix.0)
       (decided.prefix.1 ∙ append_assoc part.steps part.next decided.prefix.0)
 
   pub reported_ends : AreEndsByNumber (drop (length interrupted) part.steps)
@@ -258,7 +258,7 @@ module _ (table : JobTable) (kids : List Kid) (part : Part) (result : Result Kep
   none_lost : (number : ℕ) → list_any (tells_end_of number) (take (length interrupted) part.steps) ≡ false
   none_lost number = list_any_none (tells_end_of number) (take (length interrupted) part.steps)
       (each_all (λ step. tells_end_of number step ≡ false) (take (length interrupted) part.steps) (λ step has.
-      no_end (filter (is_without_kid kids) (live_rows table)) number step
+      no_end (filter (is_job_without_kid kids) (live_rows table)) number step
       (subst (λ (l : List TurnStep). Has l step) (sym parts.1.1) (has_left (take (length interrupted) part.steps) parts.1.0 step has))))
 
   ends_alike : (number : ℕ) → list_any (tells_end_of number) (drop (length interrupted) part.steps) ≡ list_any (tells_end_of number) part.steps

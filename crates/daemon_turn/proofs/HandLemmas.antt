@@ -28,7 +28,7 @@ use Rattle.step_runs.proofs.TurnLemmas.{legal_when_kept}
 use Rattle.host_calls.specs.declared.store_fault.StoreFault.{StoreFault}
 use Rattle.host_calls.specs.declared.store_fault.StoreFault.TheVariants.{FileFault, Memory}
 use Rattle.spool_store.specs.Listed.{IsLive}
-use Rattle.spool_store.specs.Scripts.{HoldsScript, IsFileOf}
+use Rattle.spool_store.specs.Scripts.{HoldsScript, IsLiveFileName}
 use Rattle.spool_store.specs.Stepping.{MakesStep}
 use Rattle.host_session.proofs.SessionLemmas.{counts_on}
 use Rattle.daemon_turn.specs.inside.Handing.{HandingEnds, HandsJobOver}
@@ -49,7 +49,7 @@ same_job : (one other : Job) (state since : JobState) → ◌≡◌ {A = Option 
 same_job one other state since is = cc
 
 -- the file of a live job has its script, and the niceness of its name's queue is that of the job's
-pub script_is : (kept : Kept) (folder : Folder) (table : JobTable) (number : ℕ) (name : List ℕ) (queue nice : ℕ) (file : IsFileOf kept.table kept.old_form number name) →
+pub script_is : (kept : Kept) (folder : Folder) (table : JobTable) (number : ℕ) (name : List ℕ) (queue nice : ℕ) (file : IsLiveFileName kept.table kept.old_form number name) →
     queue ≡ file.job.queue → nice ≡ niceness_of queue → IsCurrent kept folder table → HoldsScript table folder number name →
     IsScriptFile table (reading_of folder) number name nice
 script_is kept folder table number name queue nice file queue_is nice_is current holds =
@@ -115,7 +115,7 @@ pub and_some : {X : Type 0} (P : X → Type 0) (found : Option X) (value : X) �
 and_some {X = X} P found value is holds = subst (λ (some : Option X). IsSomeAnd some P) is holds
 
 -- the name of a live job's file is that of its queue
-pub named : (table : JobTable) (old_form : List ℕ) (number : ℕ) (name bytes : List ℕ) → bytes ≡ name → (file : IsFileOf table old_form number name) → SpellsJobName bytes file.job.queue number file.job.minute (is_new_form old_form number)
+pub named : (table : JobTable) (old_form : List ℕ) (number : ℕ) (name bytes : List ℕ) → bytes ≡ name → (file : IsLiveFileName table old_form number name) → SpellsJobName bytes file.job.queue number file.job.minute (is_new_form old_form number)
 named table old_form number name bytes same file = subst (λ (of : List ℕ). SpellsJobName of file.job.queue number file.job.minute (is_new_form old_form number)) (sym same) file.spelled
 
 -- the host's files have the script

@@ -13,9 +13,9 @@ use Rattle.spool_shows.proofs.Membership.{Has, filtered_has, has_made, one_passe
 use Rattle.daemon_turn.specs.declared.kid.Kid.{Kid}
 use Rattle.spool_model.specs.declared.turn_step.TurnStep.{TurnStep}
 use Rattle.spool_model.specs.declared.turn_step.TurnStep.TheVariants.{HandedOver, Ended, Interrupted, Forgotten}
-use Rattle.daemon_turn.specs.Decisions.{asked_kids, has_kid, interrupts, is_without_kid, is_running_entry, runs_in}
+use Rattle.daemon_turn.specs.Decisions.{asked_kids, has_kid, interrupts, is_job_without_kid, is_running_entry, runs_in}
 use Rattle.daemon_turn.specs.Kids.{kept_kids, tells_end_of}
-use Rattle.spool_model.specs.StepsOf.{number_of}
+use Rattle.spool_model.specs.StepsOf.{number_of_step}
 use Rattle.daemon_turn.specs.inside.Ended.{without_ended}
 use Rattle.daemon_turn.specs.inside.Waiting.{started_of}
 use Rattle.step_runs.proofs.ApartLemmas.{Apart, filter_alike}
@@ -31,20 +31,20 @@ filter_both {X} one other (x ∷ xs) = by_test (one x) (filter_both one other xs
   by_test false same = same
 
 -- a step that tells of an end has its number
-end_number : (number : ℕ) (step : TurnStep) → tells_end_of number step ≡ true → number_of step ≡ number
+end_number : (number : ℕ) (step : TurnStep) → tells_end_of number step ≡ true → number_of_step step ≡ number
 end_number number (HandedOver other second) is = cc
 end_number number (Ended other ending) is = eqb-true other number is
 end_number number (Interrupted other) is = cc
 end_number number (Forgotten other) is = cc
 
 -- steps of other jobs tell of no end
-pub no_end_of : (number : ℕ) (steps : List TurnStep) → (Has (map number_of steps) number → ⊥) → list_any (tells_end_of number) steps ≡ false
+pub no_end_of : (number : ℕ) (steps : List TurnStep) → (Has (map number_of_step steps) number → ⊥) → list_any (tells_end_of number) steps ≡ false
 no_end_of number steps none = by_test (list_any (tells_end_of number) steps) refl where
   by_test : (b : Bool) → list_any (tells_end_of number) steps ≡ b → b ≡ false
   by_test false is = refl
   by_test true is =
       let found : (step : TurnStep) × Has steps step × (tells_end_of number step ≡ true) = one_passes (tells_end_of number) steps is in
-      absurd (none (subst (Has (map number_of steps)) (end_number number found.0 found.2) (has_made number_of steps found.0 found.1)))
+      absurd (none (subst (Has (map number_of_step steps)) (end_number number found.0 found.2) (has_made number_of_step steps found.0 found.1)))
 
 -- the kids that stay, by the ends among the first steps, where the others are of no running job
 pub kids_stay : (table : JobTable) (first others : List TurnStep) (kids : List Kid) →
@@ -74,13 +74,13 @@ any_kept {X} one other (x ∷ xs) implies = by_tests (one x) (other x) refl refl
 pub interrupts_asked : (table : JobTable) (kids : List Kid) → interrupts table (asked_kids table kids) ≡ interrupts table kids
 interrupts_asked table kids =
     ap (map (λ (row : Row). Interrupted row.number))
-    (filter_alike (is_without_kid (asked_kids table kids)) (is_without_kid kids) (live_rows table) (λ row has. by_state (is_running row.state) row has refl)) where
+    (filter_alike (is_job_without_kid (asked_kids table kids)) (is_job_without_kid kids) (live_rows table) (λ row has. by_state (is_running row.state) row has refl)) where
       running_kid : (row : Row) → Has (live_rows table) row → is_running row.state ≡ true → (kid : Kid) → Has kids kid → (kid.number == row.number) ≡ true → runs_in table kid ≡ true
       running_kid row has is kid there same =
           let held : (job : Job) × (entry_at table row.number ≡ Some (Live job row.state)) = row_held table row has in
           ap (λ (n : ℕ). is_running_entry (entry_at table n)) (eqb-true kid.number row.number same) ∙ ap is_running_entry held.1 ∙ is
 
-      by_state : (b : Bool) (row : Row) → Has (live_rows table) row → is_running row.state ≡ b → is_without_kid (asked_kids table kids) row ≡ is_without_kid kids row
+      by_state : (b : Bool) (row : Row) → Has (live_rows table) row → is_running row.state ≡ b → is_job_without_kid (asked_kids table kids) row ≡ is_job_without_kid kids row
       by_state true row has is =
           ap (λ found. is_running row.state && not found) (any_kept (λ (kid : Kid). kid.number == row.number) (runs_in table) kids (running_kid row has is))
       by_state false row has is =

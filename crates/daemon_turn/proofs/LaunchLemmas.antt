@@ -19,13 +19,13 @@ use Rattle.spool_shows.proofs.Membership.{Has}
 use Rattle.daemon_turn.specs.declared.kid.Kid.{Kid}
 use Rattle.spool_model.specs.declared.turn_step.TurnStep.{TurnStep}
 use Rattle.spool_model.specs.declared.turn_step.TurnStep.TheVariants.{HandedOver, Ended}
-use Rattle.daemon_turn.specs.Starting.{start_steps, starts}
-use Rattle.spool_model.specs.StepsOf.{number_of, steps_of}
-use Rattle.daemon_turn.specs.inside.Going.{Gives, Goes, Part, joined, quiet_part}
+use Rattle.daemon_turn.specs.Starting.{start_steps, steps_of_starts}
+use Rattle.spool_model.specs.StepsOf.{number_of_step, steps_of_turn}
+use Rattle.daemon_turn.specs.inside.Going.{StartsPart, MakesPart, TurnPart, joined_parts, quiet_part}
 use Rattle.daemon_turn.specs.inside.Handing.{HandsJobOver}
 use Rattle.daemon_turn.specs.inside.Launching.{Launches}
 use Rattle.daemon_turn.specs.inside.Making.{MakesAll}
-use Rattle.daemon_turn.specs.inside.Waiting.{AreWaiting, started_of}
+use Rattle.daemon_turn.specs.inside.Waiting.{ArePendingNumbers, started_of}
 use Rattle.step_runs.proofs.ApartLemmas.{Apart, all_each, apart_differ, differ_apart, each_all}
 use Rattle.host_session.proofs.SessionLemmas.{stays_inside}
 use Rattle.step_runs.proofs.MadeLemmas.{no_steps_are_made}
@@ -42,7 +42,7 @@ started_runs table after number second legal is =
 
 pub may_end : (tells : Bool) (before between : Session) (old middle : World) (kept store : Kept) (number : ℕ) (second : ℤ) → IsLegal kept.table (Start number second) →
     (tells ≡ true → (table : JobTable) × IsCurrent kept old.now.folder table) → HandsJobOver tells before between old middle kept number second (Ok (store, None)) →
-    MayMakeSteps tells between middle store (steps_of (Ended number NotStarted ∷ []))
+    MayMakeSteps tells between middle store (steps_of_turn (Ended number NotStarted ∷ []))
 may_end tells before between old middle kept store number second legal current hands = record {
   inside = hands.inside;
   legal = (started_runs kept.table store.table number second legal hands.table_is, tt);
@@ -82,7 +82,7 @@ module _ (tells : Bool) (before between after : Session) (old middle new : World
       more ≡ kids → written ≡ was ++ HandedOver number second ∷ [] → MakesAll tells between after middle new store (Ended number NotStarted ∷ []) written is result →
       Launches tells before after old new kept (number ∷ []) second kids more was is result
   launched_none store more written is result hands same first makes = record {
-    part = joined (handed_part number second (Ok (store, None))) (quiet_part makes.made makes.next);
+    part = joined_parts (handed_part number second (Ok (store, None))) (quiet_part makes.made makes.next);
     goes = goes_then tells before between after old middle new kept store (handed_part number second (Ok (store, None))) (quiet_part makes.made makes.next) result
         (hands_go tells before between old middle kept number second (Ok (store, None)) hands)
         makes.goes;
@@ -97,7 +97,7 @@ module _ (tells : Bool) (before between after : Session) (old middle new : World
     kids_are = same ∙ sym (append-nil kids);
   } where
     all : (of : Result Kept StoreFault) → IfOk of (λ last. makes.made ≡ ended) →
-        IfOk of (λ last. (length (false ∷ []) ≡ length (number ∷ [])) × (HandedOver number second ∷ makes.made ≡ starts (number ∷ []) second (false ∷ [])))
+        IfOk of (λ last. (length (false ∷ []) ≡ length (number ∷ [])) × (HandedOver number second ∷ makes.made ≡ steps_of_starts (number ∷ []) second (false ∷ [])))
     all (Ok last) same = (refl, ap (λ (l : List TurnStep). HandedOver number second ∷ l) same)
     all (Err fault) same = tt
 
@@ -108,7 +108,7 @@ launched_nothing tells session world kept numbers second kids more was is (Ok st
 launched_nothing tells session world kept numbers second kids more was is (Err other) err inside same written = subst (λ (of : StoreFault). Launches tells session session world world kept numbers second kids more was is (Err of)) (sym err) (record {
   part = asked_part [];
   goes = memory_goes tells session session world world kept [] (stays_inside session inside) (λ known now table current. no_steps_are_made table now world current);
-  started = record { few = omega arith; prefix = (starts numbers second [], refl); all = tt; numbered = none numbers; asked = refl };
+  started = record { few = omega arith; prefix = (steps_of_starts numbers second [], refl); all = tt; numbered = none numbers; asked = refl };
   written = written ∙ sym (append-nil was);
   kids_are = same ∙ sym (append-nil kids);
 }) where
@@ -120,13 +120,13 @@ launched_nothing tells session world kept numbers second kids more was is (Err o
 
 -- the steps of starts that have all answered, and of others after them
 starts_join : (first later : List ℕ) (second : ℤ) (flags more : List Bool) → length flags ≡ length first →
-    starts (first ++ later) second (flags ++ more) ≡ starts first second flags ++ starts later second more
+    steps_of_starts (first ++ later) second (flags ++ more) ≡ steps_of_starts first second flags ++ steps_of_starts later second more
 starts_join [] later second [] more same = refl
 starts_join [] later second (flag ∷ flags) more same = absurd (omega arith)
 starts_join (number ∷ first) later second [] more same = absurd (omega arith)
 starts_join (number ∷ first) later second (flag ∷ flags) more same =
     ap (λ (l : List TurnStep). start_steps number second flag ++ l) (starts_join first later second flags more (omega arith))
-    ∙ sym (append_assoc (start_steps number second flag) (starts first second flags) (starts later second more))
+    ∙ sym (append_assoc (start_steps number second flag) (steps_of_starts first second flags) (steps_of_starts later second more))
 
 started_join : (first later : List ℕ) (flags more : List Bool) → length flags ≡ length first →
     started_of (first ++ later) (flags ++ more) ≡ started_of first flags ++ started_of later more
@@ -137,7 +137,7 @@ started_join (number ∷ first) later (true ∷ flags) more same = ap (λ (l : L
 started_join (number ∷ first) later (false ∷ flags) more same = started_join first later flags more (omega arith)
 
 -- what starts, and the end of one, tell of whose job they are
-pub start_numbers : (numbers : List ℕ) (second : ℤ) (flags : List Bool) (number : ℕ) → Has (map number_of (starts numbers second flags)) number → Has numbers number
+pub start_numbers : (numbers : List ℕ) (second : ℤ) (flags : List Bool) (number : ℕ) → Has (map number_of_step (steps_of_starts numbers second flags)) number → Has numbers number
 start_numbers [] second flags number has = absurd has
 start_numbers (first ∷ numbers) second [] number (inl same) = inl same
 start_numbers (first ∷ numbers) second [] number (inr none) = absurd none
@@ -150,18 +150,18 @@ start_numbers (first ∷ numbers) second (false ∷ flags) number (inr (inr has)
 -- so many of the jobs were started
 pub record HasLaunched (tells : Bool) (before after : Session) (old new : World) (kept now : Kept) (numbers : List ℕ) (count : ℕ) (second : ℤ)
     (kids more : List Kid) (was is : List TurnStep) : Type 0 where
-  pub part : Part
-  pub goes : Goes tells before after old new kept part (Ok now)
+  pub part : TurnPart
+  pub goes : MakesPart tells before after old new kept part (Ok now)
   pub counted : length part.flags ≡ count
-  pub steps : part.steps ≡ starts (take count numbers) second part.flags
+  pub steps : part.steps ≡ steps_of_starts (take count numbers) second part.flags
   pub numbered : map (λ kid. kid.number) part.added ≡ started_of (take count numbers) part.flags
   pub asked : part.questions ≡ []
   pub written : is ≡ was ++ part.steps
   pub kids_are : more ≡ kids ++ part.added
-  pub waiting : AreWaiting now.table (drop count numbers)
+  pub waiting : ArePendingNumbers now.table (drop count numbers)
 
 pub none_launched : (tells : Bool) (session : Session) (world : World) (kept : Kept) (numbers : List ℕ) (second : ℤ) (kids : List Kid) (was : List TurnStep) →
-    IsInside session → AreWaiting kept.table numbers → HasLaunched tells session session world world kept kept numbers 0 second kids kids was was
+    IsInside session → ArePendingNumbers kept.table numbers → HasLaunched tells session session world world kept kept numbers 0 second kids kids was was
 none_launched tells session world kept numbers second kids was inside waiting = record {
   part = no_part;
   goes = goes_none tells session world kept inside;
@@ -184,8 +184,8 @@ module _ (tells : Bool) (before between after : Session) (old middle new : World
   taken : take (count + 1) numbers ≡ take count numbers ++ number ∷ []
   taken = ap (λ (n : ℕ). take n numbers) (add-one count) ∙ take-suc numbers count default below
 
-  waiting_now : AreWaiting now.table (number ∷ drop (count + 1) numbers)
-  waiting_now = subst (AreWaiting now.table) dropped has.waiting
+  waiting_now : ArePendingNumbers now.table (number ∷ drop (count + 1) numbers)
+  waiting_now = subst (ArePendingNumbers now.table) dropped has.waiting
 
   pub pending_now : IsPending now.table number
   pending_now = all_each (IsPending now.table) (number ∷ drop (count + 1) numbers) waiting_now.each number (inl refl)
@@ -195,22 +195,22 @@ module _ (tells : Bool) (before between after : Session) (old middle new : World
     inside = has.goes.inside;
     legal = pending_now;
     current = λ known. (let first : (table : JobTable) × IsCurrent kept old.now.folder table = current known in
-        let gives : Gives first.0 has.part old middle (Ok now) = has.goes.files known first.0 first.1 in
-        (after_steps first.0 (steps_of has.part.steps), gives.ends.current));
+        let gives : StartsPart first.0 has.part old middle (Ok now) = has.goes.files known first.0 first.1 in
+        (after_steps first.0 (steps_of_turn has.part.steps), gives.ends.current));
   }
 
   rest_apart : Apart (number ∷ drop (count + 1) numbers)
   rest_apart = differ_apart (number ∷ drop (count + 1) numbers) waiting_now.apart
 
   -- those after it still wait
-  rest_waits : (store : Kept) (part : Part) → store.table ≡ after_steps now.table (steps_of part.steps) → part.steps ≡ starts (number ∷ []) second part.flags →
-      AreWaiting store.table (drop (count + 1) numbers)
+  rest_waits : (store : Kept) (part : TurnPart) → store.table ≡ after_steps now.table (steps_of_turn part.steps) → part.steps ≡ steps_of_starts (number ∷ []) second part.flags →
+      ArePendingNumbers store.table (drop (count + 1) numbers)
   rest_waits store part table_is steps =
-      subst (λ (table : JobTable). AreWaiting table (drop (count + 1) numbers)) (sym table_is)
+      subst (λ (table : JobTable). ArePendingNumbers table (drop (count + 1) numbers)) (sym table_is)
       (waiting_after now.table part.steps (drop (count + 1) numbers) (record {
         each = each_all (IsPending now.table) (drop (count + 1) numbers) (λ one here. all_each (IsPending now.table) (number ∷ drop (count + 1) numbers) waiting_now.each one (inr here));
         apart = apart_differ (drop (count + 1) numbers) rest_apart.1;
-      }) (λ one here there. by_one one here (start_numbers (number ∷ []) second part.flags one (subst (λ (l : List TurnStep). Has (map number_of l) one) steps there)))) where
+      }) (λ one here there. by_one one here (start_numbers (number ∷ []) second part.flags one (subst (λ (l : List TurnStep). Has (map number_of_step l) one) steps there)))) where
         by_one : (one : ℕ) → Has (drop (count + 1) numbers) one → Has (number ∷ []) one → ⊥
         by_one one here (inl same) = rest_apart.0 (subst (Has (drop (count + 1) numbers)) (sym same) here)
         by_one one here (inr none) = none
@@ -225,12 +225,12 @@ module _ (tells : Bool) (before between after : Session) (old middle new : World
   pub one_launched : (store : Kept) → Launches tells between after middle new now (number ∷ []) second more last is later (Ok store) →
       HasLaunched tells before after old new kept store numbers (count + 1) second kids last was later
   one_launched store one = record {
-    part = joined has.part one.part;
+    part = joined_parts has.part one.part;
     goes = goes_then tells before between after old middle new kept now has.part one.part (Ok store) has.goes one.goes;
     counted = omega (arith, length-append has.part.flags one.part.flags, has.counted, one.started.all.0);
-    steps = ap (λ (l : List TurnStep). l ++ one.part.steps) has.steps ∙ ap (λ (l : List TurnStep). starts (take count numbers) second has.part.flags ++ l) one.started.all.1
+    steps = ap (λ (l : List TurnStep). l ++ one.part.steps) has.steps ∙ ap (λ (l : List TurnStep). steps_of_starts (take count numbers) second has.part.flags ++ l) one.started.all.1
         ∙ sym (starts_join (take count numbers) (number ∷ []) second has.part.flags one.part.flags length_taken)
-        ∙ ap (λ (l : List ℕ). starts l second (has.part.flags ++ one.part.flags)) (sym taken);
+        ∙ ap (λ (l : List ℕ). steps_of_starts l second (has.part.flags ++ one.part.flags)) (sym taken);
     numbered = map-append (λ (kid : Kid). kid.number) has.part.added one.part.added
         ∙ ap (λ (l : List ℕ). l ++ map (λ (kid : Kid). kid.number) one.part.added) has.numbered
         ∙ ap (λ (l : List ℕ). started_of (take count numbers) has.part.flags ++ l) one.started.numbered
@@ -247,10 +247,10 @@ module _ (tells : Bool) (before between after : Session) (old middle new : World
   split = sym (take-append-drop count numbers) ∙ ap (λ (l : List ℕ). take count numbers ++ l) dropped
 
   -- the steps of the next start are a prefix of those of it and the rest
-  one_prefix : (flags : List Bool) → length flags ≤ 1 → (beyond : List TurnStep) × (starts (number ∷ drop (count + 1) numbers) second flags ≡ starts (number ∷ []) second flags ++ beyond)
+  one_prefix : (flags : List Bool) → length flags ≤ 1 → (beyond : List TurnStep) × (steps_of_starts (number ∷ drop (count + 1) numbers) second flags ≡ steps_of_starts (number ∷ []) second flags ++ beyond)
   one_prefix [] few = ([], refl)
-  one_prefix (true ∷ []) few = (starts (drop (count + 1) numbers) second [], refl)
-  one_prefix (false ∷ []) few = (starts (drop (count + 1) numbers) second [], refl)
+  one_prefix (true ∷ []) few = (steps_of_starts (drop (count + 1) numbers) second [], refl)
+  one_prefix (false ∷ []) few = (steps_of_starts (drop (count + 1) numbers) second [], refl)
   one_prefix (flag ∷ other ∷ flags) few = absurd (omega arith)
 
   started_one : (flags : List Bool) → length flags ≤ 1 → started_of (number ∷ drop (count + 1) numbers) flags ≡ started_of (number ∷ []) flags
@@ -272,15 +272,15 @@ module _ (tells : Bool) (before between after : Session) (old middle new : World
   stopped_launch fault (Err other) err one = subst (λ (of : StoreFault). Launches tells before after old new kept numbers second kids last was later (Err of)) (sym err) (
       let rest = one_prefix one.part.flags one.started.few in
       record {
-        part = joined has.part one.part;
+        part = joined_parts has.part one.part;
         goes = goes_then tells before between after old middle new kept now has.part one.part (Err fault) has.goes one.goes;
         started = record {
           few = omega (arith, length-append has.part.flags one.part.flags, has.counted, one.started.few, below);
           prefix = (
             one.started.prefix.0 ++ rest.0,
-            ap (λ (l : List ℕ). starts l second (has.part.flags ++ one.part.flags)) split
+            ap (λ (l : List ℕ). steps_of_starts l second (has.part.flags ++ one.part.flags)) split
                 ∙ starts_join (take count numbers) (number ∷ drop (count + 1) numbers) second has.part.flags one.part.flags length_taken
-                ∙ ap (λ (l : List TurnStep). starts (take count numbers) second has.part.flags ++ l) (rest.1 ∙ ap (λ (l : List TurnStep). l ++ rest.0) one.started.prefix.1)
+                ∙ ap (λ (l : List TurnStep). steps_of_starts (take count numbers) second has.part.flags ++ l) (rest.1 ∙ ap (λ (l : List TurnStep). l ++ rest.0) one.started.prefix.1)
                 ∙ ap (λ (l : List TurnStep). l ++ (((one.part.steps ++ one.part.next) ++ one.started.prefix.0) ++ rest.0)) (sym has.steps)
                 ∙ regroup has.part.steps one.part.steps one.part.next one.started.prefix.0 rest.0,
           );
@@ -304,7 +304,7 @@ pub all_launched : (tells : Bool) (before after : Session) (old new : World) (ke
     Launches tells before after old new kept numbers second kids more was is (Ok now)
 all_launched tells before after old new kept now numbers count second kids more was is whole has =
     let all : take count numbers ≡ numbers = ap (λ (n : ℕ). take n numbers) whole ∙ take-length numbers in
-    let steps : has.part.steps ≡ starts numbers second has.part.flags = has.steps ∙ ap (λ (l : List ℕ). starts l second has.part.flags) all in
+    let steps : has.part.steps ≡ steps_of_starts numbers second has.part.flags = has.steps ∙ ap (λ (l : List ℕ). steps_of_starts l second has.part.flags) all in
     let none : has.part.next ≡ [] = has.goes.whole in
     record {
       part = has.part;

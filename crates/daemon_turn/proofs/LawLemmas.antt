@@ -17,9 +17,9 @@ use Rattle.host_session.specs.declared.turn_end.TurnEnd.{TurnEnd}
 use Rattle.host_session.specs.declared.turn_end.TurnEnd.TheVariants.{Done, Busy, FileFault, Damaged, Memory}
 use Rattle.spool_model.specs.declared.turn_step.TurnStep.{TurnStep}
 use Rattle.daemon_turn.specs.Laws.{GoodFoldersStayGood, ReadingsStayGood, TurnsAreDone}
-use Rattle.daemon_turn.specs.Leaving.{DaemonAt, IsIdle, IsStopped, TurnLeaves}
+use Rattle.daemon_turn.specs.Leaving.{DaemonAt, IsTurnIdle, IsTurnStopped, TurnLeaves}
 use Rattle.daemon_turn.specs.Starting.{Turn, turn_of}
-use Rattle.spool_model.specs.StepsOf.{steps_of}
+use Rattle.spool_model.specs.StepsOf.{steps_of_turn}
 
 no_damage : (table : JobTable) (damage : Damage) (shown : Result JobTable Damage) → shown ≡ Ok table → shown ≡ Err damage → ⊥
 no_damage table damage shown is bad = let impossible : ◌≡◌ {A = Result JobTable Damage} (Ok table) (Err damage) = sym is ∙ bad in cc
@@ -57,18 +57,18 @@ good_folders_stay_good tells alone at old new end steps turn known is_alone good
 
 -- The reading after a turn.
 
-idle_reads : (steps : List TurnStep) (old new : DaemonAt) → IsIdle steps old new → IsGood (reading old.world) → IsGood (reading new.world)
+idle_reads : (steps : List TurnStep) (old new : DaemonAt) → IsTurnIdle steps old new → IsGood (reading old.world) → IsGood (reading new.world)
 idle_reads steps old new idle good = (good.0, idle.shown ∙ good.1)
 
-stopped_reads : (turn : Turn) (steps : List TurnStep) (old new : DaemonAt) → IsStopped turn steps old new → IsGood (reading new.world)
+stopped_reads : (turn : Turn) (steps : List TurnStep) (old new : DaemonAt) → IsTurnStopped turn steps old new → IsGood (reading new.world)
 stopped_reads turn steps old new stopped = elim (stopped.ends (reading new.world) (reading_is_image new.world.now.folder)) [
-  | inl without ↦ (after_steps stopped.table (steps_of steps), without)
-  | inr with_next ↦ (after_steps stopped.table (steps_of (steps ++ stopped.next)), with_next)
+  | inl without ↦ (after_steps stopped.table (steps_of_turn steps), without)
+  | inr with_next ↦ (after_steps stopped.table (steps_of_turn (steps ++ stopped.next)), with_next)
 ]
 
 reads_by : (turn : Turn) (steps : List TurnStep) (old new : DaemonAt) (end : TurnEnd) → TurnLeaves turn steps old new end → IsGood (reading old.world) → IsGood (reading new.world)
 reads_by turn steps old new Done whole good =
-    (after_steps whole.table (steps_of steps), whole.achieved.whole (reading new.world) (reading_is_image new.world.now.folder))
+    (after_steps whole.table (steps_of_turn steps), whole.achieved.whole (reading new.world) (reading_is_image new.world.now.folder))
 reads_by turn steps old new Busy idle good = idle_reads steps old new idle.0 good
 reads_by turn steps old new FileFault (inl idle) good = idle_reads steps old new idle good
 reads_by turn steps old new FileFault (inr stopped) good = stopped_reads turn steps old new stopped

@@ -20,9 +20,9 @@ use Rattle.spool_store.proofs.SurplusLemmas.{may_forget}
 use Rattle.host_session.proofs.SessionLemmas.{stays_inside}
 use Rattle.spool_model.specs.declared.turn_step.TurnStep.{TurnStep}
 use Rattle.spool_model.specs.declared.turn_step.TurnStep.TheVariants.{Forgotten}
-use Rattle.daemon_turn.specs.Starting.{forgets}
-use Rattle.spool_model.specs.StepsOf.{step_of, steps_of}
-use Rattle.daemon_turn.specs.inside.Going.{MayGo}
+use Rattle.daemon_turn.specs.Starting.{forgotten_steps}
+use Rattle.spool_model.specs.StepsOf.{step_of, steps_of_turn}
+use Rattle.daemon_turn.specs.inside.Going.{MayMakePart}
 use Rattle.daemon_turn.specs.inside.Making.{MakesAll}
 use Rattle.daemon_turn.proofs.GoLemmas.{memory_goes}
 
@@ -42,7 +42,7 @@ nothing_made {tells} {session} {world} {kept} steps was is result err inside sam
 
 -- they were made, or the first of them
 pub made_all : {tells : Bool} {before after : Session} {old new : World} {kept : Kept} (steps was is : List TurnStep) {made : ℕ} (result : Result Kept StoreFault) →
-    MakesSteps tells before after old new kept (steps_of steps) made result → is ≡ was ++ take made steps → MakesAll tells before after old new kept steps was is result
+    MakesSteps tells before after old new kept (steps_of_turn steps) made result → is ≡ was ++ take made steps → MakesAll tells before after old new kept steps was is result
 made_all {tells} {before} {after} {old} {new} {kept} steps was is {made} (Ok store) makes written = record {
   made = steps;
   next = [];
@@ -75,9 +75,9 @@ made_all {tells} {before} {after} {old} {new} {kept} steps was is {made} (Err fa
       given = [];
       flagged = refl;
       numbered = refl;
-      ends = subst (λ (l : List Step). AreStopped table (steps_of (take made steps)) l [] [] old new)
+      ends = subst (λ (l : List Step). AreStopped table (steps_of_turn (take made steps)) l [] [] old new)
           (ap (take makes.begun) (drop-map step_of made steps) ∙ take-map step_of makes.begun (drop made steps))
-          (subst (λ (l : List Step). AreStopped table l (take makes.begun (drop made (steps_of steps))) [] [] old new) (take-map step_of made steps) (makes.files known table current));
+          (subst (λ (l : List Step). AreStopped table l (take makes.begun (drop made (steps_of_turn steps))) [] [] old new) (take-map step_of made steps) (makes.files known table current));
     };
   };
   prefix = made_prefix steps made makes.begun;
@@ -92,7 +92,7 @@ written_part (step ∷ was) steps made zero is = absurd (omega (arith, is))
 written_part (step ∷ was) steps made (suc count) is = ap (λ (l : List TurnStep). step ∷ l) (written_part was steps made count (omega (arith, is)))
 
 -- what is too much may be forgotten
-pub may_forget_all : {tells : Bool} {session : Session} {world : World} {kept : Kept} (steps : List TurnStep) → MayGo tells session world kept → steps ≡ forgets kept.table →
-    MayMakeSteps tells session world kept (steps_of steps)
+pub may_forget_all : {tells : Bool} {session : Session} {world : World} {kept : Kept} (steps : List TurnStep) → MayMakePart tells session world kept → steps ≡ forgotten_steps kept.table →
+    MayMakeSteps tells session world kept (steps_of_turn steps)
 may_forget_all {tells} {session} {world} {kept} steps may is =
-    may_forget (steps_of steps) (ap steps_of is ∙ map-map step_of Forgotten (surplus kept.table)) may.inside may.current
+    may_forget (steps_of_turn steps) (ap steps_of_turn is ∙ map-map step_of Forgotten (surplus kept.table)) may.inside may.current

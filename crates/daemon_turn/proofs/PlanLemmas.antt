@@ -14,13 +14,13 @@ use Rattle.spool_store.specs.Listed.{ListsLive}
 use Rattle.spool_store.proofs.CountLemmas.{rows_listed}
 use Rattle.daemon_turn.specs.declared.kid.Kid.{Kid}
 use Rattle.spool_model.specs.declared.turn_step.TurnStep.TheVariants.{Interrupted}
-use Rattle.daemon_turn.specs.Decisions.{interrupts, is_without_kid}
+use Rattle.daemon_turn.specs.Decisions.{interrupts, is_job_without_kid}
 use Rattle.daemon_turn.specs.Starting.{IsBatchOrderWhere, IsFullOrder, Turn, has_batch_turn}
 
 pub lost_listed : (table : JobTable) (rows : List Row) (kids : List Kid) → ListsLive table rows →
-    map (λ (row : Row). Interrupted row.number) (filter (is_without_kid kids) rows) ≡ interrupts table kids
+    map (λ (row : Row). Interrupted row.number) (filter (is_job_without_kid kids) rows) ≡ interrupts table kids
 lost_listed table rows kids lists =
-    ap (λ (listed : List Row). map (λ (row : Row). Interrupted row.number) (filter (is_without_kid kids) listed)) (sym (rows_listed table rows lists))
+    ap (λ (listed : List Row). map (λ (row : Row). Interrupted row.number) (filter (is_job_without_kid kids) listed)) (sym (rows_listed table rows lists))
 
 -- an item of the first of a line, or of none
 pub batch_in_line : (table : JobTable) (dues : List Due) (now written : ℤ) (may : Bool) (found : Option ℕ) → written ≡ now → may ≡ true → IsLineOf (is_ready_batch written) (live_rows table) dues

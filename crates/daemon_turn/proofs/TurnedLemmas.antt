@@ -17,18 +17,18 @@ use Rattle.spool_shows.proofs.Membership.{Has, contained, filtered_has, has_cont
 use Rattle.daemon_turn.specs.declared.kid.Kid.{Kid}
 use Rattle.spool_model.specs.declared.turn_step.TurnStep.{TurnStep}
 use Rattle.spool_model.specs.declared.turn_step.TurnStep.TheVariants.{Forgotten}
-use Rattle.daemon_turn.specs.Decisions.{asked_kids, decisions, ends, interrupts, questions, runs_in}
+use Rattle.daemon_turn.specs.Decisions.{asked_kids, decisions, end_steps, interrupts, questions, runs_in}
 use Rattle.daemon_turn.specs.Kids.{AreChildren, kept_kids, tells_end_of}
-use Rattle.daemon_turn.specs.Starting.{IsOrder, Turn, forgets, starts}
-use Rattle.spool_model.specs.StepsOf.{number_of, steps_of}
+use Rattle.daemon_turn.specs.Starting.{IsOrder, Turn, forgotten_steps, steps_of_starts}
+use Rattle.spool_model.specs.StepsOf.{number_of_step, steps_of_turn}
 use Rattle.daemon_turn.specs.Turning.{AreFirstSteps, AreTurnSteps, with_forgets}
 use Rattle.daemon_turn.specs.inside.Deciding.{Decides, MayDecide}
 use Rattle.daemon_turn.specs.inside.Ended.{without_ended}
-use Rattle.daemon_turn.specs.inside.Going.{Gives, Goes, MayGo, Part, joined, quiet_part}
+use Rattle.daemon_turn.specs.inside.Going.{StartsPart, MakesPart, MayMakePart, TurnPart, joined_parts, quiet_part}
 use Rattle.daemon_turn.specs.inside.Launching.{Launches}
 use Rattle.daemon_turn.specs.inside.Making.{MakesAll}
 use Rattle.daemon_turn.specs.inside.Turned.{AreStepsBy, MakesTurn}
-use Rattle.daemon_turn.specs.inside.Waiting.{AreWaiting, started_of}
+use Rattle.daemon_turn.specs.inside.Waiting.{ArePendingNumbers, started_of}
 use Rattle.step_runs.proofs.ApartLemmas.{Apart, all_each, apart_append, apart_differ, apart_filter, differ_apart, rise_apart}
 use Rattle.daemon_turn.proofs.DecisionLemmas.{EachRuns, decided_run, kid_runs}
 use Rattle.daemon_turn.proofs.GoLemmas.{goes_then}
@@ -37,21 +37,21 @@ use Rattle.daemon_turn.proofs.LaunchLemmas.{start_numbers}
 use Rattle.daemon_turn.proofs.WaitLemmas.{waiting_after, waits_or_runs}
 
 -- what is kept is current after a part that was made
-pub may_go_on : (tells : Bool) (before after : Session) (old new : World) (kept now : Kept) (part : Part) → (tells ≡ true → (table : JobTable) × IsCurrent kept old.now.folder table) →
-    Goes tells before after old new kept part (Ok now) → MayGo tells after new now
+pub may_go_on : (tells : Bool) (before after : Session) (old new : World) (kept now : Kept) (part : TurnPart) → (tells ≡ true → (table : JobTable) × IsCurrent kept old.now.folder table) →
+    MakesPart tells before after old new kept part (Ok now) → MayMakePart tells after new now
 may_go_on tells before after old new kept now part current goes = record {
   inside = goes.inside;
   current = λ known. (let first : (table : JobTable) × IsCurrent kept old.now.folder table = current known in
-      let gives : Gives first.0 part old new (Ok now) = goes.files known first.0 first.1 in
-      (after_steps first.0 (steps_of part.steps), gives.ends.current));
+      let gives : StartsPart first.0 part old new (Ok now) = goes.files known first.0 first.1 in
+      (after_steps first.0 (steps_of_turn part.steps), gives.ends.current));
 }
 
 contains_left : {X : Type 0} (xs ys : List X) (x : X) → Contains xs x → Contains (xs ++ ys) x
 contains_left xs ys x has = contained (xs ++ ys) x (has_left xs ys x (has_contained xs x has))
 
 -- a prefix of steps has numbers of the steps
-prefix_number : (prefix later : List TurnStep) (number : ℕ) → Has (map number_of prefix) number → Has (map number_of (prefix ++ later)) number
-prefix_number prefix later number has = subst (λ (l : List ℕ). Has l number) (sym (map-append number_of prefix later)) (has_left (map number_of prefix) (map number_of later) number has)
+prefix_number : (prefix later : List TurnStep) (number : ℕ) → Has (map number_of_step prefix) number → Has (map number_of_step (prefix ++ later)) number
+prefix_number prefix later number has = subst (λ (l : List ℕ). Has l number) (sym (map-append number_of_step prefix later)) (has_left (map number_of_step prefix) (map number_of_step later) number has)
 
 forgets_no_end : (numbers : List ℕ) (number : ℕ) (step : TurnStep) → Has (map Forgotten numbers) step → tells_end_of number step ≡ false
 forgets_no_end numbers number step has =
@@ -64,7 +64,7 @@ none_any test (step ∷ steps) none =
     ap (λ b. Rattle.std.proofs.Common.◌||◌ b (list_any test steps)) (none step (inl refl)) ∙ none_any test steps (λ other has. none other (inr has))
 
 -- A turn with these kids, on what is kept.
-module _ (tells : Bool) (before : Session) (old : World) (kept : Kept) (kids : List Kid) (order : List ℕ) (may : MayDecide tells before old kept kids) (waiting : AreWaiting kept.table order) where
+module _ (tells : Bool) (before : Session) (old : World) (kept : Kept) (kids : List Kid) (order : List ℕ) (may : MayDecide tells before old kept kids) (waiting : ArePendingNumbers kept.table order) where
   each_runs : EachRuns kept.table kids
   each_runs = all_each (λ kid. runs_in kept.table kid ≡ true) kids may.run
 
@@ -74,14 +74,14 @@ module _ (tells : Bool) (before : Session) (old : World) (kept : Kept) (kids : L
   -- After what was decided:
   module _ (first : Session) (decided_at : World) (left : List Kid) (was is : List TurnStep) (none : was ≡ []) where
     -- the jobs that start still wait
-    pub order_waiting : (now : Kept) → Decides tells before first old decided_at kept kids left was is (Ok now) → AreWaiting now.table order
+    pub order_waiting : (now : Kept) → Decides tells before first old decided_at kept kids left was is (Ok now) → ArePendingNumbers now.table order
     order_waiting now decides =
-        let part : Part = decides.made.part in
-        let steps : part.steps ≡ interrupts kept.table kids ++ ends kids decides.made.decided.answers = decides.made.decided.all.1 in
-        subst (λ (table : JobTable). AreWaiting table order) (sym decides.made.goes.table_is)
+        let part : TurnPart = decides.made.part in
+        let steps : part.steps ≡ interrupts kept.table kids ++ end_steps kids decides.made.decided.answers = decides.made.decided.all.1 in
+        subst (λ (table : JobTable). ArePendingNumbers table order) (sym decides.made.goes.table_is)
         (waiting_after kept.table part.steps order waiting (λ number has also.
         waits_or_runs kept.table number (all_each (IsPending kept.table) order waiting.each number has)
-        (decided_run kept.table kids kids_apart each_runs decides.made.decided.answers number (subst (λ (l : List TurnStep). Has (map number_of l) number) steps also))))
+        (decided_run kept.table kids kids_apart each_runs decides.made.decided.answers number (subst (λ (l : List TurnStep). Has (map number_of_step l) number) steps also))))
 
     module _ (after : Session) (steps : List TurnStep) (added more : List Kid) (flags : List Bool) (more_is : more ≡ without_ended steps kids ++ added)
         (children_are : after.children ≡ before.children ++ map (λ (kid : Kid). kid.child) added) (numbered : map (λ (kid : Kid). kid.number) added ≡ started_of order flags) where
@@ -115,10 +115,10 @@ module _ (tells : Bool) (before : Session) (old : World) (kept : Kept) (kids : L
           (subst Apart (sym numbered) (started_apart order flags (differ_apart order waiting.apart))) stays_apart)))
 
     module _ (turn : Turn) (kids_are : kids ≡ asked_kids kept.table turn.kids) (ordered : IsOrder turn kept.table order) where
-      decisions_are : (answers : List (Option Ending)) → interrupts kept.table kids ++ ends kids answers ≡ decisions kept.table turn.kids answers
+      decisions_are : (answers : List (Option Ending)) → interrupts kept.table kids ++ end_steps kids answers ≡ decisions kept.table turn.kids answers
       decisions_are answers =
-          ap (λ (l : List Kid). interrupts kept.table l ++ ends l answers) kids_are
-          ∙ ap (λ (l : List TurnStep). l ++ ends (asked_kids kept.table turn.kids) answers) (interrupts_asked kept.table turn.kids)
+          ap (λ (l : List Kid). interrupts kept.table l ++ end_steps l answers) kids_are
+          ∙ ap (λ (l : List TurnStep). l ++ end_steps (asked_kids kept.table turn.kids) answers) (interrupts_asked kept.table turn.kids)
 
       asked_are : (answers : List (Option Ending)) (asked : List Asked) → asked ≡ questions kids answers → asked ≡ questions (asked_kids kept.table turn.kids) answers
       asked_are answers asked same = same ∙ ap (λ (l : List Kid). questions l answers) kids_are
@@ -144,7 +144,7 @@ module _ (tells : Bool) (before : Session) (old : World) (kept : Kept) (kids : L
         children = more_children first part.steps [] left [] left_is children_is (none_started order);
         apart = more_apart first part.steps [] left [] left_is children_is (none_started order);
       }) where
-        part : Part
+        part : TurnPart
         part = decides.made.part
 
         answers : List (Option Ending)
@@ -162,7 +162,7 @@ module _ (tells : Bool) (before : Session) (old : World) (kept : Kept) (kids : L
 
       -- After all decisions:
       module _ (now : Kept) (decides : Decides tells before first old decided_at kept kids left was is (Ok now)) where
-        abbrev deciding : Part
+        abbrev deciding : TurnPart
         deciding = decides.made.part
 
         abbrev known : List (Option Ending)
@@ -179,7 +179,7 @@ module _ (tells : Bool) (before : Session) (old : World) (kept : Kept) (kids : L
 
         module _ (second : Session) (started_at : World) (more : List Kid) (reported : List TurnStep) (outcome : Result Kept StoreFault)
             (launches : Launches tells first second decided_at started_at now order turn.now left more is reported outcome) where
-          abbrev starting : Part
+          abbrev starting : TurnPart
           starting = launches.part
 
           flags_are : deciding.flags ++ starting.flags ≡ starting.flags
@@ -188,7 +188,7 @@ module _ (tells : Bool) (before : Session) (old : World) (kept : Kept) (kids : L
           added_are : deciding.added ++ starting.added ≡ starting.added
           added_are = ap (λ (l : List Kid). l ++ starting.added) decides.made.decided.added
 
-          both_go : Goes tells before second old started_at kept (joined deciding starting) outcome
+          both_go : MakesPart tells before second old started_at kept (joined_parts deciding starting) outcome
           both_go = goes_then tells before first second old decided_at started_at kept now deciding starting outcome decides.made.goes launches.goes
 
           both_asked : deciding.questions ++ starting.questions ≡ questions kids known
@@ -207,8 +207,8 @@ module _ (tells : Bool) (before : Session) (old : World) (kept : Kept) (kids : L
           starts_no_end : (kid : Kid) → runs_in kept.table kid ≡ true → list_any (tells_end_of kid.number) starting.steps ≡ false
           starts_no_end kid runs = no_end_of kid.number starting.steps (λ has.
               (let prefix : List TurnStep = starting.steps ++ starting.next in
-              let there : Has (map number_of (starts order turn.now starting.flags)) kid.number =
-              subst (λ (l : List TurnStep). Has (map number_of l) kid.number) (sym launches.started.prefix.1)
+              let there : Has (map number_of_step (steps_of_starts order turn.now starting.flags)) kid.number =
+              subst (λ (l : List TurnStep). Has (map number_of_step l) kid.number) (sym launches.started.prefix.1)
               (prefix_number prefix launches.started.prefix.0 kid.number (prefix_number starting.steps starting.next kid.number has)) in
               waits_or_runs kept.table kid.number (all_each (IsPending kept.table) order waiting.each kid.number (start_numbers order turn.now starting.flags kid.number there)) (kid_runs kept.table kid runs)))
 
@@ -217,8 +217,8 @@ module _ (tells : Bool) (before : Session) (old : World) (kept : Kept) (kids : L
               MakesTurn tells before second old started_at kept turn more reported result
           stopped_starting fault (Ok store) is_fault err = absurd err
           stopped_starting fault (Err other) is_fault err = subst (λ (of : StoreFault). MakesTurn tells before second old started_at kept turn more reported (Err of)) (sym err) (record {
-            part = joined deciding starting;
-            goes = subst (λ (of : Result Kept StoreFault). Goes tells before second old started_at kept (joined deciding starting) of) is_fault both_go;
+            part = joined_parts deciding starting;
+            goes = subst (λ (of : Result Kept StoreFault). MakesPart tells before second old started_at kept (joined_parts deciding starting) of) is_fault both_go;
             answers = known;
             are = inr (inl (record {
               order = order;
@@ -227,8 +227,8 @@ module _ (tells : Bool) (before : Session) (old : World) (kept : Kept) (kids : L
               few = subst (λ (l : List Bool). length l ≤ length order) (sym flags_are) launches.started.few;
               prefix = (
                 launches.started.prefix.0,
-                ap (λ (l : List TurnStep). l ++ starts order turn.now (deciding.flags ++ starting.flags)) (sym deciding_are)
-                    ∙ ap (λ (l : List Bool). deciding.steps ++ starts order turn.now l) flags_are
+                ap (λ (l : List TurnStep). l ++ steps_of_starts order turn.now (deciding.flags ++ starting.flags)) (sym deciding_are)
+                    ∙ ap (λ (l : List Bool). deciding.steps ++ steps_of_starts order turn.now l) flags_are
                     ∙ ap (λ (l : List TurnStep). deciding.steps ++ l) launches.started.prefix.1
                     ∙ regroup deciding.steps starting.steps starting.next launches.started.prefix.0,
               );
@@ -246,18 +246,18 @@ module _ (tells : Bool) (before : Session) (old : World) (kept : Kept) (kids : L
 
           -- after all starts
           module _ (last : Kept) (whole : outcome ≡ Ok last) (after : Session) (new : World) (report : List TurnStep) (result : Result Kept StoreFault)
-              (forgotten : MakesAll tells second after started_at new last (forgets last.table) reported report result) where
-            abbrev forgetting : Part
+              (forgotten : MakesAll tells second after started_at new last (forgotten_steps last.table) reported report result) where
+            abbrev forgetting : TurnPart
             forgetting = quiet_part forgotten.made forgotten.next
 
-            abbrev all : Part
-            all = joined (joined deciding starting) forgetting
+            abbrev all : TurnPart
+            all = joined_parts (joined_parts deciding starting) forgetting
 
-            both_made : Goes tells before second old started_at kept (joined deciding starting) (Ok last)
-            both_made = subst (λ (of : Result Kept StoreFault). Goes tells before second old started_at kept (joined deciding starting) of) whole both_go
+            both_made : MakesPart tells before second old started_at kept (joined_parts deciding starting) (Ok last)
+            both_made = subst (λ (of : Result Kept StoreFault). MakesPart tells before second old started_at kept (joined_parts deciding starting) of) whole both_go
 
-            started_all : (length starting.flags ≡ length order) × (starting.steps ≡ starts order turn.now starting.flags)
-            started_all = subst (λ (of : Result Kept StoreFault). IfOk of (λ store. (length starting.flags ≡ length order) × (starting.steps ≡ starts order turn.now starting.flags))) whole launches.started.all
+            started_all : (length starting.flags ≡ length order) × (starting.steps ≡ steps_of_starts order turn.now starting.flags)
+            started_all = subst (λ (of : Result Kept StoreFault). IfOk of (λ store. (length starting.flags ≡ length order) × (starting.steps ≡ steps_of_starts order turn.now starting.flags))) whole launches.started.all
 
             flags_all : (deciding.flags ++ starting.flags) ++ forgetting.flags ≡ starting.flags
             flags_all = append-nil (deciding.flags ++ starting.flags) ∙ flags_are
@@ -265,23 +265,23 @@ module _ (tells : Bool) (before : Session) (old : World) (kept : Kept) (kids : L
             added_all : (deciding.added ++ starting.added) ++ forgetting.added ≡ starting.added
             added_all = append-nil (deciding.added ++ starting.added) ∙ added_are
 
-            all_go : Goes tells before after old new kept (joined (joined deciding starting) forgetting) result
-            all_go = goes_then tells before second after old started_at new kept last (joined deciding starting) forgetting result both_made forgotten.goes
+            all_go : MakesPart tells before after old new kept (joined_parts (joined_parts deciding starting) forgetting) result
+            all_go = goes_then tells before second after old started_at new kept last (joined_parts deciding starting) forgetting result both_made forgotten.goes
 
             -- the steps before, by the answers and the starts
-            before_are : (flags : List Bool) → flags ≡ starting.flags → deciding.steps ++ starting.steps ≡ decisions kept.table turn.kids known ++ starts order turn.now flags
+            before_are : (flags : List Bool) → flags ≡ starting.flags → deciding.steps ++ starting.steps ≡ decisions kept.table turn.kids known ++ steps_of_starts order turn.now flags
             before_are flags same =
                 ap (λ (l : List TurnStep). l ++ starting.steps) deciding_are
-                ∙ ap (λ (l : List TurnStep). decisions kept.table turn.kids known ++ l) (started_all.1 ∙ ap (starts order turn.now) (sym same))
+                ∙ ap (λ (l : List TurnStep). decisions kept.table turn.kids known ++ l) (started_all.1 ∙ ap (steps_of_starts order turn.now) (sym same))
 
             -- what is forgotten is what is too much after them
             forgets_are : (flags : List Bool) → flags ≡ starting.flags →
-                (deciding.steps ++ starting.steps) ++ forgets last.table ≡ with_forgets kept.table (decisions kept.table turn.kids known ++ starts order turn.now flags)
+                (deciding.steps ++ starting.steps) ++ forgotten_steps last.table ≡ with_forgets kept.table (decisions kept.table turn.kids known ++ steps_of_starts order turn.now flags)
             forgets_are flags same =
-                ap (λ (table : JobTable). (deciding.steps ++ starting.steps) ++ forgets table) both_made.table_is
+                ap (λ (table : JobTable). (deciding.steps ++ starting.steps) ++ forgotten_steps table) both_made.table_is
                 ∙ ap (with_forgets kept.table) (before_are flags same)
 
-            whole_steps : (flags : List Bool) → flags ≡ starting.flags → AreTurnSteps turn kept.table known flags (with_forgets kept.table (decisions kept.table turn.kids known ++ starts order turn.now flags))
+            whole_steps : (flags : List Bool) → flags ≡ starting.flags → AreTurnSteps turn kept.table known flags (with_forgets kept.table (decisions kept.table turn.kids known ++ steps_of_starts order turn.now flags))
             whole_steps flags same = record {
               order = order;
               ordered = ordered;
@@ -306,12 +306,12 @@ module _ (tells : Bool) (before : Session) (old : World) (kept : Kept) (kids : L
             -- all of the steps, or the first of them
             are_whole : (store : Kept) → result ≡ Ok store → AreTurnSteps turn kept.table known all.flags all.steps
             are_whole store is =
-                let forgot : forgetting.steps ≡ forgets last.table = subst (λ (of : Result Kept StoreFault). IfOk of (λ kept. forgetting.steps ≡ forgets last.table)) is forgotten.all in
+                let forgot : forgetting.steps ≡ forgotten_steps last.table = subst (λ (of : Result Kept StoreFault). IfOk of (λ kept. forgetting.steps ≡ forgotten_steps last.table)) is forgotten.all in
                 subst (AreTurnSteps turn kept.table known all.flags) (sym (ap (λ (l : List TurnStep). (deciding.steps ++ starting.steps) ++ l) forgot ∙ forgets_are all.flags flags_all)) (whole_steps all.flags flags_all)
 
             are_first : AreFirstSteps turn kept.table known all.flags (all.steps ++ all.next)
             are_first = inr (inr (
-              with_forgets kept.table (decisions kept.table turn.kids known ++ starts order turn.now all.flags),
+              with_forgets kept.table (decisions kept.table turn.kids known ++ steps_of_starts order turn.now all.flags),
               whole_steps all.flags flags_all,
               (
                 forgotten.prefix.0,

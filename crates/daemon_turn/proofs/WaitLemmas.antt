@@ -18,8 +18,8 @@ use Rattle.daemon_turn.specs.declared.mode.Mode.{Mode}
 use Rattle.daemon_turn.specs.declared.mode.Mode.TheVariants.{Full, EndsOnly}
 use Rattle.spool_model.specs.declared.turn_step.TurnStep.{TurnStep}
 use Rattle.daemon_turn.specs.Starting.{IsBatchOrderWhere, IsFullOrder, IsOrder, IsOrderIn, Turn, has_batch_turn}
-use Rattle.spool_model.specs.StepsOf.{number_of, steps_of}
-use Rattle.daemon_turn.specs.inside.Waiting.{AreWaiting}
+use Rattle.spool_model.specs.StepsOf.{number_of_step, steps_of_turn}
+use Rattle.daemon_turn.specs.inside.Waiting.{ArePendingNumbers}
 use Rattle.step_runs.proofs.ApartLemmas.{Apart, all_each, apart_append, apart_differ, differ_apart, each_all}
 use Rattle.daemon_turn.proofs.LegalLemmas.{entries_stay}
 use Rattle.step_runs.proofs.RowLemmas.{row_held, rows_apart}
@@ -69,8 +69,8 @@ module _ (turn : Turn) (table : JobTable) where
   batch_other true jobs batch due (inr none) number job has = subst (λ (numbers : List ℕ). Has numbers number) none.1 has
   batch_other false jobs batch due none number job has = subst (λ (numbers : List ℕ). Has numbers number) none has
 
-  full_waits : (order : List ℕ) → IsFullOrder turn table order → AreWaiting table order
-  full_waits order full = subst (AreWaiting table) (sym full.both) (record {
+  full_waits : (order : List ℕ) → IsFullOrder turn table order → ArePendingNumbers table order
+  full_waits order full = subst (ArePendingNumbers table) (sym full.both) (record {
     each = each_all (IsPending table) (full.jobs ++ full.batch) (λ number has. elim (has_either full.jobs full.batch number has) [
       | inl job ↦ ready_waits table turn.now (λ row. not (is_batch_queue row.queue)) number
           (all_each (IsNumberOf (is_ready_job turn.now) (live_rows table)) full.jobs (due_numbers (live_rows table) turn.now full.jobs full.due) number job)
@@ -82,23 +82,23 @@ module _ (turn : Turn) (table : JobTable) where
         (batch_other (has_batch_turn turn table) full.jobs full.batch full.due full.allowed));
   })
 
-  none_waits : (order : List ℕ) → order ≡ [] → AreWaiting table order
-  none_waits order none = subst (AreWaiting table) (sym none) (record {
+  none_waits : (order : List ℕ) → order ≡ [] → ArePendingNumbers table order
+  none_waits order none = subst (ArePendingNumbers table) (sym none) (record {
     each = each_all (IsPending table) [] (λ number has. absurd has);
     apart = apart_differ [] tt;
   })
 
-  pub order_waits : (order : List ℕ) → IsOrder turn table order → AreWaiting table order
+  pub order_waits : (order : List ℕ) → IsOrder turn table order → ArePendingNumbers table order
   order_waits order is = by_mode turn.mode is where
-    by_mode : (mode : Mode) → IsOrderIn mode turn table order → AreWaiting table order
+    by_mode : (mode : Mode) → IsOrderIn mode turn table order → ArePendingNumbers table order
     by_mode Full is = full_waits order is
     by_mode EndsOnly is = none_waits order is
 
 -- they still wait after steps of other jobs
-pub waiting_after : (table : JobTable) (steps : List TurnStep) (numbers : List ℕ) → AreWaiting table numbers →
-    ((number : ℕ) → Has numbers number → Has (map number_of steps) number → ⊥) → AreWaiting (after_steps table (steps_of steps)) numbers
+pub waiting_after : (table : JobTable) (steps : List TurnStep) (numbers : List ℕ) → ArePendingNumbers table numbers →
+    ((number : ℕ) → Has numbers number → Has (map number_of_step steps) number → ⊥) → ArePendingNumbers (after_steps table (steps_of_turn steps)) numbers
 waiting_after table steps numbers waiting others = record {
-  each = each_all (IsPending (after_steps table (steps_of steps))) numbers (λ number has.
+  each = each_all (IsPending (after_steps table (steps_of_turn steps))) numbers (λ number has.
       (let was : IsPending table number = all_each (IsPending table) numbers waiting.each number has in
       (was.0, entries_stay table steps number (others number has) ∙ was.1)));
   apart = waiting.apart;

@@ -19,10 +19,10 @@ use Rattle.daemon_turn.specs.declared.mode.Mode.{Mode}
 use Rattle.daemon_turn.specs.declared.mode.Mode.TheVariants.{Full, EndsOnly}
 use Rattle.spool_model.specs.declared.turn_step.TurnStep.{TurnStep}
 use Rattle.spool_model.specs.declared.turn_step.TurnStep.TheVariants.{HandedOver, Ended, Interrupted, Forgotten}
-use Rattle.daemon_turn.specs.Decisions.{asked_kids, decisions, ends, interrupts, is_without_kid, is_running_entry, runs_in}
+use Rattle.daemon_turn.specs.Decisions.{asked_kids, decisions, end_steps, interrupts, is_job_without_kid, is_running_entry, runs_in}
 use Rattle.daemon_turn.specs.Kids.{AreKidsAfter, kept_kids, tells_end_of}
-use Rattle.daemon_turn.specs.Starting.{IsBatchOrderWhere, IsOrder, IsOrderIn, Turn, forgets, has_batch_turn, starts}
-use Rattle.spool_model.specs.StepsOf.{step_of, steps_of}
+use Rattle.daemon_turn.specs.Starting.{IsBatchOrderWhere, IsOrder, IsOrderIn, Turn, forgotten_steps, has_batch_turn, steps_of_starts}
+use Rattle.spool_model.specs.StepsOf.{step_of, steps_of_turn}
 use Rattle.daemon_turn.specs.Turning.{AreFirstSteps, AreTurnSteps, with_forgets}
 use Rattle.step_runs.proofs.ApartLemmas.{filter_alike}
 
@@ -47,8 +47,8 @@ rows_alike table = (lists_as_on_the_table table).rows
 
 decisions_alike : (table : JobTable) (kids : List Kid) (answers : List (Option Ending)) → decisions (without_scripts table) kids answers ≡ decisions table kids answers
 decisions_alike table kids answers =
-    ap (λ (rows : List Row). map (λ (row : Row). Interrupted row.number) (filter (is_without_kid kids) rows) ++ ends (asked_kids (without_scripts table) kids) answers) (rows_alike table)
-    ∙ ap (λ (asked : List Kid). interrupts table kids ++ ends asked answers) (asked_alike table kids)
+    ap (λ (rows : List Row). map (λ (row : Row). Interrupted row.number) (filter (is_job_without_kid kids) rows) ++ end_steps (asked_kids (without_scripts table) kids) answers) (rows_alike table)
+    ∙ ap (λ (asked : List Kid). interrupts table kids ++ end_steps asked answers) (asked_alike table kids)
 
 last_batch_alike : (table : JobTable) → (without_scripts table).last_batch ≡ table.last_batch
 unfolding without_scripts
@@ -82,18 +82,18 @@ without_scripts_is (Ended number ending) = refl
 without_scripts_is (Interrupted number) = refl
 without_scripts_is (Forgotten number) = refl
 
-without_scripts_steps : (steps : List TurnStep) → map step_without_script (steps_of steps) ≡ steps_of steps
+without_scripts_steps : (steps : List TurnStep) → map step_without_script (steps_of_turn steps) ≡ steps_of_turn steps
 without_scripts_steps [] = refl
-without_scripts_steps (step ∷ steps) = ap (λ (one : Step). one ∷ map step_without_script (steps_of steps)) (without_scripts_is step) ∙ ap (λ (l : List Step). step_of step ∷ l) (without_scripts_steps steps)
+without_scripts_steps (step ∷ steps) = ap (λ (one : Step). one ∷ map step_without_script (steps_of_turn steps)) (without_scripts_is step) ∙ ap (λ (l : List Step). step_of step ∷ l) (without_scripts_steps steps)
 
 -- the table after steps, without scripts
-pub after_alike : (table : JobTable) (steps : List TurnStep) → after_steps (without_scripts table) (steps_of steps) ≡ without_scripts (after_steps table (steps_of steps))
-after_alike table steps = sym (lists_step_as_on_the_table table (steps_of steps) ∙ ap (after_steps (without_scripts table)) (without_scripts_steps steps))
+pub after_alike : (table : JobTable) (steps : List TurnStep) → after_steps (without_scripts table) (steps_of_turn steps) ≡ without_scripts (after_steps table (steps_of_turn steps))
+after_alike table steps = sym (lists_step_as_on_the_table table (steps_of_turn steps) ∙ ap (after_steps (without_scripts table)) (without_scripts_steps steps))
 
 forgets_alike : (table : JobTable) (steps : List TurnStep) → with_forgets (without_scripts table) steps ≡ with_forgets table steps
 forgets_alike table steps =
-    ap (λ (after : JobTable). steps ++ forgets after) (after_alike table steps)
-    ∙ ap (λ (done : List ℕ). steps ++ map Rattle.spool_model.specs.declared.turn_step.TurnStep.TheVariants.Forgotten (Rattle.std.proofs.Common.take (Rattle.std.proofs.Common.◌-◌ (length done) Rattle.spool_model.specs.declared.decided.TheConstants.MAX_DONE) done)) (lists_as_on_the_table (after_steps table (steps_of steps))).done
+    ap (λ (after : JobTable). steps ++ forgotten_steps after) (after_alike table steps)
+    ∙ ap (λ (done : List ℕ). steps ++ map Rattle.spool_model.specs.declared.turn_step.TurnStep.TheVariants.Forgotten (Rattle.std.proofs.Common.take (Rattle.std.proofs.Common.◌-◌ (length done) Rattle.spool_model.specs.declared.decided.TheConstants.MAX_DONE) done)) (lists_as_on_the_table (after_steps table (steps_of_turn steps))).done
 
 module _ (turn : Turn) (table : JobTable) (answers : List (Option Ending)) where
   asked_all : length answers ≡ length (asked_kids (without_scripts table) turn.kids) → length answers ≡ length (asked_kids table turn.kids)
@@ -105,8 +105,8 @@ module _ (turn : Turn) (table : JobTable) (answers : List (Option Ending)) where
     ordered = order_alike turn table are.order are.ordered;
     asked = asked_all are.asked;
     started = are.started;
-    all = are.all ∙ forgets_alike table (decisions (without_scripts table) turn.kids answers ++ starts are.order turn.now flags)
-        ∙ ap (λ (l : List TurnStep). with_forgets table (l ++ starts are.order turn.now flags)) (decisions_alike table turn.kids answers);
+    all = are.all ∙ forgets_alike table (decisions (without_scripts table) turn.kids answers ++ steps_of_starts are.order turn.now flags)
+        ∙ ap (λ (l : List TurnStep). with_forgets table (l ++ steps_of_starts are.order turn.now flags)) (decisions_alike table turn.kids answers);
   }
 
   pub first_alike : (flags : List Bool) (steps : List TurnStep) → AreFirstSteps turn (without_scripts table) answers flags steps → AreFirstSteps turn table answers flags steps
@@ -120,7 +120,7 @@ module _ (turn : Turn) (table : JobTable) (answers : List (Option Ending)) where
     ordered = order_alike turn table first.order first.ordered;
     asked = asked_all first.asked;
     few = first.few;
-    prefix = (first.prefix.0, ap (λ (l : List TurnStep). l ++ starts first.order turn.now flags) (sym (decisions_alike table turn.kids answers)) ∙ first.prefix.1);
+    prefix = (first.prefix.0, ap (λ (l : List TurnStep). l ++ steps_of_starts first.order turn.now flags) (sym (decisions_alike table turn.kids answers)) ∙ first.prefix.1);
   }))
   first_alike flags steps (inr (inr all)) = inr (inr (all.0, turn_alike flags all.0 all.1, all.2))
 

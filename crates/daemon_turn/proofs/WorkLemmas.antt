@@ -26,21 +26,21 @@ use Rattle.step_runs.proofs.AttemptLemmas.{recoveries_begin_nothing}
 use Rattle.step_runs.proofs.MadeLemmas.{prefixes_changed, prefixes_then, made_steps_are_achieved, no_steps_are_made, stopped_steps_are_begun}
 use Rattle.host_calls.specs.declared.store_fault.StoreFault.{StoreFault}
 use Rattle.host_calls.specs.declared.store_fault.StoreFault.TheVariants as fault
-use Rattle.host_calls.specs.StoreFaults.{IsOfReading, IsOfStep}
+use Rattle.host_calls.specs.StoreFaults.{IsReadingFault, IsOfStep}
 use Rattle.spool_store.specs.Recovering.{IsRecovered, Recovered, ShowsTheSame}
 use Rattle.daemon_turn.specs.declared.kid.Kid.{Kid}
 use Rattle.spool_model.specs.declared.turn_step.TurnStep.{TurnStep}
 use Rattle.daemon_turn.specs.Decisions.{asked_kids, is_running_entry, questions, runs_in}
-use Rattle.daemon_turn.specs.Kids.{AreByNumber, AreChildren, AreKidsAfter, KeepsChildren, kept_kids, tells_end_of}
-use Rattle.daemon_turn.specs.Leaving.{Gave, IsIdle, IsStopped, IsWhole, DaemonAt, TurnLeaves}
+use Rattle.daemon_turn.specs.Kids.{AreKidsByNumber, AreChildren, AreKidsAfter, KeepsChildren, kept_kids, tells_end_of}
+use Rattle.daemon_turn.specs.Leaving.{TurnHandsOver, IsTurnIdle, IsTurnStopped, IsTurnDone, DaemonAt, TurnLeaves}
 use Rattle.daemon_turn.specs.Starting.{Turn}
-use Rattle.spool_model.specs.StepsOf.{steps_of}
+use Rattle.spool_model.specs.StepsOf.{steps_of_turn}
 use Rattle.daemon_turn.specs.inside.Deciding.{MayDecide}
 use Rattle.daemon_turn.specs.inside.Ended.{without_ended}
-use Rattle.daemon_turn.specs.inside.Going.{Gives, Goes, Part}
+use Rattle.daemon_turn.specs.inside.Going.{StartsPart, MakesPart, TurnPart}
 use Rattle.daemon_turn.specs.inside.Turned.{MakesTurn}
 use Rattle.host_session.specs.Ends.{end_after}
-use Rattle.daemon_turn.specs.inside.Working.{TurnsOn, Works, unit_of}
+use Rattle.daemon_turn.specs.inside.Working.{TurnsOn, TurnWorks, unit_of}
 use Rattle.step_runs.proofs.ApartLemmas.{all_each, each_all, rise_filter}
 use Rattle.daemon_turn.proofs.AskLemmas.{questions_of_none}
 use Rattle.daemon_turn.proofs.WithoutScriptsTurns.{asked_alike, first_alike, kids_after_alike, turn_alike}
@@ -61,7 +61,7 @@ pub asked_itself : (table : JobTable) (kids : List Kid) → All (λ kid. runs_in
 asked_itself table kids run = sym (all_kept (runs_in table) kids (all_each (λ kid. runs_in table kid ≡ true) kids run))
 
 -- The kids after a recovery may be asked.
-pub may_decide : (tells : Bool) (before after : Session) (old new : World) (kept : Kept) (kids left : List Kid) → left ≡ asked_kids kept.table kids → AreByNumber kids → AreChildren before.children kids →
+pub may_decide : (tells : Bool) (before after : Session) (old new : World) (kept : Kept) (kids left : List Kid) → left ≡ asked_kids kept.table kids → AreKidsByNumber kids → AreChildren before.children kids →
     StaysInside before after → (tells ≡ true → IsRecovered old.now.folder new.now.folder kept) → MayDecide tells after new kept left
 may_decide tells before after old new kept kids left is ordered children stays recovered =
     subst (MayDecide tells after new kept) (sym is) (record {
@@ -102,7 +102,7 @@ unplanned tells session world kept turn kids was (Err other) err may none are = 
 
 -- The steps were made, and the kids brought into order.
 pub ordered_kids : (tells : Bool) (before after : Session) (old new : World) (kept : Kept) (turn : Turn) (left sorted : List Kid) (report : List TurnStep) (outcome : Result Kept StoreFault) (result : Result (Unit {0}) StoreFault) →
-    result ≡ unit_of outcome → MakesTurn tells before after old new kept turn left report outcome → IsPermutation left sorted → AreByNumber sorted →
+    result ≡ unit_of outcome → MakesTurn tells before after old new kept turn left report outcome → IsPermutation left sorted → AreKidsByNumber sorted →
     TurnsOn tells before after old new kept turn sorted report result
 ordered_kids tells before after old new kept turn left sorted report outcome result same makes moved ordered = record {
   outcome = outcome;
@@ -131,7 +131,7 @@ no_children : (session : Session) → KeepsChildren session.children session.chi
 no_children session = ([], sym (append-nil session.children))
 
 module _ (tells : Bool) (turn : Turn) (before after : Session) (old new : World) (kids : List Kid) (limit interval : ℕ) (was : List TurnStep) (none : was ≡ []) (changes : tells ≡ true → ChangesFiles (ShowsAsBefore old.now.folder) old new) where
-  idle : tells ≡ true → ShowsTheSame old.now.folder new.now.folder → IsIdle was (standing before old kids limit interval) (standing after new kids limit interval)
+  idle : tells ≡ true → ShowsTheSame old.now.folder new.now.folder → IsTurnIdle was (standing before old kids limit interval) (standing after new kids limit interval)
   idle known shown = record {
     none = record { none = none; kids = refl };
     unbegun = recoveries_begin_nothing old new (changes known);
@@ -139,7 +139,7 @@ module _ (tells : Bool) (turn : Turn) (before after : Session) (old new : World)
     asked = (changes known).asked;
   }
 
-  leaves_by : (of : StoreFault) → IsOfReading of → (tells ≡ true → Recovered old.now.folder new.now.folder (Err of)) →
+  leaves_by : (of : StoreFault) → IsReadingFault of → (tells ≡ true → Recovered old.now.folder new.now.folder (Err of)) →
       (tells ≡ true → IfDamaged {T = Kept} fault.Damaged (λ damage. reading new ≡ reading old) (Err of)) → tells ≡ true →
       TurnLeaves turn was (standing before old kids limit interval) (standing after new kids limit interval) (end_after (Err of))
   leaves_by fault.FileFault reads recovered untouched known = inl (idle known (recovered known))
@@ -148,13 +148,13 @@ module _ (tells : Bool) (turn : Turn) (before after : Session) (old new : World)
       (idle known (ap shown_by (untouched known damage refl)), recovered known, untouched known damage refl)
   leaves_by _ reads recovered untouched known = absurd reads
 
-  pub unrecovered : (of : StoreFault) (result : Result (Unit {0}) StoreFault) → IsErrAnd result (λ other. other ≡ of) → CallsInside {T = Kept} fault.FileFault before after (Err of) → IsOfReading of →
+  pub unrecovered : (of : StoreFault) (result : Result (Unit {0}) StoreFault) → IsErrAnd result (λ other. other ≡ of) → CallsInside {T = Kept} fault.FileFault before after (Err of) → IsReadingFault of →
       (tells ≡ true → Recovered old.now.folder new.now.folder (Err of)) → (tells ≡ true → IfDamaged {T = Kept} fault.Damaged (λ damage. reading new ≡ reading old) (Err of)) →
-      AreChildren before.children kids → AreByNumber kids →
-      Works tells turn (standing before old kids limit interval) (standing after new kids limit interval) was result
+      AreChildren before.children kids → AreKidsByNumber kids →
+      TurnWorks tells turn (standing before old kids limit interval) (standing after new kids limit interval) was result
   unrecovered of (Ok done) err inside reads recovered untouched children ordered = absurd err
   unrecovered of (Err other) err inside reads recovered untouched children ordered =
-      subst (λ (same : StoreFault). Works tells turn (standing before old kids limit interval) (standing after new kids limit interval) was (Err same)) (sym err) (record {
+      subst (λ (same : StoreFault). TurnWorks tells turn (standing before old kids limit interval) (standing after new kids limit interval) was (Err same)) (sym err) (record {
         inside = inside.stays.inside;
         counts = inside.stays.counts;
         kept = ([], inside.stays.children ∙ sym (append-nil before.children));
@@ -170,7 +170,7 @@ module _ (tells : Bool) (turn : Turn) (before after : Session) (old new : World)
 
 -- The steps after a recovery.
 
-step_reads : (of : StoreFault) → IsOfStep of → IsOfReading of
+step_reads : (of : StoreFault) → IsOfStep of → IsReadingFault of
 step_reads fault.FileFault is = tt
 step_reads fault.Memory is = tt
 step_reads _ is = absurd is
@@ -183,7 +183,7 @@ module _ (tells : Bool) (turn : Turn) (before between after : Session) (old midd
   abbrev at_last : DaemonAt
   at_last = standing after new left limit interval
 
-  module _ (known : tells ≡ true) (part : Part) (answers : List (Option Ending)) (asked : part.questions ≡ questions (asked_kids kept.table turn.kids) answers) (written : report ≡ part.steps)
+  module _ (known : tells ≡ true) (part : TurnPart) (answers : List (Option Ending)) (asked : part.questions ≡ questions (asked_kids kept.table turn.kids) answers) (written : report ≡ part.steps)
       (kids : AreKidsAfter kept.table part.steps turn.kids part.added left) (children : after.children ≡ between.children ++ map (λ (kid : Kid). kid.child) part.added) where
     abbrev shown : JobTable
     shown = (recovered known).table
@@ -194,8 +194,8 @@ module _ (tells : Bool) (turn : Turn) (before between after : Session) (old midd
     abbrev changed : ChangesFiles (ShowsAsBefore old.now.folder) old middle
     changed = changes known
 
-    gave_by : (given : List Handed) → new.now.handed ≡ middle.now.handed ++ given → Rattle.step_runs.specs.Hands.Hands shown (steps_of part.steps) given → HandsPrefixes middle new →
-        new.asked ≡ middle.asked ++ part.questions → Rattle.daemon_turn.specs.Kids.started_numbers given ≡ map (λ (kid : Kid). kid.number) part.added → Gave shown part.steps given answers at_first at_last
+    gave_by : (given : List Handed) → new.now.handed ≡ middle.now.handed ++ given → Rattle.step_runs.specs.Hands.Hands shown (steps_of_turn part.steps) given → HandsPrefixes middle new →
+        new.asked ≡ middle.asked ++ part.questions → Rattle.daemon_turn.specs.Kids.started_numbers given ≡ map (λ (kid : Kid). kid.number) part.added → TurnHandsOver shown part.steps given answers at_first at_last
     gave_by given handed hands prefixes questions_are numbered = record {
       handed = handed ∙ ap (λ (l : List Handed). l ++ given) changed.handed;
       hands = hands;
@@ -208,9 +208,9 @@ module _ (tells : Bool) (turn : Turn) (before between after : Session) (old midd
       kids = kids_after_alike shown part.steps turn.kids part.added left (subst (λ (table : JobTable). AreKidsAfter table part.steps turn.kids part.added left) without_scripts_table kids);
     }
 
-    whole_by : (last : Kept) → Gives shown part middle new (Ok last) → Rattle.daemon_turn.specs.Turning.AreTurnSteps turn kept.table answers part.flags part.steps → IsWhole turn part.steps at_first at_last
+    whole_by : (last : Kept) → StartsPart shown part middle new (Ok last) → Rattle.daemon_turn.specs.Turning.AreTurnSteps turn kept.table answers part.flags part.steps → IsTurnDone turn part.steps at_first at_last
     whole_by last gives are =
-        let made : AreMade shown (steps_of part.steps) gives.given part.questions last middle new = gives.ends in
+        let made : AreMade shown (steps_of_turn part.steps) gives.given part.questions last middle new = gives.ends in
         record {
           table = shown;
           given = gives.given;
@@ -218,13 +218,13 @@ module _ (tells : Bool) (turn : Turn) (before between after : Session) (old midd
           are = turn_alike turn shown answers (flags_of gives.given) part.steps
               (subst (λ (table : JobTable). Rattle.daemon_turn.specs.Turning.AreTurnSteps turn table answers (flags_of gives.given) part.steps) without_scripts_table
               (subst (λ (flags : List Bool). Rattle.daemon_turn.specs.Turning.AreTurnSteps turn kept.table answers flags part.steps) (sym gives.flagged) are));
-          achieved = made_steps_are_achieved shown (steps_of part.steps) gives.given part.questions last old middle new (recovered known).shown changed (recovered known).others made;
+          achieved = made_steps_are_achieved shown (steps_of_turn part.steps) gives.given part.questions last old middle new (recovered known).shown changed (recovered known).others made;
           gave = gave_by gives.given made.through.handed made.through.hands made.prefixes made.asked gives.numbered;
         }
 
-    error_of : (of : StoreFault) → Gives shown part middle new (Err of) → Rattle.daemon_turn.specs.Turning.AreFirstSteps turn kept.table answers part.flags (part.steps ++ part.next) → IsStopped turn part.steps at_first at_last
+    error_of : (of : StoreFault) → StartsPart shown part middle new (Err of) → Rattle.daemon_turn.specs.Turning.AreFirstSteps turn kept.table answers part.flags (part.steps ++ part.next) → IsTurnStopped turn part.steps at_first at_last
     error_of of gives are =
-        let stopped : AreStopped shown (steps_of part.steps) (steps_of part.next) gives.given part.questions middle new = gives.ends in
+        let stopped : AreStopped shown (steps_of_turn part.steps) (steps_of_turn part.next) gives.given part.questions middle new = gives.ends in
         record {
           table = shown;
           given = gives.given;
@@ -235,7 +235,7 @@ module _ (tells : Bool) (turn : Turn) (before between after : Session) (old midd
               (subst (λ (table : JobTable). Rattle.daemon_turn.specs.Turning.AreFirstSteps turn table answers (flags_of gives.given) (part.steps ++ part.next)) without_scripts_table
               (subst (λ (flags : List Bool). Rattle.daemon_turn.specs.Turning.AreFirstSteps turn kept.table answers flags (part.steps ++ part.next)) (sym gives.flagged) are));
           begun = subst (λ steps. IsBegun shown steps old new) (sym (steps_join part.steps part.next))
-              (stopped_steps_are_begun shown (steps_of part.steps) (steps_of part.next) gives.given part.questions old middle new (recovered known).shown changed stopped);
+              (stopped_steps_are_begun shown (steps_of_turn part.steps) (steps_of_turn part.next) gives.given part.questions old middle new (recovered known).shown changed stopped);
           ends = λ image is. elim (stopped.ends image is) [
             | inl without ↦ inl without
             | inr with_next ↦ inr (subst (λ steps. Shows image (after_steps shown steps)) (sym (steps_join part.steps part.next)) with_next)
@@ -243,23 +243,23 @@ module _ (tells : Bool) (turn : Turn) (before between after : Session) (old midd
           gave = gave_by gives.given stopped.handed stopped.hands stopped.prefixes stopped.asked gives.numbered;
         }
 
-  outcome_leaves : (outcome : Result Kept StoreFault) (part : Part) (answers : List (Option Ending)) → Goes tells between after middle new kept part outcome → Rattle.daemon_turn.specs.inside.Turned.AreStepsBy turn kept.table answers part outcome →
+  outcome_leaves : (outcome : Result Kept StoreFault) (part : TurnPart) (answers : List (Option Ending)) → MakesPart tells between after middle new kept part outcome → Rattle.daemon_turn.specs.inside.Turned.AreStepsBy turn kept.table answers part outcome →
       part.questions ≡ questions (asked_kids kept.table turn.kids) answers → report ≡ part.steps → AreKidsAfter kept.table part.steps turn.kids part.added left → tells ≡ true →
       TurnLeaves turn report at_first at_last (end_after (unit_of outcome))
   outcome_leaves (Ok last) part answers goes are asked written kids known =
-      subst (λ (steps : List TurnStep). IsWhole turn steps at_first at_last) (sym written)
+      subst (λ (steps : List TurnStep). IsTurnDone turn steps at_first at_last) (sym written)
       (whole_by known part answers asked written kids goes.children last (goes.files known (recovered known).table (recovered known).current) are)
   outcome_leaves (Err of) part answers goes are asked written kids known = by_fault of goes.faults
-      (subst (λ (steps : List TurnStep). IsStopped turn steps at_first at_last) (sym written)
+      (subst (λ (steps : List TurnStep). IsTurnStopped turn steps at_first at_last) (sym written)
       (error_of known part answers asked written kids goes.children of (goes.files known (recovered known).table (recovered known).current) are)) where
-        by_fault : (one : StoreFault) → IsOfStep one → IsStopped turn report at_first at_last → TurnLeaves turn report at_first at_last (end_after (Err one))
+        by_fault : (one : StoreFault) → IsOfStep one → IsTurnStopped turn report at_first at_last → TurnLeaves turn report at_first at_last (end_after (Err one))
         by_fault fault.FileFault is stopped = inr stopped
         by_fault fault.Memory is stopped = inr stopped
         by_fault (fault.Damaged damage) is stopped = absurd is
         by_fault fault.QueueFull is stopped = absurd is
         by_fault fault.NumbersUsedUp is stopped = absurd is
 
-  fault_reads : (outcome : Result Kept StoreFault) → Rattle.std.specs.Prelude.IfErr outcome IsOfStep → Rattle.std.specs.Prelude.IfErr (unit_of outcome) IsOfReading
+  fault_reads : (outcome : Result Kept StoreFault) → Rattle.std.specs.Prelude.IfErr outcome IsOfStep → Rattle.std.specs.Prelude.IfErr (unit_of outcome) IsReadingFault
   fault_reads (Ok last) is = tt
   fault_reads (Err of) is = step_reads of is
 
@@ -271,8 +271,8 @@ module _ (tells : Bool) (turn : Turn) (before between after : Session) (old midd
   file_fault (Ok last) bad = let impossible : ◌≡◌ {A = Result (Unit {0}) StoreFault} (Ok tt) (Err fault.FileFault) = bad in cc
   file_fault (Err of) bad = (let errs : ◌≡◌ {A = Result (Unit {0}) StoreFault} (Err of) (Err fault.FileFault) = bad in let same : of ≡ fault.FileFault = cc in ap (λ (one : StoreFault). Err one) same)
 
-  pub works_by : (result : Result (Unit {0}) StoreFault) → TurnsOn tells between after middle new kept turn left report result → Works tells turn at_first at_last report result
-  works_by result on = subst (Works tells turn at_first at_last report) (sym on.same) (record {
+  pub works_by : (result : Result (Unit {0}) StoreFault) → TurnsOn tells between after middle new kept turn left report result → TurnWorks tells turn at_first at_last report result
+  works_by result on = subst (TurnWorks tells turn at_first at_last report) (sym on.same) (record {
     inside = on.goes.inside;
     counts = counts_on before between after stays.stays.counts on.goes.counts;
     kept = (map (λ (kid : Kid). kid.child) on.part.added, on.goes.children ∙ ap (λ (l : List Child). l ++ map (λ (kid : Kid). kid.child) on.part.added) stays.stays.children);

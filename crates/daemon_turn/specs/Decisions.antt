@@ -26,12 +26,12 @@ abbrev pub has_kid : List Kid → ℕ → Bool
 has_kid kids number = list_any (λ kid. kid.number == number) kids
 
 -- the job runs, and has no kid
-abbrev pub is_without_kid : List Kid → Row → Bool
-is_without_kid kids row = is_running row.state && not (has_kid kids row.number)
+abbrev pub is_job_without_kid : List Kid → Row → Bool
+is_job_without_kid kids row = is_running row.state && not (has_kid kids row.number)
 
 -- the jobs that run and have no kid are given up, by number
 abbrev pub interrupts : JobTable → List Kid → List TurnStep
-interrupts table kids = map (λ row. Interrupted row.number) (filter (is_without_kid kids) (live_rows table))
+interrupts table kids = map (λ row. Interrupted row.number) (filter (is_job_without_kid kids) (live_rows table))
 
 -- the kids that are asked: those whose job runs, by number
 abbrev pub asked_kids : JobTable → List Kid → List Kid
@@ -49,11 +49,11 @@ end_of number None = []
 end_of number (Some ending) = Ended number ending ∷ []
 
 -- the ends that the answers of kids tell, the first kids first
-abbrev pub ends : List Kid → List (Option Ending) → List TurnStep
-ends [] answers = []
-ends (kid ∷ kids) [] = []
-ends (kid ∷ kids) (answer ∷ answers) = end_of kid.number answer ++ ends kids answers
+abbrev pub end_steps : List Kid → List (Option Ending) → List TurnStep
+end_steps [] answers = []
+end_steps (kid ∷ kids) [] = []
+end_steps (kid ∷ kids) (answer ∷ answers) = end_of kid.number answer ++ end_steps kids answers
 
 -- what is decided of running jobs, by the answers of the kids that are asked
 abbrev pub decisions : JobTable → List Kid → List (Option Ending) → List TurnStep
-decisions table kids answers = interrupts table kids ++ ends (asked_kids table kids) answers
+decisions table kids answers = interrupts table kids ++ end_steps (asked_kids table kids) answers

@@ -10,8 +10,8 @@ use Rattle.spool_model.specs.declared.turn_step.TurnStep.TheVariants.{HandedOver
 use Rattle.daemon_turn.specs.Decisions.{runs_in}
 
 -- the numbers of the kids rise
-abbrev pub AreByNumber : List Kid → Type 0
-AreByNumber kids = AllPairs (λ one other. one.number < other.number) kids
+abbrev pub AreKidsByNumber : List Kid → Type 0
+AreKidsByNumber kids = AllPairs (λ one other. one.number < other.number) kids
 
 -- each kid has one of the children
 pub record AreChildren (children : List Child) (kids : List Kid) : Type 0 where
@@ -39,4 +39,4 @@ started_numbers given = map (λ handed. handed.number) (filter (λ handed. hande
 -- The kids after the steps, by number: those that stay, and those that were added.
 pub record AreKidsAfter (table : JobTable) (steps : List TurnStep) (before added after : List Kid) : Type 0 where
   pub same : IsPermutation (kept_kids table steps before ++ added) after
-  pub ordered : AreByNumber after
+  pub ordered : AreKidsByNumber after

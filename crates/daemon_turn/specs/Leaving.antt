@@ -20,9 +20,9 @@ use Rattle.host_session.specs.declared.turn_end.TurnEnd.TheVariants.{Done, Busy,
 use Rattle.spool_model.specs.declared.turn_step.TurnStep.{TurnStep}
 use Rattle.daemon_turn.specs.Daemons.{DaemonState}
 use Rattle.daemon_turn.specs.Decisions.{asked_kids, questions}
-use Rattle.daemon_turn.specs.Kids.{AreByNumber, AreChildren, AreKidsAfter, KeepsChildren, started_numbers}
+use Rattle.daemon_turn.specs.Kids.{AreKidsByNumber, AreChildren, AreKidsAfter, KeepsChildren, started_numbers}
 use Rattle.daemon_turn.specs.Starting.{Turn, turn_of}
-use Rattle.spool_model.specs.StepsOf.{steps_of}
+use Rattle.spool_model.specs.StepsOf.{steps_of_turn}
 use Rattle.daemon_turn.specs.Turning.{AreFirstSteps, AreTurnSteps}
 
 -- a host at one moment, and what the daemon that works on it keeps
@@ -33,10 +33,10 @@ pub record DaemonAt : Type 0 where
 
 -- What the turn handed over and asked, whose steps on the table were these. The kids are those that stay, and the
 -- children of the starts, each under its number.
-pub record Gave (table : JobTable) (steps : List TurnStep) (given : List Handed) (answers : List (Option Ending))
+pub record TurnHandsOver (table : JobTable) (steps : List TurnStep) (given : List Handed) (answers : List (Option Ending))
     (old new : DaemonAt) : Type 0 where
   pub handed : new.world.now.handed ≡ old.world.now.handed ++ given
-  pub hands : Hands table (steps_of steps) given
+  pub hands : Hands table (steps_of_turn steps) given
   pub prefixes : HandsPrefixes old.world new.world
   pub asked : new.world.asked ≡ old.world.asked ++ questions (asked_kids table old.daemon.kids) answers
   pub added : List Kid
@@ -45,56 +45,56 @@ pub record Gave (table : JobTable) (steps : List TurnStep) (given : List Handed)
   pub kids : AreKidsAfter table steps old.daemon.kids added new.daemon.kids
 
 -- The turn was made to its end: its steps are all those of a turn on the table that the reading showed, and they stand.
-pub record IsWhole (turn : Turn) (steps : List TurnStep) (old new : DaemonAt) : Type 0 where
+pub record IsTurnDone (turn : Turn) (steps : List TurnStep) (old new : DaemonAt) : Type 0 where
   pub table : JobTable
   pub given : List Handed
   pub answers : List (Option Ending)
   pub are : AreTurnSteps turn table answers (flags_of given) steps
-  pub achieved : IsAchieved table (steps_of steps) old.world new.world
-  pub gave : Gave table steps given answers old new
+  pub achieved : IsAchieved table (steps_of_turn steps) old.world new.world
+  pub gave : TurnHandsOver table steps given answers old new
 
 -- The turn was stopped after a recovery: these are the first of its steps, and the next one may stand too.
-pub record IsStopped (turn : Turn) (steps : List TurnStep) (old new : DaemonAt) : Type 0 where
+pub record IsTurnStopped (turn : Turn) (steps : List TurnStep) (old new : DaemonAt) : Type 0 where
   pub table : JobTable
   pub given : List Handed
   pub answers : List (Option Ending)
   pub next : List TurnStep
   pub few : length next ≤ 1
   pub first : AreFirstSteps turn table answers (flags_of given) (steps ++ next)
-  pub begun : IsBegun table (steps_of (steps ++ next)) old.world new.world
+  pub begun : IsBegun table (steps_of_turn (steps ++ next)) old.world new.world
   pub ends : (image : Files) → IsImage new.world.now.folder image →
-      Shows image (after_steps table (steps_of steps)) ⊎ Shows image (after_steps table (steps_of (steps ++ next)))
-  pub gave : Gave table steps given answers old new
+      Shows image (after_steps table (steps_of_turn steps)) ⊎ Shows image (after_steps table (steps_of_turn (steps ++ next)))
+  pub gave : TurnHandsOver table steps given answers old new
 
 -- no step was made, and the kids are as before
-pub record IsNone (steps : List TurnStep) (old new : DaemonState) : Type 0 where
+pub record IsNoStepMade (steps : List TurnStep) (old new : DaemonState) : Type 0 where
   pub none : steps ≡ []
   pub kids : new.kids ≡ old.kids
 
 -- The turn was stopped before a recovery succeeded: no step was begun, the reading shows what it showed, and the kids are
 -- as before.
-pub record IsIdle (steps : List TurnStep) (old new : DaemonAt) : Type 0 where
-  pub none : IsNone steps old.daemon new.daemon
+pub record IsTurnIdle (steps : List TurnStep) (old new : DaemonAt) : Type 0 where
+  pub none : IsNoStepMade steps old.daemon new.daemon
   pub unbegun : IsUnbegun old.world new.world
   pub shown : ShowsTheSame old.world.now.folder new.world.now.folder
   pub asked : new.world.asked ≡ old.world.asked
 
 -- what a turn leaves, by its end
 abbrev pub TurnLeaves : Turn → List TurnStep → DaemonAt → DaemonAt → TurnEnd → Type 0
-TurnLeaves turn steps old new Done = IsWhole turn steps old new
-TurnLeaves turn steps old new Busy = IsIdle steps old new × (new.world ≡ old.world)
-TurnLeaves turn steps old new FileFault = IsIdle steps old new ⊎ IsStopped turn steps old new
+TurnLeaves turn steps old new Done = IsTurnDone turn steps old new
+TurnLeaves turn steps old new Busy = IsTurnIdle steps old new × (new.world ≡ old.world)
+TurnLeaves turn steps old new FileFault = IsTurnIdle steps old new ⊎ IsTurnStopped turn steps old new
 TurnLeaves turn steps old new (Damaged damage) =
-    IsIdle steps old new × (shown_by (reading old.world) ≡ Err damage) × (reading new.world ≡ reading old.world)
-TurnLeaves turn steps old new Memory = IsIdle steps old new ⊎ IsStopped turn steps old new
+    IsTurnIdle steps old new × (shown_by (reading old.world) ≡ Err damage) × (reading new.world ≡ reading old.world)
+TurnLeaves turn steps old new Memory = IsTurnIdle steps old new ⊎ IsTurnStopped turn steps old new
 
 -- where no table was read, no step was made
-abbrev pub IfUnread : TurnEnd → Type 0 → Type 0
-IfUnread Busy none = none
-IfUnread (Damaged damage) none = none
-IfUnread Done none = Unit {0}
-IfUnread FileFault none = Unit {0}
-IfUnread Memory none = Unit {0}
+abbrev pub IfNoTableRead : TurnEnd → Type 0 → Type 0
+IfNoTableRead Busy none = none
+IfNoTableRead (Damaged damage) none = none
+IfNoTableRead Done none = Unit {0}
+IfNoTableRead FileFault none = Unit {0}
+IfNoTableRead Memory none = Unit {0}
 
 -- A turn. Of every host: its session is over, its children stay and the kids are some of them, by number; the limit and
 -- the interval stay; why it ended so. Of a host that tells its files and is alone: what it leaves.
@@ -103,10 +103,10 @@ pub record TurnsTo (tells alone : Bool) (at : TurnInput) (old new : DaemonAt) (e
   pub counts : KeepsCounts old.session new.session
   pub kept : KeepsChildren old.session.children new.session.children
   pub children : AreChildren new.session.children new.daemon.kids
-  pub ordered : AreByNumber new.daemon.kids
+  pub ordered : AreKidsByNumber new.daemon.kids
   pub limit : new.daemon.limit ≡ old.daemon.limit
   pub interval : new.daemon.interval ≡ old.daemon.interval
   pub busy : end ≡ Busy → Rose old.session.taken new.session.taken
   pub fault : end ≡ FileFault → Rose old.session.file_faults new.session.file_faults
-  pub unread : IfUnread end (IsNone steps old.daemon new.daemon)
+  pub unread : IfNoTableRead end (IsNoStepMade steps old.daemon new.daemon)
   pub leaves : tells ≡ true → alone ≡ true → TurnLeaves (turn_of old.daemon at) steps old new end

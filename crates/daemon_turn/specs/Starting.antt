@@ -73,11 +73,11 @@ start_steps number second true = HandedOver number second ∷ []
 start_steps number second false = HandedOver number second ∷ Ended number NotStarted ∷ []
 
 -- The steps of starts, by whether a child came of each: after the last answer the next start stands, and no more.
-abbrev pub starts : List ℕ → ℤ → List Bool → List TurnStep
-starts [] second flags = []
-starts (number ∷ numbers) second [] = HandedOver number second ∷ []
-starts (number ∷ numbers) second (flag ∷ flags) = start_steps number second flag ++ starts numbers second flags
+abbrev pub steps_of_starts : List ℕ → ℤ → List Bool → List TurnStep
+steps_of_starts [] second flags = []
+steps_of_starts (number ∷ numbers) second [] = HandedOver number second ∷ []
+steps_of_starts (number ∷ numbers) second (flag ∷ flags) = start_steps number second flag ++ steps_of_starts numbers second flags
 
 -- the lowest done numbers are forgotten, as many as are too many
-abbrev pub forgets : JobTable → List TurnStep
-forgets table = map Forgotten (surplus table)
+abbrev pub forgotten_steps : JobTable → List TurnStep
+forgotten_steps table = map Forgotten (surplus table)

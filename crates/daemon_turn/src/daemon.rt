@@ -3,7 +3,7 @@ ghost use Rattle.clock_range.specs.ClockRange.{IsClockSecond};
 ghost use Rattle.std.specs.Prelude.{◌≡◌};
 ghost use Rattle.host_calls.specs.Session.{IsOutside};
 ghost use Rattle.daemon_turn.specs.Daemons.{new_daemon};
-ghost use Rattle.daemon_turn.specs.Kids.{AreByNumber, AreChildren};
+ghost use Rattle.daemon_turn.specs.Kids.{AreKidsByNumber, AreChildren};
 ghost use Rattle.daemon_turn.specs.Leaving.{TurnsTo};
 
 use crate::{
@@ -26,7 +26,7 @@ pub struct Daemon {
 
 impl Model for Daemon {
     ghost use Rattle.daemon_turn.specs.Daemons.{DaemonState, daemon_code};
-    ghost use Rattle.daemon_turn.specs.Kids.{AreByNumber};
+    ghost use Rattle.daemon_turn.specs.Kids.{AreKidsByNumber};
 
     ghost Value = { DaemonState };
 
@@ -34,7 +34,7 @@ impl Model for Daemon {
 
     ghost view = { λ daemon. record { kids = daemon.kids.items; limit = daemon.limit; interval = daemon.interval } };
 
-    ghost invariant = { λ daemon. AreByNumber daemon.kids.items };
+    ghost invariant = { λ daemon. AreKidsByNumber daemon.kids.items };
 }
 
 impl Daemon {
@@ -66,7 +66,7 @@ impl Daemon {
     /// The kids, by number.
     pub fn kids(&self) -> &[Kid]
         ensures kids { result.now ≡ self.now.kids }
-        ensures ordered { AreByNumber result.now }
+        ensures ordered { AreKidsByNumber result.now }
     {
         self.kids.as_slice()
     }
@@ -103,12 +103,12 @@ impl Daemon {
         );
         let Turning { kids, steps } = turning;
         self.kids = kids;
-        report(end_of_session(worked), steps)
+        turn_report(end_of_session(worked), steps)
     }
 }
 
 // The report of a turn.
-fn report(end: TurnEnd, steps: Vec<TurnStep>) -> TurnReport
+fn turn_report(end: TurnEnd, steps: Vec<TurnStep>) -> TurnReport
     ensures end { result.end ≡ end }
     ensures steps { result.steps ≡ steps.items }
 {

@@ -1,14 +1,14 @@
 //! How many done jobs a turn leaves.
 ghost use Rattle.std.specs.Prelude.{◌≡◌, IfOk};
-ghost use Rattle.daemon_turn.specs.Starting.{forgets};
+ghost use Rattle.daemon_turn.specs.Starting.{forgotten_steps};
 
 use crate::TurnStep;
 use spool_store::Store;
 use std::alloc::{AllocError, Global};
 
 // The steps that forget the lowest of the done jobs, as many as are too many.
-pub(crate) fn forgets(alloc: Global, store: &Store) -> Result<Vec<TurnStep>, AllocError>
-    ensures { IfOk result (λ steps. steps.items ≡ forgets store.now.table) }
+pub(crate) fn forgotten_steps(alloc: Global, store: &Store) -> Result<Vec<TurnStep>, AllocError>
+    ensures { IfOk result (λ steps. steps.items ≡ forgotten_steps store.now.table) }
 {
     let numbers = store.surplus(alloc)?;
     numbers

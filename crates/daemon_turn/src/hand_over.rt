@@ -17,7 +17,7 @@ use std::alloc::Global;
 
 // Starts the pending job of this number at this second, and hands its script over. No child where the host could
 // start none.
-pub(crate) fn hand_over<H: Host>(
+pub(crate) fn start_job<H: Host>(
     alloc: Global,
     host: &mut H,
     store: Store,

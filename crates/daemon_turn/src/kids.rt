@@ -3,14 +3,14 @@ ghost use Rattle.std.specs.Prelude.{◌≡◌, IsPermutation, map};
 ghost use Rattle.std.specs.List.{list_any};
 ghost use Rattle.queue_rules.specs.Order.{Differ};
 ghost use Rattle.daemon_turn.specs.Decisions.{has_kid};
-ghost use Rattle.daemon_turn.specs.Kids.{AreByNumber, tells_end_of};
+ghost use Rattle.daemon_turn.specs.Kids.{AreKidsByNumber, tells_end_of};
 ghost use Rattle.daemon_turn.specs.inside.Ended.{AreEndsByNumber, without_ended};
 
 use crate::{Kid, TurnStep};
 
 // Whether one of the kids has the number.
 pub(crate) fn has_kid(kids: &[Kid], number: u32) -> bool
-    requires { AreByNumber kids.now }
+    requires { AreKidsByNumber kids.now }
     ensures { result ≡ has_kid kids.now number }
 {
     kids.binary_search_by_key(&number, |kid| kid.number).is_ok()
@@ -38,7 +38,7 @@ fn has_ended(ended: &[TurnStep], number: u32) -> bool
 pub(crate) fn sort_kids(kids: &mut Vec<Kid>)
     requires { Differ (map (λ kid. kid.number) kids.old.items) }
     ensures same { IsPermutation kids.old.items kids.new.items }
-    ensures ordered { AreByNumber kids.new.items }
+    ensures ordered { AreKidsByNumber kids.new.items }
 {
     kids.sort_unstable_by_key(|kid| kid.number);
 }

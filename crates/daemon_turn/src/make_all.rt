@@ -2,7 +2,7 @@
 ghost use Rattle.std.specs.Prelude.{◌≡◌, IfOk};
 ghost use Rattle.spool_store.specs.Making.{MayMakeSteps};
 ghost use Rattle.daemon_turn.specs.inside.Making.{MakesAll};
-ghost use Rattle.spool_model.specs.StepsOf.{steps_of};
+ghost use Rattle.spool_model.specs.StepsOf.{steps_of_turn};
 
 use crate::{TurnStep, Turning};
 use host_calls::Host;
@@ -19,7 +19,7 @@ impl Turning {
         store: Store,
         steps: &[TurnStep],
     ) -> Result<Store, StoreFault>
-        requires { MayMakeSteps H.tells (H.session host.old) (H.world host.old) store (steps_of steps.now) }
+        requires { MayMakeSteps H.tells (H.session host.old) (H.world host.old) store (steps_of_turn steps.now) }
         ensures makes { MakesAll H.tells (H.session host.old) (H.session host.new)
             (H.world host.old) (H.world host.new) store steps.now self.old.steps.items self.new.steps.items result }
         ensures kids { self.new.kids ≡ self.old.kids }
@@ -37,7 +37,7 @@ impl Turning {
 
 // The steps of the job table that the steps of a turn report.
 fn steps_of(alloc: Global, steps: &[TurnStep]) -> Result<Vec<Step>, AllocError>
-    ensures { IfOk result (λ made. made.items ≡ steps_of steps.now) }
+    ensures { IfOk result (λ made. made.items ≡ steps_of_turn steps.now) }
 {
     steps.iter().map(|step| step.step()).collect(alloc)
 }

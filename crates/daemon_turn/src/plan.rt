@@ -2,8 +2,8 @@
 ghost use Rattle.clock_range.specs.ClockRange.{IsClockSecond};
 ghost use Rattle.due_lines.specs.declared.due.Due.{Due};
 ghost use Rattle.std.specs.Prelude.{◌≡◌, ◌∷◌, [], List, IfOk, IfSome, IfNone, filter, map, option_to_list};
-ghost use Rattle.daemon_turn.specs.Decisions.{interrupts, is_without_kid};
-ghost use Rattle.daemon_turn.specs.Kids.{AreByNumber};
+ghost use Rattle.daemon_turn.specs.Decisions.{interrupts, is_job_without_kid};
+ghost use Rattle.daemon_turn.specs.Kids.{AreKidsByNumber};
 ghost use Rattle.daemon_turn.specs.Starting.{IsBatchOrderWhere, IsFullOrder, IsOrder, turn_of};
 ghost use Rattle.daemon_turn.specs.declared.kid.Kid.{Kid};
 ghost use Rattle.spool_model.specs.declared.turn_step.TurnStep.TheVariants.{Interrupted};
@@ -19,7 +19,7 @@ use std::alloc::{AllocError, Global};
 
 // What a turn will do on a store.
 #[derive(Drop)]
-pub(crate) struct Plan {
+pub(crate) struct TurnPlan {
     // The steps that give up the jobs that run and have no kid.
     pub(crate) interrupted: Vec<TurnStep>,
     // The numbers of the jobs that start, in order.
@@ -27,47 +27,51 @@ pub(crate) struct Plan {
 }
 
 // The plan of a turn with these kids on the store.
-pub(crate) fn make_plan(
+pub(crate) fn turn_plan(
     alloc: Global,
     store: &Store,
     kids: &[Kid],
     limit: u32,
     interval: u32,
     at: TurnInput,
-) -> Result<Plan, AllocError>
-    requires ordered { AreByNumber kids.now }
+) -> Result<TurnPlan, AllocError>
+    requires ordered { AreKidsByNumber kids.now }
     requires second { IsClockSecond at.now }
     ensures { IfOk result
         (IsPlan (record { kids = kids.now; limit = limit; interval = interval }) at store.now.table) }
 {
-    let interrupted = interrupted(alloc, store, kids)?;
+    let interrupted = interrupted_steps(alloc, store, kids)?;
     let order = order(alloc, store, limit, interval, at)?;
-    Ok(Plan { interrupted, order })
+    Ok(TurnPlan { interrupted, order })
 }
 
 // The steps that give up the jobs that run and have no kid.
-fn interrupted(alloc: Global, store: &Store, kids: &[Kid]) -> Result<Vec<TurnStep>, AllocError>
-    requires { AreByNumber kids.now }
+fn interrupted_steps(
+    alloc: Global,
+    store: &Store,
+    kids: &[Kid],
+) -> Result<Vec<TurnStep>, AllocError>
+    requires { AreKidsByNumber kids.now }
     ensures { IfOk result (λ steps. steps.items ≡ interrupts store.now.table kids.now) }
 {
     interrupts(alloc, store.rows(), kids)
 }
 
 fn interrupts(alloc: Global, rows: &[Row], kids: &[Kid]) -> Result<Vec<TurnStep>, AllocError>
-    requires { AreByNumber kids.now }
+    requires { AreKidsByNumber kids.now }
     ensures { IfOk result
-        (λ steps. steps.items ≡ map (λ row. Interrupted row.number) (filter (is_without_kid kids.now) rows.now)) }
+        (λ steps. steps.items ≡ map (λ row. Interrupted row.number) (filter (is_job_without_kid kids.now) rows.now)) }
 {
     rows.iter()
-        .filter(|row| is_without_kid(row, kids))
+        .filter(|row| is_job_without_kid(row, kids))
         .map(|row| TurnStep::Interrupted(row.number))
         .collect(alloc)
 }
 
 // Whether the job runs and has no kid.
-fn is_without_kid(row: &Row, kids: &[Kid]) -> bool
-    requires { AreByNumber kids.now }
-    ensures { result ≡ is_without_kid kids.now row.now }
+fn is_job_without_kid(row: &Row, kids: &[Kid]) -> bool
+    requires { AreKidsByNumber kids.now }
+    ensures { result ≡ is_job_without_kid kids.now row.now }
 {
     matches!(row.state, State::Running(_)) && !has_kid(kids, row.number)
 }
@@ -104,7 +108,7 @@ fn full_order(
         → IsFullOrder (turn_of (record { kids = kids; limit = limit; interval = interval }) at)
         store.now.table numbers.items) }
 {
-    let mut numbers = numbers_of(alloc, store.due(at.now))?;
+    let mut numbers = numbers_of_dues(alloc, store.due(at.now))?;
     if let Some(number) = batch_job(store, limit, interval, at) {
         numbers.push(number)?;
     }
@@ -112,7 +116,7 @@ fn full_order(
 }
 
 // The numbers of jobs in line.
-fn numbers_of(alloc: Global, dues: &[Due]) -> Result<Vec<u32>, AllocError>
+fn numbers_of_dues(alloc: Global, dues: &[Due]) -> Result<Vec<u32>, AllocError>
     ensures { IfOk result (λ numbers. numbers.items ≡ map (λ due. due.number) dues.now) }
 {
     dues.iter().map(|due| due.number).collect(alloc)

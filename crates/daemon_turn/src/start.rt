@@ -3,11 +3,11 @@ ghost use Rattle.clock_range.specs.ClockRange.{IsClockSecond};
 ghost use Rattle.std.specs.Prelude.{[], ◌∷◌};
 ghost use Rattle.spool_model.specs.declared.step.Step.TheVariants.{Start};
 ghost use Rattle.spool_store.specs.Stepping.{MayStep};
-ghost use Rattle.daemon_turn.specs.inside.Going.{MayGo};
+ghost use Rattle.daemon_turn.specs.inside.Going.{MayMakePart};
 ghost use Rattle.daemon_turn.specs.inside.Launching.{Launches};
-ghost use Rattle.daemon_turn.specs.inside.Waiting.{AreWaiting};
+ghost use Rattle.daemon_turn.specs.inside.Waiting.{ArePendingNumbers};
 
-use crate::hand_over::hand_over;
+use crate::hand_over::start_job;
 use crate::{Kid, TurnStep, Turning};
 use host_calls::{Ending, Host};
 use spool_store::{Store, StoreFault};
@@ -23,8 +23,8 @@ impl Turning {
         numbers: &[u32],
         second: i64,
     ) -> Result<Store, StoreFault>
-        requires may { MayGo H.tells (H.session host.old) (H.world host.old) store }
-        requires waiting { AreWaiting store.table numbers.now }
+        requires may { MayMakePart H.tells (H.session host.old) (H.world host.old) store }
+        requires waiting { ArePendingNumbers store.table numbers.now }
         requires second { IsClockSecond second }
         ensures { Launches H.tells (H.session host.old) (H.session host.new) (H.world host.old) (H.world host.new)
             store numbers.now second self.old.kids.items self.new.kids.items
@@ -54,7 +54,7 @@ impl Turning {
     {
         self.kids.reserve(1)?;
         self.steps.reserve(1)?;
-        let (store, child) = hand_over(alloc, host, store, number, second)?;
+        let (store, child) = start_job(alloc, host, store, number, second)?;
         self.steps
             .push_reserved(TurnStep::HandedOver(number, second));
         match child {

@@ -4,17 +4,17 @@ ghost use Rattle.std.specs.Prelude.{◌≡◌, [], List};
 ghost use Rattle.host_calls.specs.Session.{IsInside};
 ghost use Rattle.spool_model.specs.JobTable.{entry_at};
 ghost use Rattle.daemon_turn.specs.Decisions.{asked_kids, interrupts, is_running_entry};
-ghost use Rattle.daemon_turn.specs.Kids.{AreByNumber, AreChildren};
+ghost use Rattle.daemon_turn.specs.Kids.{AreKidsByNumber, AreChildren};
 ghost use Rattle.daemon_turn.specs.Starting.{IsOrder, Turn, turn_of};
 ghost use Rattle.daemon_turn.specs.declared.kid.Kid.{Kid};
 ghost use Rattle.daemon_turn.specs.inside.Deciding.{MayDecide};
 ghost use Rattle.daemon_turn.specs.inside.Turned.{MakesTurn};
-ghost use Rattle.daemon_turn.specs.inside.Waiting.{AreWaiting};
-ghost use Rattle.daemon_turn.specs.inside.Working.{TurnsOn, Works};
+ghost use Rattle.daemon_turn.specs.inside.Waiting.{ArePendingNumbers};
+ghost use Rattle.daemon_turn.specs.inside.Working.{TurnsOn, TurnWorks};
 
-use crate::forget::forgets;
+use crate::forget::forgotten_steps;
 use crate::kids::sort_kids;
-use crate::plan::{Plan, make_plan};
+use crate::plan::{TurnPlan, turn_plan};
 use crate::{Kid, TurnInput, TurnStep};
 use host_calls::Host;
 use spool_model::State;
@@ -41,10 +41,14 @@ impl Turning {
     ) -> Result<(), StoreFault>
         requires inside { IsInside (H.session host.old) }
         requires second { IsClockSecond at.now }
-        requires ordered { AreByNumber self.old.kids.items }
+        requires ordered { AreKidsByNumber self.old.kids.items }
         requires children { AreChildren (H.session host.old).children self.old.kids.items }
         requires none { self.old.steps.items ≡ [] }
-        ensures { Works H.tells (turn_of (record { kids = self.old.kids.items; limit = limit; interval = interval }) at)
+        ensures { TurnWorks H.tells (turn_of (record {
+          kids = self.old.kids.items;
+          limit = limit;
+          interval = interval;
+        }) at)
             (record {
               session = H.session host.old;
               world = H.world host.old;
@@ -81,7 +85,7 @@ impl Turning {
             store (turn_of (record { kids = before; limit = limit; interval = interval }) at)
             self.new.kids.items self.new.steps.items result }
     {
-        let plan = make_plan(alloc, &store, self.kids.as_slice(), limit, interval, at)?;
+        let plan = turn_plan(alloc, &store, self.kids.as_slice(), limit, interval, at)?;
         let made = self.make_turn(alloc, host, store, &plan, at.now);
         sort_kids(&mut self.kids);
         made?;
@@ -94,12 +98,12 @@ impl Turning {
         alloc: Global,
         host: &mut H,
         store: Store,
-        plan: &Plan,
+        plan: &TurnPlan,
         second: i64,
     ) -> Result<Store, StoreFault>
         requires may { MayDecide H.tells (H.session host.old) (H.world host.old) store self.old.kids.items }
         requires interrupted { plan.now.interrupted.items ≡ interrupts store.table self.old.kids.items }
-        requires waiting { AreWaiting store.table plan.now.order.items }
+        requires waiting { ArePendingNumbers store.table plan.now.order.items }
         requires second { IsClockSecond second }
         requires none { self.old.steps.items ≡ [] }
         ensures { (turn : Turn) → turn.now ≡ second → self.old.kids.items ≡ asked_kids store.table turn.kids
@@ -110,7 +114,7 @@ impl Turning {
         let store = self.decide(alloc, host, store, plan.interrupted.as_slice())?;
         // After this no job starts that the table of the recovery did not have ready.
         let store = self.start_all(alloc, host, store, plan.order.as_slice(), second)?;
-        let forgotten = forgets(alloc, &store)?;
+        let forgotten = forgotten_steps(alloc, &store)?;
         self.make_all(alloc, host, store, forgotten.as_slice())
     }
 }
@@ -119,11 +123,11 @@ impl Turning {
 fn drop_gone(kids: &mut Vec<Kid>, store: &Store)
     ensures { kids.new.items ≡ asked_kids store.now.table kids.old.items }
 {
-    kids.retain(|kid| runs(store, kid.number));
+    kids.retain(|kid| is_running_number(store, kid.number));
 }
 
 // Whether the job of the number runs.
-fn runs(store: &Store, number: u32) -> bool
+fn is_running_number(store: &Store, number: u32) -> bool
     ensures { result ≡ is_running_entry (entry_at store.now.table number) }
 {
     match store.row(number) {

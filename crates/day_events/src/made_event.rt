@@ -19,36 +19,36 @@ pub fn made_event(alloc: Global, number: u32) -> Result<Event, AllocError>
     ensures { IfOk result (λ event. event ≡ made_event number) }
 {
     if number % 8 == 0 {
-        return submission(alloc, number, at_now(alloc)?);
+        return submission_event(alloc, number, at_now(alloc)?);
     }
     if number % 8 == 1 {
-        return submission(alloc, number, at_now_later(alloc)?);
+        return submission_event(alloc, number, at_now_later(alloc)?);
     }
     if number % 8 == 2 {
-        return submission(alloc, number, one_word(alloc, "batch")?);
+        return submission_event(alloc, number, one_word(alloc, "batch")?);
     }
     if number % 8 == 3 {
-        return Ok(turn(number, 100));
+        return Ok(turn_event(number, 100));
     }
     if number % 8 == 4 {
-        return command(alloc, number, one_word(alloc, "atq")?, empty_input(alloc));
+        return command_event(alloc, number, one_word(alloc, "atq")?, empty_input(alloc));
     }
     if number % 8 == 5 {
-        return Ok(turn(number, 37 * number % 300));
+        return Ok(turn_event(number, 37 * number % 300));
     }
     if number % 8 == 6 {
-        return command(alloc, number, removal(alloc, number)?, empty_input(alloc));
+        return command_event(alloc, number, removal(alloc, number)?, empty_input(alloc));
     }
     Ok(last_of_eight(number))
 }
 
 // A turn under a load.
-fn turn(number: u32, load: u32) -> Event
+fn turn_event(number: u32, load: u32) -> Event
     requires { number < MAX_EVENTS }
     ensures { result ≡ Event.Turn (second_of number) (Some load) }
 {
     Event::Turn {
-        now: second(number),
+        now: event_second(number),
         load: Some(load),
     }
 }
@@ -64,11 +64,11 @@ fn last_of_eight(number: u32) -> Event
             fuse: None,
         };
     }
-    turn(number, 0)
+    turn_event(number, 0)
 }
 
 // The second of the event of this number.
-fn second(number: u32) -> i64
+fn event_second(number: u32) -> i64
     requires { number < MAX_EVENTS }
     ensures { result ≡ second_of number }
 {
@@ -76,16 +76,21 @@ fn second(number: u32) -> i64
 }
 
 // A submission by these words.
-fn submission(alloc: Global, number: u32, words: Words) -> Result<Event, AllocError>
+fn submission_event(alloc: Global, number: u32, words: Words) -> Result<Event, AllocError>
     requires { number < MAX_EVENTS }
     ensures { IfOk result (λ event. event ≡ made_command number words (echo_of number)) }
 {
     let input = format!(in alloc; "echo {number}\n")?;
-    command(alloc, number, words, Bytes::from(input.into_bytes()))
+    command_event(alloc, number, words, Bytes::from(input.into_bytes()))
 }
 
 // A command by these words, with this input.
-fn command(alloc: Global, number: u32, words: Words, input: Bytes) -> Result<Event, AllocError>
+fn command_event(
+    alloc: Global,
+    number: u32,
+    words: Words,
+    input: Bytes,
+) -> Result<Event, AllocError>
     requires { number < MAX_EVENTS }
     ensures { IfOk result (λ event. event ≡ made_command number words input) }
 {
@@ -93,7 +98,7 @@ fn command(alloc: Global, number: u32, words: Words, input: Bytes) -> Result<Eve
         words,
         caller: ann(alloc)?,
         input,
-        now: second(number),
+        now: event_second(number),
     })
 }
 

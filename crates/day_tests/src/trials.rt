@@ -1,7 +1,7 @@
 //! A made day of 32 events, tried: once for each place at which a call fails, the machine stops, or a start fails. What is
 //! proved of every day stands at `day`.
 ghost use Rattle.std.specs.Prelude.{OnOk};
-ghost use Rattle.at_day.specs.Days.{IsReady};
+ghost use Rattle.at_day.specs.Days.{IsMachineReady};
 ghost use Rattle.at_day.specs.Machines.{machine};
 
 use crate::tried_days::{
@@ -140,7 +140,7 @@ fn over_reboot(
     fuse: Option<u64>,
     stepped: &mut Stepped,
 ) -> Result<Seen, AllocError>
-    requires { IsReady (machine stepped.old.host stepped.old.daemon) }
+    requires { IsMachineReady (machine stepped.old.host stepped.old.daemon) }
 {
     each_event(rt, alloc, events, 0..before, stepped)?;
     reboot(rt, alloc, pick, fuse, stepped)?;
@@ -155,8 +155,8 @@ fn reboot(
     fuse: Option<u64>,
     stepped: &mut Stepped,
 ) -> Result<(), AllocError>
-    requires { IsReady (machine stepped.old.host stepped.old.daemon) }
-    ensures { OnOk result (IsReady (machine stepped.new.host stepped.new.daemon)) }
+    requires { IsMachineReady (machine stepped.old.host stepped.old.daemon) }
+    ensures { OnOk result (IsMachineReady (machine stepped.new.host stepped.new.daemon)) }
 {
     next_event(rt, alloc, &Event::Reboot { pick, fuse }, stepped)
 }

@@ -1,6 +1,6 @@
 //! A made day of 32 events, tried once for each event that finds the lock taken.
 ghost use Rattle.std.specs.Prelude.{OnOk};
-ghost use Rattle.at_day.specs.Days.{IsReady};
+ghost use Rattle.at_day.specs.Days.{IsMachineReady};
 ghost use Rattle.at_day.specs.Machines.{machine};
 
 use crate::tried_days::{EVENTS, Stepped, each_event, end_of_day, events, open_day, plan};
@@ -41,7 +41,7 @@ fn beside(
     number: usize,
     without: &mut Stepped,
 ) -> Result<bool, AllocError>
-    requires { IsReady (machine without.old.host without.old.daemon) }
+    requires { IsMachineReady (machine without.old.host without.old.daemon) }
 {
     let plan = taking(alloc, calls_before(rt, alloc, events, number, without)?)?;
     let mut with = open_day(alloc, plan)?;
@@ -56,8 +56,8 @@ fn calls_before(
     number: usize,
     stepped: &mut Stepped,
 ) -> Result<u64, AllocError>
-    requires { IsReady (machine stepped.old.host stepped.old.daemon) }
-    ensures { OnOk result (IsReady (machine stepped.new.host stepped.new.daemon)) }
+    requires { IsMachineReady (machine stepped.old.host stepped.old.daemon) }
+    ensures { OnOk result (IsMachineReady (machine stepped.new.host stepped.new.daemon)) }
 {
     each_event(rt, alloc, events, 0..number, stepped)?;
     Ok(stepped.host.calls())
@@ -80,10 +80,10 @@ fn each_on_both(
     one: &mut Stepped,
     other: &mut Stepped,
 ) -> Result<(), AllocError>
-    requires one { IsReady (machine one.old.host one.old.daemon) }
-    requires other { IsReady (machine other.old.host other.old.daemon) }
-    ensures one { OnOk result (IsReady (machine one.new.host one.new.daemon)) }
-    ensures other { OnOk result (IsReady (machine other.new.host other.new.daemon)) }
+    requires one { IsMachineReady (machine one.old.host one.old.daemon) }
+    requires other { IsMachineReady (machine other.old.host other.old.daemon) }
+    ensures one { OnOk result (IsMachineReady (machine one.new.host one.new.daemon)) }
+    ensures other { OnOk result (IsMachineReady (machine other.new.host other.new.daemon)) }
 {
     assert!(rt; are_same_spools(alloc, &one.host, &other.host)?);
     for number in from..EVENTS {
@@ -103,8 +103,8 @@ fn to_their_ends(
     with: &mut Stepped,
     without: &mut Stepped,
 ) -> Result<bool, AllocError>
-    requires with { IsReady (machine with.old.host with.old.daemon) }
-    requires without { IsReady (machine without.old.host without.old.daemon) }
+    requires with { IsMachineReady (machine with.old.host with.old.daemon) }
+    requires without { IsMachineReady (machine without.old.host without.old.daemon) }
 {
     let next = number.saturating_add(1);
     each_event(rt, alloc, events, 0..next, with)?;

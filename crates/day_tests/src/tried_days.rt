@@ -2,7 +2,7 @@
 ghost use Rattle.std.specs.Prelude.{IfOk, OnOk};
 ghost use Rattle.host_calls.specs.Session.{IsOutside};
 ghost use Rattle.memory_host.specs.Host.{memory_session};
-ghost use Rattle.at_day.specs.Days.{IsReady};
+ghost use Rattle.at_day.specs.Days.{IsMachineReady};
 ghost use Rattle.at_day.specs.Machines.{machine};
 
 use crate::tried_rules::Seen;
@@ -59,7 +59,7 @@ pub struct Stepped {
 
 /// The day before its first event, on a spool of this plan.
 pub fn open_day(alloc: Global, plan: Plan) -> Result<Stepped, AllocError>
-    ensures { IfOk result (λ stepped. IsReady (machine stepped.host stepped.daemon)) }
+    ensures { IfOk result (λ stepped. IsMachineReady (machine stepped.host stepped.daemon)) }
 {
     let host = spool(alloc, plan)?;
     let daemon = Daemon::new(alloc, LIMIT, INTERVAL);
@@ -78,8 +78,8 @@ pub fn each_event(
     numbers: Range<usize>,
     stepped: &mut Stepped,
 ) -> Result<(), AllocError>
-    requires { IsReady (machine stepped.old.host stepped.old.daemon) }
-    ensures { OnOk result (IsReady (machine stepped.new.host stepped.new.daemon)) }
+    requires { IsMachineReady (machine stepped.old.host stepped.old.daemon) }
+    ensures { OnOk result (IsMachineReady (machine stepped.new.host stepped.new.daemon)) }
 {
     for number in numbers {
         if let Some(event) = events.get(number) {
@@ -96,8 +96,8 @@ pub fn next_event(
     event: &Event,
     stepped: &mut Stepped,
 ) -> Result<(), AllocError>
-    requires { IsReady (machine stepped.old.host stepped.old.daemon) }
-    ensures { OnOk result (IsReady (machine stepped.new.host stepped.new.daemon)) }
+    requires { IsMachineReady (machine stepped.old.host stepped.old.daemon) }
+    ensures { OnOk result (IsMachineReady (machine stepped.new.host stepped.new.daemon)) }
 {
     assert!(rt; is_day_event(event));
     let report = one_event(alloc, event, &mut stepped.host, &mut stepped.daemon)?;
@@ -107,7 +107,7 @@ pub fn next_event(
 
 /// The day after its last event.
 pub fn end_of_day(alloc: Global, stepped: &mut Stepped) -> Result<Seen, AllocError>
-    requires { IsReady (machine stepped.old.host stepped.old.daemon) }
+    requires { IsMachineReady (machine stepped.old.host stepped.old.daemon) }
 {
     // A day without events recovers and counts, and does nothing else.
     let counts = day(alloc, &[], &mut stepped.host)?.counts;

@@ -9,7 +9,7 @@ use Rattle.spool_model.specs.declared.row.Row.{Row}
 use Rattle.queue_rules.specs.Order.{AreInDueOrder, IsFirstBatch, IsNotAfter, is_pending, is_ready_batch, is_ready_job, places_of}
 use Rattle.due_lines.specs.declared.due.Due.{Due}
 use Rattle.due_lines.specs.declared.lines.Lines.{Lines}
-use Rattle.due_lines.specs.Dues.{AreInLine, IsLineOf, due_of, due_place, is_waiting_batch, is_waiting_job}
+use Rattle.due_lines.specs.Dues.{AreInLine, IsLineOf, due_of_row, due_place, is_waiting_batch, is_waiting_job}
 use Rattle.due_lines.specs.TwoLines.{AreLinesOf}
 use Rattle.due_lines.proofs.OrderLemmas.{in_line-refl}
 use Rattle.due_lines.proofs.RowLemmas.{none_batch, none_job, not_batch, not_job, row_in_line, row_less, row_more, row_pushed, row_put, row_unlisted}
@@ -26,14 +26,14 @@ pub on_ok : {X E P Q : Type 0} → (result : Result X E) → OnOk result P → (
 on_ok (Ok done) is then = then is
 on_ok (Err fault) is then = is
 
-pub batch_more : (rows : List Row) (row : Row) (lines : Lines) (due : Due) (new : List Due) → is_waiting_batch row ≡ true → due ≡ due_of row
+pub batch_more : (rows : List Row) (row : Row) (lines : Lines) (due : Due) (new : List Due) → is_waiting_batch row ≡ true → due ≡ due_of_row row
     → IsPermutation (due ∷ lines.batch) new → AreInLine new → AreLinesOf rows lines → AreLinesOf (rows ++ row ∷ []) (record { jobs = lines.jobs; batch = new })
 batch_more rows row lines due new waits of added line are = record {
   jobs = row_pushed is_waiting_job rows row lines.jobs (not_job row waits) are.jobs;
   batch = row_more is_waiting_batch rows row lines.batch new waits (subst (λ (one : Due). IsPermutation (one ∷ lines.batch) new) of added) line are.batch;
 }
 
-pub job_more : (rows : List Row) (row : Row) (lines : Lines) (due : Due) (new : List Due) → is_waiting_job row ≡ true → due ≡ due_of row
+pub job_more : (rows : List Row) (row : Row) (lines : Lines) (due : Due) (new : List Due) → is_waiting_job row ≡ true → due ≡ due_of_row row
     → IsPermutation (due ∷ lines.jobs) new → AreInLine new → AreLinesOf rows lines → AreLinesOf (rows ++ row ∷ []) (record { jobs = new; batch = lines.batch })
 job_more rows row lines due new waits of added line are = record {
   jobs = row_more is_waiting_job rows row lines.jobs new waits (subst (λ (one : Due). IsPermutation (one ∷ lines.jobs) new) of added) line are.jobs;
@@ -47,22 +47,22 @@ none_more rows row lines job batch are = record {
 }
 
 -- the job of a row that waits is in its line
-pub in_batch : (row : Row) (lines : Lines) (due : Due) → is_waiting_batch row ≡ true → due ≡ due_of row
+pub in_batch : (row : Row) (lines : Lines) (due : Due) → is_waiting_batch row ≡ true → due ≡ due_of_row row
     → (prefix : List Row) × (suffix : List Row) × AreLinesOf (prefix ++ row ∷ suffix) lines → Contains lines.batch due
 in_batch row lines due waits of (prefix, suffix, are) = subst (Contains lines.batch) (sym of) (row_in_line is_waiting_batch prefix suffix row lines.batch waits are.batch)
 
-pub in_jobs : (row : Row) (lines : Lines) (due : Due) → is_waiting_job row ≡ true → due ≡ due_of row
+pub in_jobs : (row : Row) (lines : Lines) (due : Due) → is_waiting_job row ≡ true → due ≡ due_of_row row
     → (prefix : List Row) × (suffix : List Row) × AreLinesOf (prefix ++ row ∷ suffix) lines → Contains lines.jobs due
 in_jobs row lines due waits of (prefix, suffix, are) = subst (Contains lines.jobs) (sym of) (row_in_line is_waiting_job prefix suffix row lines.jobs waits are.jobs)
 
-pub batch_less : (prefix suffix : List Row) (row : Row) (lines : Lines) (due : Due) (new : List Due) → is_waiting_batch row ≡ true → due ≡ due_of row
+pub batch_less : (prefix suffix : List Row) (row : Row) (lines : Lines) (due : Due) (new : List Due) → is_waiting_batch row ≡ true → due ≡ due_of_row row
     → IsPermutation lines.batch (due ∷ new) → AreInLine new → AreLinesOf (prefix ++ row ∷ suffix) lines → AreLinesOf (prefix ++ suffix) (record { jobs = lines.jobs; batch = new })
 batch_less prefix suffix row lines due new waits of taken line are = record {
   jobs = row_unlisted is_waiting_job prefix suffix row lines.jobs (not_job row waits) are.jobs;
   batch = row_less is_waiting_batch prefix suffix row lines.batch new waits (subst (λ (one : Due). IsPermutation lines.batch (one ∷ new)) of taken) line are.batch;
 }
 
-pub job_less : (prefix suffix : List Row) (row : Row) (lines : Lines) (due : Due) (new : List Due) → is_waiting_job row ≡ true → due ≡ due_of row
+pub job_less : (prefix suffix : List Row) (row : Row) (lines : Lines) (due : Due) (new : List Due) → is_waiting_job row ≡ true → due ≡ due_of_row row
     → IsPermutation lines.jobs (due ∷ new) → AreInLine new → AreLinesOf (prefix ++ row ∷ suffix) lines → AreLinesOf (prefix ++ suffix) (record { jobs = new; batch = lines.batch })
 job_less prefix suffix row lines due new waits of taken line are = record {
   jobs = row_less is_waiting_job prefix suffix row lines.jobs new waits (subst (λ (one : Due). IsPermutation lines.jobs (one ∷ new)) of taken) line are.jobs;

@@ -17,7 +17,7 @@ use Rattle.std.proofs.lemmas.List.Quantifiers.{all_pairs_remove}
 use Rattle.std.proofs.lemmas.List.Sorted.{All-permutation, IsPermutation-insert, IsPermutation-remove, ranks_by, sorted_far}
 use Rattle.queue_rules.specs.Order.{IsNotAfter}
 use Rattle.due_lines.specs.declared.due.Due.{Due}
-use Rattle.due_lines.specs.Dues.{AreInLine, due_place, is_before, is_due_at}
+use Rattle.due_lines.specs.Dues.{AreInLine, due_place, is_due_before, is_due_at}
 
 -- the first stands before the second, or in the same place
 abbrev pub InLine : Due → Due → Type 0
@@ -32,41 +32,41 @@ in_line-trans first second third (inl a) (inr b) = let m = b.0 in inl (omega (ar
 in_line-trans first second third (inr a) (inl b) = let m = a.0 in inl (omega (arith, m, b))
 in_line-trans first second third (inr a) (inr b) = let p = a.1 in let q = b.1 in inr (a.0 ∙ b.0, omega (arith, p, q))
 
-before_is : (first second : Due) → is_before first second ≡ true → (first.minute < second.minute) ⊎ ((first.minute ≡ second.minute) × (first.number < second.number))
+before_is : (first second : Due) → is_due_before first second ≡ true → (first.minute < second.minute) ⊎ ((first.minute ≡ second.minute) × (first.number < second.number))
 before_is first second is = by_minute (cases_lt first.minute second.minute) where
   by_minute : (first.minute < second.minute) ⊎ (second.minute ≤ first.minute) → (first.minute < second.minute) ⊎ ((first.minute ≡ second.minute) × (first.number < second.number))
   by_minute (inl less) = inl less
   by_minute (inr least) = inr (grind (arith, nat_tests), grind (arith, nat_tests))
 
-not_before : (first second : Due) → is_before first second ≡ false → InLine second first
+not_before : (first second : Due) → is_due_before first second ≡ false → InLine second first
 not_before first second is = by_minute (cases_lt second.minute first.minute) where
   by_minute : (second.minute < first.minute) ⊎ (first.minute ≤ second.minute) → InLine second first
   by_minute (inl less) = inl less
   by_minute (inr least) = inr (grind (arith, nat_tests), grind (arith, nat_tests))
 
-is_before_by : (first second : Due) → (first.minute < second.minute) ⊎ ((first.minute ≡ second.minute) × (first.number < second.number)) → is_before first second ≡ true
+is_before_by : (first second : Due) → (first.minute < second.minute) ⊎ ((first.minute ≡ second.minute) × (first.number < second.number)) → is_due_before first second ≡ true
 is_before_by first second (inl less) = grind (arith, nat_tests)
 is_before_by first second (inr same) = let m = same.0 in let n = same.1 in grind (arith, nat_tests)
 
-before_in_line : (first second third : Due) → InLine first second → is_before second third ≡ true → is_before first third ≡ true
+before_in_line : (first second third : Due) → InLine first second → is_due_before second third ≡ true → is_due_before first third ≡ true
 before_in_line first second third line is = by_cases line (before_is second third is) where
-  by_cases : InLine first second → (second.minute < third.minute) ⊎ ((second.minute ≡ third.minute) × (second.number < third.number)) → is_before first third ≡ true
+  by_cases : InLine first second → (second.minute < third.minute) ⊎ ((second.minute ≡ third.minute) × (second.number < third.number)) → is_due_before first third ≡ true
   by_cases (inl a) (inl b) = is_before_by first third (inl (omega (arith, a, b)))
   by_cases (inl a) (inr b) = let m = b.0 in is_before_by first third (inl (omega (arith, a, m)))
   by_cases (inr a) (inl b) = let m = a.0 in is_before_by first third (inl (omega (arith, m, b)))
   by_cases (inr a) (inr b) = let p = a.1 in let q = b.1 in is_before_by first third (inr (a.0 ∙ b.0, omega (arith, p, q)))
 
-not_itself : (due : Due) → is_before due due ≡ true → ⊥
+not_itself : (due : Due) → is_due_before due due ≡ true → ⊥
 not_itself due is = elim (before_is due due is) [ inl less ↦ omega (arith, less) | inr same ↦ let n = same.1 in omega (arith, n) ]
 
-in_line_before : (first second : Due) → is_before first second ≡ true → InLine first second
+in_line_before : (first second : Due) → is_due_before first second ≡ true → InLine first second
 in_line_before first second is = elim (before_is first second is) [ inl less ↦ inl less | inr same ↦ let n = same.1 in inr (same.0, omega (arith, n)) ]
 
 -- in line, no job that stands before another comes after one that does not
-pub parted_before : (dues : List Due) (due : Due) → AreInLine dues → IsPartitionedBy (λ other. is_before other due) dues
+pub parted_before : (dues : List Due) (due : Due) → AreInLine dues → IsPartitionedBy (λ other. is_due_before other due) dues
 parted_before dues due line i j d low inside is = elim (cases_lt i j) [
   | inl less ↦ before_in_line (get_or dues i d) (get_or dues j d) due (line.ordered i j d less inside) is
-  | inr same ↦ let at : i ≡ j = omega (arith, same, low) in subst (λ (k : ℕ). is_before (get_or dues k d) due ≡ true) (sym at) is
+  | inr same ↦ let at : i ≡ j = omega (arith, same, low) in subst (λ (k : ℕ). is_due_before (get_or dues k d) due ≡ true) (sym at) is
 ]
 
 -- nor one that is due after one that is not
@@ -92,7 +92,7 @@ insert_pairs R (y ∷ ys) (suc i) x within pairs before after =
     (λ k d low inside. after (suc k) d (omega (arith, low)) (omega (arith, inside))))
 
 pub still_in_line : (dues : List Due) (due : Due) (place : ℕ) → AreInLine dues → place ≤ length dues
-    → IsPartitionPoint (λ other. is_before other due ≡ true) (λ other. is_before other due ≡ false) dues place → AreInLine (insert dues place due)
+    → IsPartitionPoint (λ other. is_due_before other due ≡ true) (λ other. is_due_before other due ≡ false) dues place → AreInLine (insert dues place due)
 still_in_line dues due place line within point = record {
   ordered = insert_pairs InLine dues place due within line.ordered
       (λ k d low inside. in_line_before (get_or dues k d) due (point.0 k d low inside))
@@ -114,11 +114,11 @@ one_place first second (inr a) (inr b) =
 
 -- a job that is in the line stands in its place
 pub found_in_line : (dues : List Due) (due : Due) (place : ℕ) → AreInLine dues
-    → IsPartitionPoint (λ other. is_before other due ≡ true) (λ other. is_before other due ≡ false) dues place
+    → IsPartitionPoint (λ other. is_due_before other due ≡ true) (λ other. is_due_before other due ≡ false) dues place
     → Contains dues due → (place < length dues) × (due ≡ get_or dues place due)
 found_in_line dues due place line point (k, inside, here) = by_place (cases_lt k place) where
   by_place : (k < place) ⊎ (place ≤ k) → (place < length dues) × (due ≡ get_or dues place due)
-  by_place (inl less) = absurd (not_itself due (subst (λ (one : Due). is_before one due ≡ true) here (point.0 k due (omega arith) less)))
+  by_place (inl less) = absurd (not_itself due (subst (λ (one : Due). is_due_before one due ≡ true) here (point.0 k due (omega arith) less)))
   by_place (inr least) =
       let within : place < length dues = omega (arith, least, inside) in
       let after : InLine due (get_or dues place due) = not_before (get_or dues place due) due (point.1 place due (omega arith) within) in
@@ -130,10 +130,10 @@ found_in_line dues due place line point (k, inside, here) = by_place (cases_lt k
 
 -- one more in its place, as a search in a slice of the line gives it
 pub added_in_line : (dues slice new : List Due) (due : Due) (place : ℕ) → slice ≡ dues → AreInLine dues → place ≤ length slice
-    → IsPartitionPoint (λ other. is_before other due ≡ true) (λ other. is_before other due ≡ false) slice place → new ≡ insert dues place due → AreInLine new
+    → IsPartitionPoint (λ other. is_due_before other due ≡ true) (λ other. is_due_before other due ≡ false) slice place → new ≡ insert dues place due → AreInLine new
 added_in_line dues slice new due place same line within point put =
     subst AreInLine (sym put) (still_in_line dues due place line (subst (λ (all : List Due). place ≤ length all) same within)
-    (subst (λ (all : List Due). IsPartitionPoint (λ other. is_before other due ≡ true) (λ other. is_before other due ≡ false) all place) same point))
+    (subst (λ (all : List Due). IsPartitionPoint (λ other. is_due_before other due ≡ true) (λ other. is_due_before other due ≡ false) all place) same point))
 
 pub added_one : (dues old new : List Due) (due : Due) (place : ℕ) → dues ≡ old → new ≡ insert dues place due → IsPermutation (due ∷ old) new
 added_one dues old new due place same put =
@@ -141,10 +141,10 @@ added_one dues old new due place same put =
 
 -- and one that is there, out of its place
 pub found_at : (dues slice : List Due) (due : Due) (place : ℕ) → slice ≡ dues → AreInLine dues
-    → IsPartitionPoint (λ other. is_before other due ≡ true) (λ other. is_before other due ≡ false) slice place → Contains dues due → (place < length dues) × (due ≡ get_or dues place due)
+    → IsPartitionPoint (λ other. is_due_before other due ≡ true) (λ other. is_due_before other due ≡ false) slice place → Contains dues due → (place < length dues) × (due ≡ get_or dues place due)
 found_at dues slice due place same line point held =
     found_in_line dues due place line
-    (subst (λ (all : List Due). IsPartitionPoint (λ other. is_before other due ≡ true) (λ other. is_before other due ≡ false) all place) same point) held
+    (subst (λ (all : List Due). IsPartitionPoint (λ other. is_due_before other due ≡ true) (λ other. is_due_before other due ≡ false) all place) same point) held
 
 pub taken_one : (dues old new : List Due) (due : Due) (place : ℕ) → dues ≡ old → (place < length dues) × (due ≡ get_or dues place due) → new ≡ remove dues place → IsPermutation old (due ∷ new)
 taken_one dues old new due place same at taken =

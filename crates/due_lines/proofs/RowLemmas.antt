@@ -6,53 +6,53 @@ use Rattle.std.proofs.lemmas.List.Elements.{filter-append}
 use Rattle.std.proofs.lemmas.List.Sorted.{Contains-permutation, IsPermutation-map, IsPermutation-middle, IsPermutation-sym, IsPermutation-trans, IsPermutation-cons}
 use Rattle.spool_model.specs.declared.row.Row.{Row}
 use Rattle.spool_model.specs.JobTable.{is_batch_queue}
-use Rattle.queue_rules.specs.Order.{is_pending, is_ready_batch, is_ready_job, place_of, places_of}
+use Rattle.queue_rules.specs.Order.{is_pending, is_ready_batch, is_ready_job, place_in_queue, places_of}
 use Rattle.due_lines.specs.declared.due.Due.{Due}
-use Rattle.due_lines.specs.Dues.{AreInLine, IsLineOf, due_of, due_place, is_due_at, is_waiting_batch, is_waiting_job}
+use Rattle.due_lines.specs.Dues.{AreInLine, IsLineOf, due_of_row, due_place, is_due_at, is_waiting_batch, is_waiting_job}
 use Rattle.due_lines.proofs.CountedLemmas.{cancel, kept_permutation}
 use Rattle.due_lines.proofs.OrderLemmas.{kept_in_line}
 
 -- the places of a prefix, a row and a suffix
 middle_places : (test : Row → Bool) (prefix suffix : List Row) (row : Row) →
-    places_of test (prefix ++ row ∷ suffix) ≡ places_of test prefix ++ map place_of (cond (test row) (row ∷ filter test suffix) (filter test suffix))
-middle_places test prefix suffix row = ap (map place_of) (filter-append test prefix (row ∷ suffix)) ∙ map-append place_of (filter test prefix) (filter test (row ∷ suffix))
+    places_of test (prefix ++ row ∷ suffix) ≡ places_of test prefix ++ map place_in_queue (cond (test row) (row ∷ filter test suffix) (filter test suffix))
+middle_places test prefix suffix row = ap (map place_in_queue) (filter-append test prefix (row ∷ suffix)) ∙ map-append place_in_queue (filter test prefix) (filter test (row ∷ suffix))
 
 both_places : (test : Row → Bool) (prefix suffix : List Row) → places_of test (prefix ++ suffix) ≡ places_of test prefix ++ places_of test suffix
-both_places test prefix suffix = ap (map place_of) (filter-append test prefix suffix) ∙ map-append place_of (filter test prefix) (filter test suffix)
+both_places test prefix suffix = ap (map place_in_queue) (filter-append test prefix suffix) ∙ map-append place_in_queue (filter test prefix) (filter test suffix)
 
 -- a row that fails the test has no place
 pub unlisted : (test : Row → Bool) (prefix suffix : List Row) (row : Row) → test row ≡ false → places_of test (prefix ++ row ∷ suffix) ≡ places_of test (prefix ++ suffix)
 unlisted test prefix suffix row fails =
     middle_places test prefix suffix row
-    ∙ ap (λ (b : Bool). places_of test prefix ++ map place_of (cond b (row ∷ filter test suffix) (filter test suffix))) fails
+    ∙ ap (λ (b : Bool). places_of test prefix ++ map place_in_queue (cond b (row ∷ filter test suffix) (filter test suffix))) fails
     ∙ sym (both_places test prefix suffix)
 
 -- one that passes it has one
-listed : (test : Row → Bool) (prefix suffix : List Row) (row : Row) → test row ≡ true → IsPermutation (places_of test (prefix ++ row ∷ suffix)) (place_of row ∷ places_of test (prefix ++ suffix))
+listed : (test : Row → Bool) (prefix suffix : List Row) (row : Row) → test row ≡ true → IsPermutation (places_of test (prefix ++ row ∷ suffix)) (place_in_queue row ∷ places_of test (prefix ++ suffix))
 listed test prefix suffix row passes =
-    let whole : places_of test (prefix ++ row ∷ suffix) ≡ places_of test prefix ++ place_of row ∷ places_of test suffix =
-    middle_places test prefix suffix row ∙ ap (λ (b : Bool). places_of test prefix ++ map place_of (cond b (row ∷ filter test suffix) (filter test suffix))) passes in
-    subst (λ (places : List (ℕ × ℕ)). IsPermutation places (place_of row ∷ places_of test (prefix ++ suffix))) (sym whole)
-    (subst (λ (places : List (ℕ × ℕ)). IsPermutation (places_of test prefix ++ place_of row ∷ places_of test suffix) (place_of row ∷ places)) (sym (both_places test prefix suffix))
-    (IsPermutation-middle (places_of test prefix) (place_of row) (places_of test suffix)))
+    let whole : places_of test (prefix ++ row ∷ suffix) ≡ places_of test prefix ++ place_in_queue row ∷ places_of test suffix =
+    middle_places test prefix suffix row ∙ ap (λ (b : Bool). places_of test prefix ++ map place_in_queue (cond b (row ∷ filter test suffix) (filter test suffix))) passes in
+    subst (λ (places : List (ℕ × ℕ)). IsPermutation places (place_in_queue row ∷ places_of test (prefix ++ suffix))) (sym whole)
+    (subst (λ (places : List (ℕ × ℕ)). IsPermutation (places_of test prefix ++ place_in_queue row ∷ places_of test suffix) (place_in_queue row ∷ places)) (sym (both_places test prefix suffix))
+    (IsPermutation-middle (places_of test prefix) (place_in_queue row) (places_of test suffix)))
 
 -- a row that passes more, and one less
-pub row_more : (test : Row → Bool) (rows : List Row) (row : Row) (old new : List Due) → test row ≡ true → IsPermutation (due_of row ∷ old) new → AreInLine new
+pub row_more : (test : Row → Bool) (rows : List Row) (row : Row) (old new : List Due) → test row ≡ true → IsPermutation (due_of_row row ∷ old) new → AreInLine new
     → IsLineOf test rows old → IsLineOf test (rows ++ row ∷ []) new
 row_more test rows row old new passes added line is = record {
   same = IsPermutation-trans _ _ _ (listed test rows [] row passes)
-      (IsPermutation-trans (place_of row ∷ places_of test (rows ++ [])) (place_of row ∷ map due_place old) (map due_place new)
-      (IsPermutation-cons (place_of row) _ _ (subst (λ (all : List Row). IsPermutation (places_of test all) (map due_place old)) (sym (append-nil rows)) is.same))
-      (IsPermutation-map due_place (due_of row ∷ old) new added));
+      (IsPermutation-trans (place_in_queue row ∷ places_of test (rows ++ [])) (place_in_queue row ∷ map due_place old) (map due_place new)
+      (IsPermutation-cons (place_in_queue row) _ _ (subst (λ (all : List Row). IsPermutation (places_of test all) (map due_place old)) (sym (append-nil rows)) is.same))
+      (IsPermutation-map due_place (due_of_row row ∷ old) new added));
   in_line = line;
 }
 
-pub row_less : (test : Row → Bool) (prefix suffix : List Row) (row : Row) (old new : List Due) → test row ≡ true → IsPermutation old (due_of row ∷ new) → AreInLine new
+pub row_less : (test : Row → Bool) (prefix suffix : List Row) (row : Row) (old new : List Due) → test row ≡ true → IsPermutation old (due_of_row row ∷ new) → AreInLine new
     → IsLineOf test (prefix ++ row ∷ suffix) old → IsLineOf test (prefix ++ suffix) new
 row_less test prefix suffix row old new passes taken line is = record {
-  same = cancel (place_of row) (places_of test (prefix ++ suffix)) (map due_place new)
+  same = cancel (place_in_queue row) (places_of test (prefix ++ suffix)) (map due_place new)
       (IsPermutation-trans _ _ _ (IsPermutation-sym _ _ (listed test prefix suffix row passes))
-      (IsPermutation-trans _ _ _ is.same (IsPermutation-map due_place old (due_of row ∷ new) taken)));
+      (IsPermutation-trans _ _ _ is.same (IsPermutation-map due_place old (due_of_row row ∷ new) taken)));
   in_line = line;
 }
 
@@ -74,18 +74,18 @@ row_pushed test rows row dues fails is =
     row_put test rows [] row dues fails (subst (λ (all : List Row). IsLineOf test all dues) (sym (append-nil rows)) is)
 
 -- a place among those of jobs is that of one of them
-of_place : (dues : List Due) (row : Row) → Contains (map due_place dues) (place_of row) → Contains dues (due_of row)
+of_place : (dues : List Due) (row : Row) → Contains (map due_place dues) (place_in_queue row) → Contains dues (due_of_row row)
 of_place dues row (k, inside, here) =
     let within : k < length dues = subst (λ (n : ℕ). k < n) (length-map dues due_place) inside in
-    let one : Due = get_or dues k (due_of row) in
-    let place : due_place one ≡ place_of row = sym (get_or-map due_place dues k (due_of row) (place_of row) within) ∙ here in
+    let one : Due = get_or dues k (due_of_row row) in
+    let place : due_place one ≡ place_in_queue row = sym (get_or-map due_place dues k (due_of_row row) (place_in_queue row) within) ∙ here in
     (k, within, ap (λ (p : ℕ × ℕ). record { minute = p.0; number = p.1 }) place)
 
 -- a row that passes is in the line
-pub row_in_line : (test : Row → Bool) (prefix suffix : List Row) (row : Row) (dues : List Due) → test row ≡ true → IsLineOf test (prefix ++ row ∷ suffix) dues → Contains dues (due_of row)
+pub row_in_line : (test : Row → Bool) (prefix suffix : List Row) (row : Row) (dues : List Due) → test row ≡ true → IsLineOf test (prefix ++ row ∷ suffix) dues → Contains dues (due_of_row row)
 row_in_line test prefix suffix row dues passes is =
-    of_place dues row (Contains-permutation (places_of test (prefix ++ row ∷ suffix)) (map due_place dues) (place_of row) is.same
-    (Contains-permutation (place_of row ∷ places_of test (prefix ++ suffix)) (places_of test (prefix ++ row ∷ suffix)) (place_of row)
+    of_place dues row (Contains-permutation (places_of test (prefix ++ row ∷ suffix)) (map due_place dues) (place_in_queue row) is.same
+    (Contains-permutation (place_in_queue row ∷ places_of test (prefix ++ suffix)) (places_of test (prefix ++ row ∷ suffix)) (place_in_queue row)
     (IsPermutation-sym _ _ (listed test prefix suffix row passes)) (0, omega arith, refl)))
 
 -- a row of one kind is not of the other
@@ -116,22 +116,22 @@ has_begun now place = int_le (pos (60 * place.0)) now
 
 -- a test and one that asks for the minute too
 abbrev Narrows : ℤ → (Row → Bool) → (Row → Bool) → Type 0
-Narrows now wide narrow = (row : Row) → narrow row ≡ (wide row && has_begun now (place_of row))
+Narrows now wide narrow = (row : Row) → narrow row ≡ (wide row && has_begun now (place_in_queue row))
 
 begun_places : (now : ℤ) (wide narrow : Row → Bool) → Narrows now wide narrow → (rows : List Row) → filter (has_begun now) (places_of wide rows) ≡ places_of narrow rows
 begun_places now wide narrow narrows [] = refl
-begun_places now wide narrow narrows (row ∷ rows) = by_tests (begun_places now wide narrow narrows rows) (wide row) (has_begun now (place_of row)) refl refl where
-  by_tests : filter (has_begun now) (places_of wide rows) ≡ places_of narrow rows → (w h : Bool) → wide row ≡ w → has_begun now (place_of row) ≡ h → filter (has_begun now) (places_of wide (row ∷ rows)) ≡ places_of narrow (row ∷ rows)
+begun_places now wide narrow narrows (row ∷ rows) = by_tests (begun_places now wide narrow narrows rows) (wide row) (has_begun now (place_in_queue row)) refl refl where
+  by_tests : filter (has_begun now) (places_of wide rows) ≡ places_of narrow rows → (w h : Bool) → wide row ≡ w → has_begun now (place_in_queue row) ≡ h → filter (has_begun now) (places_of wide (row ∷ rows)) ≡ places_of narrow (row ∷ rows)
   by_tests again w h is_wide has =
-      ap (λ (b : Bool). filter (has_begun now) (map place_of (cond b (row ∷ filter wide rows) (filter wide rows)))) is_wide
+      ap (λ (b : Bool). filter (has_begun now) (map place_in_queue (cond b (row ∷ filter wide rows) (filter wide rows)))) is_wide
       ∙ by_cases again w h has
-      ∙ ap (λ (b : Bool). map place_of (cond b (row ∷ filter narrow rows) (filter narrow rows)))
-      (ap (λ (b : Bool). w && b) (sym has) ∙ ap (λ (b : Bool). b && has_begun now (place_of row)) (sym is_wide) ∙ sym (narrows row)) where
-        by_cases : filter (has_begun now) (places_of wide rows) ≡ places_of narrow rows → (w h : Bool) → has_begun now (place_of row) ≡ h →
-            filter (has_begun now) (map place_of (cond w (row ∷ filter wide rows) (filter wide rows))) ≡ map place_of (cond (w && h) (row ∷ filter narrow rows) (filter narrow rows))
-        by_cases again true true has = ap (λ (b : Bool). cond b (place_of row ∷ filter (has_begun now) (places_of wide rows)) (filter (has_begun now) (places_of wide rows))) has
-            ∙ ap (λ (rest : List (ℕ × ℕ)). place_of row ∷ rest) again
-        by_cases again true false has = ap (λ (b : Bool). cond b (place_of row ∷ filter (has_begun now) (places_of wide rows)) (filter (has_begun now) (places_of wide rows))) has
+      ∙ ap (λ (b : Bool). map place_in_queue (cond b (row ∷ filter narrow rows) (filter narrow rows)))
+      (ap (λ (b : Bool). w && b) (sym has) ∙ ap (λ (b : Bool). b && has_begun now (place_in_queue row)) (sym is_wide) ∙ sym (narrows row)) where
+        by_cases : filter (has_begun now) (places_of wide rows) ≡ places_of narrow rows → (w h : Bool) → has_begun now (place_in_queue row) ≡ h →
+            filter (has_begun now) (map place_in_queue (cond w (row ∷ filter wide rows) (filter wide rows))) ≡ map place_in_queue (cond (w && h) (row ∷ filter narrow rows) (filter narrow rows))
+        by_cases again true true has = ap (λ (b : Bool). cond b (place_in_queue row ∷ filter (has_begun now) (places_of wide rows)) (filter (has_begun now) (places_of wide rows))) has
+            ∙ ap (λ (rest : List (ℕ × ℕ)). place_in_queue row ∷ rest) again
+        by_cases again true false has = ap (λ (b : Bool). cond b (place_in_queue row ∷ filter (has_begun now) (places_of wide rows)) (filter (has_begun now) (places_of wide rows))) has
             ∙ again
         by_cases again false h has = again
 
@@ -153,7 +153,7 @@ prefix_of_line now wide narrow narrows rows dues is = record {
 }
 
 pub prefix_of_jobs : (now : ℤ) (rows : List Row) (dues : List Due) → IsLineOf is_waiting_job rows dues → IsLineOf (is_ready_job now) rows (filter (is_due_at now) dues)
-prefix_of_jobs now = prefix_of_line now is_waiting_job (is_ready_job now) (λ row. by (is_pending row.state) (has_begun now (place_of row)) (not (is_batch_queue row.queue))) where
+prefix_of_jobs now = prefix_of_line now is_waiting_job (is_ready_job now) (λ row. by (is_pending row.state) (has_begun now (place_in_queue row)) (not (is_batch_queue row.queue))) where
   by : (p q r : Bool) → ((p && q) && r) ≡ ((p && r) && q)
   by true true true = refl
   by true true false = refl
@@ -162,7 +162,7 @@ prefix_of_jobs now = prefix_of_line now is_waiting_job (is_ready_job now) (λ ro
   by false q r = refl
 
 pub prefix_of_batch : (now : ℤ) (rows : List Row) (dues : List Due) → IsLineOf is_waiting_batch rows dues → IsLineOf (is_ready_batch now) rows (filter (is_due_at now) dues)
-prefix_of_batch now = prefix_of_line now is_waiting_batch (is_ready_batch now) (λ row. by (is_pending row.state) (has_begun now (place_of row)) (is_batch_queue row.queue)) where
+prefix_of_batch now = prefix_of_line now is_waiting_batch (is_ready_batch now) (λ row. by (is_pending row.state) (has_begun now (place_in_queue row)) (is_batch_queue row.queue)) where
   by : (p q r : Bool) → ((p && q) && r) ≡ ((p && r) && q)
   by true true true = refl
   by true true false = refl
@@ -170,14 +170,14 @@ prefix_of_batch now = prefix_of_line now is_waiting_batch (is_ready_batch now) (
   by true false false = refl
   by false q r = refl
 
-due_places : (rows : List Row) → map place_of rows ≡ map due_place (map due_of rows)
+due_places : (rows : List Row) → map place_in_queue rows ≡ map due_place (map due_of_row rows)
 due_places [] = refl
-due_places (row ∷ rows) = ap (λ (rest : List (ℕ × ℕ)). place_of row ∷ rest) (due_places rows)
+due_places (row ∷ rows) = ap (λ (rest : List (ℕ × ℕ)). place_in_queue row ∷ rest) (due_places rows)
 
 -- the rows that pass, brought in line
-pub line_of_rows : (test : Row → Bool) (rows : List Row) (dues line : List Due) → dues ≡ map due_of (filter test rows) → IsPermutation dues line → AreInLine line → IsLineOf test rows line
+pub line_of_rows : (test : Row → Bool) (rows : List Row) (dues line : List Due) → dues ≡ map due_of_row (filter test rows) → IsPermutation dues line → AreInLine line → IsLineOf test rows line
 line_of_rows test rows dues line are same in_line = record {
   same = subst (λ (places : List (ℕ × ℕ)). IsPermutation places (map due_place line)) (sym (due_places (filter test rows)))
-      (IsPermutation-map due_place (map due_of (filter test rows)) line (subst (λ (all : List Due). IsPermutation all line) are same));
+      (IsPermutation-map due_place (map due_of_row (filter test rows)) line (subst (λ (all : List Due). IsPermutation all line) are same));
   in_line = in_line;
 }

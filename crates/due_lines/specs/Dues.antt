@@ -7,16 +7,16 @@ use Rattle.queue_rules.specs.Order.{IsNotAfter, is_pending, places_of}
 use Rattle.due_lines.specs.declared.due.Due.{Due}
 
 -- the due minute and the number of a row
-abbrev pub due_of : Row → Due
-due_of row = record { minute = row.minute; number = row.number }
+abbrev pub due_of_row : Row → Due
+due_of_row row = record { minute = row.minute; number = row.number }
 
 -- the place of a job in the line
 abbrev pub due_place : Due → ℕ × ℕ
 due_place due = (due.minute, due.number)
 
 -- the first stands before the second
-abbrev pub is_before : Due → Due → Bool
-is_before first second = nat_lt first.minute second.minute || (first.minute == second.minute && nat_lt first.number second.number)
+abbrev pub is_due_before : Due → Due → Bool
+is_due_before first second = nat_lt first.minute second.minute || (first.minute == second.minute && nat_lt first.number second.number)
 
 -- the minute of the job has begun
 abbrev pub is_due_at : ℤ → Due → Bool

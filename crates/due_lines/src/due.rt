@@ -1,6 +1,6 @@
 //! One job in a line.
 ghost use Rattle.std.specs.Prelude.{◌≡◌};
-ghost use Rattle.due_lines.specs.Dues.{due_of, is_before, is_due_at, is_waiting_batch, is_waiting_job};
+ghost use Rattle.due_lines.specs.Dues.{due_of_row, is_due_before, is_due_at, is_waiting_batch, is_waiting_job};
 
 use spool_model::{Row, State, is_batch};
 
@@ -14,7 +14,7 @@ pub struct Due {
 impl Due {
     // The due minute and the number of a row.
     pub(crate) fn of(row: &Row) -> Due
-        ensures { result ≡ due_of row.now }
+        ensures { result ≡ due_of_row row.now }
     {
         Due {
             minute: row.minute,
@@ -24,7 +24,7 @@ impl Due {
 
     // Whether it stands before the other.
     pub(crate) fn is_before(&self, other: &Due) -> bool
-        ensures { result ≡ is_before self.now other.now }
+        ensures { result ≡ is_due_before self.now other.now }
     {
         self.minute < other.minute || (self.minute == other.minute && self.number < other.number)
     }

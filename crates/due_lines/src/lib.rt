@@ -8,5 +8,5 @@ mod lines;
 
 pub use due::Due;
 pub use laws::prefixes_are_the_due_order;
-pub use line::Line;
+pub use line::DueLine;
 pub use lines::Lines;

@@ -2,7 +2,7 @@
 ghost use Rattle.std.specs.Prelude.{◌≡◌, ◌≤◌, ◌∷◌, true, false, OnOk, OnErr, IfOk, IsPermutation, Contains, filter, length, map};
 ghost use Rattle.std.specs.List.Sorted.{IsPartitionPoint};
 ghost use Rattle.spool_model.specs.declared.row.Row.{Row};
-ghost use Rattle.due_lines.specs.Dues.{AreInLine, IsLineOf, due_of, is_before, is_due_at, is_waiting_batch, is_waiting_job};
+ghost use Rattle.due_lines.specs.Dues.{AreInLine, IsLineOf, due_of_row, is_due_before, is_due_at, is_waiting_batch, is_waiting_job};
 
 use crate::Due;
 use crate::due::{is_waiting_batch, is_waiting_job};
@@ -12,11 +12,11 @@ use std::marker::Model;
 
 /// Jobs in order of minute, then number: seen as the list of them.
 #[derive(Drop)]
-pub struct Line {
+pub struct DueLine {
     dues: Vec<Due>,
 }
 
-impl Model for Line {
+impl Model for DueLine {
     ghost use Rattle.std.specs.Prelude.{List};
     ghost use Rattle.std.specs.Coded.{coded_list};
     ghost use Rattle.due_lines.specs.contracts.due.Due as due;
@@ -32,28 +32,28 @@ impl Model for Line {
     ghost invariant = { λ line. AreInLine line.dues.items };
 }
 
-impl Line {
+impl DueLine {
     /// The line of the pending rows outside the batch queues.
-    pub fn of_jobs(alloc: Global, rows: &[Row]) -> Result<Line, AllocError>
+    pub fn of_jobs(alloc: Global, rows: &[Row]) -> Result<DueLine, AllocError>
         ensures { IfOk result (IsLineOf is_waiting_job rows.now) }
     {
-        Ok(Line::sorted(waiting_jobs(alloc, rows)?))
+        Ok(DueLine::sorted(waiting_jobs(alloc, rows)?))
     }
 
     /// The line of the pending rows of the batch queues.
-    pub fn of_batch(alloc: Global, rows: &[Row]) -> Result<Line, AllocError>
+    pub fn of_batch(alloc: Global, rows: &[Row]) -> Result<DueLine, AllocError>
         ensures { IfOk result (IsLineOf is_waiting_batch rows.now) }
     {
-        Ok(Line::sorted(waiting_batch(alloc, rows)?))
+        Ok(DueLine::sorted(waiting_batch(alloc, rows)?))
     }
 
     // These jobs in order.
-    fn sorted(mut dues: Vec<Due>) -> Line
+    fn sorted(mut dues: Vec<Due>) -> DueLine
         ensures same { IsPermutation dues.items result }
         ensures in_line { AreInLine result }
     {
         dues.sort_unstable_by_key(|due| (due.minute, due.number));
-        Line { dues }
+        DueLine { dues }
     }
 
     /// Puts the job in its place. Where memory is wanting nothing changes.
@@ -62,7 +62,7 @@ impl Line {
         ensures kept { OnErr result (self.new ≡ self.old) }
         ensures in_line { AreInLine self.new }
     {
-        let place = place_of(&self.dues, due);
+        let place = place_in_line(&self.dues, due);
         self.dues.insert(place, due)?;
         Ok(())
     }
@@ -73,7 +73,7 @@ impl Line {
         ensures taken { IsPermutation self.old (due ∷ self.new) }
         ensures in_line { AreInLine self.new }
     {
-        let place = place_of(&self.dues, due);
+        let place = place_in_line(&self.dues, due);
         self.dues.remove(place);
     }
 
@@ -87,10 +87,11 @@ impl Line {
 }
 
 // How many jobs of the line stand before this one: its place.
-fn place_of(dues: &[Due], due: Due) -> usize
+fn place_in_line(dues: &[Due], due: Due) -> usize
     requires { AreInLine dues.now }
     ensures bound { result ≤ length dues.now }
-    ensures place { IsPartitionPoint (λ other. is_before other due ≡ true) (λ other. is_before other due ≡ false)
+    ensures place { IsPartitionPoint (λ other. is_due_before other due ≡ true)
+        (λ other. is_due_before other due ≡ false)
         dues.now result }
 {
     dues.partition_point(|other| other.is_before(&due))
@@ -98,7 +99,7 @@ fn place_of(dues: &[Due], due: Due) -> usize
 
 // The pending rows outside the batch queues.
 fn waiting_jobs(alloc: Global, rows: &[Row]) -> Result<Vec<Due>, AllocError>
-    ensures { IfOk result (λ dues. dues.items ≡ map due_of (filter is_waiting_job rows.now)) }
+    ensures { IfOk result (λ dues. dues.items ≡ map due_of_row (filter is_waiting_job rows.now)) }
 {
     rows.iter()
         .filter(|row| is_waiting_job(row))
@@ -108,7 +109,7 @@ fn waiting_jobs(alloc: Global, rows: &[Row]) -> Result<Vec<Due>, AllocError>
 
 // The pending rows of the batch queues.
 fn waiting_batch(alloc: Global, rows: &[Row]) -> Result<Vec<Due>, AllocError>
-    ensures { IfOk result (λ dues. dues.items ≡ map due_of (filter is_waiting_batch rows.now)) }
+    ensures { IfOk result (λ dues. dues.items ≡ map due_of_row (filter is_waiting_batch rows.now)) }
 {
     rows.iter()
         .filter(|row| is_waiting_batch(row))

@@ -4,15 +4,15 @@ ghost use Rattle.spool_model.specs.declared.row.Row.{Row};
 ghost use Rattle.due_lines.specs.TwoLines.{AreLinesOf};
 
 use crate::due::{is_waiting_batch, is_waiting_job};
-use crate::{Due, Line};
+use crate::{Due, DueLine};
 use spool_model::Row;
 use std::alloc::{AllocError, Global};
 
 /// The line of the pending jobs outside the batch queues, and that of those in them.
 #[derive(Drop)]
 pub struct Lines {
-    pub jobs: Line,
-    pub batch: Line,
+    pub jobs: DueLine,
+    pub batch: DueLine,
 }
 
 impl Lines {
@@ -21,8 +21,8 @@ impl Lines {
         ensures { IfOk result (AreLinesOf rows.now) }
     {
         Ok(Lines {
-            jobs: Line::of_jobs(alloc, rows)?,
-            batch: Line::of_batch(alloc, rows)?,
+            jobs: DueLine::of_jobs(alloc, rows)?,
+            batch: DueLine::of_batch(alloc, rows)?,
         })
     }
 

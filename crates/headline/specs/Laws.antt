@@ -49,7 +49,7 @@ AchievedStepsStand = (table : JobTable) (steps : List Step) (old new : World) �
 
 -- All steps of an event were made: they are its steps, by this test, on the table that the reading showed, and each image
 -- shows the table after them.
-pub record IsWhole (are_steps : JobTable → List Step → Bool) (old new : World) : Type 0 where
+pub record IsEventWhole (are_steps : JobTable → List Step → Bool) (old new : World) : Type 0 where
   pub table : JobTable
   pub steps : List Step
   pub are : are_steps table steps ≡ true
@@ -59,7 +59,7 @@ pub record IsWhole (are_steps : JobTable → List Step → Bool) (old new : Worl
 -- an event that was acknowledged made all of its steps
 abbrev pub AcknowledgedEventsAreWhole : Type 0
 AcknowledgedEventsAreWhole = (are_steps : JobTable → List Step → Bool) (effect : Effect) (old new : World) →
-    IsEffectOf true (λ table steps. are_steps table steps ≡ true) effect → TakesEffect effect old new → IsWhole are_steps old new
+    IsEffectOf true (λ table steps. are_steps table steps ≡ true) effect → TakesEffect effect old new → IsEventWhole are_steps old new
 
 -- events pass after others
 abbrev pub EventsPassOn : Type 0

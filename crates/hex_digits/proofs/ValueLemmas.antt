@@ -6,7 +6,7 @@ use Rattle.std.proofs.lemmas.Bool.Decides.{nat_tests}
 use Rattle.std.proofs.lemmas.List.{append-nil, length-replicate, take_more}
 use Rattle.std.proofs.lemmas.Nat.{mod_below}
 use Rattle.hex_digits.specs.Digits.{SpellsNumber, digit_byte}
-use Rattle.hex_digits.specs.Values.{are_digits, are_zeros, digit_value, is_digit, number_in, value_of}
+use Rattle.hex_digits.specs.Values.{are_digits, are_zeros, digit_value, is_digit, number_in, value_of_digits}
 use Rattle.hex_digits.proofs.DigitLemmas.{one_number, one_spelling, spells_more}
 use Rattle.std.proofs.lemmas.Bool.{and_parts, eqb-true}
 use Rattle.hex_digits.proofs.TestLemmas.{all_by_place}
@@ -35,23 +35,23 @@ digits_after prefix (byte ∷ bytes) number spelled digits =
     subst (λ list. SpellsNumber list (fold (λ value b. value * 16 + digit_value b) (number * 16 + digit_value byte) bytes)) (append_assoc prefix (byte ∷ []) bytes) (digits_after (prefix ++ byte ∷ []) bytes (number * 16 + digit_value byte) more tests.1)
 
 -- digits spell their value
-pub digits_spell : (bytes : List ℕ) → are_digits bytes ≡ true → SpellsNumber bytes (value_of bytes)
+pub digits_spell : (bytes : List ℕ) → are_digits bytes ≡ true → SpellsNumber bytes (value_of_digits bytes)
 digits_spell bytes digits = digits_after [] bytes 0 (record { fits = omega arith; each = λ place none. absurd (omega arith) }) digits
 
 -- and no other number
-pub value_spelled : (bytes : List ℕ) (number : ℕ) → SpellsNumber bytes number → value_of bytes ≡ number
-value_spelled bytes number spelled = one_number bytes (value_of bytes) number (digits_spell bytes (spelled_digits bytes number spelled)) spelled
+pub value_spelled : (bytes : List ℕ) (number : ℕ) → SpellsNumber bytes number → value_of_digits bytes ≡ number
+value_spelled bytes number spelled = one_number bytes (value_of_digits bytes) number (digits_spell bytes (spelled_digits bytes number spelled)) spelled
 
 -- the value of digits and one more
 pub fold_last : (number : ℕ) (bytes : List ℕ) (byte : ℕ) → fold (λ value b. value * 16 + digit_value b) number (bytes ++ byte ∷ []) ≡ fold (λ value b. value * 16 + digit_value b) number bytes * 16 + digit_value byte
 fold_last number [] byte = refl
 fold_last number (first ∷ later) byte = fold_last (number * 16 + digit_value first) later byte
 
-pub value_last : (bytes : List ℕ) (byte : ℕ) → value_of (bytes ++ byte ∷ []) ≡ value_of bytes * 16 + digit_value byte
+pub value_last : (bytes : List ℕ) (byte : ℕ) → value_of_digits (bytes ++ byte ∷ []) ≡ value_of_digits bytes * 16 + digit_value byte
 value_last bytes byte = fold_last 0 bytes byte
 
 -- zeros spell 0
-pub value_zeros : (count : ℕ) → value_of (replicate count 48) ≡ 0
+pub value_zeros : (count : ℕ) → value_of_digits (replicate count 48) ≡ 0
 value_zeros zero = refl
 value_zeros (suc count) = value_zeros count
 
@@ -86,27 +86,27 @@ some_power count =
     let least : 16 ^ 0 ≤ 16 ^ count = pow-le-pow_right (omega arith) from in
     omega arith
 
-pub value_prefix : (digits : List ℕ) (count more : ℕ) → count + more ≤ length digits → value_of (take count digits) * 16 ^ more ≤ value_of (take (count + more) digits)
+pub value_prefix : (digits : List ℕ) (count more : ℕ) → count + more ≤ length digits → value_of_digits (take count digits) * 16 ^ more ≤ value_of_digits (take (count + more) digits)
 value_prefix digits count zero inside =
     let same : count + 0 ≡ count = omega arith in
-    subst (λ n. value_of (take count digits) * 16 ^ 0 ≤ value_of (take n digits)) (sym same) (omega arith)
+    subst (λ n. value_of_digits (take count digits) * 16 ^ 0 ≤ value_of_digits (take n digits)) (sym same) (omega arith)
 value_prefix digits count (suc more) inside =
-    let before : value_of (take count digits) * 16 ^ more ≤ value_of (take (count + more) digits) = value_prefix digits count more (omega arith) in
-    let step : value_of (take (count + more + 1) digits) ≡ value_of (take (count + more) digits) * 16 + digit_value (slice_index digits (count + more)) =
-    ap value_of (take_more digits (count + more) 0 (omega arith)) ∙ value_last (take (count + more) digits) (slice_index digits (count + more)) in
+    let before : value_of_digits (take count digits) * 16 ^ more ≤ value_of_digits (take (count + more) digits) = value_prefix digits count more (omega arith) in
+    let step : value_of_digits (take (count + more + 1) digits) ≡ value_of_digits (take (count + more) digits) * 16 + digit_value (slice_index digits (count + more)) =
+    ap value_of_digits (take_more digits (count + more) 0 (omega arith)) ∙ value_last (take (count + more) digits) (slice_index digits (count + more)) in
     let next : count + more + 1 ≡ count + suc more = omega arith in
-    let at_next : value_of (take (count + suc more) digits) ≡ value_of (take (count + more) digits) * 16 + digit_value (slice_index digits (count + more)) = sym (ap (λ n. value_of (take n digits)) next) ∙ step in
+    let at_next : value_of_digits (take (count + suc more) digits) ≡ value_of_digits (take (count + more) digits) * 16 + digit_value (slice_index digits (count + more)) = sym (ap (λ n. value_of_digits (take n digits)) next) ∙ step in
     let power : 16 ^ suc more ≡ 16 ^ more * 16 = pow-suc 16 more in
-    let moved : value_of (take count digits) * (16 ^ more * 16) ≤ value_of (take (count + suc more) digits) = omega arith in
-    subst (λ p. value_of (take count digits) * p ≤ value_of (take (count + suc more) digits)) (sym power) moved
+    let moved : value_of_digits (take count digits) * (16 ^ more * 16) ≤ value_of_digits (take (count + suc more) digits) = omega arith in
+    subst (λ p. value_of_digits (take count digits) * p ≤ value_of_digits (take (count + suc more) digits)) (sym power) moved
 
 -- digits give the number that they spell
 pub number_given : (bytes : List ℕ) (number : ℕ) → SpellsNumber bytes number → number_in bytes ≡ Some number
 number_given bytes number spelled =
-    ap (λ digits. if digits then Some (value_of bytes) else None) (spelled_digits bytes number spelled) ∙ ap Some (value_spelled bytes number spelled)
+    ap (λ digits. if digits then Some (value_of_digits bytes) else None) (spelled_digits bytes number spelled) ∙ ap Some (value_spelled bytes number spelled)
 
 pub number_spelled : (bytes : List ℕ) (number : ℕ) → number_in bytes ≡ Some number → SpellsNumber bytes number
 number_spelled bytes number is = by_test (are_digits bytes) refl is where
-  by_test : (digits : Bool) → are_digits bytes ≡ digits → (if digits then Some (value_of bytes) else None) ≡ Some number → SpellsNumber bytes number
-  by_test true digits found = subst (SpellsNumber bytes) (let same : value_of bytes ≡ number = cc in same) (digits_spell bytes digits)
+  by_test : (digits : Bool) → are_digits bytes ≡ digits → (if digits then Some (value_of_digits bytes) else None) ≡ Some number → SpellsNumber bytes number
+  by_test true digits found = subst (SpellsNumber bytes) (let same : value_of_digits bytes ≡ number = cc in same) (digits_spell bytes digits)
   by_test false other found = cc

@@ -12,8 +12,8 @@ abbrev pub digit_value : ℕ → ℕ
 digit_value byte = if nat_lt byte 58 then byte - 48 else byte - 87
 
 -- the number that the digits spell
-abbrev pub value_of : List ℕ → ℕ
-value_of digits = fold (λ value byte. value * 16 + digit_value byte) 0 digits
+abbrev pub value_of_digits : List ℕ → ℕ
+value_of_digits digits = fold (λ value byte. value * 16 + digit_value byte) 0 digits
 
 -- each of the bytes is a digit, or a zero
 abbrev pub are_digits : List ℕ → Bool
@@ -24,4 +24,4 @@ are_zeros bytes = list_all (λ byte. byte == 48) bytes
 
 -- the number that the bytes are, if each of them is a digit
 abbrev pub number_in : List ℕ → Option ℕ
-number_in bytes = if are_digits bytes then Some (value_of bytes) else None
+number_in bytes = if are_digits bytes then Some (value_of_digits bytes) else None

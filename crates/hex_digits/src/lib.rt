@@ -8,4 +8,4 @@ mod number;
 
 pub use digit::{byte_of, digit_of, is_digit};
 pub use laws::numbers_are_spelled;
-pub use number::{digits_of, read, write};
+pub use number::{digits_of, read_hex, write_hex};

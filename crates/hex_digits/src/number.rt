@@ -5,7 +5,7 @@ ghost use Rattle.hex_digits.specs.Digits.{SpellsNumber, digit_at, digits_of};
 use crate::{byte_of, digit_of};
 
 /// The number that these digits are, if all of them are digits.
-pub fn read(bytes: &[u8]) -> Option<u64>
+pub fn read_hex(bytes: &[u8]) -> Option<u64>
     requires { length bytes.now ≤ 16 }
     ensures number { IfSome result (SpellsNumber bytes.now) }
     ensures none { IfNone result ((number : ℕ) → ¬ (SpellsNumber bytes.now number)) }
@@ -19,7 +19,7 @@ pub fn read(bytes: &[u8]) -> Option<u64>
 }
 
 /// Writes the number in as many digits as there is room for.
-pub fn write(out: &mut [u8], number: u64)
+pub fn write_hex(out: &mut [u8], number: u64)
     requires few { length out.old ≤ 16 }
     requires fits { number < 16 ^ length out.old }
     ensures { SpellsNumber out.new number }
@@ -35,7 +35,7 @@ pub fn digits_of(number: u32) -> [u8; 8]
     ensures { result ≡ digits_of number }
 {
     let mut digits = [b'0'; 8];
-    write(&mut digits, number as u64);
+    write_hex(&mut digits, number as u64);
     digits
 }
 

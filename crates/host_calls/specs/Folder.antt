@@ -46,21 +46,21 @@ moved None from to names = names
 moved (Some body) from to names = map.insert (map.remove names from) to body
 
 -- the names after a change, which does nothing where its source is missing
-abbrev pub changed : Change → Names → Names
-changed (Made name body) names = map.insert names name body
-changed (Renamed from to) names = moved (map.get names from) from to names
-changed (Removed name) names = map.remove names name
+abbrev pub changed_names : Change → Names → Names
+changed_names (Made name body) names = map.insert names name body
+changed_names (Renamed from to) names = moved (map.get names from) from to names
+changed_names (Removed name) names = map.remove names name
 
 -- the names after all of the changes
 abbrev pub names_after : List Change → Names → Names
 names_after [] certain = certain
-names_after (change ∷ older) certain = changed change (names_after older certain)
+names_after (change ∷ older) certain = changed_names change (names_after older certain)
 
 -- these are the names after some of the changes, taken in their order
 abbrev pub AreAfterSome : List Change → Names → Names → Type 0
 AreAfterSome [] certain names = names ≡ certain
 AreAfterSome (change ∷ older) certain names =
-    (before : Names) × AreAfterSome older certain before × ((names ≡ before) ⊎ (names ≡ changed change before))
+    (before : Names) × AreAfterSome older certain before × ((names ≡ before) ⊎ (names ≡ changed_names change before))
 
 -- as many bytes as the body has, the same at each place that is certain
 pub record IsSameElsewhere (body : Body) (bytes : List ℕ) : Type 0 where

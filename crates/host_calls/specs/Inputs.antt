@@ -27,5 +27,5 @@ pub record AreReadAtMostOnce (old new : Sources) : Type 0 where
   pub reads : (new.reads ≡ old.reads) ⊎ (new.reads ≡ after_read old.reads)
 
 -- the bytes are the first of the content: all of it, or that many
-abbrev pub IsPrefixOf : Option (List ℕ) → ℕ → List ℕ → Type 0
-IsPrefixOf content most bytes = option_map (take most) content ≡ Some bytes
+abbrev pub IsInputPrefix : Option (List ℕ) → ℕ → List ℕ → Type 0
+IsInputPrefix content most bytes = option_map (take most) content ≡ Some bytes

@@ -20,11 +20,11 @@ pub record IsName (bytes : List ℕ) : Type 0 where
   pub no_points : bytes ≢ codes ".."
 
 -- the bytes and zeros up to 64
-abbrev pub padded : List ℕ → List ℕ
-padded bytes = bytes ++ replicate (64 - length bytes) 0
+abbrev pub padded_name : List ℕ → List ℕ
+padded_name bytes = bytes ++ replicate (64 - length bytes) 0
 
 -- the first of the 64 bytes are a name, and the others are zeros
-pub record IsPadded (bytes : List ℕ) (count : ℕ) : Type 0 where
+pub record IsPaddedName (bytes : List ℕ) (count : ℕ) : Type 0 where
   pub name : IsName (take count bytes)
   pub counted : length (take count bytes) ≡ count
-  pub zeros : bytes ≡ padded (take count bytes)
+  pub zeros : bytes ≡ padded_name (take count bytes)

@@ -7,16 +7,16 @@ use Rattle.host_calls.specs.declared.store_fault.StoreFault.{StoreFault}
 use Rattle.host_calls.specs.declared.store_fault.StoreFault.TheVariants.{Damaged, FileFault, Memory}
 
 -- a fault of the host, as this one
-abbrev pub fault_of : HostFault → StoreFault
-fault_of HostFailed = FileFault
-fault_of HostMemory = Memory
+abbrev pub store_fault_of : HostFault → StoreFault
+store_fault_of HostFailed = FileFault
+store_fault_of HostMemory = Memory
 
 -- the fault is one of reading: the queue is not full, and the numbers are not used up
-abbrev pub IsOfReading : StoreFault → Type 0
-IsOfReading (Damaged damage) = Unit {0}
-IsOfReading Memory = Unit {0}
-IsOfReading FileFault = Unit {0}
-IsOfReading _ = ⊥
+abbrev pub IsReadingFault : StoreFault → Type 0
+IsReadingFault (Damaged damage) = Unit {0}
+IsReadingFault Memory = Unit {0}
+IsReadingFault FileFault = Unit {0}
+IsReadingFault _ = ⊥
 
 -- the fault is this damage, which was found, or want of memory
 abbrev pub IsFound : Option Damage → StoreFault → Type 0

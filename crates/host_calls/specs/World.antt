@@ -48,22 +48,22 @@ abbrev pub IsWithinFile : Files → List ℕ → ℕ → ℕ → Type 0
 IsWithinFile files name offset count = IsSomeAnd (map.get files name) (λ bytes. offset + count ≤ length bytes)
 
 -- one of the moments has P
-abbrev pub AtSome : (Moment → Type 0) → List Moment → Type 0
-AtSome P [] = ⊥
-AtSome P (here ∷ others) = P here ⊎ AtSome P others
+abbrev pub AnyMoment : (Moment → Type 0) → List Moment → Type 0
+AnyMoment P [] = ⊥
+AnyMoment P (here ∷ others) = P here ⊎ AnyMoment P others
 
 -- each of the moments has P
-abbrev pub AtEach : (Moment → Type 0) → List Moment → Type 0
-AtEach P [] = Unit {0}
-AtEach P (here ∷ others) = P here × AtEach P others
+abbrev pub AllMoments : (Moment → Type 0) → List Moment → Type 0
+AllMoments P [] = Unit {0}
+AllMoments P (here ∷ others) = P here × AllMoments P others
 
 -- A crash at the moment may leave the image, and these scripts were handed over by then.
 abbrev pub Leaves : Files → List Handed → Moment → Type 0
 Leaves image handed at = IsImage at.folder image × (handed ≡ at.handed)
 
 -- A crash at some moment from the one of this number on might have left the image, these scripts handed over.
-abbrev pub Could : World → ℕ → Files → List Handed → Type 0
-Could world since image handed = AtSome (Leaves image handed) (take (moment world + 1 - since) (moments world))
+abbrev pub MayLeave : World → ℕ → Files → List Handed → Type 0
+MayLeave world since image handed = AnyMoment (Leaves image handed) (take (moment world + 1 - since) (moments world))
 
 -- each image of the moment, with what was handed over by then, has P
 abbrev pub HasEachImage : (Files → List Handed → Type 0) → Moment → Type 0
@@ -73,7 +73,7 @@ HasEachImage P at = (image : Files) → IsImage at.folder image → P image at.h
 pub record LeavesOnly (P : Files → List Handed → Type 0) (old new : World) : Type 0 where
   pub more : List Moment
   pub run : moments new ≡ more ++ moments old
-  pub each : AtEach (HasEachImage P) more
+  pub each : AllMoments (HasEachImage P) more
 
 -- the world after a call, by the call's answer: a call that failed has done nothing to the folder or a part
 abbrev pub Outcome : {T : Type 0} → (Folder → Folder → Type 0) → (Folder → Folder → Type 0) → World → World → Result T HostFault → Type 0
@@ -97,7 +97,7 @@ pub record FileCall {T : Type 0} (done part : Folder → Folder → Type 0) (old
   pub leaves : LeavesOnly (WithinCall done old.now) old new
 
 -- Time goes on between sessions: others may change the folder, and nothing is handed over.
-pub record GoesOn (old new : World) : Type 0 where
+pub record TimePasses (old new : World) : Type 0 where
   pub asked : new.asked ≡ old.asked
   pub handed : new.now.handed ≡ old.now.handed
   pub leaves : LeavesOnly (λ image handed. handed ≡ old.now.handed) old new

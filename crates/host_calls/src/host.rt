@@ -4,7 +4,7 @@ ghost use Rattle.std.specs.FinMap as map;
 ghost use Rattle.host_calls.specs.Causes.{HasCause, Rose};
 ghost use Rattle.host_calls.specs.Folder.{IsInNoImage, IsMade, IsMadeInPart, IsWritten, IsWrittenInPart, IsSynced, IsRenamed, IsRemoved, HasNamesSynced, IsSettled, IsSyncedInPart};
 ghost use Rattle.host_calls.specs.Session.{CallsInside, Session, IsInside, IsOutside, StaysInside, Enters, IsLeft, Starts};
-ghost use Rattle.host_calls.specs.World.{World, FileCall, StartCall, Asks, GoesOn, reading, size_of, bytes_from, IsWithinFile};
+ghost use Rattle.host_calls.specs.World.{World, FileCall, StartCall, Asks, TimePasses, reading, size_of, bytes_from, IsWithinFile};
 
 use crate::{Child, Ending, EnterFault, HostFault, Name, StartFault};
 use std::alloc::{AllocError, Global};
@@ -30,14 +30,14 @@ pub trait Host {
         ensures taken { IsErrOf result EnterFault.Taken → Rose (session self.old).taken (session self.new).taken }
         ensures failed { IsErrOf result EnterFault.Failed
             → Rose (session self.old).file_faults (session self.new).file_faults }
-        ensures goes_on { IsTrue tells → GoesOn (world self.old) (world self.new) }
+        ensures goes_on { IsTrue tells → TimePasses (world self.old) (world self.new) }
         ensures alone { IsTrue tells → IsTrue alone → world self.new ≡ world self.old };
 
     /// Ends the session.
     fn leave(&mut self)
         requires { IsInside (session self.old) }
         ensures left { IsLeft (session self.old) (session self.new) }
-        ensures goes_on { IsTrue tells → GoesOn (world self.old) (world self.new) }
+        ensures goes_on { IsTrue tells → TimePasses (world self.old) (world self.new) }
         ensures alone { IsTrue tells → IsTrue alone → world self.new ≡ world self.old };
 
     /// The names of the plain files, in byte order.

@@ -24,15 +24,15 @@ pub struct Name {
 impl Model for Name {
     ghost use Rattle.std.specs.Prelude.{List, ℕ, take, length};
     ghost use Rattle.std.proofs.Common.{sym};
-    ghost use Rattle.host_calls.specs.Names.{IsName, padded, IsPadded};
+    ghost use Rattle.host_calls.specs.Names.{IsName, padded_name, IsPaddedName};
 
     ghost Value = { List ℕ };
 
     ghost view = { λ name. take name.count name.bytes };
 
-    ghost invariant = { λ name. IsPadded name.bytes name.count };
+    ghost invariant = { λ name. IsPaddedName name.bytes name.count };
 
-    ghost inverse = { λ bytes. record { bytes = padded bytes; count = length bytes } };
+    ghost inverse = { λ bytes. record { bytes = padded_name bytes; count = length bytes } };
 
     ghost inverse_ok = { λ name holds i. record { bytes = sym holds.zeros i; count = holds.counted i } };
 }
@@ -73,10 +73,10 @@ fn is_name(bytes: &[u8]) -> bool
 fn has_name_bytes(bytes: &[u8]) -> bool
     ensures { result ≡ are_name_bytes bytes.now }
 {
-    bytes.iter().all(|byte| can_stand(*byte))
+    bytes.iter().all(|byte| is_name_byte(*byte))
 }
 
-fn can_stand(byte: u8) -> bool
+fn is_name_byte(byte: u8) -> bool
     ensures { result ≡ is_name_byte byte }
 {
     byte.is_ascii_alphanumeric() || byte == b'.' || byte == b'_' || byte == b'-'

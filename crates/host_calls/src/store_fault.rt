@@ -1,6 +1,6 @@
 //! Why a call of the store did not succeed.
 ghost use Rattle.std.specs.Prelude.{◌≡◌};
-ghost use Rattle.host_calls.specs.StoreFaults.{fault_of};
+ghost use Rattle.host_calls.specs.StoreFaults.{store_fault_of};
 ghost use Rattle.host_calls.specs.declared.store_fault.StoreFault.TheVariants as variant;
 
 use crate::{Damage, HostFault};
@@ -34,7 +34,7 @@ impl fmt::Debug for StoreFault {
 }
 
 impl From<HostFault> for StoreFault {
-    ghost from_gives = { λ fault made. made ≡ fault_of fault };
+    ghost from_gives = { λ fault made. made ≡ store_fault_of fault };
 
     fn from(fault: HostFault) -> Self {
         match fault {

@@ -1,14 +1,14 @@
 //! How a session ends that recovers the store and works on it.
 ghost use Rattle.std.specs.Prelude.{◌≡◌, IfErr, IfOk};
 ghost use Rattle.host_session.specs.Ends.{end_after, end_of_session};
-ghost use Rattle.host_calls.specs.StoreFaults.{IsOfReading};
+ghost use Rattle.host_calls.specs.StoreFaults.{IsReadingFault};
 
 use crate::TurnEnd;
 use host_calls::{EnterFault, StoreFault};
 
 /// The end of a session, by what came of it: of its work, or of the host's `enter`.
 pub fn end_of_session(worked: Result<Result<(), StoreFault>, EnterFault>) -> TurnEnd
-    requires { IfOk worked (λ done. IfErr done IsOfReading) }
+    requires { IfOk worked (λ done. IfErr done IsReadingFault) }
     ensures { result ≡ end_of_session worked }
 {
     match worked {
@@ -21,7 +21,7 @@ pub fn end_of_session(worked: Result<Result<(), StoreFault>, EnterFault>) -> Tur
 
 // The end of a session, by what came of its work.
 fn end_of_work(worked: Result<(), StoreFault>) -> TurnEnd
-    requires { IfErr worked IsOfReading }
+    requires { IfErr worked IsReadingFault }
     ensures { result ≡ end_after worked }
 {
     match worked {

@@ -23,9 +23,9 @@ abbrev pub ComesOfShowing : CommandError → Type 0
 ComesOfShowing stopped = IsOfShowing stopped.cause
 
 -- the text was put, whole where the call succeeded, else a prefix of it
-abbrev pub PutsBy : List ℕ → SinkAt → SinkAt → Result (Unit {0}) CommandError → Type 0
-PutsBy text old new (Ok done) = IsPut text old new
-PutsBy text old new (Err stopped) = IsPutInPart text old new
+abbrev pub PutsScriptsBy : List ℕ → SinkAt → SinkAt → Result (Unit {0}) CommandError → Type 0
+PutsScriptsBy text old new (Ok done) = IsPut text old new
+PutsScriptsBy text old new (Err stopped) = IsPutInPart text old new
 
 -- The scripts of the live jobs of these numbers were put, one after another, or a prefix of them; the spool is left alone.
 pub record PutsScripts (files output : Bool) (kept : Kept) (numbers : List ℕ) (old new : World) (was is : SinkAt)
@@ -35,4 +35,4 @@ pub record PutsScripts (files output : Bool) (kept : Kept) (numbers : List ℕ) 
   pub failed : IsErrOf result (error_of OutputFault) → Rose was.faults is.faults
   pub later : was.faults ≤ is.faults
   pub puts : files ≡ true → output ≡ true → (table : JobTable) → IsCurrent kept old.now.folder table →
-      PutsBy (scripts_of table numbers) was is result
+      PutsScriptsBy (scripts_of table numbers) was is result

@@ -6,5 +6,5 @@ mod listed;
 mod rows;
 mod scripts;
 
-pub use listed::listing;
+pub use listed::job_listing_text;
 pub use scripts::put_scripts;

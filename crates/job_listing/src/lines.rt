@@ -20,13 +20,13 @@ pub(crate) fn lines(alloc: Global, rows: &[Row], zone: &Zone) -> Result<Vec<u8>,
 {
     let mut text = Vec::with_capacity(alloc, rows.len().saturating_mul(LINE))?;
     for row in rows {
-        put_line(alloc, &mut text, row, zone)?;
+        put_row_line(alloc, &mut text, row, zone)?;
     }
     Ok(text)
 }
 
 // Puts the line of one row more after the text.
-fn put_line(alloc: Global, text: &mut Vec<u8>, row: &Row, zone: &Zone) -> Result<(), AllocError>
+fn put_row_line(alloc: Global, text: &mut Vec<u8>, row: &Row, zone: &Zone) -> Result<(), AllocError>
     requires zone { IsReadable zone.now }
     requires minute { IsClockMinute row.now.minute }
     ensures { OnOk result (IsLinePut zone.now row.now text.old.items text.new.items) }

@@ -14,7 +14,7 @@ use spool_store::Store;
 use std::alloc::{AllocError, Global};
 
 /// The lines of the live jobs that the user may see and the filter lets pass, by minute, then number, dated in the zone.
-pub fn listing(
+pub fn job_listing_text(
     alloc: Global,
     store: &Store,
     user: &UserName,

@@ -2,7 +2,7 @@
 ghost use Rattle.std.specs.Prelude.{◌≡◌, ◌&&◌, AllPairs, IfOk, IsPermutation, filter};
 ghost use Rattle.command_rules.specs.Requested.{passes_of};
 ghost use Rattle.listing_text.specs.Listing.{IsListedBefore, may_see, passes_letter, passes_numbers};
-ghost use Rattle.queue_rules.specs.Order.{Differ, place_of, row_numbers};
+ghost use Rattle.queue_rules.specs.Order.{Differ, place_in_queue, row_numbers};
 
 use at_words::Filter;
 use spool_model::{Row, State, UserName};
@@ -59,12 +59,12 @@ pub(crate) fn sort_rows(rows: &mut Vec<Row>)
     ensures same { IsPermutation rows.old.items rows.new.items }
     ensures ordered { AllPairs IsListedBefore rows.new.items }
 {
-    rows.sort_unstable_by_key(place);
+    rows.sort_unstable_by_key(listing_place);
 }
 
 // The place in the listing.
-fn place(row: &Row) -> (u32, u32)
-    ensures { result ≡ place_of row.now }
+fn listing_place(row: &Row) -> (u32, u32)
+    ensures { result ≡ place_in_queue row.now }
 {
     (row.minute, row.number)
 }

@@ -55,8 +55,8 @@ impl JobName {
             return None;
         }
         let queue = bytes[0];
-        let number = hex_digits::read(&bytes[1..1 + digits])? as u32;
-        let minute = hex_digits::read(&bytes[1 + digits..9 + digits])? as u32;
+        let number = hex_digits::read_hex(&bytes[1..1 + digits])? as u32;
+        let minute = hex_digits::read_hex(&bytes[1 + digits..9 + digits])? as u32;
         if !is_in_range(queue, number, minute) {
             return None;
         }
@@ -74,8 +74,8 @@ impl JobName {
     {
         let digits = number_digits(self.new_form);
         let mut bytes = [self.queue; LENGTH];
-        hex_digits::write(&mut bytes[1..1 + digits], self.number as u64);
-        hex_digits::write(&mut bytes[1 + digits..9 + digits], self.minute as u64);
+        hex_digits::write_hex(&mut bytes[1..1 + digits], self.number as u64);
+        hex_digits::write_hex(&mut bytes[1 + digits..9 + digits], self.minute as u64);
         let mut text = ArrayVec::from(bytes);
         text.truncate(9 + digits);
         text

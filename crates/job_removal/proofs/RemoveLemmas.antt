@@ -24,8 +24,8 @@ use Rattle.spool_store.specs.Making.{MakesSteps, MayMakeSteps}
 use Rattle.spool_store.proofs.MakeLemmas.{changes_made, stopped_runs}
 use Rattle.spool_store.proofs.SurplusLemmas.{surplus_legal, surplus_without_scripts}
 use Rattle.cause_output.specs.Causes.{cause_of}
-use Rattle.command_rules.specs.Requested.{forgets, removal, removes}
-use Rattle.command_rules.specs.Sessions.{Works}
+use Rattle.command_rules.specs.Requested.{forget_steps, removal_steps, removes}
+use Rattle.command_rules.specs.Sessions.{CommandWorks}
 use Rattle.job_removal.specs.Removing.{AreRemoval}
 
 -- the jobs may be taken back, by the steps as they were listed
@@ -41,24 +41,24 @@ module _ {tells : Bool} (known : tells ≡ true) (table : JobTable) (numbers : L
   after = after_steps table (removes numbers)
 
   abbrev later : List Step
-  later = forgets (surplus after)
+  later = forget_steps (surplus after)
 
-  legal : AreLegal table (removal table numbers)
+  legal : AreLegal table (removal_steps table numbers)
   legal = legal_then table (removes numbers) later
       (all_legal_when_kept kept old.now.folder table (removes numbers) current (subst (AreLegal kept.table) (sym (map-map step_without_script Remove numbers)) kept_legal))
       (surplus_legal after)
 
   -- the work was stopped by a fault
-  stopped : (new : World) (fault : StoreFault) → IsOfStep fault → Runs table (removal table numbers) old new → Works (AreRemoval numbers) table old new (cause_of fault)
-  stopped new store.FileFault of_step run = inr (record { steps = removal table numbers; are = refl; legal = legal; run = run })
-  stopped new store.Memory of_step run = inr (record { steps = removal table numbers; are = refl; legal = legal; run = run })
+  stopped : (new : World) (fault : StoreFault) → IsOfStep fault → Runs table (removal_steps table numbers) old new → CommandWorks (AreRemoval numbers) table old new (cause_of fault)
+  stopped new store.FileFault of_step run = inr (record { steps = removal_steps table numbers; are = refl; legal = legal; run = run })
+  stopped new store.Memory of_step run = inr (record { steps = removal_steps table numbers; are = refl; legal = legal; run = run })
   stopped new _ of_step run = absurd of_step
 
   module _ {before between : Session} {middle : World} {made : ℕ} {steps : List Step} (are : steps ≡ removes numbers) where
     -- at a removal
     pub removes_stopped : {fault : StoreFault} → MakesSteps tells before between old middle kept steps made (Err fault) →
-        Works (AreRemoval numbers) table old middle (cause_of fault)
-    removes_stopped {fault} makes = stopped middle fault makes.faults (prefixes_run_as_the_steps table (removes numbers) (removal table numbers) old middle (later, refl)
+        CommandWorks (AreRemoval numbers) table old middle (cause_of fault)
+    removes_stopped {fault} makes = stopped middle fault makes.faults (prefixes_run_as_the_steps table (removes numbers) (removal_steps table numbers) old middle (later, refl)
         (subst (λ (l : List Step). Runs table l old middle) are (stopped_runs steps made makes.begun (makes.files known table current))))
 
     module _ {first : Kept} (makes : MakesSteps tells before between old middle kept steps made (Ok first)) where
@@ -66,24 +66,24 @@ module _ {tells : Bool} (known : tells ≡ true) (table : JobTable) (numbers : L
       removed = subst (λ (l : List Step). AreMade table l [] [] first old middle) are (makes.files known table current)
 
       -- there was no memory for the others
-      pub lacks_memory : Works (AreRemoval numbers) table old middle Memory
+      pub lacks_memory : CommandWorks (AreRemoval numbers) table old middle Memory
       lacks_memory = stopped middle store.Memory tt
-          (prefixes_run_as_the_steps table (removes numbers) (removal table numbers) old middle (later, refl) removed.through.run)
+          (prefixes_run_as_the_steps table (removes numbers) (removal_steps table numbers) old middle (later, refl) removed.through.run)
 
-      module _ {forgotten : List Step} (are_later : forgotten ≡ forgets (surplus first.table)) where
+      module _ {forgotten : List Step} (are_later : forgotten ≡ forget_steps (surplus first.table)) where
         later_is : forgotten ≡ later
-        later_is = are_later ∙ ap (λ (t : JobTable). forgets (surplus t)) removed.current.without_scripts_is ∙ ap forgets (surplus_without_scripts after)
+        later_is = are_later ∙ ap (λ (t : JobTable). forget_steps (surplus t)) removed.current.without_scripts_is ∙ ap forget_steps (surplus_without_scripts after)
 
         -- at one that forgets
         pub forgets_stopped : {after_all : Session} {new : World} {forgot : ℕ} {fault : StoreFault} → MakesSteps tells between after_all middle new first forgotten forgot (Err fault) →
-            Works (AreRemoval numbers) table old new (cause_of fault)
+            CommandWorks (AreRemoval numbers) table old new (cause_of fault)
         forgets_stopped {after_all} {new} {forgot} {fault} ends = stopped new fault ends.faults (runs_go_on table (removes numbers) later [] old middle new removed.through
             (subst (λ (l : List Step). Runs after l middle new) later_is (stopped_runs forgotten forgot ends.begun (ends.files known after removed.current))))
 
         -- all was done
-        pub all_removed : {after_all : Session} {new : World} {forgot : ℕ} {last : Kept} → MakesSteps tells between after_all middle new first forgotten forgot (Ok last) → Works (AreRemoval numbers) table old new Done
+        pub all_removed : {after_all : Session} {new : World} {forgot : ℕ} {last : Kept} → MakesSteps tells between after_all middle new first forgotten forgot (Ok last) → CommandWorks (AreRemoval numbers) table old new Done
         all_removed {after_all} {new} {forgot} {last} ends = record {
-          steps = removal table numbers;
+          steps = removal_steps table numbers;
           kept = last;
           are = refl;
           made = steps_are_made_after table (removes numbers) later [] [] [] [] first last old middle new removed

@@ -5,18 +5,18 @@ use Rattle.listing_text.specs.declared.cause.Cause.TheVariants.{FileFault, Memor
 use Rattle.spool_model.specs.declared.step.Step.{Step}
 use Rattle.spool_model.specs.JobTable.{JobTable}
 use Rattle.cause_output.specs.declared.command_error.CommandError.{CommandError}
-use Rattle.command_rules.specs.Requested.{removal}
+use Rattle.command_rules.specs.Requested.{removal_steps}
 
 -- the steps are those of a removal of these numbers
 abbrev pub AreRemoval : List ℕ → JobTable → List Step → Type 0
-AreRemoval numbers table steps = steps ≡ removal table numbers
+AreRemoval numbers table steps = steps ≡ removal_steps table numbers
 
 -- a fault of a file, or want of memory
-abbrev pub IsOfWork : Cause → Type 0
-IsOfWork FileFault = Unit {0}
-IsOfWork Memory = Unit {0}
-IsOfWork _ = ⊥
+abbrev pub IsRemovalCause : Cause → Type 0
+IsRemovalCause FileFault = Unit {0}
+IsRemovalCause Memory = Unit {0}
+IsRemovalCause _ = ⊥
 
 -- the command was stopped by one of these
 abbrev pub ComesOfRemoving : CommandError → Type 0
-ComesOfRemoving stopped = IsOfWork stopped.cause
+ComesOfRemoving stopped = IsRemovalCause stopped.cause

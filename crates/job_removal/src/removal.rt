@@ -1,15 +1,15 @@
 //! The removal of jobs.
 ghost use Rattle.std.specs.Prelude.{◌≡◌, IfErr, IfOk, IsTrue};
 ghost use Rattle.host_calls.specs.Session.{CallsInside, IsInside};
-ghost use Rattle.host_calls.specs.World.{GoesOn};
+ghost use Rattle.host_calls.specs.World.{TimePasses};
 ghost use Rattle.listing_text.specs.declared.cause.Cause.TheVariants as cause;
 ghost use Rattle.spool_model.specs.JobTable.{JobTable};
 ghost use Rattle.spool_model.specs.Lists.{surplus};
 ghost use Rattle.spool_model.specs.Steps.{AreLegal};
 ghost use Rattle.step_runs.specs.Current.{IsCurrent};
 ghost use Rattle.cause_output.specs.Causes.{cause_in, error_of};
-ghost use Rattle.command_rules.specs.Requested.{forgets, removes};
-ghost use Rattle.command_rules.specs.Sessions.{Works};
+ghost use Rattle.command_rules.specs.Requested.{forget_steps, removes};
+ghost use Rattle.command_rules.specs.Sessions.{CommandWorks};
 ghost use Rattle.job_removal.specs.Removing.{AreRemoval, ComesOfRemoving};
 
 use command_rules::CommandError;
@@ -31,9 +31,9 @@ pub fn remove_jobs<H: Host>(
     requires current { IsTrue H.tells → (table : JobTable) × IsCurrent store (H.world host.old).now.folder table }
     ensures inside { CallsInside (error_of cause.FileFault) (H.session host.old) (H.session host.new) result }
     ensures comes { IfErr result ComesOfRemoving }
-    ensures goes_on { IsTrue H.tells → GoesOn (H.world host.old) (H.world host.new) }
+    ensures goes_on { IsTrue H.tells → TimePasses (H.world host.old) (H.world host.new) }
     ensures works { IsTrue H.tells → (table : JobTable) → IsCurrent store (H.world host.old).now.folder table
-        → Works (AreRemoval numbers.now) table (H.world host.old) (H.world host.new) (cause_in result) }
+        → CommandWorks (AreRemoval numbers.now) table (H.world host.old) (H.world host.new) (cause_in result) }
 {
     let mut made = 0;
     let removals = removals(alloc, numbers)?;
@@ -55,7 +55,7 @@ fn removals(alloc: Global, numbers: &[u32]) -> Result<Vec<Step>, AllocError>
 
 // The steps that forget what is too much.
 fn forgettings(alloc: Global, store: &Store) -> Result<Vec<Step>, AllocError>
-    ensures { IfOk result (λ steps. steps.items ≡ forgets (surplus store.now.table)) }
+    ensures { IfOk result (λ steps. steps.items ≡ forget_steps (surplus store.now.table)) }
 {
     let numbers = store.surplus(alloc)?;
     numbers

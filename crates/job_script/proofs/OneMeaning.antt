@@ -1,7 +1,7 @@
 -- A text of the form means what it was made of, and nothing else.
 use Rattle.std.proofs.Common.{◌≡◌, ◌<◌, ℕ, Bool, true, false, List, [], ◌∷◌, IsTrue, refl, sym, ap, subst, ◌∙◌}
 use Rattle.std.specs.List.{list_all}
-use Rattle.job_script.specs.Check.{IsFit}
+use Rattle.job_script.specs.Check.{IsUsableContext}
 use Rattle.job_script.specs.Form.{IsJobMeaning, IsJobText, JobMeaning, MeansJob, meaning_for, text_of_job}
 use Rattle.job_script.specs.JobText.{quoted, variable_lines}
 use Rattle.job_script.specs.Variables.{has_no_zero, is_kept_variable, kept, may_be_set}
@@ -70,7 +70,7 @@ kept_keeps [] = refl
 kept_keeps (v ∷ variables) = kept_keeps_by v variables (is_kept_variable v) refl (kept_keeps variables)
 
 -- a job can mean what a context says that a job can take over
-pub fit_meaning : (context : Context) (mail : Bool) (commands : List ℕ) → IsFit context → context.umask < 512
+pub fit_meaning : (context : Context) (mail : Bool) (commands : List ℕ) → IsUsableContext context → context.umask < 512
     → IsJobMeaning (meaning_for context mail commands)
 fit_meaning context mail commands fit octal = record {
   name = fit.user;

@@ -20,7 +20,7 @@ pub record IsDirectory (directory : List ℕ) : Type 0 where
   pub few : length directory ≤ MAX_DIRECTORY
 
 -- a job can take over the context
-pub record IsFit (context : Context) : Type 0 where
+pub record IsUsableContext (context : Context) : Type 0 where
   pub user : IsUserName context.user
   pub directory : IsDirectory context.directory
   pub few : lines_length context.environment ≤ MAX_ENVIRONMENT
@@ -50,7 +50,7 @@ first_fault context =
 
 -- the first fault of the context, in this order: its user, its directory, its variables
 abbrev pub Checked : {T : Type 0} → Context → Result T ScriptFault → Type 0
-Checked context (Ok _) = IsFit context
+Checked context (Ok _) = IsUsableContext context
 Checked context (Err BadUser) = ¬ IsUserName context.user
 Checked context (Err BadDirectory) = IsUserName context.user × ¬ IsDirectory context.directory
 Checked context (Err EnvironmentTooLarge) =
@@ -60,11 +60,11 @@ Checked context _ = ⊥
 
 -- the first fault of the context, and then that of the commands; want of memory alone is free
 abbrev pub Written : {T : Type 0} → Context → List ℕ → Result T ScriptFault → Type 0
-Written context commands (Ok _) = IsFit context × (length commands ≤ MAX_COMMANDS)
+Written context commands (Ok _) = IsUsableContext context × (length commands ≤ MAX_COMMANDS)
 Written context commands (Err BadUser) = ¬ IsUserName context.user
 Written context commands (Err BadDirectory) = IsUserName context.user × ¬ IsDirectory context.directory
 Written context commands (Err EnvironmentTooLarge) =
     IsUserName context.user × IsDirectory context.directory
     × (MAX_ENVIRONMENT < lines_length context.environment)
-Written context commands (Err TooLong) = IsFit context × (MAX_COMMANDS < length commands)
+Written context commands (Err TooLong) = IsUsableContext context × (MAX_COMMANDS < length commands)
 Written context commands (Err Memory) = Unit {0}

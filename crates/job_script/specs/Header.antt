@@ -27,8 +27,8 @@ abbrev pub IsHeaderOf : List ℕ → JobHeader → Type 0
 IsHeaderOf bytes found = BeginsWithHeader bytes found.user found.mail
 
 -- the header is this user's, with this flag
-abbrev pub Says : List ℕ → Bool → JobHeader → Type 0
-Says user mail found = (found.user ≡ user) × (found.mail ≡ mail)
+abbrev pub HeaderSays : List ℕ → Bool → JobHeader → Type 0
+HeaderSays user mail found = (found.user ≡ user) × (found.mail ≡ mail)
 
 -- the bytes begin with some header
 pub record HasHeader (bytes : List ℕ) : Type 0 where

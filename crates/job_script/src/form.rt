@@ -4,7 +4,7 @@ ghost use Rattle.job_script.specs.Form.{IsJobText};
 ghost use Rattle.job_script.specs.inside.Prefixes.{HasLines, HasDirectory, IsLinePrefix, IsPartPrefix, IsQuotedPrefix, IsUmaskPrefix, IsNameRun};
 
 use crate::headers::header;
-use crate::kept::{can_stand, may_be_set_in_a_job};
+use crate::kept::{is_variable_byte, may_be_set_in_a_job};
 
 const AFTER_DIRECTORY: &[u8] =
     b" || {\n\techo 'Execution directory inaccessible' >&2\n\texit 1\n}\n";
@@ -86,7 +86,7 @@ fn name_length(bytes: &[u8]) -> usize
     ensures { IsNameRun bytes.now result }
 {
     for (i, byte) in bytes.iter().enumerate() {
-        if !can_stand(*byte) {
+        if !is_variable_byte(*byte) {
             return i;
         }
     }

@@ -1,7 +1,7 @@
 //! Whose a job text is.
 ghost use Rattle.std.specs.Prelude.{◌≡◌, ◌≤◌, ℕ, List, Bool, length, IfSome, MatchOption, MatchResult};
 ghost use Rattle.spool_model.specs.Users.{is_user_byte};
-ghost use Rattle.job_script.specs.Header.{BeginsWithHeader, HasHeader, IsHeaderFault, IsHeaderOf, Says, header_text};
+ghost use Rattle.job_script.specs.Header.{BeginsWithHeader, HasHeader, IsHeaderFault, IsHeaderOf, HeaderSays, header_text};
 ghost use Rattle.job_script.specs.declared.headers.TheConstants.{MAX_HEADER};
 ghost use Rattle.job_script.specs.inside.Scan.{Matches, IsUserRun};
 
@@ -27,21 +27,21 @@ pub struct JobHeader {
 pub fn header(bytes: &[u8]) -> Option<JobHeader>
     ensures read { MatchOption result (¬ HasHeader bytes.now) (IsHeaderOf bytes.now) }
     ensures only { (user : List ℕ) (mail : Bool) → BeginsWithHeader bytes.now user mail
-        → IfSome result (Says user mail) }
+        → IfSome result (HeaderSays user mail) }
     ensures few { IfSome result (λ found. length (header_text found.user found.mail) ≤ MAX_HEADER) }
 {
-    read(bytes).ok()
+    read_header(bytes).ok()
 }
 
 /// Where the bytes leave the last header that they began like, if they begin with none.
 pub fn header_fault(bytes: &[u8]) -> Option<u64>
     ensures { MatchOption result (HasHeader bytes.now) (IsHeaderFault bytes.now) }
 {
-    read(bytes).err()
+    read_header(bytes).err()
 }
 
 // The header, or the place where there is a fault.
-fn read(bytes: &[u8]) -> Result<JobHeader, u64>
+fn read_header(bytes: &[u8]) -> Result<JobHeader, u64>
     ensures { MatchResult result (IsHeaderOf bytes.now) (IsHeaderFault bytes.now) }
 {
     let before = matched(bytes, &BEFORE_USER);
@@ -85,14 +85,14 @@ fn user_length(bytes: &[u8]) -> usize
         return 0;
     }
     for (i, byte) in bytes.iter().enumerate() {
-        if i >= MAX_USER_NAME || !can_stand(*byte) {
+        if i >= MAX_USER_NAME || !is_header_byte(*byte) {
             return i;
         }
     }
     bytes.len()
 }
 
-fn can_stand(byte: u8) -> bool
+fn is_header_byte(byte: u8) -> bool
     ensures { result ≡ is_user_byte byte }
 {
     let is_mark = byte == b'.' || byte == b'_' || byte == b'-' || byte == b'$';

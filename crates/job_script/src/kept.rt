@@ -25,7 +25,7 @@ fn is_name_of_a_variable(name: &[u8]) -> bool
 fn has_variable_bytes(name: &[u8]) -> bool
     ensures { result ≡ are_variable_bytes name.now }
 {
-    name.iter().all(|byte| can_stand(*byte))
+    name.iter().all(|byte| is_variable_byte(*byte))
 }
 
 fn can_begin(byte: u8) -> bool
@@ -35,7 +35,7 @@ fn can_begin(byte: u8) -> bool
 }
 
 /// Whether the byte may stand in a variable's name.
-pub(crate) fn can_stand(byte: u8) -> bool
+pub(crate) fn is_variable_byte(byte: u8) -> bool
     ensures { result ≡ is_variable_byte byte }
 {
     byte.is_ascii_alphanumeric() || byte == b'_'

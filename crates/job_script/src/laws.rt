@@ -1,7 +1,7 @@
 //! What is computed of a text is what the relations say of it.
 ghost use Rattle.std.specs.Prelude.{◌≡◌, ◌↔◌, ℕ, List, Bool, IsTrue, Some, None, take};
 ghost use Rattle.spool_model.specs.Users.{IsUserName};
-ghost use Rattle.job_script.specs.Check.{IsDirectory, IsFit, first_fault, is_directory, is_user_name};
+ghost use Rattle.job_script.specs.Check.{IsDirectory, IsUsableContext, first_fault, is_directory, is_user_name};
 ghost use Rattle.job_script.specs.declared.headers.TheConstants.{MAX_HEADER};
 ghost use Rattle.job_script.specs.Form.{IsJobText, JobMeaning, MeansJob};
 ghost use Rattle.job_script.specs.Header.{BeginsWithHeader, HasHeader, IsHeaderFault};
@@ -37,7 +37,7 @@ pub fn texts_and_meanings_are_one_to_one(text: &[u8], other: &[u8])
 pub fn checks_are_tests(context: &Context)
     ensures user { IsTrue (is_user_name context.now.user) ↔ IsUserName context.now.user }
     ensures directory { IsTrue (is_directory context.now.directory) ↔ IsDirectory context.now.directory }
-    ensures fit { (first_fault context.now ≡ None) ↔ IsFit context.now }
+    ensures fit { (first_fault context.now ≡ None) ↔ IsUsableContext context.now }
 {
     let _ = context;
 }

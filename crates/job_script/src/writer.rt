@@ -35,13 +35,13 @@ pub fn write(
     if commands.len() > MAX_COMMANDS {
         return Err(ScriptFault::TooLong);
     }
-    match text_of(alloc, context, mail, commands) {
+    match script_text(alloc, context, mail, commands) {
         Ok(text) => Ok(Bytes::from(text)),
         Err(_) => Err(ScriptFault::Memory),
     }
 }
 
-fn text_of(
+fn script_text(
     alloc: Global,
     context: &Context,
     mail: bool,

@@ -15,11 +15,11 @@ use Rattle.spool_model.specs.JobTable.{JobTable}
 use Rattle.spool_model.specs.Lists.{done_numbers, live_rows}
 use Rattle.job_states.specs.declared.form.Form.{Form}
 use Rattle.job_states.specs.declared.form.Form.TheVariants.{Text, Json}
-use Rattle.job_states.specs.declared.stage.Stage.{Stage}
-use Rattle.job_states.specs.declared.stage.Stage.TheVariants.{Live, Done, Forgotten}
+use Rattle.job_states.specs.declared.stage.JobStage.{JobStage}
+use Rattle.job_states.specs.declared.stage.JobStage.TheVariants.{Live, Done, Forgotten}
 use Rattle.job_states.specs.Lines.{fate_text, live_line, text_line}
 use Rattle.job_states.specs.Objects.{NeedsNoEscape, fate_object, live_object, word_object}
-use Rattle.job_states.specs.Stages.{shown_minute, stage_of}
+use Rattle.job_states.specs.Stages.{shown_minute, stage_of_number}
 
 -- the line of a live job with this date
 abbrev pub live_text : Form → Row → List ℕ → List ℕ
@@ -45,14 +45,14 @@ pub record IsLiveLine (form : Form) (zone : Zone) (row : Row) (line : List ℕ) 
   pub plain : NeedsNoEscape row (date_text_of civil)
 
 -- the line shows what the stage is
-abbrev pub IsLine : Form → Zone → ℕ → Stage → List ℕ → Type 0
+abbrev pub IsLine : Form → Zone → ℕ → JobStage → List ℕ → Type 0
 IsLine form zone number (Live row) line = IsLiveLine form zone row line
 IsLine form zone number (Done fate) line = line ≡ fate_line form number fate
 IsLine form zone number Forgotten line = line ≡ word_line form number (codes "forgotten")
 
 -- the line shows the stage of the number
 abbrev pub ShowsNumber : Form → Zone → JobTable → ℕ → List ℕ → Type 0
-ShowsNumber form zone table number line = IsLine form zone number (stage_of table number) line
+ShowsNumber form zone table number line = IsLine form zone number (stage_of_number table number) line
 
 -- the text has a line for each of the numbers, in their order
 pub record IsReport (form : Form) (zone : Zone) (table : JobTable) (numbers : List ℕ) (text : List ℕ) : Type 0 where

@@ -5,24 +5,24 @@ use Rattle.spool_model.specs.declared.entry.Entry.TheVariants.{Live, Done}
 use Rattle.spool_model.specs.declared.row.Row.{Row}
 use Rattle.spool_model.specs.declared.state.State.TheVariants.{Pending, Running}
 use Rattle.spool_model.specs.JobTable.{JobEntry, JobState, JobTable, entry_at}
-use Rattle.job_states.specs.declared.stage.Stage.{Stage}
-use Rattle.job_states.specs.declared.stage.Stage.TheVariants as stage
+use Rattle.job_states.specs.declared.stage.JobStage.{JobStage}
+use Rattle.job_states.specs.declared.stage.JobStage.TheVariants as stage
 
 -- the stage of what a table has under a number
-abbrev pub stage_under : ℕ → Option JobEntry → Stage
+abbrev pub stage_under : ℕ → Option JobEntry → JobStage
 stage_under number (Some (Live job state)) =
     stage.Live (record { number = number; queue = job.queue; minute = job.minute; user = job.user; state = state })
 stage_under number (Some (Done fate)) = stage.Done fate
 stage_under number None = stage.Forgotten
 
 -- the stage of a number
-abbrev pub stage_of : JobTable → ℕ → Stage
-stage_of table number = stage_under number (entry_at table number)
+abbrev pub stage_of_number : JobTable → ℕ → JobStage
+stage_of_number table number = stage_under number (entry_at table number)
 
 -- the minute that is shown of a live job: the one that it waits for, or that of its start
-abbrev pub minute_in : JobState → ℕ → ℕ
-minute_in Pending minute = minute
-minute_in (Running second) minute = minute_at second
+abbrev pub minute_of_job : JobState → ℕ → ℕ
+minute_of_job Pending minute = minute
+minute_of_job (Running second) minute = minute_at second
 
 abbrev pub shown_minute : Row → ℕ
-shown_minute row = minute_in row.state row.minute
+shown_minute row = minute_of_job row.state row.minute

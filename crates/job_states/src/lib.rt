@@ -22,4 +22,4 @@ pub use form::Form;
 pub use laws::{scripts_decide_no_stage, stages_exclude_each_other};
 pub use numbers::{asked_numbers, is_in_queue};
 pub use report::report_of;
-pub use stage::{Stage, stage_of};
+pub use stage::{JobStage, stage_of};

@@ -11,7 +11,7 @@ ghost use Rattle.job_states.specs.inside.Searching.{CanBeShown};
 use crate::object::{put_fate_object, put_live_object, put_word_object};
 use crate::stage::shown_minute;
 use crate::words::state_word;
-use crate::{Form, Stage};
+use crate::{Form, JobStage};
 use civil_minute::{Zone, civil_of};
 use host_calls::Ending;
 use itoa::Buffer;
@@ -20,11 +20,11 @@ use spool_model::{Fate, Row};
 use std::alloc::{AllocError, Global};
 
 // Puts the line of the job of the number after the text.
-pub(crate) fn put_line(
+pub(crate) fn put_state_line(
     alloc: Global,
     text: &mut Vec<u8>,
     number: u32,
-    stage: &Stage,
+    stage: &JobStage,
     form: Form,
     zone: &Zone,
 ) -> Result<(), AllocError>
@@ -33,9 +33,9 @@ pub(crate) fn put_line(
     ensures { OnOk result (IsLinePut form zone.now number stage.now text.old.items text.new.items) }
 {
     match stage {
-        Stage::Live(row) => put_live(alloc, text, row, form, zone),
-        Stage::Done(fate) => put_fate(text, number, fate, form),
-        Stage::Forgotten => put_word(text, number, "forgotten", form),
+        JobStage::Live(row) => put_live(alloc, text, row, form, zone),
+        JobStage::Done(fate) => put_fate(text, number, fate, form),
+        JobStage::Forgotten => put_word(text, number, "forgotten", form),
     }
 }
 

@@ -1,7 +1,7 @@
 //! The numbers that are asked for.
 ghost use Rattle.std.specs.Prelude.{◌≡◌, ◌++◌, ◌&&◌, AllPairs, IfOk, IsPermutation, OnOk, filter, map};
 ghost use Rattle.listing_text.specs.Listing.{IsListedBefore, may_see};
-ghost use Rattle.queue_rules.specs.Order.{Differ, place_of, row_numbers};
+ghost use Rattle.queue_rules.specs.Order.{Differ, place_in_queue, row_numbers};
 ghost use Rattle.job_states.specs.Reports.{AreAsked, AreLiveIn, is_in_queue};
 
 use at_words::Filter;
@@ -22,7 +22,7 @@ pub fn asked_numbers(
 {
     match which {
         Filter::All => all_numbers(alloc, store, user),
-        Filter::Queue(letter) => live_numbers(alloc, store, user, Some(*letter)),
+        Filter::Queue(letter) => listed_live_numbers(alloc, store, user, Some(*letter)),
         Filter::Numbers(numbers) => Vec::from_slice(alloc, numbers.as_slice()),
     }
 }
@@ -31,7 +31,7 @@ pub fn asked_numbers(
 fn all_numbers(alloc: Global, store: &Store, user: &UserName) -> Result<Vec<u32>, AllocError>
     ensures { IfOk result (λ numbers. AreAsked store.now.table user.now Filter.All numbers.items) }
 {
-    let mut numbers = live_numbers(alloc, store, user, None)?;
+    let mut numbers = listed_live_numbers(alloc, store, user, None)?;
     let done = numbers_of_done(alloc, store.decided())?;
     numbers.extend_from_slice(&done)?;
     Ok(numbers)
@@ -44,7 +44,7 @@ fn numbers_of_done(alloc: Global, decided: &[Decided]) -> Result<Vec<u32>, Alloc
 }
 
 // The numbers of live jobs that the user may see, by minute, then number: those of the queue, where there is one.
-fn live_numbers(
+fn listed_live_numbers(
     alloc: Global,
     store: &Store,
     user: &UserName,
@@ -95,12 +95,12 @@ fn sort_rows(rows: &mut Vec<Row>)
     ensures same { IsPermutation rows.old.items rows.new.items }
     ensures ordered { AllPairs IsListedBefore rows.new.items }
 {
-    rows.sort_unstable_by_key(place);
+    rows.sort_unstable_by_key(state_place);
 }
 
 // The place in the order.
-fn place(row: &Row) -> (u32, u32)
-    ensures { result ≡ place_of row.now }
+fn state_place(row: &Row) -> (u32, u32)
+    ensures { result ≡ place_in_queue row.now }
 {
     (row.minute, row.number)
 }

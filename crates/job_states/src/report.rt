@@ -5,7 +5,7 @@ ghost use Rattle.job_states.specs.Reports.{IsReport};
 ghost use Rattle.job_states.specs.inside.Putting.{IsNumberPut};
 
 use crate::Form;
-use crate::line::put_line;
+use crate::line::put_state_line;
 use crate::stage::stage_of;
 use civil_minute::Zone;
 use host_calls::Bytes;
@@ -45,5 +45,5 @@ fn put_number_line(
     requires { IsReadable zone.now }
     ensures { OnOk result (IsNumberPut form zone.now store.now.table number text.old.items text.new.items) }
 {
-    put_line(alloc, text, number, &stage_of(store, number), form, zone)
+    put_state_line(alloc, text, number, &stage_of(store, number), form, zone)
 }

@@ -1,19 +1,19 @@
 //! How far the job of a number has come.
 ghost use Rattle.std.specs.Prelude.{◌≡◌, map};
-ghost use Rattle.job_states.specs.Stages.{minute_in, stage_of};
+ghost use Rattle.job_states.specs.Stages.{minute_of_job, stage_of_number};
 ghost use Rattle.job_states.specs.inside.Searching.{CanBeShown, IsDoneStage};
-ghost use Rattle.spool_store.specs.Listed.{Rises};
+ghost use Rattle.spool_store.specs.Listed.{AreSortedEntries};
 ghost use Rattle.spool_store.specs.Rows.{decided_entry};
 ghost use Rattle.spool_store.specs.Stored.{IsRowInRange};
 
-use crate::search::{fate_of, row_of};
+use crate::search::{fate_of_number, row_of};
 use clock_range::minute_at;
 use spool_model::{Decided, Fate, Row, State};
 use spool_store::Store;
 
 /// How far the job of a number has come.
 #[derive(Clone, Copy)]
-pub enum Stage {
+pub enum JobStage {
     /// It waits or runs.
     Live(Row),
     Done(Fate),
@@ -22,32 +22,32 @@ pub enum Stage {
 }
 
 /// How far the job of the number has come.
-pub fn stage_of(store: &Store, number: u32) -> Stage
-    ensures stage { result ≡ stage_of store.now.table number }
+pub fn stage_of(store: &Store, number: u32) -> JobStage
+    ensures stage { result ≡ stage_of_number store.now.table number }
     ensures shown { CanBeShown result }
 {
     match row_of(store.rows(), number) {
-        Some(row) => Stage::Live(*row),
+        Some(row) => JobStage::Live(*row),
         None => done_stage(store.decided(), number),
     }
 }
 
 // The stage of a number that no live job has.
-fn done_stage(decided: &[Decided], number: u32) -> Stage
-    requires { Rises (map decided_entry decided.now) }
+fn done_stage(decided: &[Decided], number: u32) -> JobStage
+    requires { AreSortedEntries (map decided_entry decided.now) }
     ensures stage { IsDoneStage decided.now number result }
     ensures shown { CanBeShown result }
 {
-    match fate_of(decided, number) {
-        Some(fate) => Stage::Done(fate),
-        None => Stage::Forgotten,
+    match fate_of_number(decided, number) {
+        Some(fate) => JobStage::Done(fate),
+        None => JobStage::Forgotten,
     }
 }
 
 // The minute that the line of a live job shows: the one that it waits for, or that of its start.
 pub(crate) fn shown_minute(row: &Row) -> u32
     requires { IsRowInRange row.now }
-    ensures { result ≡ minute_in row.now.state row.now.minute }
+    ensures { result ≡ minute_of_job row.now.state row.now.minute }
 {
     match row.state {
         State::Pending => row.minute,

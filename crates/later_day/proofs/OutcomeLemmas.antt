@@ -4,7 +4,7 @@ use Rattle.at_words.specs.declared.tool_request.ToolRequest.TheVariants as reque
 use Rattle.at_words.specs.Requests.{request_of}
 use Rattle.cause_output.specs.declared.caller.Caller.{Caller}
 use Rattle.command_rules.specs.Found.{Asked, Found}
-use Rattle.command_rules.specs.Requested.{forgets, removes, steps_asked}
+use Rattle.command_rules.specs.Requested.{forget_steps, removes, steps_asked}
 use Rattle.spool_model.specs.declared.step.Step.{Step}
 use Rattle.spool_model.specs.Lists.{surplus}
 use Rattle.spool_model.specs.JobTable.{JobTable}
@@ -12,26 +12,26 @@ use Rattle.spool_model.specs.Steps.{after_steps}
 use Rattle.step_runs.specs.Hands.{StartNothing}
 use Rattle.spool_model.specs.declared.turn_step.TurnStep.{TurnStep}
 use Rattle.spool_model.specs.declared.turn_step.TurnStep.TheVariants.{HandedOver, Ended, Interrupted, Forgotten}
-use Rattle.spool_model.specs.StepsOf.{steps_of}
+use Rattle.spool_model.specs.StepsOf.{steps_of_turn}
 use Rattle.day_events.specs.declared.event.Event.{Event}
 use Rattle.day_events.specs.declared.event.Event.TheVariants.{Command, Turn, Reboot}
 use Rattle.day_events.specs.declared.report.EventReport.{EventReport}
 use Rattle.day_events.specs.declared.report.EventReport.TheVariants as known
 use Rattle.headline.specs.Effects.{Crashed, Effect, IsEffectOf, Partial, Untouched, Whole, steps_begun}
 use Rattle.headline.proofs.ShownEffectLemmas.{effects_are_shown}
-use Rattle.later_sessions.specs.LaterEffects.{AcceptNothing, DoOneThing}
-use Rattle.later_sessions.proofs.EffectRestLemmas.{effects_leave_the_rest}
-use Rattle.at_day.specs.EventOutcomes.{AreCommandSteps, AreCommandStepsBy, AreEventSteps, AreStepsOfTurn, EventOutcome, IsCrash, IsDoneOn, IsEventEffect, is_acknowledged}
+use Rattle.mail_and_cron_events.specs.LaterEffects.{AcceptNothing, DoOneThing}
+use Rattle.mail_and_cron_events.proofs.EffectRestLemmas.{effects_leave_the_rest}
+use Rattle.at_day.specs.EventOutcomes.{AreCommandSteps, AreCommandStepsBy, AreEventSteps, AreStepsOfTurn, EventOutcome, IsCrashEffect, IsDoneOn, IsEventEffect, is_acknowledged}
 use Rattle.at_day.specs.Machines.{Machine, spool_of}
 use Rattle.later_day.specs.Laws.{DayOutcomesPass}
 
 -- A command starts nothing.
 
-forgets_start_nothing : (numbers : List ℕ) → StartNothing (forgets numbers)
+forgets_start_nothing : (numbers : List ℕ) → StartNothing (forget_steps numbers)
 forgets_start_nothing [] = tt
 forgets_start_nothing (number ∷ later) = forgets_start_nothing later
 
-removal_starts_nothing : (numbers forgotten : List ℕ) → StartNothing (removes numbers ++ forgets forgotten)
+removal_starts_nothing : (numbers forgotten : List ℕ) → StartNothing (removes numbers ++ forget_steps forgotten)
 removal_starts_nothing [] forgotten = forgets_start_nothing forgotten
 removal_starts_nothing (number ∷ later) forgotten = removal_starts_nothing later forgotten
 
@@ -62,7 +62,7 @@ module _ (words : List (List ℕ)) (caller : Caller) (input : List ℕ) (now : �
 
 -- A turn accepts nothing.
 
-turn_accepts_nothing : (made : List TurnStep) → AcceptNothing (steps_of made)
+turn_accepts_nothing : (made : List TurnStep) → AcceptNothing (steps_of_turn made)
 turn_accepts_nothing [] = tt
 turn_accepts_nothing (HandedOver number second ∷ later) = turn_accepts_nothing later
 turn_accepts_nothing (Ended number ending ∷ later) = turn_accepts_nothing later
@@ -90,7 +90,7 @@ effect_does_one_thing acknowledged AreSteps (Partial table steps) each is = each
 effect_does_one_thing acknowledged AreSteps (Whole table steps) each is = each table steps is
 effect_does_one_thing acknowledged AreSteps (Crashed image) each is = absurd is
 
-crash_does_one_thing : (effect : Effect) → IsCrash effect → DoOneThing (steps_begun effect)
+crash_does_one_thing : (effect : Effect) → IsCrashEffect effect → DoOneThing (steps_begun effect)
 crash_does_one_thing (Crashed image) is = inl tt
 crash_does_one_thing _ is = absurd is
 

@@ -4,16 +4,16 @@ use Rattle.std.specs.Prelude.{AllPairs}
 use Rattle.std.proofs.lemmas.List.{get_or-map, length-map}
 use Rattle.day_events.specs.declared.event.Event.{Event}
 use Rattle.day_events.specs.declared.report.EventReport.{EventReport}
-use Rattle.later_sessions.specs.LaterEffects.{LaterPassFrom, LeavesTheRest}
-use Rattle.later_sessions.proofs.LaterLemmas.{later_events_hand_once}
+use Rattle.mail_and_cron_events.specs.LaterEffects.{LaterPassFrom, LeavesTheRest}
+use Rattle.mail_and_cron_events.proofs.LaterLemmas.{later_events_hand_once}
 use Rattle.at_mail.specs.Once.{MailEvent, MailEvents, a_session, another, next_event, no_event}
 use Rattle.at_mail.proofs.OnceLemmas.{notices_are_handed_once}
 use Rattle.cron_session.specs.Minutes.{AcceptApart, Beside, CronEvent, CronPassFrom, CronPassed, Ended, MayAcceptAt, PassesAs}
 use Rattle.cron_session.proofs.MinuteLemmas.{no_minute_comes_twice}
-use Rattle.later_sessions.specs.SessionsPass.{PassesBeside}
-use Rattle.later_sessions.proofs.CronLemmas.{cron_sessions_pass}
-use Rattle.later_sessions.proofs.MailLemmas.{mail_sessions_pass}
-use Rattle.later_sessions.proofs.RestLemmas.{beside_the_store_pass}
+use Rattle.mail_and_cron_events.specs.SessionsPass.{PassesBeside}
+use Rattle.mail_and_cron_events.proofs.CronLemmas.{cron_sessions_pass}
+use Rattle.mail_and_cron_events.proofs.MailLemmas.{mail_sessions_pass}
+use Rattle.mail_and_cron_events.proofs.RestLemmas.{beside_the_store_pass}
 use Rattle.at_day.specs.Happening.{Happens}
 use Rattle.at_day.specs.Machines.{Machine, spool_of}
 use Rattle.at_day.proofs.EffectLemmas.{happens_takes_effect}
@@ -21,7 +21,7 @@ use Rattle.later_day.specs.declared.entry.LaterEntry.{LaterEntry}
 use Rattle.later_day.specs.declared.entry.LaterEntry.TheVariants as known
 use Rattle.later_day.specs.declared.later.Later.{Later}
 use Rattle.later_day.specs.declared.later.Later.TheVariants.{Day, Post, Cron}
-use Rattle.later_day.specs.LaterHappening.{IsLaterEvent, LaterHappens, cron_of}
+use Rattle.later_day.specs.LaterHappening.{IsLaterEvent, LaterHappens, cron_of_event}
 use Rattle.later_day.specs.LaterMachines.{LaterMachine, later_spool, post_at}
 use Rattle.later_day.specs.LaterOutcomes.{AreLaterDoneOn, LaterOutcome, later_machine_after, later_passed_of}
 use Rattle.later_day.specs.LaterPromise.{HasAcceptedAt, HaveAcceptedApart}
@@ -66,7 +66,7 @@ mail_event Post (known.Post report) old new happens =
       leaves = happens.posts.leaves refl refl;
     })
 mail_event (Cron context zone entries now) (known.Cron report) old new happens =
-    another (cron_sessions_pass (cron_of context zone entries now) (later_spool old) (later_spool new) report.end report.numbers
+    another (cron_sessions_pass (cron_of_event context zone entries now) (later_spool old) (later_spool new) report.end report.numbers
     (happens.crons.leaves refl refl)).mail
 mail_event (Day event) (known.Post report) old new happens = absurd happens
 mail_event (Day event) (known.Cron report) old new happens = absurd happens
@@ -89,7 +89,7 @@ mail_events first old (outcome ∷ later) so_far done =
 -- what an event is to the mark of the crontab
 abbrev cron_event : Later → LaterEntry → CronEvent
 cron_event (Cron context zone entries now) (known.Cron report) =
-    Ended (cron_of context zone entries now) report.end report.numbers
+    Ended (cron_of_event context zone entries now) report.end report.numbers
 cron_event (Cron context zone entries now) (known.Day report) = Beside
 cron_event (Cron context zone entries now) (known.Post report) = Beside
 cron_event (Day event) entry = Beside

@@ -2,9 +2,9 @@
 use Rattle.std.proofs.Common.{◌≡◌, ◌∙◌, ℕ, List, [], append-nil, sym, ap, subst}
 use Rattle.std.proofs.lemmas.List.Elements.{Contains-append_left}
 use Rattle.at_day.proofs.OutcomeLemmas.{no_kids, ready_after}
-use Rattle.at_day.specs.Days.{IsReady}
+use Rattle.at_day.specs.Days.{IsMachineReady}
 use Rattle.at_day.specs.Happening.{Happens}
-use Rattle.at_day.specs.Machines.{session_of}
+use Rattle.at_day.specs.Machines.{machine_session}
 use Rattle.daemon_turn.specs.declared.kid.Kid.{Kid}
 use Rattle.daemon_turn.specs.Daemons.{DaemonState}
 use Rattle.daemon_turn.specs.Kids.{AreChildren, KeepsChildren}
@@ -24,8 +24,8 @@ use Rattle.later_day.specs.LaterMachines.{LaterMachine}
 
 -- No session is on, each kid of the daemon and of the post is a child of the host, and the post has this mail program.
 pub record IsLaterReady (program : List ℕ) (old : LaterMachine) : Type 0 where
-  pub day : IsReady old.at
-  pub notices : AreChildren (session_of old.at).children old.post.kids
+  pub day : IsMachineReady old.at
+  pub notices : AreChildren (machine_session old.at).children old.post.kids
   pub of_program : old.post.program ≡ program
 
 -- children that stay
@@ -39,26 +39,26 @@ more_children old new kids keeps are =
 
 module _ (program : List ℕ) (old new : LaterMachine) (ready : IsLaterReady program old) where
   -- what the post keeps where it stays
-  post_stays : KeepsChildren (session_of old.at).children (session_of new.at).children → new.post ≡ old.post →
-      AreChildren (session_of new.at).children new.post.kids × (new.post.program ≡ program)
+  post_stays : KeepsChildren (machine_session old.at).children (machine_session new.at).children → new.post ≡ old.post →
+      AreChildren (machine_session new.at).children new.post.kids × (new.post.program ≡ program)
   post_stays keeps same = (
-    more_children (session_of old.at).children (session_of new.at).children new.post.kids keeps
-        (subst (λ (post : PostState). AreChildren (session_of old.at).children post.kids) (sym same) ready.notices),
+    more_children (machine_session old.at).children (machine_session new.at).children new.post.kids keeps
+        (subst (λ (post : PostState). AreChildren (machine_session old.at).children post.kids) (sym same) ready.notices),
     ap (λ (post : PostState). post.program) same ∙ ready.of_program,
   )
 
   -- as many children as before
-  children_stay : (session_of new.at).children ≡ (session_of old.at).children →
-      KeepsChildren (session_of old.at).children (session_of new.at).children
-  children_stay same = ([], same ∙ sym (append-nil (session_of old.at).children))
+  children_stay : (machine_session new.at).children ≡ (machine_session old.at).children →
+      KeepsChildren (machine_session old.at).children (machine_session new.at).children
+  children_stay same = ([], same ∙ sym (append-nil (machine_session old.at).children))
 
   post_after_day : (event : Event) (report : EventReport) → Happens event report old.at new.at → IsPostAfter event old.post new.post →
-      AreChildren (session_of new.at).children new.post.kids × (new.post.program ≡ program)
+      AreChildren (machine_session new.at).children new.post.kids × (new.post.program ≡ program)
   post_after_day (Command words caller input now) (reports.Command status out err) given post =
       post_stays (children_stay given.host.left.children) post
   post_after_day (Turn now load) (reports.Turn turned) turns post = post_stays turns.kept post
   post_after_day (Reboot pick fuse) reports.Rebooted up post = (
-    subst (λ (after : PostState). AreChildren (session_of new.at).children after.kids) (sym post) (no_kids (session_of new.at).children),
+    subst (λ (after : PostState). AreChildren (machine_session new.at).children after.kids) (sym post) (no_kids (machine_session new.at).children),
     ap (λ (after : PostState). after.program) post ∙ ready.of_program,
   )
   post_after_day (Command words caller input now) (reports.Turn turned) happens post = absurd happens
@@ -69,12 +69,12 @@ module _ (program : List ℕ) (old new : LaterMachine) (ready : IsLaterReady pro
   post_after_day (Reboot pick fuse) (reports.Turn turned) happens post = absurd happens
 
   -- what the daemon keeps where it stays
-  day_stays : IsOutside (session_of new.at) → KeepsChildren (session_of old.at).children (session_of new.at).children →
-      new.at.daemon ≡ old.at.daemon → IsReady new.at
+  day_stays : IsOutside (machine_session new.at) → KeepsChildren (machine_session old.at).children (machine_session new.at).children →
+      new.at.daemon ≡ old.at.daemon → IsMachineReady new.at
   day_stays outside keeps same = record {
     outside = outside;
-    children = more_children (session_of old.at).children (session_of new.at).children new.at.daemon.kids keeps
-        (subst (λ (daemon : DaemonState). AreChildren (session_of old.at).children daemon.kids) (sym same) ready.day.children);
+    children = more_children (machine_session old.at).children (machine_session new.at).children new.at.daemon.kids keeps
+        (subst (λ (daemon : DaemonState). AreChildren (machine_session old.at).children daemon.kids) (sym same) ready.day.children);
   }
 
   pub later_ready_after : (event : Later) (entry : LaterEntry) → LaterHappens event entry old new → IsLaterReady program new

@@ -7,15 +7,15 @@ use Rattle.day_events.specs.declared.event.Event.{Event}
 use Rattle.day_events.specs.declared.report.EventReport.{EventReport}
 use Rattle.cron_session.specs.declared.report.CronReport.{CronReport}
 use Rattle.mail_session.specs.declared.report.PostReport.{PostReport}
-use Rattle.later_sessions.specs.LaterEffects.{Beside, LaterEffect, OfTable, TakesLaterEffect}
+use Rattle.mail_and_cron_events.specs.LaterEffects.{Beside, LaterEffect, OfTable, TakesLaterEffect}
 use Rattle.later_day.specs.declared.entry.LaterEntry.{LaterEntry}
 use Rattle.later_day.specs.declared.entry.LaterEntry.TheVariants as known
 use Rattle.later_day.specs.declared.later.Later.{Later}
 use Rattle.later_day.specs.declared.later.Later.TheVariants.{Day, Post, Cron}
-use Rattle.later_sessions.specs.SessionsPass.{PassesCron, PassesMail}
-use Rattle.later_sessions.proofs.CronLemmas.{cron_sessions_pass}
-use Rattle.later_sessions.proofs.MailLemmas.{mail_sessions_pass}
-use Rattle.later_day.specs.LaterHappening.{HappensOnDay, IsSessionOfMail, IsSessionOfCron, LaterHappens, cron_of}
+use Rattle.mail_and_cron_events.specs.SessionsPass.{PassesCron, PassesMail}
+use Rattle.mail_and_cron_events.proofs.CronLemmas.{cron_sessions_pass}
+use Rattle.mail_and_cron_events.proofs.MailLemmas.{mail_sessions_pass}
+use Rattle.later_day.specs.LaterHappening.{HappensOnDay, IsSessionOfMail, IsSessionOfCron, LaterHappens, cron_of_event}
 use Rattle.later_day.specs.LaterMachines.{LaterMachine, later_spool, post_at}
 use Rattle.later_day.specs.LaterOutcomes.{IsLaterEffect}
 use Rattle.later_day.proofs.OutcomeLemmas.{day_outcomes_pass}
@@ -49,7 +49,7 @@ pub later_happens_takes_effect : (event : Later) (entry : LaterEntry) (old new :
 later_happens_takes_effect (Day event) (known.Day report) old new happened = day_effect event report old new happened
 later_happens_takes_effect Post (known.Post report) old new posted = mail_effect report old new posted
 later_happens_takes_effect (Cron context zone entries now) (known.Cron report) old new submitted =
-    let passes = cron_effect (cron_of context zone entries now) report old new submitted in
+    let passes = cron_effect (cron_of_event context zone entries now) report old new submitted in
     (OfTable passes.effect, passes.by_its_steps, passes.later)
 later_happens_takes_effect (Day event) (known.Post report) old new happened = absurd happened
 later_happens_takes_effect (Day event) (known.Cron report) old new happened = absurd happened

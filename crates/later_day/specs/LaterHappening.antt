@@ -27,8 +27,8 @@ use Rattle.later_day.specs.declared.later.Later.TheVariants.{Day, Post, Cron}
 use Rattle.later_day.specs.LaterMachines.{LaterMachine, cron_at, post_at}
 
 -- the session of a crontab that an event is
-abbrev pub cron_of : Context → Zone → List CronEntry → ℤ → CronOf
-cron_of context zone entries now = record { context = context; zone = zone; entries = entries; now = now }
+abbrev pub cron_of_event : Context → Zone → List CronEntry → ℤ → CronOf
+cron_of_event context zone entries now = record { context = context; zone = zone; entries = entries; now = now }
 
 -- A session of a crontab may be made: its jobs have a right header, its zone can be read, its second lies in the clock's
 -- range, and the command of each entry is one of a crontab.
@@ -43,7 +43,7 @@ pub record IsCronEvent (cron : CronOf) : Type 0 where
 abbrev pub IsLaterEvent : Later → Type 0
 IsLaterEvent (Day event) = is_day_event event ≡ true
 IsLaterEvent Post = Unit {0}
-IsLaterEvent (Cron context zone entries now) = IsCronEvent (cron_of context zone entries now)
+IsLaterEvent (Cron context zone entries now) = IsCronEvent (cron_of_event context zone entries now)
 
 -- the post after an event of a day: it is made anew where the machine comes up again, and else it stays
 abbrev pub IsPostAfter : Event → PostState → PostState → Type 0
@@ -72,7 +72,7 @@ abbrev pub LaterHappens : Later → LaterEntry → LaterMachine → LaterMachine
 LaterHappens (Day event) (known.Day report) old new = HappensOnDay event report old new
 LaterHappens Post (known.Post report) old new = IsSessionOfMail report old new
 LaterHappens (Cron context zone entries now) (known.Cron report) old new =
-    IsSessionOfCron (cron_of context zone entries now) report old new
+    IsSessionOfCron (cron_of_event context zone entries now) report old new
 LaterHappens _ _ old new = ⊥
 
 -- No memory was found for an event of a day or its report: the host is as it was, or as the event left it.

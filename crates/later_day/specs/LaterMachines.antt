@@ -3,11 +3,11 @@ use Rattle.std.specs.Prelude.{ℕ, List}
 use Rattle.cron_session.specs.Leaving.{CronAt}
 use Rattle.daemon_turn.specs.Daemons.{DaemonState}
 use Rattle.host_calls.specs.World.{World}
-use Rattle.mail_session.specs.Leaving.{PostAt}
+use Rattle.mail_session.specs.Leaving.{PostSpool}
 use Rattle.mail_session.specs.PostState.{PostState, new_post}
 use Rattle.memory_host.specs.declared.memory_host.MemoryHost.{MemoryHost}
 use Rattle.at_day.specs.Days.{first_machine}
-use Rattle.at_day.specs.Machines.{Machine, machine, session_of, spool_of}
+use Rattle.at_day.specs.Machines.{Machine, machine, machine_session, spool_of}
 
 -- the machine of a day, and what the post that works on it keeps
 pub record LaterMachine : Type 0 where
@@ -22,12 +22,12 @@ abbrev pub later_spool : LaterMachine → World
 later_spool old = spool_of old.at
 
 -- the post and its host, as a session of mail sees them
-abbrev pub post_at : LaterMachine → PostAt
-post_at old = record { session = session_of old.at; world = spool_of old.at; post = old.post }
+abbrev pub post_at : LaterMachine → PostSpool
+post_at old = record { session = machine_session old.at; world = spool_of old.at; post = old.post }
 
 -- the host, as a session of a crontab sees it
 abbrev pub cron_at : LaterMachine → CronAt
-cron_at old = record { session = session_of old.at; world = spool_of old.at }
+cron_at old = record { session = machine_session old.at; world = spool_of old.at }
 
 -- the machine at first: its daemon watches no child, and its post, which has this mail program, has no kid
 abbrev pub first_later_machine : MemoryHost → List ℕ → LaterMachine

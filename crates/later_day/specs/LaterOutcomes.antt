@@ -3,14 +3,14 @@
 use Rattle.std.specs.Prelude.{◌≡◌, [], ◌∷◌, List, map}
 use Rattle.headline.specs.Effects.{Effect}
 use Rattle.host_calls.specs.World.{reading}
-use Rattle.later_sessions.specs.LaterEffects.{Beside, LaterEffect, LaterPassed, OfTable, TakesLaterEffect}
-use Rattle.later_sessions.specs.SessionsPass.{IsCronEffect}
+use Rattle.mail_and_cron_events.specs.LaterEffects.{Beside, LaterEffect, LaterPassed, OfTable, TakesLaterEffect}
+use Rattle.mail_and_cron_events.specs.SessionsPass.{IsCronEffect}
 use Rattle.at_day.specs.EventOutcomes.{IsEventEffect}
 use Rattle.later_day.specs.declared.entry.LaterEntry.{LaterEntry}
 use Rattle.later_day.specs.declared.entry.LaterEntry.TheVariants as known
 use Rattle.later_day.specs.declared.later.Later.{Later}
 use Rattle.later_day.specs.declared.later.Later.TheVariants.{Day, Post, Cron}
-use Rattle.later_day.specs.LaterHappening.{IsLaterEvent, LaterHappens, cron_of}
+use Rattle.later_day.specs.LaterHappening.{IsLaterEvent, LaterHappens, cron_of_event}
 use Rattle.later_day.specs.LaterMachines.{LaterMachine, later_spool}
 
 -- the effect is on the table, and is so
@@ -24,7 +24,7 @@ abbrev pub IsLaterEffect : Later → LaterEntry → LaterMachine → LaterEffect
 IsLaterEffect (Day event) (known.Day report) old effect = IsOfTable (IsEventEffect event report old.at) effect
 IsLaterEffect Post (known.Post report) old effect = effect ≡ Beside
 IsLaterEffect (Cron context zone entries now) (known.Cron report) old effect =
-    IsOfTable (IsCronEffect (cron_of context zone entries now) report.end report.numbers (reading (later_spool old))) effect
+    IsOfTable (IsCronEffect (cron_of_event context zone entries now) report.end report.numbers (reading (later_spool old))) effect
 IsLaterEffect _ _ old effect = ⊥
 
 -- an event, its entry, what it did to the spool, and the machine that it left

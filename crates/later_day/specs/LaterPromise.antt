@@ -4,7 +4,7 @@
 use Rattle.std.specs.Prelude.{◌≡◌, ◌≢◌, [], ℕ, List, AllPairs}
 use Rattle.clock_range.specs.ClockRange.{minute_at}
 use Rattle.headline.specs.Headline.{Headline}
-use Rattle.later_sessions.specs.LaterEffects.{only_jobs, passed_of}
+use Rattle.mail_and_cron_events.specs.LaterEffects.{only_jobs, passed_jobs}
 use Rattle.at_mail.specs.Once.{HasOnceSince, HasWholeNotes}
 use Rattle.spool_model.specs.JobTable.{JobTable}
 use Rattle.step_runs.specs.Current.{EachShows}
@@ -29,7 +29,7 @@ HaveAcceptedApart first second =
 -- table; no notice twice, where each had a whole file of notes; and no minute twice.
 pub record KeepsLaterPromise (first : LaterMachine) (outcomes : List LaterOutcome) : Type 0 where
   pub jobs : (opening : JobTable) → EachShows (later_spool first).now.folder opening →
-      Headline opening (passed_of (later_passed_of outcomes)) (only_jobs (later_spool first))
+      Headline opening (passed_jobs (later_passed_of outcomes)) (only_jobs (later_spool first))
   pub notices : HasWholeNotes (later_spool first).now.folder →
       HasOnceSince (later_spool first).now.handed (later_spool (later_machine_after first outcomes)).now.handed
   pub minutes : AllPairs HaveAcceptedApart outcomes

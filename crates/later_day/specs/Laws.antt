@@ -2,7 +2,7 @@
 use Rattle.std.specs.Prelude.{List}
 use Rattle.host_calls.specs.World.{World}
 use Rattle.headline.specs.Effects.{Effect}
-use Rattle.later_sessions.specs.LaterEffects.{LeavesTheRest, OfTable, TakesLaterEffect}
+use Rattle.mail_and_cron_events.specs.LaterEffects.{LeavesTheRest, OfTable, TakesLaterEffect}
 use Rattle.at_day.specs.EventOutcomes.{EventOutcome, IsDoneOn}
 use Rattle.at_day.specs.Machines.{Machine, spool_of}
 use Rattle.later_day.specs.LaterMachines.{LaterMachine}

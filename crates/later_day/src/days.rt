@@ -32,12 +32,12 @@ pub fn later_day(
     ensures cut { OnErr result (IsLaterDayCut events.now (first_later_machine host.old program.now) host.new) }
 {
     let mut post = Post::new(alloc, program)?;
-    let entries = each_event(alloc, events, program, host, &mut post)?;
+    let entries = later_entries(alloc, events, program, host, &mut post)?;
     Ok(LaterReport::from(entries))
 }
 
 // The entries of the events.
-fn each_event(
+fn later_entries(
     alloc: Global,
     events: &[Later],
     program: &str,

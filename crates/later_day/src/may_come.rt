@@ -2,7 +2,7 @@
 ghost use Rattle.std.specs.Prelude.{◌↔◌, ◌≤◌, All, IsTrue, length};
 ghost use Rattle.civil_minute.specs.Zone.{IsReadable};
 ghost use Rattle.cron_text.specs.declared.crontab.TheConstants.{MAX_CRONTAB};
-ghost use Rattle.later_day.specs.LaterHappening.{IsCronEvent, IsLaterEvent, cron_of};
+ghost use Rattle.later_day.specs.LaterHappening.{IsCronEvent, IsLaterEvent, cron_of_event};
 
 use crate::Later;
 use civil_minute::Zone;
@@ -41,7 +41,7 @@ pub fn is_later_event(event: &Later) -> bool
 
 // Whether a session of a crontab may be made.
 fn is_cron_event(context: &Context, zone: &Zone, entries: &Entries, now: i64) -> bool
-    ensures { IsTrue result ↔ IsCronEvent (cron_of context.now zone.now entries.now now) }
+    ensures { IsTrue result ↔ IsCronEvent (cron_of_event context.now zone.now entries.now now) }
 {
     check(context).is_ok()
         && context.umask < 512

@@ -5,8 +5,8 @@ use Rattle.std.specs.Fmt.{decimal}
 use Rattle.std.specs.List.{slice_split, list_any, ends_with}
 
 -- how the field of the file of this inode ends
-abbrev pub ending_of : ℕ → List ℕ
-ending_of inode = 58 ∷ decimal inode
+abbrev pub field_ending : ℕ → List ℕ
+field_ending inode = 58 ∷ decimal inode
 
 -- the field ends so
 abbrev pub ends_so : List ℕ → List ℕ → Bool

@@ -8,14 +8,14 @@ use Rattle.launcher.specs.declared.tool_end.ToolEnd.{ToolEnd}
 use Rattle.launcher.specs.declared.tool_end.ToolEnd.TheVariants.{By, WithCode}
 
 -- the exit status
-abbrev pub code_of_end : ToolEnd → ℕ
-code_of_end (By cause) = code_of cause
-code_of_end (WithCode code) = code
+abbrev pub code_of_tool_end : ToolEnd → ℕ
+code_of_tool_end (By cause) = code_of cause
+code_of_tool_end (WithCode code) = code
 
 -- the tool may end so: atstat alone ends with a status that is no cause's
-abbrev pub IsEndOf : ToolName → ToolEnd → Type 0
-IsEndOf tool (By cause) = Unit {0}
-IsEndOf tool (WithCode code) = tool ≡ Atstat
+abbrev pub IsToolEnd : ToolName → ToolEnd → Type 0
+IsToolEnd tool (By cause) = Unit {0}
+IsToolEnd tool (WithCode code) = tool ≡ Atstat
 
 -- atstat ended so with this status
 abbrev pub IsEndBy : StatStatus → ToolEnd → Type 0

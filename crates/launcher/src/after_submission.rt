@@ -3,7 +3,7 @@ use crate::held_locks::is_locked;
 use crate::machine_daemon::{ask_for_daemon, starts_daemons};
 use at_words::{ToolRequest, request};
 use caller_environment::ToolName;
-use caller_spool::{CallingUser, ToolSpool, is_folder, paths_of};
+use caller_spool::{CallingUser, ToolSpool, is_directory_there, paths_of};
 use std::alloc::AllocError;
 use std::fs;
 use std::io::IsTerminal;
@@ -63,7 +63,7 @@ fn warn(rt: &HostRuntime, tool: ToolName, user: &CallingUser, spool: &ToolSpool)
 
 // How an atd of the spool is started.
 fn start_command(rt: &HostRuntime, user: &CallingUser, spool: &ToolSpool) -> &'static str {
-    if !spool.is_own || !is_folder(rt, "/run/systemd/system") {
+    if !spool.is_own || !is_directory_there(rt, "/run/systemd/system") {
         "setsid -f atd >/dev/null"
     } else if user.is_root() {
         "systemctl start atd"

@@ -2,7 +2,7 @@
 ghost use Rattle.std.specs.Prelude.{◌≡◌};
 ghost use Rattle.launcher.specs.Marks.{minutes_ahead};
 
-use caller_spool::within;
+use caller_spool::path_within;
 use cron_mark::minute_in;
 use std::alloc::AllocError;
 use std::fs;
@@ -10,7 +10,7 @@ use std::time::Clock;
 
 /// Warns where the mark of the spool is ahead of the clock.
 pub fn warn_of_mark(rt: &HostRuntime, spool: &str) -> Result<(), AllocError> {
-    let path = within(rt, spool, ".CRON")?;
+    let path = path_within(rt, spool, ".CRON")?;
     let Ok(mark) = fs::read(rt, path.as_str()) else {
         return Ok(());
     };

@@ -1,14 +1,14 @@
 //! Whether any process holds a lock of a file. The table is read in place of trying the lock: that could keep an atd from
 //! it that begins at the same moment.
 ghost use Rattle.std.specs.Prelude.{◌≡◌, IfOk, string_bytes};
-ghost use Rattle.launcher.specs.Locks.{ending_of, ends_so, has_lock, is_lock_of};
+ghost use Rattle.launcher.specs.Locks.{field_ending, ends_so, has_lock, is_lock_of};
 
 use std::alloc::{AllocError, Global};
 use std::fs;
 
 /// Whether the kernel's table of locks has one of the file of this inode. One that can't be read counts as if it had.
 pub fn is_locked(rt: &HostRuntime, inode: u64) -> Result<bool, AllocError> {
-    let ending = ending_of(rt.alloc(), inode)?;
+    let ending = field_ending(rt.alloc(), inode)?;
     match fs::read(rt, "/proc/locks") {
         Ok(table) => Ok(has_lock(table.as_slice(), ending.as_bytes())),
         Err(_) => Ok(true),
@@ -16,8 +16,8 @@ pub fn is_locked(rt: &HostRuntime, inode: u64) -> Result<bool, AllocError> {
 }
 
 // How the field of the file of this inode ends.
-fn ending_of(alloc: Global, inode: u64) -> Result<String, AllocError>
-    ensures { IfOk result (λ ending. string_bytes ending ≡ ending_of inode) }
+fn field_ending(alloc: Global, inode: u64) -> Result<String, AllocError>
+    ensures { IfOk result (λ ending. string_bytes ending ≡ field_ending inode) }
 {
     format!(in alloc; ":{inode}")
 }

@@ -21,5 +21,5 @@ mod start;
 mod tool_called;
 mod tool_end;
 
-pub use start::run;
+pub use start::run_tool_by_name;
 pub use tool_called::called_as;

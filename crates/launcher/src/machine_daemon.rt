@@ -1,5 +1,5 @@
 //! The atd that the machine starts for a user who asks for it, by a file in a directory that it watches.
-use caller_spool::{CallingUser, is_folder, within};
+use caller_spool::{CallingUser, is_directory_there, path_within};
 use std::alloc::AllocError;
 use std::fs::OpenOptions;
 use std::os::unix::fs::OpenOptionsExt;
@@ -12,7 +12,7 @@ const UP: &str = "/run/coefhird/up";
 
 /// Whether the machine starts an atd for each user but root who asks for it.
 pub fn starts_daemons(rt: &HostRuntime) -> bool {
-    is_folder(rt, WAKE)
+    is_directory_there(rt, WAKE)
 }
 
 /// Asks the machine for an atd of this user, unless one runs. Root's atd is started by hand.
@@ -20,8 +20,8 @@ pub fn ask_for_daemon(rt: &HostRuntime, user: &CallingUser) -> Result<(), AllocE
     if user.is_root() || !starts_daemons(rt) {
         return Ok(());
     }
-    let up = within(rt, UP, user.name.as_str())?;
-    if !is_folder(rt, up.as_str()) {
+    let up = path_within(rt, UP, user.name.as_str())?;
+    if !is_directory_there(rt, up.as_str()) {
         put_file(rt, user.name.as_str())?;
     }
     Ok(())
@@ -31,7 +31,7 @@ pub fn ask_for_daemon(rt: &HostRuntime, user: &CallingUser) -> Result<(), AllocE
 fn put_file(rt: &HostRuntime, user: &str) -> Result<(), AllocError> {
     let number = process::id(rt.process());
     let name = format!(in rt.alloc(); "{user}.{number}")?;
-    let path = within(rt, WAKE, name.as_str())?;
+    let path = path_within(rt, WAKE, name.as_str())?;
     let mut options = OpenOptions::new();
     options.write(true).create_new(true).mode(0o600);
     let _ = options.open(rt, path.as_str());

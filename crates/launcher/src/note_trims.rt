@@ -3,7 +3,7 @@
 ghost use Rattle.std.specs.Prelude.{◌≡◌, IfOk, IfSome};
 ghost use Rattle.listing_text.specs.Cause.{status_of};
 
-use caller_spool::within;
+use caller_spool::path_within;
 use host_calls::Text;
 use listing_text::{Cause, Status};
 use real_programs::trim_over;
@@ -46,7 +46,7 @@ fn has_option(words: &[String], option: &str) -> bool {
 }
 
 fn has_notes(rt: &HostRuntime, spool: &str) -> Result<bool, AllocError> {
-    let path = within(rt, spool, ".MAIL")?;
+    let path = path_within(rt, spool, ".MAIL")?;
     Ok(fs::metadata(rt, path.as_str()).is_ok())
 }
 

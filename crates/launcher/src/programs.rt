@@ -3,11 +3,11 @@ ghost use Rattle.std.specs.Prelude.{◌≡◌, ◌<◌, IfOk};
 ghost use Rattle.std.specs.Path.{IsAbsolute};
 ghost use Rattle.caller_environment.specs.declared.tool_name.ToolName.TheVariants.{Atstat};
 ghost use Rattle.listing_text.specs.Cause.{status_of};
-ghost use Rattle.launcher.specs.ToolEnds.{IsEndOf};
+ghost use Rattle.launcher.specs.ToolEnds.{IsToolEnd};
 
 use crate::note_trims::{asks_for_trim, trim_at_start};
 use crate::one_daemon::{DaemonLock, daemon_lock};
-use crate::refusal::refused;
+use crate::refusal::refuse_tool;
 use crate::tool_end::ToolEnd;
 use caller_environment::ToolName;
 use caller_spool::{Invoker, SpoolPaths};
@@ -34,7 +34,7 @@ pub fn answer_of(
     spool: Text,
     paths: &Option<SpoolPaths>,
 ) -> Result<ToolEnd, AllocError>
-    ensures { IfOk result (IsEndOf tool) }
+    ensures { IfOk result (IsToolEnd tool) }
 {
     let status = match tool {
         ToolName::Atstat => return states_over(rt, words, &invoker.caller, spool),
@@ -57,7 +57,7 @@ fn states_over(
     caller: &Caller,
     spool: Text,
 ) -> Result<ToolEnd, AllocError>
-    ensures { IfOk result (IsEndOf Atstat) }
+    ensures { IfOk result (IsToolEnd Atstat) }
 {
     let mut clock = real_clock(rt)?;
     let status = stat_over(rt, words, caller, spool, Waits::Napping, &mut clock)?;
@@ -95,7 +95,7 @@ fn daemon_over(
         None => DaemonLock::Unlocked,
     };
     if matches!(&lock, DaemonLock::Taken) {
-        return Ok(refused(rt, ToolName::Atd, Cause::Busy));
+        return Ok(refuse_tool(rt, ToolName::Atd, Cause::Busy));
     }
     let mut clock = clock_over(rt, paths, &[sequence_name()])?;
     at_over(rt, words, caller, spool, Waits::Napping, &mut clock)

@@ -7,17 +7,17 @@ use listing_text::{Cause, Status, cause_line};
 use std::str;
 
 /// Says why a tool doesn't begin. Answers its status.
-pub fn refused(rt: &HostRuntime, tool: ToolName, cause: Cause) -> Status
+pub fn refuse_tool(rt: &HostRuntime, tool: ToolName, cause: Cause) -> Status
     ensures { result ≡ status_of cause }
 {
     if let Ok(line) = cause_line(rt.alloc(), tool.as_str(), &cause) {
-        say(rt, line.as_slice());
+        write_error_line(rt, line.as_slice());
     }
     Status::of(cause)
 }
 
 // (a line that can't be written is lost)
-fn say(rt: &HostRuntime, line: &[u8]) {
+fn write_error_line(rt: &HostRuntime, line: &[u8]) {
     if let Ok(text) = str::from_utf8(line) {
         let _ = rt.eprint(text);
     }

@@ -1,7 +1,7 @@
 //! On a terminal, a line that refuses has one after it that says what to do.
 use crate::spool_trouble::trouble_of;
 use caller_environment::ToolName;
-use caller_spool::{CallingUser, ToolSpool, paths_of, within};
+use caller_spool::{CallingUser, ToolSpool, path_within, paths_of};
 use listing_text::Cause;
 use std::alloc::AllocError;
 use std::fs;
@@ -58,15 +58,15 @@ fn text_of_hint(
 
 // Which of the lists of users a directory has.
 fn lists_in(rt: &HostRuntime, folder: &str) -> Result<ListsFound, AllocError> {
-    if is_there(rt, within(rt, folder, "at.allow")?.as_str()) {
+    if is_file_there(rt, path_within(rt, folder, "at.allow")?.as_str()) {
         return Ok(ListsFound::Allow);
     }
-    if is_there(rt, within(rt, folder, "at.deny")?.as_str()) {
+    if is_file_there(rt, path_within(rt, folder, "at.deny")?.as_str()) {
         return Ok(ListsFound::Deny);
     }
     Ok(ListsFound::Neither)
 }
 
-fn is_there(rt: &HostRuntime, path: &str) -> bool {
+fn is_file_there(rt: &HostRuntime, path: &str) -> bool {
     fs::metadata(rt, path).is_ok()
 }

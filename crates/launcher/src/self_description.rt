@@ -5,7 +5,7 @@ ghost use Rattle.launcher.specs.ExitCodes.{IsExitCode};
 
 use crate::built_record::built_record;
 use crate::exit_codes::exit_code_of;
-use crate::refusal::refused;
+use crate::refusal::refuse_tool;
 use caller_environment::ToolName;
 use caller_spool::{callers_spool, user_of_process};
 use listing_text::Cause;
@@ -49,11 +49,11 @@ pub fn describe(rt: &HostRuntime, tool: ToolName, asked: Description) -> Result<
     ensures { IfOk result IsExitCode }
 {
     match asked {
-        Description::Help => Ok(put(rt, tool, help_text(tool).as_bytes())),
+        Description::Help => Ok(put_description(rt, tool, help_text(tool).as_bytes())),
         Description::Version => {
             let record = built_record(rt);
             let text = version_text(rt.alloc(), tool, record.as_ref().map(|it| it.as_bytes()))?;
-            Ok(put(rt, tool, text.as_slice()))
+            Ok(put_description(rt, tool, text.as_slice()))
         }
         Description::Spool => put_spool(rt, tool),
     }
@@ -65,15 +65,15 @@ fn put_spool(rt: &HostRuntime, tool: ToolName) -> Result<u8, AllocError>
     let user = user_of_process(rt)?;
     let spool = callers_spool(rt, &user)?;
     let line = format!(in rt.alloc(); "{}\n", spool.path.as_str())?;
-    Ok(put(rt, tool, line.as_bytes()))
+    Ok(put_description(rt, tool, line.as_bytes()))
 }
 
 // Puts a text on standard output. Answers the exit status.
-fn put(rt: &HostRuntime, tool: ToolName, text: &[u8]) -> u8
+fn put_description(rt: &HostRuntime, tool: ToolName, text: &[u8]) -> u8
     ensures { IsExitCode result }
 {
     match rt.write_all(text) {
         Ok(()) => exit_code_of(&Cause::Done),
-        Err(_) => exit_code_of(&refused(rt, tool, Cause::OutputFault).cause),
+        Err(_) => exit_code_of(&refuse_tool(rt, tool, Cause::OutputFault).cause),
     }
 }

@@ -1,6 +1,8 @@
 //! What stops the use of a spool, found out after a tool said `spool fault`.
 use crate::disk_probe::refusal_of;
-use caller_spool::{CallingUser, SpoolPaths, ToolSpool, is_folder, is_link, is_theirs, paths_of};
+use caller_spool::{
+    CallingUser, SpoolPaths, ToolSpool, is_directory_there, is_link, is_theirs, paths_of,
+};
 use std::alloc::AllocError;
 use std::fs;
 use std::io::ErrorKind;
@@ -48,7 +50,7 @@ fn trouble_above(
 
 // Why a path below this one, which is there, is absent.
 fn trouble_below(rt: &HostRuntime, path: &str, is_own: bool) -> SpoolTrouble {
-    if !is_folder(rt, path) {
+    if !is_directory_there(rt, path) {
         return SpoolTrouble::NoDirectory;
     }
     // The caller's own spool would have been made.
@@ -78,10 +80,10 @@ fn owner_trouble<'a>(
     paths: &'a SpoolPaths,
 ) -> Option<(SpoolTrouble, &'a str)> {
     let spool = paths.spool.as_str();
-    if !is_folder(rt, paths.parent.as_str()) {
+    if !is_directory_there(rt, paths.parent.as_str()) {
         return Some((SpoolTrouble::NoDirectory, paths.parent.as_str()));
     }
-    if fs::symlink_metadata(rt, spool).is_ok() && !is_folder(rt, spool) {
+    if fs::symlink_metadata(rt, spool).is_ok() && !is_directory_there(rt, spool) {
         return Some((SpoolTrouble::NoDirectory, spool));
     }
     for path in [paths.outputs.as_str(), paths.lock.as_str()] {

@@ -1,13 +1,13 @@
 //! What the program does by the words of its process.
 ghost use Rattle.std.specs.Prelude.{IfOk};
 ghost use Rattle.launcher.specs.ExitCodes.{IsExitCode, IsExitCodeOf};
-ghost use Rattle.launcher.specs.ToolEnds.{IsEndOf};
+ghost use Rattle.launcher.specs.ToolEnds.{IsToolEnd};
 
 use crate::after_submission::{after_submission, is_submission};
 use crate::clock_mark::warn_of_mark;
 use crate::exit_codes::exit_code_of;
 use crate::programs::{answer_of, commands_over};
-use crate::refusal::refused;
+use crate::refusal::refuse_tool;
 use crate::say_hint::say_hint;
 use crate::self_description::{describe, description_asked};
 use crate::send_program::unusable_program;
@@ -20,13 +20,13 @@ use caller_spool::{
 use cause_output::Caller;
 use host_calls::Text;
 use listing_text::{Cause, Refusal};
-use process_input::{StartupError, caller_of, words_of};
+use process_input::{StartupError, caller_of, process_words};
 use real_programs::next_over;
 use std::alloc::AllocError;
 
 /// Does what the words of this process ask for. Answers the exit status.
-pub fn run(rt: &HostRuntime) -> Result<u8, StartupError> {
-    let mut words = words_of(rt)?;
+pub fn run_tool_by_name(rt: &HostRuntime) -> Result<u8, StartupError> {
+    let mut words = process_words(rt)?;
     let Some(tool) = take_tool(&mut words) else {
         return Ok(no_tool(rt));
     };
@@ -93,7 +93,7 @@ fn run_over(
 {
     let user = &invoker.user;
     if !may_call(rt, tool, user) {
-        let status = refused(rt, tool, Cause::Refused(Refusal::NotAllowed));
+        let status = refuse_tool(rt, tool, Cause::Refused(Refusal::NotAllowed));
         say_hint(rt, tool, &status.cause, user, spool, LISTS)?;
         return Ok(exit_code_of(&status.cause));
     }
@@ -141,7 +141,7 @@ fn end_over(
     invoker: &Invoker,
     spool: &ToolSpool,
 ) -> Result<ToolEnd, AllocError>
-    ensures { IfOk result (IsEndOf tool) }
+    ensures { IfOk result (IsToolEnd tool) }
 {
     let user = &invoker.user;
     if !make_own(rt, user, spool) {
@@ -165,7 +165,7 @@ fn end_over(
 
 // Says that the tool may not use its spool.
 fn faulted(rt: &HostRuntime, tool: ToolName) -> ToolEnd
-    ensures { IsEndOf tool result }
+    ensures { IsToolEnd tool result }
 {
-    ToolEnd::By(refused(rt, tool, Cause::FileFault).cause)
+    ToolEnd::By(refuse_tool(rt, tool, Cause::FileFault).cause)
 }

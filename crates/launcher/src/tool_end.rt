@@ -2,7 +2,7 @@
 ghost use Rattle.std.specs.Prelude.{◌≡◌};
 ghost use Rattle.at_stat.specs.Stating.{HasCode};
 ghost use Rattle.launcher.specs.ExitCodes.{IsExitCodeOf};
-ghost use Rattle.launcher.specs.ToolEnds.{IsEndBy, IsEndOf, code_of_end};
+ghost use Rattle.launcher.specs.ToolEnds.{IsEndBy, IsToolEnd, code_of_tool_end};
 ghost use Rattle.caller_environment.specs.declared.tool_name.ToolName.TheVariants.{Atstat};
 
 use crate::exit_codes::exit_code_of;
@@ -23,9 +23,9 @@ impl ToolEnd {
     /// How atstat ended.
     pub fn of(status: StatStatus) -> ToolEnd
         requires { HasCode status }
-        ensures of { IsEndOf Atstat result }
+        ensures of { IsToolEnd Atstat result }
         ensures by { IsEndBy status result }
-        ensures code { code_of_end result ≡ status.code }
+        ensures code { code_of_tool_end result ≡ status.code }
     {
         match status.cause {
             Some(cause) => ToolEnd::By(cause),
@@ -35,8 +35,8 @@ impl ToolEnd {
 
     /// The exit status of this tool.
     pub fn code(&self, tool: ToolName) -> u8
-        requires { IsEndOf tool self.now }
-        ensures code { result ≡ code_of_end self.now }
+        requires { IsToolEnd tool self.now }
+        ensures code { result ≡ code_of_tool_end self.now }
         ensures of { IsExitCodeOf tool result }
     {
         match self {

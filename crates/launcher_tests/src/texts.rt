@@ -1,5 +1,5 @@
 //! Texts of the system: the status of a process, the table of users and files of zones.
-use caller_environment::{home_in, name_in, rule_in, user_line, user_number_in};
+use caller_environment::{home_in, name_in_user_line, rule_in, user_line, user_number_in};
 use std::test::Fail;
 
 #[test]
@@ -44,7 +44,7 @@ fn users(rt: HostRuntime) -> Result<(), Fail> {
     ];
     for (number, name, found, home) in cases {
         let line = user_line(TABLE, number, name).unwrap_or(b"none");
-        assert_eq!(rt; name_in(line), found, "{number}");
+        assert_eq!(rt; name_in_user_line(line), found, "{number}");
         assert_eq!(rt; home_in(line).unwrap_or(b"none"), home, "{number}");
     }
     Ok(())

@@ -8,9 +8,9 @@ use Rattle.listing_text.specs.declared.status.Status.{Status}
 use Rattle.listing_text.specs.Refusal.{refusal_text}
 
 -- everything was done
-abbrev pub is_done : Cause → Bool
-is_done Done = true
-is_done _ = false
+abbrev pub is_done_cause : Cause → Bool
+is_done_cause Done = true
+is_done_cause _ = false
 
 -- memory was wanting
 abbrev pub is_memory : Cause → Bool
@@ -58,4 +58,4 @@ cause_text Faulty = codes "spool has faults"
 -- the line of a cause: the tool and the text; nothing for what was done
 abbrev pub cause_line_of : List ℕ → Cause → List ℕ
 cause_line_of tool cause =
-    if is_done cause then [] else tool ++ codes ": " ++ cause_text cause ++ codes "\n"
+    if is_done_cause cause then [] else tool ++ codes ": " ++ cause_text cause ++ codes "\n"

@@ -18,13 +18,13 @@ letter_in Pending queue = queue
 letter_in (Running second) queue = 61
 
 -- the letter of a job in a listing: = while it runs, else that of its queue (Debian atq(1))
-abbrev pub letter_of : Row → ℕ
-letter_of row = letter_in row.state row.queue
+abbrev pub letter_of_row : Row → ℕ
+letter_of_row row = letter_in row.state row.queue
 
 -- the line of a job in a listing (Debian atq(1))
 abbrev pub queue_line_of : Row → List ℕ → List ℕ
 queue_line_of row date =
-    decimal row.number ++ codes "\t" ++ date ++ codes " " ++ letter_of row ∷ [] ++ codes " " ++ row.user
+    decimal row.number ++ codes "\t" ++ date ++ codes " " ++ letter_of_row row ∷ [] ++ codes " " ++ row.user
     ++ codes "\n"
 
 -- what a step of a turn did to its job (own)

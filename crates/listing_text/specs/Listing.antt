@@ -10,7 +10,7 @@ use Rattle.civil_minute.specs.Civil.{IsCivilTime}
 use Rattle.civil_minute.specs.declared.civil.CivilMinute.{CivilMinute}
 use Rattle.civil_minute.specs.declared.zone.Zone.{Zone}
 use Rattle.listing_text.specs.Date.{date_text_of}
-use Rattle.listing_text.specs.Lines.{letter_of, queue_line_of}
+use Rattle.listing_text.specs.Lines.{letter_of_row, queue_line_of}
 
 -- the user may see the job: it is the user's own, or the user is root
 abbrev pub may_see : List ℕ → Row → Bool
@@ -21,7 +21,7 @@ abbrev pub passes_all : Row → Bool
 passes_all row = true
 
 abbrev pub passes_letter : ℕ → Row → Bool
-passes_letter letter row = letter_of row == letter
+passes_letter letter row = letter_of_row row == letter
 
 abbrev pub passes_numbers : List ℕ → Row → Bool
 passes_numbers numbers row = list_any (λ number. row.number == number) numbers

@@ -1,6 +1,6 @@
 //! How a command ended, and the line that says why.
 ghost use Rattle.std.specs.Prelude.{◌≡◌, IfOk};
-ghost use Rattle.listing_text.specs.Cause.{is_done, code_of, damage_text, cause_text, cause_line_of, fault_line_of};
+ghost use Rattle.listing_text.specs.Cause.{is_done_cause, code_of, damage_text, cause_text, cause_line_of, fault_line_of};
 
 use crate::Refusal;
 use host_calls::{Bytes, Damage};
@@ -34,7 +34,7 @@ pub enum Cause {
 impl Cause {
     /// Whether all of it was done, so that no line is printed.
     pub fn is_done(&self) -> bool
-        ensures { result ≡ is_done self.now }
+        ensures { result ≡ is_done_cause self.now }
     {
         matches!(self, Cause::Done)
     }
@@ -65,14 +65,14 @@ pub fn cause_line(alloc: Global, tool: &str, cause: &Cause) -> Result<Bytes, All
     if cause.is_done() {
         return Ok(Bytes::from(Vec::new(alloc)));
     }
-    let text = text_of(alloc, cause)?;
+    let text = cause_text(alloc, cause)?;
     let mut line = format!(in alloc; "{tool}: ")?.into_bytes();
     line.extend_from_slice(&text)?;
     line.push(b'\n')?;
     Ok(Bytes::from(line))
 }
 
-fn text_of(alloc: Global, cause: &Cause) -> Result<Vec<u8>, AllocError>
+fn cause_text(alloc: Global, cause: &Cause) -> Result<Vec<u8>, AllocError>
     ensures { IfOk result (λ text. text.items ≡ cause_text cause.now) }
 {
     match cause {

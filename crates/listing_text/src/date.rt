@@ -23,7 +23,7 @@ pub fn date_text(civil: &CivilMinute) -> [u8; 24]
         m1,
         m2,
         b' ',
-        first_place(civil.day),
+        day_column(civil.day),
         b'0' + civil.day % 10,
         b' ',
         b'0' + civil.hour / 10,
@@ -78,7 +78,7 @@ fn month_name(month: u8) -> &'static [u8; 3]
     }
 }
 
-fn first_place(day: u8) -> u8
+fn day_column(day: u8) -> u8
     ensures { result ≡ day_tens day }
 {
     if day < 10 { b' ' } else { b'0' + day / 10 }

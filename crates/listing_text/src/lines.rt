@@ -1,6 +1,6 @@
 //! The lines of jobs.
 ghost use Rattle.std.specs.Prelude.{◌≡◌, ◌++◌, IfOk, OnOk};
-ghost use Rattle.listing_text.specs.Lines.{accepted_line_of, letter_of, queue_line_of};
+ghost use Rattle.listing_text.specs.Lines.{accepted_line_of, letter_of_row, queue_line_of};
 
 use host_calls::Bytes;
 use itoa::Buffer;
@@ -34,14 +34,14 @@ pub fn put_queue_line(text: &mut Vec<u8>, row: &Row, date: &[u8; 24]) -> Result<
     text.extend_from_slice(digits.format(row.number).as_bytes())?;
     text.push(b'\t')?;
     text.extend_from_slice(date)?;
-    text.extend_from_slice(&[b' ', letter(row), b' '])?;
+    text.extend_from_slice(&[b' ', row_letter(row), b' '])?;
     text.extend_from_slice(row.user.as_bytes())?;
     text.push(b'\n')?;
     Ok(())
 }
 
-fn letter(row: &Row) -> u8
-    ensures { result ≡ letter_of row.now }
+fn row_letter(row: &Row) -> u8
+    ensures { result ≡ letter_of_row row.now }
 {
     match row.state {
         State::Pending => row.queue,

@@ -15,8 +15,8 @@ abbrev pub with_digit : ℕ → ℕ → ℕ
 with_digit number digit = number * 10 + (digit - 48)
 
 -- the number that decimal digits spell
-abbrev pub number_of : List ℕ → ℕ
-number_of digits = fold with_digit 0 digits
+abbrev pub number_of_digits : List ℕ → ℕ
+number_of_digits digits = fold with_digit 0 digits
 
 -- the text begins with a point and two digits, and there the field ends; the digits spell the number
 pub record SpellsFraction (text : List ℕ) (number : ℕ) : Type 0 where
@@ -27,7 +27,7 @@ pub record SpellsFraction (text : List ℕ) (number : ℕ) : Type 0 where
   pub tenth_digit : IsTrue (is_ascii_digit tenth)
   pub hundredth_digit : IsTrue (is_ascii_digit hundredth)
   pub ended : IsTrue (ends_field rest)
-  pub value : number ≡ number_of (tenth ∷ hundredth ∷ [])
+  pub value : number ≡ number_of_digits (tenth ∷ hundredth ∷ [])
 
 -- the text begins with one to seven digits and then with a fraction; the load counts hundredths
 pub record SpellsLoad (text : List ℕ) (load : ℕ) : Type 0 where
@@ -39,4 +39,4 @@ pub record SpellsLoad (text : List ℕ) (load : ℕ) : Type 0 where
   pub few : length whole ≤ MAX_DIGITS
   pub digits : IsTrue (list_all is_ascii_digit whole)
   pub fraction : SpellsFraction rest hundredths
-  pub value : load ≡ number_of whole * 100 + hundredths
+  pub value : load ≡ number_of_digits whole * 100 + hundredths

@@ -2,7 +2,7 @@
 ghost use Rattle.std.specs.Prelude.{◌≡◌, ℕ, ◌+◌, ◌-◌, ◌*◌, ◌<◌, ◌≤◌, ◌^◌, IsTrue, IfSome, IfNone, length};
 ghost use Rattle.std.specs.List.{list_all, prefix_len};
 ghost use Rattle.std.specs.Char.{is_ascii_digit};
-ghost use Rattle.load_reading.specs.Load.{ends_field, number_of, SpellsFraction, SpellsLoad};
+ghost use Rattle.load_reading.specs.Load.{ends_field, number_of_digits, SpellsFraction, SpellsLoad};
 
 /// The greatest number of digits before the point.
 pub const MAX_DIGITS: usize = 7;
@@ -18,7 +18,7 @@ pub fn hundredths(text: &[u8]) -> Option<u32>
     }
     let (whole, rest) = text.split_at(count);
     let hundredths = fraction(rest)?;
-    Some(number(whole) * 100 + hundredths)
+    Some(number_of_digits(whole) * 100 + hundredths)
 }
 
 fn digit_count(text: &[u8]) -> usize
@@ -60,10 +60,10 @@ fn digit(byte: u8) -> u32
 }
 
 // The number that these digits spell.
-fn number(digits: &[u8]) -> u32
+fn number_of_digits(digits: &[u8]) -> u32
     requires each { IsTrue (list_all is_ascii_digit digits.now) }
     requires few { length digits.now ≤ MAX_DIGITS }
-    ensures value { result ≡ number_of digits.now }
+    ensures value { result ≡ number_of_digits digits.now }
     ensures small { result < 10 ^ MAX_DIGITS }
 {
     let mut number = 0;

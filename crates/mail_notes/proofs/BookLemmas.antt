@@ -10,39 +10,39 @@ use Rattle.std.proofs.lemmas.List.Elements.{Contains-append_left, Contains-push}
 use Rattle.std.proofs.Math.Bool.{or-false, or-true}
 use Rattle.record_lines.proofs.SayingLemmas as saying
 use Rattle.record_lines.proofs.SayingLemmas.{any_else, any_here, any_more, none_says, saying_names}
-use Rattle.mail_notes.specs.Book.{Stand, StandsAt, may_follow, standing_after}
-use Rattle.mail_notes.specs.declared.book.MailStanding.{MailStanding}
-use Rattle.mail_notes.specs.declared.book.MailStanding.TheVariants.{Closed, Waits}
+use Rattle.mail_notes.specs.Book.{AreNoticeStates, IsNoticeStateAt, note_may_follow, notice_state_after}
+use Rattle.mail_notes.specs.declared.book.NoticeState.{NoticeState}
+use Rattle.mail_notes.specs.declared.book.NoticeState.TheVariants.{Closed, Waits}
 use Rattle.mail_notes.specs.declared.note.Note.{Note}
 use Rattle.mail_notes.specs.declared.note.Note.TheVariants.{Dropped, Noted, Sent}
-use Rattle.mail_notes.specs.Notes.{is_closed, is_closing, is_named, is_noted, is_noting, may_come, names, number_of}
+use Rattle.mail_notes.specs.Notes.{has_closing_note, is_closing_note, has_note_of, is_noted, is_noting, is_note_allowed, is_note_of, number_of_note}
 
 -- the standing tells what may come
-pub told_by : (notes : List Note) (standing : Option MailStanding) (note : Note) → StandsAt notes (number_of note) standing
-    → may_come notes note ≡ may_follow standing note
+pub told_by : (notes : List Note) (standing : Option NoticeState) (note : Note) → IsNoticeStateAt notes (number_of_note note) standing
+    → is_note_allowed notes note ≡ note_may_follow standing note
 told_by notes None (Noted job) stands = ap not stands
-told_by notes None (Sent number) stands = rw (none_says (names number) is_noting notes stands) refl
-told_by notes None (Dropped number) stands = rw (none_says (names number) is_noting notes stands) refl
-told_by notes (Some (Waits waiting)) (Noted job) stands = ap not (saying_names (names job.number) is_noting notes stands.is_noted)
+told_by notes None (Sent number) stands = rw (none_says (is_note_of number) is_noting notes stands) refl
+told_by notes None (Dropped number) stands = rw (none_says (is_note_of number) is_noting notes stands) refl
+told_by notes (Some (Waits waiting)) (Noted job) stands = ap not (saying_names (is_note_of job.number) is_noting notes stands.is_noted)
 told_by notes (Some (Waits waiting)) (Sent number) stands = rw (stands.is_noted, stands.open_yet) refl
 told_by notes (Some (Waits waiting)) (Dropped number) stands = rw (stands.is_noted, stands.open_yet) refl
-told_by notes (Some Closed) (Noted job) stands = ap not (saying_names (names job.number) is_noting notes stands.is_noted)
+told_by notes (Some Closed) (Noted job) stands = ap not (saying_names (is_note_of job.number) is_noting notes stands.is_noted)
 told_by notes (Some Closed) (Sent number) stands = rw (stands.is_noted, stands.closed) refl
 told_by notes (Some Closed) (Dropped number) stands = rw (stands.is_noted, stands.closed) refl
 
 -- a note of another number
-stands_else : (notes : List Note) (number : ℕ) (standing : Option MailStanding) (next : Note) → names number next ≡ false
-    → StandsAt notes number standing → StandsAt (notes ++ next ∷ []) number standing
-stands_else notes number None next apart stands = any_more (names number) notes next ∙ rw (stands, apart) refl
+stands_else : (notes : List Note) (number : ℕ) (standing : Option NoticeState) (next : Note) → is_note_of number next ≡ false
+    → IsNoticeStateAt notes number standing → IsNoticeStateAt (notes ++ next ∷ []) number standing
+stands_else notes number None next apart stands = any_more (is_note_of number) notes next ∙ rw (stands, apart) refl
 stands_else notes number (Some (Waits job)) next apart stands = record {
   number_is = stands.number_is;
   noted = Contains-append_left notes (next ∷ []) (Noted job) stands.noted;
-  is_noted = any_else (names number) is_noting notes next apart ∙ stands.is_noted;
-  open_yet = any_else (names number) is_closing notes next apart ∙ stands.open_yet;
+  is_noted = any_else (is_note_of number) is_noting notes next apart ∙ stands.is_noted;
+  open_yet = any_else (is_note_of number) is_closing_note notes next apart ∙ stands.open_yet;
 }
 stands_else notes number (Some Closed) next apart stands = record {
-  is_noted = any_else (names number) is_noting notes next apart ∙ stands.is_noted;
-  closed = any_else (names number) is_closing notes next apart ∙ stands.closed;
+  is_noted = any_else (is_note_of number) is_noting notes next apart ∙ stands.is_noted;
+  closed = any_else (is_note_of number) is_closing_note notes next apart ∙ stands.closed;
 }
 
 same_number : (number : ℕ) → (number == number) ≡ true
@@ -53,42 +53,42 @@ not_true true is = absurd cc
 not_true false is = refl
 
 -- the note of a notice that was sent or dropped
-closed_here : (notes : List Note) (number : ℕ) (next : Note) → names number next ≡ true → is_closing next ≡ true → is_noted number notes ≡ true
-    → StandsAt (notes ++ next ∷ []) number (Some Closed)
+closed_here : (notes : List Note) (number : ℕ) (next : Note) → is_note_of number next ≡ true → is_closing_note next ≡ true → is_noted number notes ≡ true
+    → IsNoticeStateAt (notes ++ next ∷ []) number (Some Closed)
 closed_here notes number next here closing noted = record {
-  is_noted = any_here (names number) is_noting notes next here ∙ rw noted refl;
-  closed = any_here (names number) is_closing notes next here ∙ rw closing (or-true _);
+  is_noted = any_here (is_note_of number) is_noting notes next here ∙ rw noted refl;
+  closed = any_here (is_note_of number) is_closing_note notes next here ∙ rw closing (or-true _);
 }
 
 -- a note that may come says how its job stands
-stands_here : (notes : List Note) (next : Note) → may_come notes next ≡ true → StandsAt (notes ++ next ∷ []) (number_of next) (Some (standing_after next))
+stands_here : (notes : List Note) (next : Note) → is_note_allowed notes next ≡ true → IsNoticeStateAt (notes ++ next ∷ []) (number_of_note next) (Some (notice_state_after next))
 stands_here notes (Noted job) may =
-    let none : is_named job.number notes ≡ false = not_true (is_named job.number notes) may in
+    let none : has_note_of job.number notes ≡ false = not_true (has_note_of job.number notes) may in
     record {
       number_is = refl;
       noted = Contains-push notes (Noted job);
-      is_noted = any_here (names job.number) is_noting notes (Noted job) (same_number job.number) ∙ or-true _;
-      open_yet = any_here (names job.number) is_closing notes (Noted job) (same_number job.number) ∙ or-false _ ∙ none_says (names job.number) is_closing notes none;
+      is_noted = any_here (is_note_of job.number) is_noting notes (Noted job) (same_number job.number) ∙ or-true _;
+      open_yet = any_here (is_note_of job.number) is_closing_note notes (Noted job) (same_number job.number) ∙ or-false _ ∙ none_says (is_note_of job.number) is_closing_note notes none;
     }
 stands_here notes (Sent number) may =
-    closed_here notes number (Sent number) (same_number number) refl (and_parts (is_noted number notes) (not (is_closed number notes)) may).0
+    closed_here notes number (Sent number) (same_number number) refl (and_parts (is_noted number notes) (not (has_closing_note number notes)) may).0
 stands_here notes (Dropped number) may =
-    closed_here notes number (Dropped number) (same_number number) refl (and_parts (is_noted number notes) (not (is_closed number notes)) may).0
+    closed_here notes number (Dropped number) (same_number number) refl (and_parts (is_noted number notes) (not (has_closing_note number notes)) may).0
 
 -- one note more, which may come, in a map that has its standing after it
-pub stand_more : (notes : List Note) (next : Note) (old new : BTreeMap ℕ MailStanding) (number : ℕ) (standing : MailStanding)
-    → number ≡ number_of next → standing ≡ standing_after next → Stand notes old → may_come notes next ≡ true
+pub stand_more : (notes : List Note) (next : Note) (old new : BTreeMap ℕ NoticeState) (number : ℕ) (standing : NoticeState)
+    → number ≡ number_of_note next → standing ≡ notice_state_after next → AreNoticeStates notes old → is_note_allowed notes next ≡ true
     → ((other : ℕ) → tree.get nat_cmp new other ≡ cond (is_at (nat_cmp number) other) (Some standing) (tree.get nat_cmp old other))
-    → Stand (notes ++ next ∷ []) new
+    → AreNoticeStates (notes ++ next ∷ []) new
 stand_more notes next old new at standing at_is after stand may updates =
-    saying.stand_more (StandsAt (notes ++ next ∷ [])) old new at standing updates
-    (subst (λ n. StandsAt (notes ++ next ∷ []) n (Some standing)) (sym at_is)
-    (subst (λ held. StandsAt (notes ++ next ∷ []) (number_of next) (Some held)) (sym after) (stands_here notes next may)))
+    saying.stand_more (IsNoticeStateAt (notes ++ next ∷ [])) old new at standing updates
+    (subst (λ n. IsNoticeStateAt (notes ++ next ∷ []) n (Some standing)) (sym at_is)
+    (subst (λ held. IsNoticeStateAt (notes ++ next ∷ []) (number_of_note next) (Some held)) (sym after) (stands_here notes next may)))
     (λ other apart. stands_else notes other (tree.get nat_cmp old other) next (ap (λ n. n == other) (sym at_is) ∙ apart) (stand other))
 
 -- the standing of the number decides whether a note may come
-pub may_decided : (notes : List Note) (next : Note) (old : BTreeMap ℕ MailStanding) (number : ℕ) (answer : Bool) → number ≡ number_of next → Stand notes old
-    → answer ≡ may_follow (tree.get nat_cmp old number) next → may_come notes next ≡ answer
+pub may_decided : (notes : List Note) (next : Note) (old : BTreeMap ℕ NoticeState) (number : ℕ) (answer : Bool) → number ≡ number_of_note next → AreNoticeStates notes old
+    → answer ≡ note_may_follow (tree.get nat_cmp old number) next → is_note_allowed notes next ≡ answer
 may_decided notes next old number answer at_is stand is =
-    told_by notes (tree.get nat_cmp old (number_of next)) next (stand (number_of next))
-    ∙ ap (λ n. may_follow (tree.get nat_cmp old n) next) (sym at_is) ∙ sym is
+    told_by notes (tree.get nat_cmp old (number_of_note next)) next (stand (number_of_note next))
+    ∙ ap (λ n. note_may_follow (tree.get nat_cmp old n) next) (sym at_is) ∙ sym is

@@ -12,8 +12,8 @@ use Rattle.record_lines.proofs.LineLemmas.{after_space, none_before, one_split}
 use Rattle.mail_notes.specs.declared.note.Note.{Note}
 use Rattle.mail_notes.specs.declared.note.NotedJob.{NotedJob}
 use Rattle.mail_notes.specs.inside.Spelling.{AreParts, no_space, one_of_eight}
-use Rattle.mail_notes.specs.Lines.{IsJobText, IsNoteText, SpellsNote, flag_byte, letter_of, rest_text}
-use Rattle.mail_notes.specs.Notes.{number_of}
+use Rattle.mail_notes.specs.Lines.{IsNotedJobText, IsNoteText, SpellsNote, flag_byte, letter_of_note, rest_text}
+use Rattle.mail_notes.specs.Notes.{number_of_note}
 use Rattle.mail_notes.proofs.WritingLemmas.{fits_of}
 
 -- the byte is a space
@@ -43,13 +43,13 @@ parts_alike rest file other_file flag other_flag user other_user one two =
     (split.0, ap (λ (text : List ℕ). get_or text 0 0) split.1, ap (drop 2) split.1)
 
 -- the letter, the digits and the rest of a line that spells a note
-pub letter_part : (line : List ℕ) (note : Note) → SpellsNote line note → get_or line 0 0 ≡ letter_of note
+pub letter_part : (line : List ℕ) (note : Note) → SpellsNote line note → get_or line 0 0 ≡ letter_of_note note
 letter_part line note spelled = ap (λ (text : List ℕ). get_or text 0 0) spelled.is
 
-pub tail_part : (line : List ℕ) (note : Note) → SpellsNote line note → take (length line - 2) (drop 2 line) ≡ digits_of (number_of note) ++ rest_text note
-tail_part line note spelled = after_space line (digits_of (number_of note) ++ rest_text note) (letter_of note) spelled.is
+pub tail_part : (line : List ℕ) (note : Note) → SpellsNote line note → take (length line - 2) (drop 2 line) ≡ digits_of (number_of_note note) ++ rest_text note
+tail_part line note spelled = after_space line (digits_of (number_of_note note) ++ rest_text note) (letter_of_note note) spelled.is
 
-pub digits_part : (line : List ℕ) (note : Note) → SpellsNote line note → take 8 (take (length line - 2) (drop 2 line)) ≡ digits_of (number_of note)
+pub digits_part : (line : List ℕ) (note : Note) → SpellsNote line note → take 8 (take (length line - 2) (drop 2 line)) ≡ digits_of (number_of_note note)
 digits_part line note spelled = ap (take 8) (tail_part line note spelled)
 
 pub rest_part : (line : List ℕ) (note : Note) → SpellsNote line note → drop 8 (take (length line - 2) (drop 2 line)) ≡ rest_text note
@@ -62,7 +62,7 @@ pub none_spelled : (line : List ℕ) (number : ℕ) (digits rest : List ℕ) (fo
 none_spelled line number digits rest (Some note) begins back is fits none = tt
 none_spelled line number digits rest None begins back is fits none = λ note spelled. none note (record {
   letter_is = letter_part line note spelled;
-  number_is = one_of_eight number (number_of note) fits (fits_of note spelled.of) (sym is ∙ begins ∙ digits_part line note spelled);
+  number_is = one_of_eight number (number_of_note note) fits (fits_of note spelled.of) (sym is ∙ begins ∙ digits_part line note spelled);
   rest_is = back ∙ rest_part line note spelled;
   of = spelled.of;
 })
@@ -93,5 +93,5 @@ parts_found rest after file tail end flag user parted found begins back is = rec
 }
 
 -- the parts of a job's text
-pub parts_of : (number : ℕ) (rest : List ℕ) (job : NotedJob) → IsJobText number rest job → AreParts rest job.file (flag_byte job.always) job.user
+pub parts_of : (number : ℕ) (rest : List ℕ) (job : NotedJob) → IsNotedJobText number rest job → AreParts rest job.file (flag_byte job.always) job.user
 parts_of number rest job text = record { is = text.is; no_space = no_space job.number job.file text.of.file }

@@ -16,49 +16,49 @@ use Rattle.std.proofs.lemmas.List.Kept.{AllPairs-cons}
 use Rattle.std.proofs.lemmas.Map.Entries.{btree_map_get_place, place_from_lookup}
 use Rattle.std.proofs.lemmas.Map.Keys.{sorted_head, sorted_tail}
 use Rattle.record_lines.proofs.SayingLemmas.{at_number, none_says}
-use Rattle.mail_notes.specs.Book.{AreWaiting, IsWaiting, Stand, StandsAt, waiting_job}
-use Rattle.mail_notes.specs.declared.book.MailStanding.{MailStanding}
-use Rattle.mail_notes.specs.declared.book.MailStanding.TheVariants.{Closed, Waits}
+use Rattle.mail_notes.specs.Book.{AreAwaitingNotice, IsWaiting, AreNoticeStates, IsNoticeStateAt, waiting_job}
+use Rattle.mail_notes.specs.declared.book.NoticeState.{NoticeState}
+use Rattle.mail_notes.specs.declared.book.NoticeState.TheVariants.{Closed, Waits}
 use Rattle.mail_notes.specs.declared.note.Note.{Note}
 use Rattle.mail_notes.specs.declared.note.NotedJob.{NotedJob}
-use Rattle.mail_notes.specs.Notes.{is_closed, is_noted, is_noting, names, waits}
+use Rattle.mail_notes.specs.Notes.{has_closing_note, is_noted, is_noting, is_note_of, awaits_notice}
 
 -- the jobs of entries that wait
-abbrev jobs_of : List (ℕ × MailStanding) → List NotedJob
+abbrev jobs_of : List (ℕ × NoticeState) → List NotedJob
 jobs_of entries = filter_map waiting_job (values_of entries)
 
 -- the notes say of each number what its entry says
-abbrev StandAll : List Note → List (ℕ × MailStanding) → Type 0
+abbrev StandAll : List Note → List (ℕ × NoticeState) → Type 0
 StandAll notes [] = Unit {0}
-StandAll notes (entry ∷ later) = StandsAt notes entry.0 (Some entry.1) × StandAll notes later
+StandAll notes (entry ∷ later) = IsNoticeStateAt notes entry.0 (Some entry.1) × StandAll notes later
 
-from_places : (notes : List Note) (entries : List (ℕ × MailStanding)) → ((place key : ℕ) (standing : MailStanding) → slice_get entries place ≡ Some (key, standing) → StandsAt notes key (Some standing))
+from_places : (notes : List Note) (entries : List (ℕ × NoticeState)) → ((place key : ℕ) (standing : NoticeState) → slice_get entries place ≡ Some (key, standing) → IsNoticeStateAt notes key (Some standing))
     → StandAll notes entries
 from_places notes [] each = tt
 from_places notes (entry ∷ later) each = (each 0 entry.0 entry.1 refl, from_places notes later (λ place. each (suc place)))
 
-all_wait : (notes : List Note) (entries : List (ℕ × MailStanding)) → StandAll notes entries → All (λ job. IsWaiting notes job.number job) (jobs_of entries)
+all_wait : (notes : List Note) (entries : List (ℕ × NoticeState)) → StandAll notes entries → All (λ job. IsWaiting notes job.number job) (jobs_of entries)
 all_wait notes [] stand = All-nil (λ job. IsWaiting notes job.number job)
 all_wait notes ((key, Waits job) ∷ later) stand =
     All-cons (λ one. IsWaiting notes one.number one) job (jobs_of later) (subst (λ number. IsWaiting notes number job) (sym stand.0.number_is) stand.0) (all_wait notes later stand.1)
 all_wait notes ((key, Closed) ∷ later) stand = all_wait notes later stand.1
 
-same_entry : (one other : ℕ × MailStanding) → ◌≡◌ {A = Option (ℕ × MailStanding)} (Some one) (Some other) → one ≡ other
+same_entry : (one other : ℕ × NoticeState) → ◌≡◌ {A = Option (ℕ × NoticeState)} (Some one) (Some other) → one ≡ other
 same_entry one other is = cc
 
-same_key : (one other : ℕ) (first second : MailStanding) → ◌≡◌ {A = Option (ℕ × MailStanding)} (Some (one, first)) (Some (other, second)) → one ≡ other
-same_key one other first second is = ap (λ (entry : ℕ × MailStanding). entry.0) (same_entry (one, first) (other, second) is)
+same_key : (one other : ℕ) (first second : NoticeState) → ◌≡◌ {A = Option (ℕ × NoticeState)} (Some (one, first)) (Some (other, second)) → one ≡ other
+same_key one other first second is = ap (λ (entry : ℕ × NoticeState). entry.0) (same_entry (one, first) (other, second) is)
 
-closed_waits : (job : NotedJob) → ◌≡◌ {A = MailStanding} Closed (Waits job) → ⊥
+closed_waits : (job : NotedJob) → ◌≡◌ {A = NoticeState} Closed (Waits job) → ⊥
 closed_waits job is = cc
 
-never_closed : (one other : ℕ) (job : NotedJob) → ◌≡◌ {A = Option (ℕ × MailStanding)} (Some (one, Closed)) (Some (other, Waits job)) → ⊥
-never_closed one other job is = closed_waits job (ap (λ (entry : ℕ × MailStanding). entry.1) (same_entry (one, Closed) (other, Waits job) is))
+never_closed : (one other : ℕ) (job : NotedJob) → ◌≡◌ {A = Option (ℕ × NoticeState)} (Some (one, Closed)) (Some (other, Waits job)) → ⊥
+never_closed one other job is = closed_waits job (ap (λ (entry : ℕ × NoticeState). entry.1) (same_entry (one, Closed) (other, Waits job) is))
 
 -- the number of an entry that waits is among theirs
-has_number : (notes : List Note) (entries : List (ℕ × MailStanding)) (place key : ℕ) (job : NotedJob) → StandAll notes entries → slice_get entries place ≡ Some (key, Waits job)
+has_number : (notes : List Note) (entries : List (ℕ × NoticeState)) (place key : ℕ) (job : NotedJob) → StandAll notes entries → slice_get entries place ≡ Some (key, Waits job)
     → Contains (map (λ one. one.number) (jobs_of entries)) key
-has_number notes [] place key job stand is = absurd (let none : ◌≡◌ {A = Option (ℕ × MailStanding)} None (Some (key, Waits job)) = is in cc)
+has_number notes [] place key job stand is = absurd (let none : ◌≡◌ {A = Option (ℕ × NoticeState)} None (Some (key, Waits job)) = is in cc)
 has_number notes ((other, Waits one) ∷ later) zero key job stand is =
     Contains-append_left (one.number ∷ []) (map (λ each. each.number) (jobs_of later)) key
     (0, omega arith, stand.0.number_is ∙ same_key other key (Waits one) (Waits job) is)
@@ -70,14 +70,14 @@ has_number notes ((other, Closed) ∷ later) (suc place) key job stand is = has_
 less_of : (one other : ℕ) → nat_cmp one other ≡ Less → one < other
 less_of one other is = grind (arith, nat_tests)
 
-above : (notes : List Note) (key : ℕ) (entries : List (ℕ × MailStanding)) → StandAll notes entries → AllByRecursion (λ other. nat_cmp key other ≡ Less) (keys_of entries)
+above : (notes : List Note) (key : ℕ) (entries : List (ℕ × NoticeState)) → StandAll notes entries → AllByRecursion (λ other. nat_cmp key other ≡ Less) (keys_of entries)
     → All (λ job. key < job.number) (jobs_of entries)
 above notes key [] stand less = All-nil (λ job. key < job.number)
 above notes key ((other, Waits job) ∷ later) stand less =
     All-cons (λ one. key < one.number) job (jobs_of later) (subst (λ number. key < number) (sym stand.0.number_is) (less_of key other less.0)) (above notes key later stand.1 less.1)
 above notes key ((other, Closed) ∷ later) stand less = above notes key later stand.1 less.1
 
-rise : (notes : List Note) (entries : List (ℕ × MailStanding)) → StandAll notes entries → IsStrictlySortedBy nat_cmp (keys_of entries)
+rise : (notes : List Note) (entries : List (ℕ × NoticeState)) → StandAll notes entries → IsStrictlySortedBy nat_cmp (keys_of entries)
     → AllPairs (λ one other. one.number < other.number) (jobs_of entries)
 rise notes [] stand sorted = λ first second none less inside. absurd (omega (arith, inside))
 rise notes ((key, Waits job) ∷ later) stand sorted =
@@ -87,28 +87,28 @@ rise notes ((key, Waits job) ∷ later) stand sorted =
 rise notes ((key, Closed) ∷ later) stand sorted = rise notes later stand.1 (sorted_tail nat_cmp key (keys_of later) sorted)
 
 -- The jobs that wait.
-module _ (notes : List Note) (standings : BTreeMap ℕ MailStanding) (ordered : tree.IsOrdered nat_cmp standings) (stand : Stand notes standings) where
+module _ (notes : List Note) (standings : BTreeMap ℕ NoticeState) (ordered : tree.IsOrdered nat_cmp standings) (stand : AreNoticeStates notes standings) where
   stand_all : StandAll notes standings.entries
   stand_all = from_places notes standings.entries (λ place key standing is.
-      subst (StandsAt notes key) (btree_map_get_place nat_cmp_total standings place key standing ordered is) (stand key))
+      subst (IsNoticeStateAt notes key) (btree_map_get_place nat_cmp_total standings place key standing ordered is) (stand key))
 
-  all_there : (number : ℕ) → waits number notes ≡ true → (held : Option MailStanding) → tree.get nat_cmp standings number ≡ held
+  all_there : (number : ℕ) → awaits_notice number notes ≡ true → (held : Option NoticeState) → tree.get nat_cmp standings number ≡ held
       → Contains (map (λ one. one.number) (jobs_of standings.entries)) number
   all_there number waiting None is = absurd (
-      let named = subst (StandsAt notes number) is (stand number) in
-      let none = none_says (names number) is_noting notes named in
-      let noted = (and_parts (is_noted number notes) (not (is_closed number notes)) waiting).0 in cc)
+      let named = subst (IsNoticeStateAt notes number) is (stand number) in
+      let none = none_says (is_note_of number) is_noting notes named in
+      let noted = (and_parts (is_noted number notes) (not (has_closing_note number notes)) waiting).0 in cc)
   all_there number waiting (Some Closed) is = absurd (
-      let says = (subst (StandsAt notes number) is (stand number)).closed in
-      let not_closed : not (is_closed number notes) ≡ true = (and_parts (is_noted number notes) (not (is_closed number notes)) waiting).1 in
-      let but : not (is_closed number notes) ≡ false = ap not says in cc)
+      let says = (subst (IsNoticeStateAt notes number) is (stand number)).closed in
+      let not_closed : not (has_closing_note number notes) ≡ true = (and_parts (is_noted number notes) (not (has_closing_note number notes)) waiting).1 in
+      let but : not (has_closing_note number notes) ≡ false = ap not says in cc)
   all_there number waiting (Some (Waits job)) is =
       let found = place_from_lookup (is_at (nat_cmp number)) standings.entries (Waits job) is in
       let key_is : number ≡ found.1 = eqb-true number found.1 (sym (at_number number found.1) ∙ found.3) in
       subst (Contains (map (λ one. one.number) (jobs_of standings.entries))) (sym key_is) (has_number notes standings.entries found.0 found.1 job stand_all found.2)
 
-  pub are_waiting : (jobs : List NotedJob) → jobs ≡ filter_map waiting_job (tree.values standings) → AreWaiting notes jobs
-  are_waiting jobs is = subst (AreWaiting notes) (sym is) (record {
+  pub are_waiting : (jobs : List NotedJob) → jobs ≡ filter_map waiting_job (tree.values standings) → AreAwaitingNotice notes jobs
+  are_waiting jobs is = subst (AreAwaitingNotice notes) (sym is) (record {
     each = λ job has. All-contains (λ one. IsWaiting notes one.number one) (jobs_of standings.entries) job (all_wait notes standings.entries stand_all) has;
     all = λ number waiting. all_there number waiting (tree.get nat_cmp standings number) refl;
     rise = rise notes standings.entries stand_all ordered;

@@ -23,16 +23,16 @@ pub record Mailing : Type 0 where
   pub notes : List Note
 
 -- the step of a turn that tells of an end; a job that was removed has none
-abbrev pub step_of : ℕ → Fate → Option TurnStepText
-step_of number (Finished ending) = Some (step.Ended number ending)
-step_of number Interrupted = Some (step.Interrupted number)
-step_of number Removed = None
+abbrev pub step_of_fate : ℕ → Fate → Option TurnStepText
+step_of_fate number (Finished ending) = Some (step.Ended number ending)
+step_of_fate number Interrupted = Some (step.Interrupted number)
+step_of_fate number Removed = None
 
 -- the job of the number is done, and this step tells of its end
 pub record IsEndOf (table : JobTable) (number : ℕ) (end : TurnStepText) : Type 0 where
   pub fate : Fate
   pub done : entry_at table number ≡ Some (Done fate)
-  pub told : step_of number fate ≡ Some end
+  pub told : step_of_fate number fate ≡ Some end
 
 -- the script is the notice of the number's end, for its job as it was noted
 pub record IsNoticeOf (of : Mailing) (number : ℕ) (script : List ℕ) : Type 0 where
@@ -60,27 +60,27 @@ pub record IsHandedFor (of : Mailing) (number : ℕ) (handed : Handed) : Type 0 
   pub nice : handed.nice ≡ notice_nice
 
 -- what one note hands over: that a notice was sent its script, another note nothing
-abbrev pub HandsOne : Mailing → Note → List Handed → Type 0
-HandsOne of (Sent number) given = (handed : Handed) × IsHandedFor of number handed × (given ≡ handed ∷ [])
-HandsOne of (Noted job) given = given ≡ []
-HandsOne of (Dropped number) given = given ≡ []
+abbrev pub SendsNotice : Mailing → Note → List Handed → Type 0
+SendsNotice of (Sent number) given = (handed : Handed) × IsHandedFor of number handed × (given ≡ handed ∷ [])
+SendsNotice of (Noted job) given = given ≡ []
+SendsNotice of (Dropped number) given = given ≡ []
 
 -- what notes hand over, one after the other
-abbrev pub Hands : Mailing → List Note → List Handed → Type 0
-Hands of [] given = given ≡ []
-Hands of (note ∷ later) given =
-    (first : List Handed) × (rest : List Handed) × HandsOne of note first × Hands of later rest × (given ≡ first ++ rest)
+abbrev pub SendsNotices : Mailing → List Note → List Handed → Type 0
+SendsNotices of [] given = given ≡ []
+SendsNotices of (note ∷ later) given =
+    (first : List Handed) × (rest : List Handed) × SendsNotice of note first × SendsNotices of later rest × (given ≡ first ++ rest)
 
 -- The last note is that a notice was sent which was not handed over yet, and the image has it; the notes before have
 -- handed over these.
-pub record LacksLast (of : Mailing) (notes : List Note) (image : Files) (given : List Handed) : Type 0 where
+pub record LacksLastNotice (of : Mailing) (notes : List Note) (image : Files) (given : List Handed) : Type 0 where
   pub earlier : List Note
   pub number : ℕ
   pub ends : notes ≡ earlier ++ Sent number ∷ []
   pub placed : HasNotice of number image
-  pub hands : Hands of earlier given
+  pub hands : SendsNotices of earlier given
 
 -- What was handed over once these notes are in the image. A notice is placed before its note is written, and the note
 -- before the notice is handed over, so that of the last note may not be handed over yet.
-abbrev pub HandsByNow : Mailing → List Note → Files → List Handed → Type 0
-HandsByNow of notes image given = Hands of notes given ⊎ LacksLast of notes image given
+abbrev pub SendsNoticesByNow : Mailing → List Note → Files → List Handed → Type 0
+SendsNoticesByNow of notes image given = SendsNotices of notes given ⊎ LacksLastNotice of notes image given

@@ -9,7 +9,7 @@ use Rattle.mail_notes.specs.declared.note.Note.{Note}
 use Rattle.mail_notes.specs.Hands.{Mailing}
 use Rattle.mail_notes.specs.Lines.{Fits, IsNote, SpellsNote, notes_text}
 use Rattle.mail_notes.specs.Names.{IsMailName, notice_file, notice_number}
-use Rattle.mail_notes.specs.Runs.{AreMade, AreStopped, IsReady}
+use Rattle.mail_notes.specs.Runs.{AreNotesMade, AreNotesStopped, HoldsNotesAlone}
 
 -- a note that can stand in a line has one without a newline
 abbrev pub NotesCanBeWritten : Type 0
@@ -21,22 +21,22 @@ NoteFilesAreTexts = (bytes : List ℕ) (notes : List Note) → AreSpelled Spells
 
 -- where the folder is ready, no notes were made
 abbrev pub NoNotesAreMade : Type 0
-NoNotesAreMade = (of : Mailing) (notes : List Note) (world : World) → IsReady notes world.now.folder →
-    AreMade of notes [] [] [] world world
+NoNotesAreMade = (of : Mailing) (notes : List Note) (world : World) → HoldsNotesAlone notes world.now.folder →
+    AreNotesMade of notes [] [] [] world world
 
 -- notes that were made, and those that were made after them, are made
 abbrev pub NotesAreMadeAfter : Type 0
 NotesAreMadeAfter = (of : Mailing) (notes first later : List Note) (given more : List Handed) (questions others : List Asked)
     (start middle end : World) →
-    AreMade of notes first given questions start middle → AreMade of (notes ++ first) later more others middle end →
-    AreMade of notes (first ++ later) (given ++ more) (questions ++ others) start end
+    AreNotesMade of notes first given questions start middle → AreNotesMade of (notes ++ first) later more others middle end →
+    AreNotesMade of notes (first ++ later) (given ++ more) (questions ++ others) start end
 
 -- notes that were stopped after those that were made are stopped
 abbrev pub NotesAreStoppedAfter : Type 0
 NotesAreStoppedAfter = (of : Mailing) (notes first later next : List Note) (given more : List Handed)
     (questions others : List Asked) (start middle end : World) →
-    AreMade of notes first given questions start middle → AreStopped of (notes ++ first) later next more others middle end →
-    AreStopped of notes (first ++ later) next (given ++ more) (questions ++ others) start end
+    AreNotesMade of notes first given questions start middle → AreNotesStopped of (notes ++ first) later next more others middle end →
+    AreNotesStopped of notes (first ++ later) next (given ++ more) (questions ++ others) start end
 
 -- a name is that of a notice exactly where its number is read of it
 abbrev pub NoticeNumbersAreRead : Type 0

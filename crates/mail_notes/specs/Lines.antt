@@ -8,13 +8,13 @@ use Rattle.spool_model.specs.Users.{IsUserName}
 use Rattle.mail_notes.specs.declared.note.Note.{Note}
 use Rattle.mail_notes.specs.declared.note.Note.TheVariants.{Dropped, Noted, Sent}
 use Rattle.mail_notes.specs.declared.note.NotedJob.{NotedJob}
-use Rattle.mail_notes.specs.Notes.{number_of}
+use Rattle.mail_notes.specs.Notes.{number_of_note}
 
 -- the letter of a note
-abbrev pub letter_of : Note → ℕ
-letter_of (Noted job) = 78
-letter_of (Sent number) = 83
-letter_of (Dropped number) = 68
+abbrev pub letter_of_note : Note → ℕ
+letter_of_note (Noted job) = 78
+letter_of_note (Sent number) = 83
+letter_of_note (Dropped number) = 68
 
 -- the flag of a job: 1 where its notice is sent in any case, else 0
 abbrev pub flag_byte : Bool → ℕ
@@ -25,18 +25,18 @@ abbrev pub IsFlag : ℕ → Type 0
 IsFlag byte = (always : Bool) × (byte ≡ flag_byte always)
 
 -- what stands after the number of a job that was seen
-abbrev pub job_text : NotedJob → List ℕ
-job_text job = 32 ∷ (job.file ++ (32 ∷ flag_byte job.always ∷ 32 ∷ job.user))
+abbrev pub noted_job_text : NotedJob → List ℕ
+noted_job_text job = 32 ∷ (job.file ++ (32 ∷ flag_byte job.always ∷ 32 ∷ job.user))
 
 -- what stands after the number
 abbrev pub rest_text : Note → List ℕ
-rest_text (Noted job) = job_text job
+rest_text (Noted job) = noted_job_text job
 rest_text (Sent number) = []
 rest_text (Dropped number) = []
 
 -- the line of a note, without its newline
 abbrev pub note_text : Note → List ℕ
-note_text note = letter_of note ∷ 32 ∷ (digits_of (number_of note) ++ rest_text note)
+note_text note = letter_of_note note ∷ 32 ∷ (digits_of (number_of_note note) ++ rest_text note)
 
 -- the line of a note
 abbrev pub note_line : Note → List ℕ
@@ -47,7 +47,7 @@ abbrev pub notes_text : List Note → List ℕ
 notes_text notes = flat_map note_line notes
 
 -- the file of this name is that of the job of the number, in either form
-pub record IsFileOf (number : ℕ) (file : List ℕ) : Type 0 where
+pub record IsJobFileName (number : ℕ) (file : List ℕ) : Type 0 where
   pub queue : ℕ
   pub minute : ℕ
   pub new_form : Bool
@@ -55,7 +55,7 @@ pub record IsFileOf (number : ℕ) (file : List ℕ) : Type 0 where
 
 -- the file is that of the job, and the user's name is one
 pub record IsNotedJob (job : NotedJob) : Type 0 where
-  pub file : IsFileOf job.number job.file
+  pub file : IsJobFileName job.number job.file
   pub user : IsUserName job.user
 
 -- the number fits eight digits
@@ -69,15 +69,15 @@ IsNote (Sent number) = Fits number
 IsNote (Dropped number) = Fits number
 
 -- the text after this number is that of the job
-pub record IsJobText (number : ℕ) (rest : List ℕ) (job : NotedJob) : Type 0 where
+pub record IsNotedJobText (number : ℕ) (rest : List ℕ) (job : NotedJob) : Type 0 where
   pub number_is : job.number ≡ number
-  pub is : rest ≡ job_text job
+  pub is : rest ≡ noted_job_text job
   pub of : IsNotedJob job
 
 -- the letter, the number and the text after it are those of the note
 pub record IsNoteText (letter number : ℕ) (rest : List ℕ) (note : Note) : Type 0 where
-  pub letter_is : letter ≡ letter_of note
-  pub number_is : number ≡ number_of note
+  pub letter_is : letter ≡ letter_of_note note
+  pub number_is : number ≡ number_of_note note
   pub rest_is : rest ≡ rest_text note
   pub of : IsNote note
 

@@ -7,44 +7,44 @@ use Rattle.host_calls.specs.Folder.{Files, Folder, IsImage, IsInNoImage}
 use Rattle.host_calls.specs.World.{HasEachImage, LeavesOnly, Moment, World}
 use Rattle.whole_file.specs.Others.{LeavesOthers}
 use Rattle.mail_notes.specs.declared.note.Note.{Note}
-use Rattle.mail_notes.specs.Hands.{Hands, HandsByNow, Mailing}
+use Rattle.mail_notes.specs.Hands.{SendsNotices, SendsNoticesByNow, Mailing}
 use Rattle.mail_notes.specs.Lines.{HoldsNotes}
 use Rattle.mail_notes.specs.Names.{IsMailName, mail_file, mail_temp}
-use Rattle.mail_notes.specs.Notes.{AreFirst}
+use Rattle.mail_notes.specs.Notes.{IsNotesPrefix}
 
 -- The image holds the notes and a prefix of the new ones after them, other files are left alone, and since the start no
 -- more was handed over than that prefix hands over.
-pub record IsAlong (of : Mailing) (notes new_ones : List Note) (start : Moment) (image : Files) (handed : List Handed) : Type 0 where
+pub record IsAlongNotes (of : Mailing) (notes new_ones : List Note) (start : Moment) (image : Files) (handed : List Handed) : Type 0 where
   pub prefix : List Note
-  pub is_prefix : AreFirst prefix new_ones
+  pub is_prefix : IsNotesPrefix prefix new_ones
   pub alone : LeavesOthers IsMailName start.folder image
   pub holds : HoldsNotes (map.get image mail_file) (notes ++ prefix)
   pub given : List Handed
   pub grown : handed ≡ start.handed ++ given
-  pub hands : HandsByNow of prefix image given
+  pub hands : SendsNoticesByNow of prefix image given
 
 -- each image of the folder holds the notes, and no file of mail is being made in it
-pub record IsReady (notes : List Note) (folder : Folder) : Type 0 where
+pub record HoldsNotesAlone (notes : List Note) (folder : Folder) : Type 0 where
   pub holds : (image : Files) → IsImage folder image → HoldsNotes (map.get image mail_file) notes
   pub no_temp : IsInNoImage folder mail_temp
 
 -- The new notes were made: each image holds them after the others, these scripts were handed over and these questions
 -- asked, and other files are left alone.
-pub record AreMade (of : Mailing) (notes new_ones : List Note) (given : List Handed) (questions : List Asked) (old new : World)
+pub record AreNotesMade (of : Mailing) (notes new_ones : List Note) (given : List Handed) (questions : List Asked) (old new : World)
     : Type 0 where
-  pub leaves : LeavesOnly (IsAlong of notes new_ones old.now) old new
-  pub ready : IsReady (notes ++ new_ones) new.now.folder
+  pub leaves : LeavesOnly (IsAlongNotes of notes new_ones old.now) old new
+  pub ready : HoldsNotesAlone (notes ++ new_ones) new.now.folder
   pub alone : (image : Files) → IsImage new.now.folder image → LeavesOthers IsMailName old.now.folder image
   pub handed : new.now.handed ≡ old.now.handed ++ given
-  pub hands : Hands of new_ones given
+  pub hands : SendsNotices of new_ones given
   pub asked : new.asked ≡ old.asked ++ questions
 
 -- The new notes were made, and what stopped then may have made some of the next ones. What was handed over and asked is
 -- that of the notes before them.
-pub record AreStopped (of : Mailing) (notes new_ones next : List Note) (given : List Handed) (questions : List Asked)
+pub record AreNotesStopped (of : Mailing) (notes new_ones next : List Note) (given : List Handed) (questions : List Asked)
     (old new : World) : Type 0 where
-  pub leaves : LeavesOnly (IsAlong of notes (new_ones ++ next) old.now) old new
-  pub now : HasEachImage (IsAlong of notes (new_ones ++ next) old.now) new.now
+  pub leaves : LeavesOnly (IsAlongNotes of notes (new_ones ++ next) old.now) old new
+  pub now : HasEachImage (IsAlongNotes of notes (new_ones ++ next) old.now) new.now
   pub handed : new.now.handed ≡ old.now.handed ++ given
-  pub hands : Hands of new_ones given
+  pub hands : SendsNotices of new_ones given
   pub asked : new.asked ≡ old.asked ++ questions

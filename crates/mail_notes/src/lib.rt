@@ -9,7 +9,7 @@ mod names;
 mod note;
 mod notice;
 
-pub use book::{MailBook, MailStanding};
+pub use book::{MailBook, NoticeState};
 pub use laws::{
     mail_is_none_of_the_stores, note_files_are_texts, notes_can_be_written,
     notice_numbers_are_read, runs_of_notes_join,

@@ -2,8 +2,8 @@
 ghost use Rattle.std.specs.Prelude.{◌≡◌, ◌<◌, ◌^◌, ◌==◌, ◌∷◌, ◌++◌, ℕ, List, IfSome, IfNone, OnOk, length};
 ghost use Rattle.std.specs.List.{position};
 ghost use Rattle.hex_digits.specs.Digits.{digits_of};
-ghost use Rattle.mail_notes.specs.Lines.{Fits, IsFileOf, IsFlag, IsJobText, IsNoteText, SpellsNote, flag_byte, job_text, letter_of, rest_text};
-ghost use Rattle.mail_notes.specs.Notes.{number_of};
+ghost use Rattle.mail_notes.specs.Lines.{Fits, IsJobFileName, IsFlag, IsNotedJobText, IsNoteText, SpellsNote, flag_byte, noted_job_text, letter_of_note, rest_text};
+ghost use Rattle.mail_notes.specs.Notes.{number_of_note};
 ghost use Rattle.mail_notes.specs.inside.Spelling.{AreParts, one_note};
 ghost use Rattle.mail_notes.specs.declared.note.Note.{Note};
 ghost use Rattle.mail_notes.specs.declared.note.NotedJob.{NotedJob};
@@ -37,9 +37,9 @@ impl LineRecord for Note {
     }
 
     fn write(&self, text: &mut Vec<u8>) -> Result<(), AllocError> {
-        text.push(letter_of(self))?;
+        text.push(letter_of_note(self))?;
         text.push(b' ')?;
-        text.extend_from_slice(&digits_of(number_of(self)))?;
+        text.extend_from_slice(&digits_of(number_of_note(self)))?;
         write_rest(self, text)?;
         Ok(())
     }
@@ -52,12 +52,12 @@ fn number_in(digits: &[u8]) -> Option<u32>
     ensures fits { IfSome result Fits }
     ensures none { IfNone result ((number : ℕ) → number < 16 ^ 8 → ¬ (digits.now ≡ digits_of number)) }
 {
-    let number = hex_digits::read(digits)?;
+    let number = hex_digits::read_hex(digits)?;
     Some(number as u32)
 }
 
-fn letter_of(note: &Note) -> u8
-    ensures { result ≡ letter_of note.now }
+fn letter_of_note(note: &Note) -> u8
+    ensures { result ≡ letter_of_note note.now }
 {
     match note {
         Note::Noted(_) => b'N',
@@ -66,8 +66,8 @@ fn letter_of(note: &Note) -> u8
     }
 }
 
-pub(crate) fn number_of(note: &Note) -> u32
-    ensures { result ≡ number_of note.now }
+pub(crate) fn number_of_note(note: &Note) -> u32
+    ensures { result ≡ number_of_note note.now }
 {
     match note {
         Note::Noted(job) => job.number,
@@ -97,8 +97,8 @@ fn note_in(letter: u8, number: u32, rest: &[u8]) -> Option<Note>
 
 // The file, the flag and the user of a job that was seen, each after a space.
 fn job_in(number: u32, rest: &[u8]) -> Option<NotedJob>
-    ensures some { IfSome result (IsJobText number rest.now) }
-    ensures none { IfNone result ((job : NotedJob) → ¬ (IsJobText number rest.now job)) }
+    ensures some { IfSome result (IsNotedJobText number rest.now) }
+    ensures none { IfNone result ((job : NotedJob) → ¬ (IsNotedJobText number rest.now job)) }
 {
     let parts = parts_in(rest)?;
     let file = file_of(number, parts.file)?;
@@ -173,8 +173,8 @@ fn space_in(bytes: &[u8]) -> Option<usize>
 // The file with this name, where it is that of the number's job.
 fn file_of(number: u32, bytes: &[u8]) -> Option<Name>
     ensures name { IfSome result (λ name. name ≡ bytes.now) }
-    ensures some { IfSome result (IsFileOf number) }
-    ensures none { IfNone result (¬ (IsFileOf number bytes.now)) }
+    ensures some { IfSome result (IsJobFileName number) }
+    ensures none { IfNone result (¬ (IsJobFileName number bytes.now)) }
 {
     let name = Name::of(bytes)?;
     let job = JobName::read(bytes)?;
@@ -212,7 +212,7 @@ fn write_rest(note: &Note, text: &mut Vec<u8>) -> Result<(), AllocError>
 }
 
 fn write_job(job: &NotedJob, text: &mut Vec<u8>) -> Result<(), AllocError>
-    ensures { OnOk result (text.new.items ≡ text.old.items ++ job_text job.now) }
+    ensures { OnOk result (text.new.items ≡ text.old.items ++ noted_job_text job.now) }
 {
     text.push(b' ')?;
     text.extend_from_slice(job.file.as_bytes())?;

@@ -2,7 +2,7 @@
 ghost use Rattle.std.specs.Prelude.{◌≡◌};
 ghost use Rattle.mail_notes.specs.Names.{mail_file, mail_temp, notice_file, notice_number};
 
-use hex_digits::{digits_of, read};
+use hex_digits::{digits_of, read_hex};
 use host_calls::Name;
 
 /// The name of the file of the notes.
@@ -39,6 +39,6 @@ pub fn notice_number(name: &Name) -> Option<u32>
     if prefix != b"mail.".as_slice() {
         return None;
     }
-    let number = read(digits)?;
+    let number = read_hex(digits)?;
     Some(number as u32)
 }

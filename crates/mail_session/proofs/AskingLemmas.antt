@@ -12,7 +12,7 @@ use Rattle.daemon_turn.specs.Decisions.{questions}
 use Rattle.daemon_turn.specs.Kids.{AreChildren}
 use Rattle.daemon_turn.proofs.AskLemmas.{questions_of_none}
 use Rattle.mail_session.specs.Asking.{AsksKids, asked_besides, kids_after}
-use Rattle.mail_session.specs.inside.Staying.{left_by, place_by}
+use Rattle.mail_session.specs.inside.Staying.{kids_left_by, place_by}
 
 -- how many of those that answered stay
 abbrev pub count_staying : List (Option Ending) → ℕ
@@ -26,7 +26,7 @@ after_none (kid ∷ kids) = refl
 
 -- one answer more
 after_next : (kids : List Kid) (answers : List (Option Ending)) (answer : Option Ending) → length answers < length kids →
-    kids_after kids (answers ++ answer ∷ []) ≡ left_by (kids_after kids answers) (count_staying answers) answer
+    kids_after kids (answers ++ answer ∷ []) ≡ kids_left_by (kids_after kids answers) (count_staying answers) answer
 after_next [] answers answer below = absurd (omega arith)
 after_next (kid ∷ kids) [] None below = ap (λ (l : List Kid). kid ∷ l) (after_none kids)
 after_next (kid ∷ kids) [] (Some ending) below = after_none kids
@@ -90,7 +90,7 @@ place_inside tells kids count place left old new has below =
 
 pub one_asked : (tells : Bool) (kids : List Kid) (count place next : ℕ) (left last : List Kid) (old middle new : World) (kid : Kid) (answer : Option Ending) →
     count < length kids → HasAsked tells kids count place left old middle → kid ≡ get_or left place kid → next ≡ place_by place answer →
-    last ≡ left_by left place answer → (tells ≡ true → Asks kid.child middle new (Ok answer)) → HasAsked tells kids (count + 1) next last old new
+    last ≡ kids_left_by left place answer → (tells ≡ true → Asks kid.child middle new (Ok answer)) → HasAsked tells kids (count + 1) next last old new
 one_asked tells kids count place next left last old middle new kid answer below has at next_is last_is asks =
     let below_now : length has.answers < length kids = omega (arith, has.counted) in
     let at_now : kid ≡ get_or (kids_after kids has.answers) (count_staying has.answers) kid =
@@ -99,8 +99,8 @@ one_asked tells kids count place next left last old middle new kid answer below 
       answers = has.answers ++ answer ∷ [];
       counted = omega (arith, has.counted, length-append has.answers (answer ∷ []));
       placed = next_is ∙ ap (λ (n : ℕ). place_by n answer) has.placed ∙ sym (place_next has.answers answer);
-      left_are = last_is ∙ ap (λ (l : List Kid). left_by l place answer) has.left_are
-          ∙ ap (λ (n : ℕ). left_by (kids_after kids has.answers) n answer) has.placed ∙ sym (after_next kids has.answers answer below_now);
+      left_are = last_is ∙ ap (λ (l : List Kid). kids_left_by l place answer) has.left_are
+          ∙ ap (λ (n : ℕ). kids_left_by (kids_after kids has.answers) n answer) has.placed ∙ sym (after_next kids has.answers answer below_now);
       asked = λ known.
           (asks known).0
           ∙ ap (λ (world : World). with_asked world (world.asked ++ record { child = kid.child; answer = answer } ∷ [])) (has.asked known)

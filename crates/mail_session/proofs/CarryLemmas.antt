@@ -25,20 +25,20 @@ use Rattle.mail_notes.specs.declared.note.Note.{Note}
 use Rattle.mail_notes.specs.Hands.{Mailing}
 use Rattle.mail_notes.specs.Lines.{Fits}
 use Rattle.mail_notes.specs.Names.{IsMailName, mail_file, mail_temp, notice_file}
-use Rattle.mail_notes.specs.Runs.{AreMade, AreStopped}
+use Rattle.mail_notes.specs.Runs.{AreNotesMade, AreNotesStopped}
 use Rattle.mail_session.specs.declared.plan.MailPlan.{MailPlan}
 use Rattle.mail_session.specs.Dues.{sent_numbers}
 use Rattle.mail_session.specs.NoticeFiles.{ReadsBeside}
-use Rattle.mail_session.specs.Posting.{Part}
-use Rattle.mail_session.specs.Sessions.{IsCleared, IsOpened}
-use Rattle.mail_session.specs.inside.Working.{CarriesOut, CarriesTo, GivesAsked, GoesFurther, Makes, MayCarryOut, ReadsNotices, steps_by}
+use Rattle.mail_session.specs.Posting.{MailPart}
+use Rattle.mail_session.specs.Sessions.{IsCleared, AreNotesOpened}
+use Rattle.mail_session.specs.inside.Working.{CarriesOutPlan, CarriesTo, GivesAsked, GoesFurther, Makes, MayCarryOut, ReadsNotices, steps_by}
 use Rattle.mail_session.proofs.AskingLemmas.{after_none}
 use Rattle.mail_session.proofs.NotingLemmas.{notice_apart}
 use Rattle.mail_session.proofs.ReadLemmas.{notes_are_no_notice}
 use Rattle.mail_session.proofs.SessionLemmas.{clearing_posts, leftovers_are_cleared, sessions_post, stopped_sessions_post}
 use Rattle.mail_session.proofs.StaleLemmas.{notice_is_stale, stale_among, stale_are_files, stale_of_mail, stale_there, temp_among}
 
-abbrev nothing : Part
+abbrev nothing : MailPart
 nothing = record { made = []; next = []; added = [] }
 
 -- the files that are left over may be removed
@@ -57,10 +57,10 @@ module _ (tells : Bool) (before between : Session) (old cleared : World) (plan :
 
   -- a file could not be removed
   pub clear_stops : (program : List ℕ) (fault : HostFault) (result : Result (Unit {0}) HostFault) → IsErrAnd result (λ other. other ≡ fault) → CallsInside {T = Unit {0}} Failed before between (Err fault) →
-      CarriesOut program tells before between old cleared plan kids kids sent sent result
+      CarriesOutPlan program tells before between old cleared plan kids kids sent sent result
   clear_stops program fault (Ok done) is inside = absurd is
   clear_stops program fault (Err other) is inside =
-      subst (λ (one : HostFault). CarriesOut program tells before between old cleared plan kids kids sent sent (Err one)) (sym is) (record {
+      subst (λ (one : HostFault). CarriesOutPlan program tells before between old cleared plan kids kids sent sent (Err one)) (sym is) (record {
         part = nothing;
         answers = [];
         goes = record {
@@ -90,7 +90,7 @@ module _ (tells : Bool) (before between : Session) (old cleared : World) (plan :
 
   module _ (inside : CallsInside {T = Unit {0}} Failed before between (Ok tt))
       (gone : tells ≡ true → plan.stale.items ≢ [] → AreCleared plan.stale.items old.now.folder cleared.now.folder) where
-    pub is_cleared : (known : tells ≡ true) (notes : List Note) (table : JobTable) (start : World) → IsOpened notes table start old → IsCleared notes table start cleared
+    pub is_cleared : (known : tells ≡ true) (notes : List Note) (table : JobTable) (start : World) → AreNotesOpened notes table start old → IsCleared notes table start cleared
     is_cleared known notes table start is_opened =
         leftovers_are_cleared notes table plan.stale.items start old cleared is_opened (of_mail known) (temp known) (changes known) (gone known)
 
@@ -103,7 +103,7 @@ module _ (tells : Bool) (before between : Session) (old cleared : World) (plan :
         (λ one was. record { alone = left_alone (Contains plan.stale.items) old.now.folder one was; less = λ name. inl refl }) (reading cleared) (reading_is_image cleared.now.folder)
 
     -- a notice of a kid stays
-    notice_kept : (known : tells ≡ true) (notes : List Note) (table : JobTable) (start : World) → IsOpened notes table start old → (number : ℕ) → Fits number → has_kid kids number ≡ true →
+    notice_kept : (known : tells ≡ true) (notes : List Note) (table : JobTable) (start : World) → AreNotesOpened notes table start old → (number : ℕ) → Fits number → has_kid kids number ≡ true →
         finite.get (reading cleared) (notice_file number) ≡ finite.get (reading old) (notice_file number)
     notice_kept known notes table start is number fits has =
         let clearing = clearing_of known in
@@ -114,7 +114,7 @@ module _ (tells : Bool) (before between : Session) (old cleared : World) (plan :
           never bad = cc
 
     -- and one that belongs to none is gone
-    notice_gone : (known : tells ≡ true) (notes : List Note) (table : JobTable) (start : World) → IsOpened notes table start old → (number : ℕ) → Fits number → has_kid kids number ≡ false →
+    notice_gone : (known : tells ≡ true) (notes : List Note) (table : JobTable) (start : World) → AreNotesOpened notes table start old → (number : ℕ) → Fits number → has_kid kids number ≡ false →
         (held : Option (List ℕ)) → finite.get (reading old) (notice_file number) ≡ held → finite.get (reading cleared) (notice_file number) ≡ None
     notice_gone known notes table start is number fits lacks None none =
         let clearing = clearing_of known in
@@ -129,7 +129,7 @@ module _ (tells : Bool) (before between : Session) (old cleared : World) (plan :
         (gone known (λ none. has_contained [] (notice_file number) (subst (λ (names : List (List ℕ)). Contains names (notice_file number)) none among))).gone
         (notice_file number) among (reading cleared) (reading_is_image cleared.now.folder)
 
-    reads_notices : (known : tells ≡ true) (notes : List Note) (table : JobTable) (start : World) → IsOpened notes table start old → (numbers : List ℕ) (new : World) →
+    reads_notices : (known : tells ≡ true) (notes : List Note) (table : JobTable) (start : World) → AreNotesOpened notes table start old → (numbers : List ℕ) (new : World) →
         ReadsBeside numbers cleared new → ReadsNotices kids numbers old new
     reads_notices known notes table start is numbers new reads = record {
       placed = reads.placed;
@@ -147,10 +147,10 @@ module _ (tells : Bool) (before between : Session) (old cleared : World) (plan :
       run = run ∙ ap (λ (l : List Moment). more ++ l) (changes known).leaves.run ∙ sym (append_assoc more (changes known).leaves.more (moments old));
     }
 
-    carries_by : (of : Mailing) (notes : List Note) (table : JobTable) (start new : World) (part : Part) (answers : List (Option Ending)) → tells ≡ true → IsOpened notes table start old → IsCleared notes table start cleared →
+    carries_by : (of : Mailing) (notes : List Note) (table : JobTable) (start new : World) (part : MailPart) (answers : List (Option Ending)) → tells ≡ true → AreNotesOpened notes table start old → IsCleared notes table start cleared →
         (result : Result (Unit {0}) HostFault) → IfOk result (λ done. ReadsBeside (sent_numbers part.made) cleared new) → GivesAsked of notes part (questions kids answers) cleared new result → CarriesTo of notes table kids part (questions kids answers) start old new result
     carries_by of notes table start new part answers known is_opened is (Ok done) reads gives =
-        let made : AreMade of notes part.made gives.given (questions kids answers) cleared new = gives.ends in
+        let made : AreNotesMade of notes part.made gives.given (questions kids answers) cleared new = gives.ends in
         record {
           given = gives.given;
           numbered = gives.numbered;
@@ -172,7 +172,7 @@ module _ (tells : Bool) (before between : Session) (old cleared : World) (plan :
           reads = reads_notices known notes table start is_opened (sent_numbers part.made) new reads;
         }
     carries_by of notes table start new part answers known is_opened is (Err fault) reads gives =
-        let stopped : AreStopped of notes part.made part.next gives.given (questions kids answers) cleared new = gives.ends in
+        let stopped : AreNotesStopped of notes part.made part.next gives.given (questions kids answers) cleared new = gives.ends in
         record {
           given = gives.given;
           numbered = gives.numbered;
@@ -188,7 +188,7 @@ module _ (tells : Bool) (before between : Session) (old cleared : World) (plan :
 
     -- the steps were made, or the first of them
     pub carried : (program : List ℕ) (after : Session) (new : World) (left : List Kid) (more : List ℕ) (result : Result (Unit {0}) HostFault) →
-        Makes program tells between after cleared new plan kids left sent more result → CarriesOut program tells before after old new plan kids left sent more result
+        Makes program tells between after cleared new plan kids left sent more result → CarriesOutPlan program tells before after old new plan kids left sent more result
     carried program after new left more result makes = record {
       part = makes.part;
       answers = makes.answers;

@@ -10,32 +10,32 @@ use Rattle.host_calls.specs.declared.host.Host.{Ghosts}
 use Rattle.host_calls.specs.Causes.{Rose}
 use Rattle.host_calls.specs.Session.{Enters, IsLeft, Session}
 use Rattle.host_calls.specs.World.{World, reading}
-use Rattle.host_session.specs.Work.{Calls, EndsSession, IsUndone}
+use Rattle.host_session.specs.Work.{Calls, EndsSession, IsWorkUndone}
 use Rattle.host_session.proofs.SessionLemmas.{counts_on}
 use Rattle.spool_shows.specs.Shown.{shown_by}
 use Rattle.host_calls.specs.declared.store_fault.StoreFault.{StoreFault}
 use Rattle.host_calls.specs.declared.store_fault.StoreFault.TheVariants as fault
-use Rattle.host_calls.specs.StoreFaults.{IsOfReading}
+use Rattle.host_calls.specs.StoreFaults.{IsReadingFault}
 use Rattle.step_runs.specs.Calls.{ShowsAsBefore}
 use Rattle.whole_file.proofs.OthersLemmas.{changes_none}
 use Rattle.daemon_turn.specs.declared.kid.Kid.{Kid}
 use Rattle.host_session.specs.declared.turn_end.TurnEnd.{TurnEnd}
 use Rattle.host_session.specs.declared.turn_end.TurnEnd.TheVariants.{Busy, Damaged, Done, FileFault, Memory}
 use Rattle.daemon_turn.specs.Kids.{AreChildren}
-use Rattle.daemon_turn.specs.Leaving.{IfUnread}
+use Rattle.daemon_turn.specs.Leaving.{IfNoTableRead}
 use Rattle.host_session.specs.Ends.{end_after, end_of_session}
 use Rattle.host_session.proofs.EndLemmas.{is_fault, not_busy}
 use Rattle.mail_notes.specs.declared.note.Note.{Note}
 use Rattle.mail_notes.specs.Hands.{Mailing}
-use Rattle.mail_session.specs.Leaving.{Gave, IsIdle, IsNone, IsStopped, IsWhole, MailLeaves, PostAt, PostsTo}
+use Rattle.mail_session.specs.Leaving.{SessionHandsOver, IsMailIdle, IsNothingSent, IsMailStopped, IsMailDone, MailLeaves, PostSpool, PostsTo}
 use Rattle.mail_session.specs.PostState.{PostState}
-use Rattle.mail_session.specs.inside.Working.{Works}
+use Rattle.mail_session.specs.inside.Working.{MailWorks}
 use Rattle.mail_session.proofs.SessionLemmas.{recovery_leaves, recovery_now}
 
-abbrev at : Session → World → PostState → PostAt
+abbrev at : Session → World → PostState → PostSpool
 at session world post = record { session = session; world = world; post = post }
 
-idle_same : (before after : Session) (old new : World) (post : PostState) → new ≡ old → IsIdle [] (at before old post) (at after new post)
+idle_same : (before after : Session) (old new : World) (post : PostState) → new ≡ old → IsMailIdle [] (at before old post) (at after new post)
 idle_same before after old new post same = record {
   none = record { none = refl; kids = refl };
   leaves = recovery_leaves old new unchanged;
@@ -50,7 +50,7 @@ idle_same before after old new post same = record {
 module _ (tells alone : Bool) (before after : Session) (old new : World) (post : PostState) (of : EnterFault) (enters : Enters {T = Unit {0}} before after (Err of))
     (same : tells ≡ true → alone ≡ true → new ≡ old) (children : AreChildren before.children post.kids) where
   not_entered : (end : TurnEnd) → (end ≡ Busy → Rose before.taken after.taken) → (end ≡ FileFault → Rose before.file_faults after.file_faults) →
-      (tells ≡ true → alone ≡ true → MailLeaves [] (at before old post) (at after new post) end) → IfUnread end (IsNone [] post post) → (sent : List ℕ) → sent ≡ [] →
+      (tells ≡ true → alone ≡ true → MailLeaves [] (at before old post) (at after new post) end) → IfNoTableRead end (IsNothingSent [] post post) → (sent : List ℕ) → sent ≡ [] →
       PostsTo tells alone (at before old post) (at after new post) end sent
   not_entered end busy failed leaves unread sent none = subst (PostsTo tells alone (at before old post) (at after new post) end) (sym none) (record {
     outside = enters.inside;
@@ -79,7 +79,7 @@ module _ (tells alone : Bool) (before after : Session) (old new : World) (post :
 -- What is left within the session is left by it.
 module _ (before between worked after : Session) (entered : between.children ≡ before.children) (left : after.children ≡ worked.children) (old new : World) (post now : PostState) (sent : List ℕ) where
   gave_at : (made : List Note) (given : List Rattle.host_calls.specs.declared.child.Handed.Handed) (answers : List (Rattle.std.specs.Prelude.Option Rattle.host_calls.specs.declared.child.Ending.Ending)) (of : Mailing) →
-      Gave made given answers of sent (at between old post) (at worked new now) → Gave made given answers of sent (at before old post) (at after new now)
+      SessionHandsOver made given answers of sent (at between old post) (at worked new now) → SessionHandsOver made given answers of sent (at before old post) (at after new now)
   gave_at made given answers of gave = record {
     handed = gave.handed;
     hands = gave.hands;
@@ -91,7 +91,7 @@ module _ (before between worked after : Session) (entered : between.children ≡
     kids = gave.kids;
   }
 
-  whole_at : IsWhole sent (at between old post) (at worked new now) → IsWhole sent (at before old post) (at after new now)
+  whole_at : IsMailDone sent (at between old post) (at worked new now) → IsMailDone sent (at before old post) (at after new now)
   whole_at whole = record {
     table = whole.table;
     notes = whole.notes;
@@ -107,7 +107,7 @@ module _ (before between worked after : Session) (entered : between.children ≡
     others = whole.others;
   }
 
-  stopped_at : IsStopped sent (at between old post) (at worked new now) → IsStopped sent (at before old post) (at after new now)
+  stopped_at : IsMailStopped sent (at between old post) (at worked new now) → IsMailStopped sent (at before old post) (at after new now)
   stopped_at stopped = record {
     table = stopped.table;
     notes = stopped.notes;
@@ -123,7 +123,7 @@ module _ (before between worked after : Session) (entered : between.children ≡
     gave = gave_at stopped.made stopped.given stopped.answers _ stopped.gave;
   }
 
-  idle_at : IsIdle sent (at between old post) (at worked new now) → IsIdle sent (at before old post) (at after new now)
+  idle_at : IsMailIdle sent (at between old post) (at worked new now) → IsMailIdle sent (at before old post) (at after new now)
   idle_at idle = record { none = idle.none; leaves = idle.leaves; now = idle.now; shown = idle.shown; asked = idle.asked }
 
   pub leaves_at : (end : TurnEnd) → MailLeaves sent (at between old post) (at worked new now) end → MailLeaves sent (at before old post) (at after new now) end
@@ -138,8 +138,8 @@ module _ (before between worked after : Session) (entered : between.children ≡
 -- By what came of the work.
 module _ (tells alone : Bool) (before between worked after : Session) (old entered stood new : World) (post now : PostState) (program : now.program ≡ post.program) (sent : List ℕ)
     (result : Result (Unit {0}) StoreFault) (enters : Enters {T = Unit {0}} {E = EnterFault} before between (Ok tt)) (same : tells ≡ true → alone ≡ true → entered ≡ old)
-    (works : Works tells (at between entered post) (at worked stood now) sent result) (left : IsLeft worked after) (kept : tells ≡ true → alone ≡ true → new ≡ stood) where
-  unread_by : (of : Result (Unit {0}) StoreFault) → Works tells (at between entered post) (at worked stood now) sent of → IfUnread (end_after of) (IsNone sent post now)
+    (works : MailWorks tells (at between entered post) (at worked stood now) sent result) (left : IsLeft worked after) (kept : tells ≡ true → alone ≡ true → new ≡ stood) where
+  unread_by : (of : Result (Unit {0}) StoreFault) → MailWorks tells (at between entered post) (at worked stood now) sent of → IfNoTableRead (end_after of) (IsNothingSent sent post now)
   unread_by (Ok done) is = tt
   unread_by (Err fault.FileFault) is = tt
   unread_by (Err (fault.Damaged damage)) is = is.unread damage refl
@@ -169,15 +169,15 @@ module _ (tells alone : Bool) (before between worked after : Session) (old enter
 -- What came of the session: it could not begin, or the work was done in it.
 module _ {H F : Type 0} (g : Ghosts H) (calls : Calls H F (Result (Unit {0}) StoreFault)) (work left : F) (old new : H) where
   pub reads_of_session : (result : Result (Result (Unit {0}) StoreFault) EnterFault) → EndsSession g calls work left old new result →
-      ((first last : H) (done : Result (Unit {0}) StoreFault) → CalledAtMut calls work first done left last → IfErr done IsOfReading) →
-      IfOk result (λ done. IfErr done IsOfReading)
+      ((first last : H) (done : Result (Unit {0}) StoreFault) → CalledAtMut calls work first done left last → IfErr done IsReadingFault) →
+      IfOk result (λ done. IfErr done IsReadingFault)
   reads_of_session (Ok done) ends within = within ends.first ends.last done ends.did
   reads_of_session (Err fault) ends within = tt
 
   module _ (post now : PostState) (program : now.program ≡ post.program) (children : AreChildren (g.session old).children post.kids) (sent : List ℕ)
       (still : left ≡ work → (now ≡ post) × (sent ≡ []))
       (within : (first last : H) (done : Result (Unit {0}) StoreFault) → CalledAtMut calls work first done left last →
-      Works g.tells (at (g.session first) (g.world first) post) (at (g.session last) (g.world last) now) sent done) where
+      MailWorks g.tells (at (g.session first) (g.world first) post) (at (g.session last) (g.world last) now) sent done) where
     pub distinct_of_session : (result : Result (Result (Unit {0}) StoreFault) EnterFault) → EndsSession g calls work left old new result → are_distinct sent ≡ true
     distinct_of_session (Ok done) ends = (within ends.first ends.last done ends.did).distinct
     distinct_of_session (Err fault) ends = ap are_distinct (still ends.same).1
@@ -185,10 +185,10 @@ module _ {H F : Type 0} (g : Ghosts H) (calls : Calls H F (Result (Unit {0}) Sto
     abbrev Posted : PostState → TurnEnd → Type 0
     Posted is end = PostsTo g.tells g.alone (at (g.session old) (g.world old) post) (at (g.session new) (g.world new) is) end sent
 
-    as_it_was : (fault : EnterFault) → IsUndone g work left old new fault → (end : TurnEnd) → Posted post end → Posted now end
+    as_it_was : (fault : EnterFault) → IsWorkUndone g work left old new fault → (end : TurnEnd) → Posted post end → Posted now end
     as_it_was fault undone end posted = subst (λ (is : PostState). Posted is end) (sym (still undone.same).0) posted
 
-    unentered : (fault : EnterFault) → IsUndone g work left old new fault → Enters {T = Unit {0}} (g.session old) (g.session new) (Err fault)
+    unentered : (fault : EnterFault) → IsWorkUndone g work left old new fault → Enters {T = Unit {0}} (g.session old) (g.session new) (Err fault)
     unentered fault undone =
         record { inside = undone.refused.left.outside; children = undone.refused.left.children; counts = undone.refused.left.counts }
 

@@ -15,9 +15,9 @@ use Rattle.mail_notes.specs.declared.note.Note.{Note}
 use Rattle.mail_notes.specs.declared.note.NotedJob.{NotedJob}
 use Rattle.mail_notes.specs.Hands.{Mailing}
 use Rattle.mail_notes.specs.Lines.{notes_text}
-use Rattle.mail_notes.specs.Runs.{AreMade, AreStopped, IsReady}
+use Rattle.mail_notes.specs.Runs.{AreNotesMade, AreNotesStopped, HoldsNotesAlone}
 use Rattle.mail_notes.proofs.RunLemmas.{no_notes_are_made, notes_are_made_after, notes_are_stopped_after}
-use Rattle.mail_session.specs.declared.due.Due.{Due}
+use Rattle.mail_session.specs.declared.due.NoticeDue.{NoticeDue}
 use Rattle.mail_session.specs.declared.plan.MailPlan.{MailPlan}
 use Rattle.mail_session.specs.Asking.{AsksKids, asked_besides, kids_after}
 use Rattle.mail_session.specs.Dues.{notes_of, sent_numbers}
@@ -26,8 +26,8 @@ use Rattle.mail_session.specs.News.{noting_of}
 use Rattle.mail_session.specs.NoticeFiles.{ReadsBeside}
 use Rattle.mail_session.specs.Noting.{Notes}
 use Rattle.mail_session.proofs.ReadLemmas.{reads_both}
-use Rattle.mail_session.specs.Posting.{Gives, Part, Posts}
-use Rattle.mail_session.specs.inside.Working.{Makes, MakingEnds, steps_by}
+use Rattle.mail_session.specs.Posting.{SendsPart, MailPart, Posts}
+use Rattle.mail_session.specs.inside.Working.{Makes, NotesMakingEnds, steps_by}
 use Rattle.mail_session.proofs.NotingLemmas.{along_none}
 use Rattle.mail_session.proofs.SendLemmas.{not_memory}
 
@@ -46,16 +46,16 @@ questions_make_no_note of notes kids answers world ready =
       asked = refl;
     }
 
-asked_at : (of : Mailing) (notes : List Note) (kids : List Kid) (answers : List (Option Ending)) (old new : World) → IsReady notes old.now.folder →
-    new ≡ asked_besides kids answers old → AreMade of notes [] [] (questions kids answers) old new
+asked_at : (of : Mailing) (notes : List Note) (kids : List Kid) (answers : List (Option Ending)) (old new : World) → HoldsNotesAlone notes old.now.folder →
+    new ≡ asked_besides kids answers old → AreNotesMade of notes [] [] (questions kids answers) old new
 asked_at of notes kids answers old new ready is =
-    subst (AreMade of notes [] [] (questions kids answers) old) (sym is) (questions_make_no_note of notes kids answers old ready)
+    subst (AreNotesMade of notes [] [] (questions kids answers) old) (sym is) (questions_make_no_note of notes kids answers old ready)
 
-asked_stopped : (of : Mailing) (notes : List Note) (kids : List Kid) (answers : List (Option Ending)) (old new : World) → IsReady notes old.now.folder →
-    new ≡ asked_besides kids answers old → AreStopped of notes [] [] [] (questions kids answers) old new
+asked_stopped : (of : Mailing) (notes : List Note) (kids : List Kid) (answers : List (Option Ending)) (old new : World) → HoldsNotesAlone notes old.now.folder →
+    new ≡ asked_besides kids answers old → AreNotesStopped of notes [] [] [] (questions kids answers) old new
 asked_stopped of notes kids answers old new ready is =
     let made = questions_make_no_note of notes kids answers old ready in
-    subst (AreStopped of notes [] [] [] (questions kids answers) old) (sym is) (record {
+    subst (AreNotesStopped of notes [] [] [] (questions kids answers) old) (sym is) (record {
       leaves = made.leaves;
       now = λ image of_it. along_none of notes [] old.now image (made.alone image of_it) (ready.holds image of_it);
       handed = made.handed;
@@ -68,7 +68,7 @@ sent_after_noting : (news : List NotedJob) (made : List Note) → sent_numbers (
 sent_after_noting [] made = refl
 sent_after_noting (job ∷ news) made = sent_after_noting news made
 
-abbrev nothing : Part
+abbrev nothing : MailPart
 nothing = record { made = []; next = []; added = [] }
 
 module _ (program : List ℕ) (tells : Bool) (before between : Session) (old asked : World) (plan : MailPlan) (kids left : List Kid) (sent : List ℕ)
@@ -76,7 +76,7 @@ module _ (program : List ℕ) (tells : Bool) (before between : Session) (old ask
   abbrev news : List NotedJob
   news = plan.news.items
 
-  abbrev dues : List Due
+  abbrev dues : List NoticeDue
   dues = plan.dues.items
 
   abbrev noting : List Note
@@ -138,38 +138,38 @@ module _ (program : List ℕ) (tells : Bool) (before between : Session) (old ask
           reads = λ known. tt;
           files = λ known of notes same ready text_is due.
               let made = asked_at of notes kids asks.answers old asked ready (asks.asked known) in
-              let stopped : AreStopped of (notes ++ []) [] noting [] [] asked noted = notes_them.files known of (notes ++ []) made.ready (text_after of notes text_is) in
+              let stopped : AreNotesStopped of (notes ++ []) [] noting [] [] asked noted = notes_them.files known of (notes ++ []) made.ready (text_after of notes text_is) in
               record {
                 given = [];
                 numbered = refl;
-                ends = subst (λ (l : List Asked). AreStopped of notes [] noting [] l old noted) (append-nil (questions kids asks.answers))
+                ends = subst (λ (l : List Asked). AreNotesStopped of notes [] noting [] l old noted) (append-nil (questions kids asks.answers))
                     (notes_are_stopped_after of notes [] [] noting [] [] (questions kids asks.answers) [] old asked noted made stopped);
               };
         })
 
     module _ (notes_them : Notes tells between then asked noted news plan.text.items (Ok tt)) (after : Session) (new : World) (gone is : List ℕ) (more : List Kid)
         (result : Result (Unit {0}) HostFault) (posts : Posts program tells then after noted new dues plan.text.items is left more sent gone result) where
-      noted_so : (of : Mailing) (notes : List Note) → tells ≡ true → IsReady notes old.now.folder → plan.text.items ≡ notes_text (notes ++ noting) →
-          AreMade of notes noting [] (questions kids asks.answers) old noted
+      noted_so : (of : Mailing) (notes : List Note) → tells ≡ true → HoldsNotesAlone notes old.now.folder → plan.text.items ≡ notes_text (notes ++ noting) →
+          AreNotesMade of notes noting [] (questions kids asks.answers) old noted
       noted_so of notes known ready text_is =
           let made = asked_at of notes kids asks.answers old asked ready (asks.asked known) in
-          let now : AreMade of (notes ++ []) noting [] [] asked noted = notes_them.files known of (notes ++ []) made.ready (text_after of notes text_is) in
-          subst (λ (l : List Asked). AreMade of notes noting [] l old noted) (append-nil (questions kids asks.answers))
+          let now : AreNotesMade of (notes ++ []) noting [] [] asked noted = notes_them.files known of (notes ++ []) made.ready (text_after of notes text_is) in
+          subst (λ (l : List Asked). AreNotesMade of notes noting [] l old noted) (append-nil (questions kids asks.answers))
           (notes_are_made_after of notes [] noting [] [] (questions kids asks.answers) [] old asked noted made now)
 
       reads_asked : tells ≡ true → ReadsBeside [] old noted
       reads_asked known = subst (λ (from : World). ReadsBeside [] from noted → ReadsBeside [] old noted) (sym (asks.asked known)) (λ reads. record { placed = reads.placed; stay = reads.stay }) (notes_them.reads known)
 
-      abbrev whole : Part
+      abbrev whole : MailPart
       whole = record { made = noting ++ posts.part.made; next = posts.part.next; added = posts.part.added }
 
-      ends_so : (of : Mailing) (notes : List Note) → AreMade of notes noting [] (questions kids asks.answers) old noted → (one : Result (Unit {0}) HostFault) (gives : Gives of (notes ++ noting) posts.part noted new one) →
-          MakingEnds of notes whole gives.given (questions kids asks.answers) old new one
+      ends_so : (of : Mailing) (notes : List Note) → AreNotesMade of notes noting [] (questions kids asks.answers) old noted → (one : Result (Unit {0}) HostFault) (gives : SendsPart of (notes ++ noting) posts.part noted new one) →
+          NotesMakingEnds of notes whole gives.given (questions kids asks.answers) old new one
       ends_so of notes made (Ok done) gives =
-          subst (λ (l : List Asked). AreMade of notes (noting ++ posts.part.made) gives.given l old new) (append-nil (questions kids asks.answers))
+          subst (λ (l : List Asked). AreNotesMade of notes (noting ++ posts.part.made) gives.given l old new) (append-nil (questions kids asks.answers))
           (notes_are_made_after of notes noting posts.part.made [] gives.given (questions kids asks.answers) [] old noted new made gives.ends)
       ends_so of notes made (Err fault) gives =
-          subst (λ (l : List Asked). AreStopped of notes (noting ++ posts.part.made) posts.part.next gives.given l old new) (append-nil (questions kids asks.answers))
+          subst (λ (l : List Asked). AreNotesStopped of notes (noting ++ posts.part.made) posts.part.next gives.given l old new) (append-nil (questions kids asks.answers))
           (notes_are_stopped_after of notes noting posts.part.made posts.part.next [] gives.given (questions kids asks.answers) [] old noted new made gives.ends)
 
       all_so : (one : Result (Unit {0}) HostFault) → IfOk one (λ done. posts.part.made ≡ notes_of dues) →
@@ -205,6 +205,6 @@ module _ (program : List ℕ) (tells : Bool) (before between : Session) (old ask
             (reads_both [] (sent_numbers posts.part.made) old noted new result (reads_asked known) (posts.reads known));
         files = λ known of notes same ready text_is due.
             let made = noted_so of notes known ready text_is in
-            let gives : Gives of (notes ++ noting) posts.part noted new result = posts.files known of (notes ++ noting) same made.ready text_is due in
+            let gives : SendsPart of (notes ++ noting) posts.part noted new result = posts.files known of (notes ++ noting) same made.ready text_is due in
             record { given = gives.given; numbered = gives.numbered; ends = ends_so of notes made result gives };
       }

@@ -15,13 +15,13 @@ use Rattle.spool_model.specs.JobTable.{JobEntry, JobState, JobTable, entry_at}
 use Rattle.step_runs.specs.Current.{IsCurrent, Kept}
 use Rattle.step_runs.specs.WithoutScripts.{entry_without_script, job_without_script}
 use Rattle.step_runs.proofs.WithoutScriptsLemmas.{entries_are_without_scripts}
-use Rattle.spool_store.specs.Scripts.{HoldsScript, IsFileOf, IsHeaderOn}
+use Rattle.spool_store.specs.Scripts.{HoldsScript, IsLiveFileName, IsHeaderOn}
 use Rattle.record_lines.proofs.SayingLemmas.{saying_names}
 use Rattle.mail_notes.specs.declared.note.NotedJob.{NotedJob}
-use Rattle.mail_notes.specs.Book.{StandsAt}
-use Rattle.mail_notes.specs.Notes.{is_named, is_noting, names}
-use Rattle.mail_notes.specs.declared.book.MailStanding.{MailStanding}
-use Rattle.mail_notes.specs.declared.book.MailStanding.TheVariants.{Closed, Waits}
+use Rattle.mail_notes.specs.Book.{IsNoticeStateAt}
+use Rattle.mail_notes.specs.Notes.{has_note_of, is_noting, is_note_of}
+use Rattle.mail_notes.specs.declared.book.NoticeState.{NoticeState}
+use Rattle.mail_notes.specs.declared.book.NoticeState.TheVariants.{Closed, Waits}
 use Rattle.mail_notes.specs.declared.note.Note.{Note}
 use Rattle.spool_shows.proofs.Membership.{contained, made_has}
 use Rattle.spool_store.specs.Listed.{IsLive, ListsLive}
@@ -41,7 +41,7 @@ minute_of job other is = ap (λ (j : Job). j.minute) is
 
 -- what the store says of the file and of the header is what is noted
 pub noted_from : (kept : Kept) (folder : Folder) (table : JobTable) (number : ℕ) (file user : List ℕ) (always : Bool) → IsCurrent kept folder table →
-    IsFileOf kept.table kept.old_form number file → HoldsScript table folder number file → IsHeaderOn table number (record { user = user; mail = always }) →
+    IsLiveFileName kept.table kept.old_form number file → HoldsScript table folder number file → IsHeaderOn table number (record { user = user; mail = always }) →
     IsNotedFrom (reading_of folder) table (record { number = number; file = file; always = always; user = user })
 noted_from kept folder table number file user always current of holds header =
     let script = holds.script in
@@ -62,10 +62,10 @@ noted_from kept folder table number file user always current of holds header =
     }
 
 -- by how a number stands, some note is of it or none
-pub named_by : (notes : List Note) (number : ℕ) (held : Option MailStanding) → StandsAt notes number held → is_some held ≡ is_named number notes
+pub named_by : (notes : List Note) (number : ℕ) (held : Option NoticeState) → IsNoticeStateAt notes number held → is_some held ≡ has_note_of number notes
 named_by notes number None none = sym none
-named_by notes number (Some (Waits job)) waiting = sym (saying_names (names number) is_noting notes waiting.is_noted)
-named_by notes number (Some Closed) closed = sym (saying_names (names number) is_noting notes closed.is_noted)
+named_by notes number (Some (Waits job)) waiting = sym (saying_names (is_note_of number) is_noting notes waiting.is_noted)
+named_by notes number (Some Closed) closed = sym (saying_names (is_note_of number) is_noting notes closed.is_noted)
 
 pub flipped : (test some named : Bool) → not test ≡ some → some ≡ named → test ≡ not named
 flipped true some named is same = ap not (is ∙ same)

@@ -17,10 +17,10 @@ use Rattle.host_calls.specs.World.{World}
 use Rattle.host_session.proofs.SessionLemmas.{stays_inside}
 use Rattle.mail_notes.specs.declared.note.Note.{Note}
 use Rattle.mail_notes.specs.declared.note.NotedJob.{NotedJob}
-use Rattle.mail_notes.specs.Hands.{Hands, Mailing}
+use Rattle.mail_notes.specs.Hands.{SendsNotices, Mailing}
 use Rattle.mail_notes.specs.Lines.{note_line, notes_text}
 use Rattle.mail_notes.specs.Names.{mail_file, mail_temp}
-use Rattle.mail_notes.specs.Runs.{AreMade, IsReady}
+use Rattle.mail_notes.specs.Runs.{AreNotesMade, HoldsNotesAlone}
 use Rattle.mail_notes.proofs.RunLemmas.{no_notes_are_made}
 use Rattle.mail_session.specs.News.{noting_of}
 use Rattle.mail_session.specs.Noting.{Notes, NotingEnds}
@@ -31,7 +31,7 @@ use Rattle.mail_session.proofs.NotingLemmas.{notes_made, notes_stopped}
 use Rattle.mail_session.proofs.SendLemmas.{no_fault}
 
 -- that jobs were seen hands nothing over
-pub noting_hands_nothing : (of : Mailing) (news : List NotedJob) → Hands of (noting_of news) []
+pub noting_hands_nothing : (of : Mailing) (news : List NotedJob) → SendsNotices of (noting_of news) []
 noting_hands_nothing of [] = refl
 noting_hands_nothing of (job ∷ news) = ([], [], refl, noting_hands_nothing of news, refl)
 
@@ -43,12 +43,12 @@ noted_none tells session world news text none inside no_temp = record {
   no_temp = no_temp;
   reads = λ known. reads_none world;
   files = λ known of notes ready text_is.
-      subst (λ (of_none : List NotedJob). AreMade of notes (noting_of of_none) [] [] world world) (sym none) (no_notes_are_made of notes world ready);
+      subst (λ (of_none : List NotedJob). AreNotesMade of notes (noting_of of_none) [] [] world world) (sym none) (no_notes_are_made of notes world ready);
 }
 
 -- else the file of notes is placed
 module _ (tells : Bool) (before after : Session) (old new : World) (news : List NotedJob) (text : List ℕ) where
-  noting_ends : (of : Mailing) (notes : List Note) → IsReady notes old.now.folder → text ≡ notes_text (notes ++ noting_of news) →
+  noting_ends : (of : Mailing) (notes : List Note) → HoldsNotesAlone notes old.now.folder → text ≡ notes_text (notes ++ noting_of news) →
       (result : Result (Unit {0}) HostFault) → Places mail_file text old new result → NotingEnds of notes (noting_of news) old new result
   noting_ends of notes ready text_is (Ok done) places =
       notes_made of notes (noting_of news) text old new ready text_is (λ image is. inl (noting_hands_nothing of news)) places.changes places.placed (noting_hands_nothing of news)

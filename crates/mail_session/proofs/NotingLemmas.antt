@@ -11,15 +11,15 @@ use Rattle.whole_file.specs.Others.{ChangesFiles, IsEither, LeavesOthers}
 use Rattle.whole_file.specs.Placing.{IsPlaced, IsPlacing}
 use Rattle.whole_file.proofs.ChangesJoined.{changes_end, left_alone}
 use Rattle.mail_notes.specs.declared.note.Note.{Note}
-use Rattle.mail_notes.specs.Hands.{Hands, HandsByNow, Mailing}
+use Rattle.mail_notes.specs.Hands.{SendsNotices, SendsNoticesByNow, Mailing}
 use Rattle.mail_notes.specs.Lines.{HoldsNotes, notes_text}
 use Rattle.mail_notes.specs.Names.{IsMailName, mail_file, mail_temp, notice_file}
-use Rattle.mail_notes.specs.Runs.{AreMade, AreStopped, IsAlong, IsReady}
+use Rattle.mail_notes.specs.Runs.{AreNotesMade, AreNotesStopped, IsAlongNotes, HoldsNotesAlone}
 use Rattle.mail_session.specs.inside.Sending.{Places}
 
 -- an image that holds the notes, before any of the new ones
 pub along_none : (of : Mailing) (notes new_ones : List Note) (start : Moment) (image : Files) → LeavesOthers IsMailName start.folder image →
-    HoldsNotes (map.get image mail_file) notes → IsAlong of notes new_ones start image start.handed
+    HoldsNotes (map.get image mail_file) notes → IsAlongNotes of notes new_ones start image start.handed
 along_none of notes new_ones start image alone holds = record {
   prefix = [];
   is_prefix = (new_ones, refl);
@@ -32,8 +32,8 @@ along_none of notes new_ones start image alone holds = record {
 
 -- and one that holds all of the new ones, once these were handed over
 pub along_all : (of : Mailing) (notes new_ones : List Note) (start : Moment) (image : Files) (given handed : List Handed) →
-    LeavesOthers IsMailName start.folder image → HoldsNotes (map.get image mail_file) (notes ++ new_ones) → HandsByNow of new_ones image given →
-    handed ≡ start.handed ++ given → IsAlong of notes new_ones start image handed
+    LeavesOthers IsMailName start.folder image → HoldsNotes (map.get image mail_file) (notes ++ new_ones) → SendsNoticesByNow of new_ones image given →
+    handed ≡ start.handed ++ given → IsAlongNotes of notes new_ones start image handed
 along_all of notes new_ones start image given handed alone holds by_now grown = record {
   prefix = new_ones;
   is_prefix = ([], sym (append-nil new_ones));
@@ -88,7 +88,7 @@ placed_under temp own target bytes old new result temp_is own_is changes placed 
 }
 
 -- A notice is placed.
-module _ (of : Mailing) (notes new_ones : List Note) (number : ℕ) (script : List ℕ) (old new : World) (ready : IsReady notes old.now.folder)
+module _ (of : Mailing) (notes new_ones : List Note) (number : ℕ) (script : List ℕ) (old new : World) (ready : HoldsNotesAlone notes old.now.folder)
     (changes : ChangesFiles (IsPlacing mail_temp (notice_file number) script old.now.folder) old new) where
   holds_still : (image : Files) → IsPlacing mail_temp (notice_file number) script old.now.folder image → HoldsNotes (map.get image mail_file) notes
   holds_still image is = subst (λ held. HoldsNotes held notes) (sym (is.alone.others mail_file (notes_elsewhere number))) (ready.holds is.alone.from is.alone.was)
@@ -97,14 +97,14 @@ module _ (of : Mailing) (notes new_ones : List Note) (number : ℕ) (script : Li
   alone_still image is = alone_of (notice_file number) (inr (inr (number, refl))) old.now.folder image is.alone
 
   along_still : (image : Files) (handed : List Handed) → IsPlacing mail_temp (notice_file number) script old.now.folder image × (handed ≡ old.now.handed) →
-      IsAlong of notes new_ones old.now image handed
+      IsAlongNotes of notes new_ones old.now image handed
   along_still image handed is =
-      subst (IsAlong of notes new_ones old.now image) (sym is.1) (along_none of notes new_ones old.now image (alone_still image is.0) (holds_still image is.0))
+      subst (IsAlongNotes of notes new_ones old.now image) (sym is.1) (along_none of notes new_ones old.now image (alone_still image is.0) (holds_still image is.0))
 
-  leaves_still : LeavesOnly (IsAlong of notes new_ones old.now) old new
+  leaves_still : LeavesOnly (IsAlongNotes of notes new_ones old.now) old new
   leaves_still = leaves_weaker _ _ old new along_still changes.leaves
 
-  pub notice_stopped : AreStopped of notes [] new_ones [] [] old new
+  pub notice_stopped : AreNotesStopped of notes [] new_ones [] [] old new
   notice_stopped = record {
     leaves = leaves_still;
     now = λ image is. along_still image new.now.handed (placing_end (notice_file number) script old new changes image is, changes.handed);
@@ -113,9 +113,9 @@ module _ (of : Mailing) (notes new_ones : List Note) (number : ℕ) (script : Li
     asked = changes.asked ∙ sym (append-nil old.asked);
   }
 
-pub notice_made : (of : Mailing) (notes : List Note) (number : ℕ) (script : List ℕ) (old new : World) → IsReady notes old.now.folder →
+pub notice_made : (of : Mailing) (notes : List Note) (number : ℕ) (script : List ℕ) (old new : World) → HoldsNotesAlone notes old.now.folder →
     ChangesFiles (IsPlacing mail_temp (notice_file number) script old.now.folder) old new →
-    IsPlaced mail_temp (notice_file number) script old.now.folder new.now.folder → AreMade of notes [] [] [] old new
+    IsPlaced mail_temp (notice_file number) script old.now.folder new.now.folder → AreNotesMade of notes [] [] [] old new
 notice_made of notes number script old new ready changes placed =
     let stopped = notice_stopped of notes [] number script old new ready changes in
     record {
@@ -132,30 +132,30 @@ notice_made of notes number script old new ready changes placed =
     }
 
 -- Notes are placed, all at once.
-module _ (of : Mailing) (notes new_ones : List Note) (text : List ℕ) (old new : World) (ready : IsReady notes old.now.folder)
+module _ (of : Mailing) (notes new_ones : List Note) (text : List ℕ) (old new : World) (ready : HoldsNotesAlone notes old.now.folder)
     (text_is : text ≡ notes_text (notes ++ new_ones))
-    (by_now : (image : Files) → IsPlacing mail_temp mail_file text old.now.folder image → HandsByNow of new_ones image [])
+    (by_now : (image : Files) → IsPlacing mail_temp mail_file text old.now.folder image → SendsNoticesByNow of new_ones image [])
     (changes : ChangesFiles (IsPlacing mail_temp mail_file text old.now.folder) old new) where
   alone_placing : (image : Files) → IsPlacing mail_temp mail_file text old.now.folder image → LeavesOthers IsMailName old.now.folder image
   alone_placing image is = alone_of mail_file (inl refl) old.now.folder image is.alone
 
   along_placing : (image : Files) (handed : List Handed) → IsPlacing mail_temp mail_file text old.now.folder image × (handed ≡ old.now.handed) →
-      IsAlong of notes new_ones old.now image handed
+      IsAlongNotes of notes new_ones old.now image handed
   along_placing image handed is = elim is.0.placed [
-    | inl same ↦ subst (IsAlong of notes new_ones old.now image) (sym is.1)
+    | inl same ↦ subst (IsAlongNotes of notes new_ones old.now image) (sym is.1)
         (along_none of notes new_ones old.now image (alone_placing image is.0)
         (subst (λ held. HoldsNotes held notes) (sym same) (ready.holds is.0.alone.from is.0.alone.was)))
     | inr new_text ↦ along_all of notes new_ones old.now image [] handed (alone_placing image is.0)
         (subst (λ held. HoldsNotes held (notes ++ new_ones)) (sym new_text) text_is) (by_now image is.0) (is.1 ∙ sym (append-nil old.now.handed))
   ]
 
-  pub leaves_placing : LeavesOnly (IsAlong of notes new_ones old.now) old new
+  pub leaves_placing : LeavesOnly (IsAlongNotes of notes new_ones old.now) old new
   leaves_placing = leaves_weaker _ _ old new along_placing changes.leaves
 
   pub alone_end : (image : Files) → IsImage new.now.folder image → LeavesOthers IsMailName old.now.folder image
   alone_end image is = alone_placing image (placing_end mail_file text old new changes image is)
 
-  pub notes_stopped : AreStopped of notes [] new_ones [] [] old new
+  pub notes_stopped : AreNotesStopped of notes [] new_ones [] [] old new
   notes_stopped = record {
     leaves = leaves_placing;
     now = λ image is. along_placing image new.now.handed (placing_end mail_file text old new changes image is, changes.handed);
@@ -164,13 +164,13 @@ module _ (of : Mailing) (notes new_ones : List Note) (text : List ℕ) (old new 
     asked = changes.asked ∙ sym (append-nil old.asked);
   }
 
-  pub ready_placed : IsPlaced mail_temp mail_file text old.now.folder new.now.folder → IsReady (notes ++ new_ones) new.now.folder
+  pub ready_placed : IsPlaced mail_temp mail_file text old.now.folder new.now.folder → HoldsNotesAlone (notes ++ new_ones) new.now.folder
   ready_placed placed = record {
     holds = λ image is. subst (λ held. HoldsNotes held (notes ++ new_ones)) (sym (placed.placed image is)) text_is;
     no_temp = placed.no_temp;
   }
 
-  pub notes_made : IsPlaced mail_temp mail_file text old.now.folder new.now.folder → Hands of new_ones [] → AreMade of notes new_ones [] [] old new
+  pub notes_made : IsPlaced mail_temp mail_file text old.now.folder new.now.folder → SendsNotices of new_ones [] → AreNotesMade of notes new_ones [] [] old new
   notes_made placed hands = record {
     leaves = leaves_placing;
     ready = ready_placed placed;

@@ -6,14 +6,14 @@ use Rattle.std.specs.List.{filter_map, cons_option}
 use Rattle.host_calls.specs.declared.damage.Damage.{Damage}
 use Rattle.host_calls.specs.Damages.{IfDamaged}
 use Rattle.host_calls.specs.World.{World, reading}
-use Rattle.record_lines.specs.Lines.{AreLines, AreSpelled}
+use Rattle.record_lines.specs.Lines.{AreRecordLines, AreSpelled}
 use Rattle.spool_model.specs.declared.entry.Entry.TheVariants.{Done, Live}
 use Rattle.spool_model.specs.declared.row.Row.{Row}
 use Rattle.spool_model.specs.JobTable.{JobEntry, JobTable, entry_at}
 use Rattle.spool_shows.specs.Shown.{shown_by}
 use Rattle.host_calls.specs.declared.store_fault.StoreFault.{StoreFault}
 use Rattle.host_calls.specs.declared.store_fault.StoreFault.TheVariants.{Damaged, FileFault, Memory, NumbersUsedUp, QueueFull}
-use Rattle.host_calls.specs.StoreFaults.{IsOfReading}
+use Rattle.host_calls.specs.StoreFaults.{IsReadingFault}
 use Rattle.spool_store.specs.Recovering.{IsRecovered, Recovered, ShowsTheSame}
 use Rattle.step_runs.specs.Calls.{ShowsAsBefore}
 use Rattle.step_runs.specs.Current.{IsCurrent, Kept}
@@ -29,15 +29,15 @@ use Rattle.mail_notes.specs.declared.note.Note.{Note}
 use Rattle.mail_notes.specs.declared.note.NotedJob.{NotedJob}
 use Rattle.mail_notes.specs.Lines.{HoldsNotes, SpellsNote, notes_text}
 use Rattle.mail_notes.specs.Names.{mail_file}
-use Rattle.mail_notes.specs.Notes.{MayCome}
+use Rattle.mail_notes.specs.Notes.{IsNoteAllowed}
 use Rattle.mail_notes.proofs.NameLemmas.{mail_is_none_of_the_stores}
 use Rattle.mail_notes.proofs.TextLemmas.{note_files_are_texts}
-use Rattle.mail_session.specs.declared.due.Due.{Due}
+use Rattle.mail_session.specs.declared.due.NoticeDue.{NoticeDue}
 use Rattle.mail_session.specs.declared.plan.MailPlan.{MailPlan}
 use Rattle.mail_session.specs.Leaving.{GivesNotes}
 use Rattle.mail_session.specs.News.{is_new, new_numbers, noting_of}
-use Rattle.mail_session.specs.Reading.{AreRead, IsDamageOf, IsTextOf}
-use Rattle.mail_session.specs.Steps.{AreDuesOf, due_of}
+use Rattle.mail_session.specs.Reading.{IsReadBook, IsDamageOf, IsTextOf}
+use Rattle.mail_session.specs.Steps.{AreDuesOf, due_of_entry}
 use Rattle.mail_session.specs.inside.Planning.{IfDamageOf, IsPlanFor, IsPlanIn, IsUnplanned, NotPlannedOn, Plans, PlansOn}
 use Rattle.mail_session.proofs.PostLemmas.{lines_join}
 
@@ -50,9 +50,9 @@ no_lines (note ∷ later) spelled = absurd (never spelled.1.0.line spelled.0 spe
   never (byte ∷ line) rest is = cc
 
 -- the file has the notes that were read
-pub gives_notes : (held : Option (List ℕ)) (text : List ℕ) (notes : List Note) → AreLines SpellsNote MayCome text notes → IsTextOf held text → GivesNotes held notes
+pub gives_notes : (held : Option (List ℕ)) (text : List ℕ) (notes : List Note) → AreRecordLines SpellsNote IsNoteAllowed text notes → IsTextOf held text → GivesNotes held notes
 gives_notes None text notes lines is = no_lines notes (subst (λ (bytes : List ℕ). AreSpelled SpellsNote bytes notes) is lines.spelled)
-gives_notes (Some bytes) text notes lines is = subst (λ (of : List ℕ). AreLines SpellsNote MayCome of notes) is lines
+gives_notes (Some bytes) text notes lines is = subst (λ (of : List ℕ). AreRecordLines SpellsNote IsNoteAllowed of notes) is lines
 
 -- so it holds them
 pub holds_notes : (held : Option (List ℕ)) (notes : List Note) → GivesNotes held notes → HoldsNotes held notes
@@ -61,7 +61,7 @@ holds_notes (Some bytes) notes lines = note_files_are_texts bytes notes lines.sp
 
 -- What is planned.
 
-pub plan_for : (table : JobTable) (plan : MailPlan) (text : List ℕ) (book : MailBook) (read : AreRead text book) →
+pub plan_for : (table : JobTable) (plan : MailPlan) (text : List ℕ) (book : MailBook) (read : IsReadBook text book) →
     ((notes : List Note) → IsBookOf notes book → map (λ (job : NotedJob). job.number) plan.news.items ≡ new_numbers table notes) →
     ((notes : List Note) → IsBookOf notes book → AreDuesOf table notes plan.dues.items) → plan.text.items ≡ text ++ notes_text (noting_of plan.news.items) →
     IsPlanFor table read.notes plan
@@ -76,7 +76,7 @@ plan_for table plan text book read numbers dues text_is = record {
 
 -- The plan by the recovery.
 
-shown_by_fault : (of : StoreFault) (old new : World) → ((damage : Damage) → of ≡ Damaged damage → reading new ≡ reading old) → IsOfReading of → Recovered old.now.folder new.now.folder (Err of) → ShowsTheSame old.now.folder new.now.folder
+shown_by_fault : (of : StoreFault) (old new : World) → ((damage : Damage) → of ≡ Damaged damage → reading new ≡ reading old) → IsReadingFault of → Recovered old.now.folder new.now.folder (Err of) → ShowsTheSame old.now.folder new.now.folder
 shown_by_fault FileFault old new untouched reads recovered = recovered
 shown_by_fault Memory old new untouched reads recovered = recovered
 shown_by_fault (Damaged damage) old new untouched reads recovered = ap shown_by (untouched damage refl)
@@ -90,7 +90,7 @@ damage_by_fault QueueFull old new recovered = tt
 damage_by_fault NumbersUsedUp old new recovered = tt
 
 -- the store could not be recovered
-pub unrecovered : (of : StoreFault) (old new : World) → IsOfReading of → ChangesFiles (ShowsAsBefore old.now.folder) old new → Recovered old.now.folder new.now.folder (Err of) →
+pub unrecovered : (of : StoreFault) (old new : World) → IsReadingFault of → ChangesFiles (ShowsAsBefore old.now.folder) old new → Recovered old.now.folder new.now.folder (Err of) →
     IfDamaged {T = Kept} Damaged (λ damage. reading new ≡ reading old) (Err of) → IsUnplanned old new of
 unrecovered of old new reads changes recovered untouched = record {
   changes = changes;
@@ -138,25 +138,25 @@ plans_by tells old opened new kept kids (Err fault) changes recovered looks on =
 
 -- What is due and new by the table with its scripts.
 
-due_alike : (job : NotedJob) (held : Option JobEntry) → due_of job (option_map entry_without_script held) ≡ due_of job held
+due_alike : (job : NotedJob) (held : Option JobEntry) → due_of_entry job (option_map entry_without_script held) ≡ due_of_entry job held
 due_alike job None = refl
 due_alike job (Some (Live live state)) = refl
 due_alike job (Some (Done fate)) = refl
 
 dues_alike : (table : JobTable) (jobs : List NotedJob) →
-    filter_map (λ (job : NotedJob). due_of job (entry_at (without_scripts table) job.number)) jobs ≡ filter_map (λ (job : NotedJob). due_of job (entry_at table job.number)) jobs
+    filter_map (λ (job : NotedJob). due_of_entry job (entry_at (without_scripts table) job.number)) jobs ≡ filter_map (λ (job : NotedJob). due_of_entry job (entry_at table job.number)) jobs
 dues_alike table [] = refl
 dues_alike table (job ∷ later) =
-    ap (λ (one : Option Due). cons_option one (filter_map (λ (other : NotedJob). due_of other (entry_at (without_scripts table) other.number)) later))
-    (ap (due_of job) (entries_are_without_scripts table job.number) ∙ due_alike job (entry_at table job.number))
-    ∙ ap (λ (l : List Due). cons_option (due_of job (entry_at table job.number)) l) (dues_alike table later)
+    ap (λ (one : Option NoticeDue). cons_option one (filter_map (λ (other : NotedJob). due_of_entry other (entry_at (without_scripts table) other.number)) later))
+    (ap (due_of_entry job) (entries_are_without_scripts table job.number) ∙ due_alike job (entry_at table job.number))
+    ∙ ap (λ (l : List NoticeDue). cons_option (due_of_entry job (entry_at table job.number)) l) (dues_alike table later)
 
-pub dues_on_the_table : (kept table : JobTable) (notes : List Note) (dues : List Due) → kept ≡ without_scripts table → AreDuesOf kept notes dues → AreDuesOf table notes dues
+pub dues_on_the_table : (kept table : JobTable) (notes : List Note) (dues : List NoticeDue) → kept ≡ without_scripts table → AreDuesOf kept notes dues → AreDuesOf table notes dues
 dues_on_the_table kept table notes dues is are = record {
   jobs = are.jobs;
   waiting = are.waiting;
   dues_are = are.dues_are
-      ∙ ap (λ (t : JobTable). filter_map (λ (job : NotedJob). due_of job (entry_at t job.number)) are.jobs) is ∙ dues_alike table are.jobs;
+      ∙ ap (λ (t : JobTable). filter_map (λ (job : NotedJob). due_of_entry job (entry_at t job.number)) are.jobs) is ∙ dues_alike table are.jobs;
 }
 
 pub new_on_the_table : (kept table : JobTable) (notes : List Note) → kept ≡ without_scripts table → new_numbers kept notes ≡ new_numbers table notes

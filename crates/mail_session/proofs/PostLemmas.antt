@@ -18,17 +18,17 @@ use Rattle.listing_text.specs.declared.turn_step.TurnStepText.{TurnStepText}
 use Rattle.mail_notes.specs.declared.note.Note.{Note}
 use Rattle.mail_notes.specs.declared.note.Note.TheVariants.{Dropped, Noted, Sent}
 use Rattle.mail_notes.specs.declared.note.NotedJob.{NotedJob}
-use Rattle.mail_notes.specs.Hands.{Hands, IsNoticeOf, Mailing}
+use Rattle.mail_notes.specs.Hands.{SendsNotices, IsNoticeOf, Mailing}
 use Rattle.mail_notes.specs.Lines.{note_line, notes_text}
 use Rattle.mail_notes.specs.Names.{mail_file, mail_temp}
 use Rattle.mail_notes.specs.Notices.{notice_text}
-use Rattle.mail_notes.specs.Runs.{AreMade}
+use Rattle.mail_notes.specs.Runs.{AreNotesMade}
 use Rattle.mail_notes.proofs.RunLemmas.{no_notes_are_made, notes_are_made_after, notes_are_stopped_after}
 use Rattle.mail_notes.proofs.TextLemmas.{notes_text-push}
-use Rattle.mail_session.specs.declared.due.Due.{Due}
-use Rattle.mail_session.specs.declared.due.Due.TheVariants.{Drop, Send}
+use Rattle.mail_session.specs.declared.due.NoticeDue.{NoticeDue}
+use Rattle.mail_session.specs.declared.due.NoticeDue.TheVariants.{Drop, Send}
 use Rattle.mail_session.specs.Dues.{AreDue, note_of, notes_of, sent_numbers}
-use Rattle.mail_session.specs.Posting.{Gives, Part, PartEnds, Posts, kids_of}
+use Rattle.mail_session.specs.Posting.{SendsPart, MailPart, MailPartEnds, Posts, kids_of}
 use Rattle.mail_session.specs.inside.Sending.{Places, Sends}
 use Rattle.mail_session.specs.NoticeFiles.{ReadsBeside}
 use Rattle.mail_session.proofs.ReadLemmas.{reads_both, reads_none, reads_placed}
@@ -36,7 +36,7 @@ use Rattle.mail_session.proofs.NotingLemmas.{notes_made, notes_stopped}
 use Rattle.mail_session.proofs.SendLemmas.{no_fault, not_memory, same_fault}
 
 -- nothing was made
-abbrev no_part : Part
+abbrev no_part : MailPart
 no_part = record { made = []; next = []; added = [] }
 
 pub posts_none : (program : List ℕ) (tells : Bool) (session : Session) (world : World) (was : List ℕ) (kids : List Kid) (sent : List ℕ) → IsInside session →
@@ -58,7 +58,7 @@ posts_none program tells session world was kids sent inside no_temp = record {
 }
 
 -- the same after room was had for a kid and a number
-pub posts_with_room : (program : List ℕ) (tells : Bool) (before after : Session) (old new : World) (dues : List Due) (was is : List ℕ)
+pub posts_with_room : (program : List ℕ) (tells : Bool) (before after : Session) (old new : World) (dues : List NoticeDue) (was is : List ℕ)
     (kids roomy more : List Kid) (sent wide gone : List ℕ) (result : Result (Unit {0}) HostFault) → roomy ≡ kids → wide ≡ sent →
     Posts program tells before after old new dues was is roomy more wide gone result →
     Posts program tells before after old new dues was is kids more sent gone result
@@ -83,23 +83,23 @@ started_join given more =
     ap (map (λ (handed : Handed). handed.number)) (filter-append (λ (handed : Handed). handed.started) given more)
     ∙ map-append (λ (handed : Handed). handed.number) (filter (λ (handed : Handed). handed.started) given) (filter (λ (handed : Handed). handed.started) more)
 
-due_first : (of : Mailing) (first later : List Due) → AreDue of (first ++ later) → AreDue of first
+due_first : (of : Mailing) (first later : List NoticeDue) → AreDue of (first ++ later) → AreDue of first
 due_first of [] later due = tt
 due_first of (one ∷ first) later due = (due.0, due_first of first later due.1)
 
-due_later : (of : Mailing) (first later : List Due) → AreDue of (first ++ later) → AreDue of later
+due_later : (of : Mailing) (first later : List NoticeDue) → AreDue of (first ++ later) → AreDue of later
 due_later of [] later due = due
 due_later of (one ∷ first) later due = due_later of first later due.1
 
-ends_then : (of : Mailing) (notes : List Note) (first later : Part) (given more : List Handed) (start between end : World) (result : Result (Unit {0}) HostFault) →
-    AreMade of notes first.made given [] start between → PartEnds of (notes ++ first.made) later more between end result →
-    PartEnds of notes (record { made = first.made ++ later.made; next = later.next; added = first.added ++ later.added }) (given ++ more) start end result
+ends_then : (of : Mailing) (notes : List Note) (first later : MailPart) (given more : List Handed) (start between end : World) (result : Result (Unit {0}) HostFault) →
+    AreNotesMade of notes first.made given [] start between → MailPartEnds of (notes ++ first.made) later more between end result →
+    MailPartEnds of notes (record { made = first.made ++ later.made; next = later.next; added = first.added ++ later.added }) (given ++ more) start end result
 ends_then of notes first later given more start between end (Ok done) before after =
     notes_are_made_after of notes first.made later.made given more [] [] start between end before after
 ends_then of notes first later given more start between end (Err fault) before after =
     notes_are_stopped_after of notes first.made later.made later.next given more [] [] start between end before after
 
-all_then : (first later : List Note) (dues others : List Due) (result : Result (Unit {0}) HostFault) → first ≡ notes_of dues → IfOk result (λ done. later ≡ notes_of others) →
+all_then : (first later : List Note) (dues others : List NoticeDue) (result : Result (Unit {0}) HostFault) → first ≡ notes_of dues → IfOk result (λ done. later ≡ notes_of others) →
     IfOk result (λ done. first ++ later ≡ notes_of (dues ++ others))
 all_then first later dues others (Ok done) before after = ap (λ (l : List Note). l ++ later) before ∙ ap (λ (l : List Note). notes_of dues ++ l) after ∙ sym (map-append note_of dues others)
 all_then first later dues others (Err fault) before after = tt
@@ -111,7 +111,7 @@ text_then first later was middle is (Ok done) before after =
 text_then first later was middle is (Err fault) before after = tt
 
 -- What is due after what was made.
-pub posts_then : (program : List ℕ) (tells : Bool) (before between after : Session) (start middle end : World) (dues others : List Due) (was text is : List ℕ)
+pub posts_then : (program : List ℕ) (tells : Bool) (before between after : Session) (start middle end : World) (dues others : List NoticeDue) (was text is : List ℕ)
     (kids more last : List Kid) (sent gone over : List ℕ) (result : Result (Unit {0}) HostFault) →
     Posts program tells before between start middle dues was text kids more sent gone (Ok tt) →
     Posts program tells between after middle end others text is more last gone over result →
@@ -142,10 +142,10 @@ posts_then program tells before between after start middle end dues others was t
   reads = λ known. subst (λ (l : List ℕ). IfOk result (λ done. ReadsBeside l start end)) (sym (sent_join one.part.made other.part.made))
       (reads_both (sent_numbers one.part.made) (sent_numbers other.part.made) start middle end result (one.reads known) (other.reads known));
   files = λ known of notes same ready text_is due.
-      let first : Gives of notes one.part start middle (Ok tt) = one.files known of notes same ready text_is (due_first of dues others due) in
-      let made : AreMade of notes one.part.made first.given [] start middle = first.ends in
+      let first : SendsPart of notes one.part start middle (Ok tt) = one.files known of notes same ready text_is (due_first of dues others due) in
+      let made : AreNotesMade of notes one.part.made first.given [] start middle = first.ends in
       let text_now : text ≡ notes_text (notes ++ one.part.made) = one.text ∙ ap (λ t. t ++ notes_text one.part.made) text_is ∙ sym (lines_join notes one.part.made) in
-      let second : Gives of (notes ++ one.part.made) other.part middle end result =
+      let second : SendsPart of (notes ++ one.part.made) other.part middle end result =
       other.files known of (notes ++ one.part.made) same made.ready text_now (due_later of dues others due) in
       record {
         given = first.given ++ second.given;
@@ -157,7 +157,7 @@ posts_then program tells before between after start middle end dues others was t
 }
 
 -- what was stopped at some of what is due is stopped at all of it
-pub posts_longer : (program : List ℕ) (tells : Bool) (before after : Session) (old new : World) (dues others : List Due) (was is : List ℕ) (kids more : List Kid)
+pub posts_longer : (program : List ℕ) (tells : Bool) (before after : Session) (old new : World) (dues others : List NoticeDue) (was is : List ℕ) (kids more : List Kid)
     (sent gone : List ℕ) (fault : HostFault) → Posts program tells before after old new dues was is kids more sent gone (Err fault) →
     Posts program tells before after old new (dues ++ others) was is kids more sent gone (Err fault)
 posts_longer program tells before after old new dues others was is kids more sent gone fault posts = record {
@@ -183,7 +183,7 @@ posts_longer program tells before after old new dues others was is kids more sen
 }
 
 -- a fault that is handed on
-pub posts_at : (program : List ℕ) (tells : Bool) (before after : Session) (old new : World) (dues : List Due) (was is : List ℕ) (kids more : List Kid)
+pub posts_at : (program : List ℕ) (tells : Bool) (before after : Session) (old new : World) (dues : List NoticeDue) (was is : List ℕ) (kids more : List Kid)
     (sent gone : List ℕ) (fault : HostFault) (result : Result (Unit {0}) HostFault) → IsErrAnd result (λ other. other ≡ fault) →
     Posts program tells before after old new dues was is kids more sent gone (Err fault) → Posts program tells before after old new dues was is kids more sent gone result
 posts_at program tells before after old new dues was is kids more sent gone fault (Ok done) same posts = absurd same
@@ -191,7 +191,7 @@ posts_at program tells before after old new dues was is kids more sent gone faul
     subst (λ (of : HostFault). Posts program tells before after old new dues was is kids more sent gone (Err of)) (sym same) posts
 
 -- One thing that is due.
-module _ (program : List ℕ) (tells : Bool) (before : Session) (old : World) (due : Due) (was is : List ℕ) (kids : List Kid) (sent : List ℕ) (inside : IsInside before) where
+module _ (program : List ℕ) (tells : Bool) (before : Session) (old : World) (due : NoticeDue) (was is : List ℕ) (kids : List Kid) (sent : List ℕ) (inside : IsInside before) where
   -- memory was wanting before the first change
   pub posts_nothing : Posts program tells before before old old (due ∷ []) was is kids kids sent sent (Err Memory)
   posts_nothing = record {
@@ -239,7 +239,7 @@ text_with notes note was is added of = added ∙ ap (λ text. text ++ note_line 
 -- A note that has no notice is placed.
 module _ (program : List ℕ) (tells : Bool) (before after : Session) (old new : World) (number : ℕ) (was is : List ℕ) (kids : List Kid) (sent : List ℕ)
     (added : is ≡ was ++ note_line (Dropped number)) where
-  quiet : (of : Mailing) → Hands of (Dropped number ∷ []) []
+  quiet : (of : Mailing) → SendsNotices of (Dropped number ∷ []) []
   quiet of = ([], [], refl, refl, refl)
 
   pub dropped : CallsInside {T = Unit {0}} Failed before after (Ok tt) → (tells ≡ true → Places mail_file is old new (Ok tt)) →
@@ -357,9 +357,9 @@ module _ (program : List ℕ) (tells : Bool) (before after : Session) (old new :
   }
 
 -- One thing more of what is due.
-pub take_one : (dues : List Due) (place : ℕ) (due : Due) → place < length dues → due ≡ get_or dues place due → take (place + 1) dues ≡ take place dues ++ due ∷ []
-take_one dues place due inside is = take_more dues place due inside ∙ ap (λ (one : Due). take place dues ++ one ∷ []) (sym is)
+pub take_one : (dues : List NoticeDue) (place : ℕ) (due : NoticeDue) → place < length dues → due ≡ get_or dues place due → take (place + 1) dues ≡ take place dues ++ due ∷ []
+take_one dues place due inside is = take_more dues place due inside ∙ ap (λ (one : NoticeDue). take place dues ++ one ∷ []) (sym is)
 
-pub all_of : (dues : List Due) (place : ℕ) (due : Due) → place < length dues → due ≡ get_or dues place due → (take place dues ++ due ∷ []) ++ drop (place + 1) dues ≡ dues
+pub all_of : (dues : List NoticeDue) (place : ℕ) (due : NoticeDue) → place < length dues → due ≡ get_or dues place due → (take place dues ++ due ∷ []) ++ drop (place + 1) dues ≡ dues
 all_of dues place due inside is =
-    ap (λ (l : List Due). l ++ drop (place + 1) dues) (sym (take_one dues place due inside is)) ∙ take-append-drop (place + 1) dues
+    ap (λ (l : List NoticeDue). l ++ drop (place + 1) dues) (sym (take_one dues place due inside is)) ∙ take-append-drop (place + 1) dues

@@ -18,12 +18,12 @@ use Rattle.whole_file.specs.Others.{ChangesFiles, LeavesOthers}
 use Rattle.whole_file.specs.Placing.{IsPlaced, IsPlacing}
 use Rattle.mail_notes.specs.declared.note.Note.{Note}
 use Rattle.mail_notes.specs.declared.note.Note.TheVariants.{Sent}
-use Rattle.mail_notes.specs.Hands.{Hands, HandsByNow, IsHandedFor, IsNoticeOf, Mailing, notice_nice}
+use Rattle.mail_notes.specs.Hands.{SendsNotices, SendsNoticesByNow, IsHandedFor, IsNoticeOf, Mailing, notice_nice}
 use Rattle.mail_notes.specs.Lines.{notes_text}
 use Rattle.mail_notes.specs.Names.{IsMailName, mail_file, mail_temp, notice_file}
-use Rattle.mail_notes.specs.Runs.{AreMade, AreStopped, IsAlong, IsReady}
+use Rattle.mail_notes.specs.Runs.{AreNotesMade, AreNotesStopped, IsAlongNotes, HoldsNotesAlone}
 use Rattle.mail_notes.proofs.RunLemmas.{notes_are_made_after, notes_are_stopped_after}
-use Rattle.mail_session.specs.inside.Sending.{HandsNoticeOver, IsHandingOver, Places, Sends, SendingEnds, added_by}
+use Rattle.mail_session.specs.inside.Sending.{HandsNoticeOver, IsHandingOver, Places, Sends, SendingEnds, added_by_notice}
 use Rattle.mail_session.proofs.ReadLemmas.{reads_after, reads_sent}
 use Rattle.mail_session.proofs.NotingLemmas.{alone_end, along_all, leaves_placing, notes_stopped, notice_elsewhere, notice_made, notice_stopped, placing_end, ready_placed}
 
@@ -88,7 +88,7 @@ notice_held number script text old middle new first then =
 -- the notes with the one that is being sent have handed over nothing of it, and its notice is there, as before
 lacking : (of : Mailing) (number : ℕ) (script text : List ℕ) (folder : Folder) → IsNoticeOf of number script →
     ((from : Files) → IsImage folder from → map.get from (notice_file number) ≡ Some script) → (image : Files) → IsPlacing mail_temp mail_file text folder image →
-    HandsByNow of (Sent number ∷ []) image []
+    SendsNoticesByNow of (Sent number ∷ []) image []
 lacking of number script text folder notice held image is = inr (record {
   earlier = [];
   number = number;
@@ -102,7 +102,7 @@ lacking of number script text folder notice held image is = inr (record {
 })
 
 -- After the note, the notice is handed over.
-module _ (of : Mailing) (notes : List Note) (number : ℕ) (script text : List ℕ) (old middle new : World) (ready : IsReady notes old.now.folder)
+module _ (of : Mailing) (notes : List Note) (number : ℕ) (script text : List ℕ) (old middle new : World) (ready : HoldsNotesAlone notes old.now.folder)
     (text_is : text ≡ notes_text (notes ++ Sent number ∷ [])) (notice : IsNoticeOf of number script)
     (held : (image : Files) → IsImage old.now.folder image → map.get image (notice_file number) ≡ Some script)
     (changes : ChangesFiles (IsPlacing mail_temp mail_file text old.now.folder) old middle)
@@ -111,16 +111,16 @@ module _ (of : Mailing) (notes : List Note) (number : ℕ) (script text : List �
   script_is : (read : List ℕ) → map.get (reading middle) (notice_file number) ≡ Some read → read ≡ script
   script_is read is = let both : Some read ≡ Some script = sym is ∙ placed.others (notice_file number) (notice_elsewhere number) ∙ held (reading old) (reading_is_image old.now.folder) in cc
 
-  lacking_now : (image : Files) → IsPlacing mail_temp mail_file text old.now.folder image → HandsByNow of (Sent number ∷ []) image []
+  lacking_now : (image : Files) → IsPlacing mail_temp mail_file text old.now.folder image → SendsNoticesByNow of (Sent number ∷ []) image []
   lacking_now = lacking of number script text old.now.folder notice held
 
-  ready_now : IsReady (notes ++ Sent number ∷ []) middle.now.folder
+  ready_now : HoldsNotesAlone (notes ++ Sent number ∷ []) middle.now.folder
   ready_now = ready_placed of notes (Sent number ∷ []) text old middle ready text_is lacking_now changes placed
 
   alone_now : (image : Files) → IsImage middle.now.folder image → LeavesOthers IsMailName old.now.folder image
   alone_now = alone_end of notes (Sent number ∷ []) text old middle ready text_is lacking_now changes
 
-  leaves_now : LeavesOnly (IsAlong of notes (Sent number ∷ []) old.now) old middle
+  leaves_now : LeavesOnly (IsAlongNotes of notes (Sent number ∷ []) old.now) old middle
   leaves_now = leaves_placing of notes (Sent number ∷ []) text old middle ready text_is lacking_now changes
 
   -- where it was handed over
@@ -139,7 +139,7 @@ module _ (of : Mailing) (notes : List Note) (number : ℕ) (script text : List �
     grown : new.now.handed ≡ old.now.handed ++ record { number = number; script = over.script; nice = notice_nice; started = started } ∷ []
     grown = over.handed ∙ ap (λ (l : List Handed). l ++ record { number = number; script = over.script; nice = notice_nice; started = started } ∷ []) changes.handed
 
-    hands : Hands of (Sent number ∷ []) (record { number = number; script = over.script; nice = notice_nice; started = started } ∷ [])
+    hands : SendsNotices of (Sent number ∷ []) (record { number = number; script = over.script; nice = notice_nice; started = started } ∷ [])
     hands = (
       record { number = number; script = over.script; nice = notice_nice; started = started } ∷ [],
       [],
@@ -149,7 +149,7 @@ module _ (of : Mailing) (notes : List Note) (number : ℕ) (script text : List �
     )
 
     along_now : (image : Files) (handed : List Handed) → IsImage middle.now.folder image × ((handed ≡ middle.now.handed) ⊎ (handed ≡ new.now.handed)) →
-        IsAlong of notes (Sent number ∷ []) old.now image handed
+        IsAlongNotes of notes (Sent number ∷ []) old.now image handed
     along_now image handed is = elim is.1 [
       | inl not_yet ↦ along_all of notes (Sent number ∷ []) old.now image [] handed (alone_now image is.0) (ready_now.holds image is.0)
           (lacking_now image (placing_end mail_file text old middle changes image is.0)) (not_yet ∙ changes.handed ∙ sym (append-nil old.now.handed))
@@ -157,15 +157,15 @@ module _ (of : Mailing) (notes : List Note) (number : ℕ) (script text : List �
           (alone_now image is.0) (ready_now.holds image is.0) (inl hands) (all ∙ grown)
     ]
 
-    pub sent_now : (handed : Handed) × IsHandedFor of number handed × (handed.started ≡ started) × AreMade of notes (Sent number ∷ []) (handed ∷ []) [] old new
+    pub sent_now : (handed : Handed) × IsHandedFor of number handed × (handed.started ≡ started) × AreNotesMade of notes (Sent number ∷ []) (handed ∷ []) [] old new
     sent_now = (
       record { number = number; script = over.script; nice = notice_nice; started = started },
       for_it,
       refl,
       record {
-        leaves = leaves_then (IsAlong of notes (Sent number ∷ []) old.now) old middle new leaves_now
-            (leaves_weaker _ (IsAlong of notes (Sent number ∷ []) old.now) middle new along_now leaves);
-        ready = subst (IsReady (notes ++ Sent number ∷ [])) (sym folder) ready_now;
+        leaves = leaves_then (IsAlongNotes of notes (Sent number ∷ []) old.now) old middle new leaves_now
+            (leaves_weaker _ (IsAlongNotes of notes (Sent number ∷ []) old.now) middle new along_now leaves);
+        ready = subst (HoldsNotesAlone (notes ++ Sent number ∷ [])) (sym folder) ready_now;
         alone = λ image is. alone_now image (subst (λ (at : Folder). IsImage at image) folder is);
         handed = grown;
         hands = hands;
@@ -177,12 +177,12 @@ module _ (of : Mailing) (notes : List Note) (number : ℕ) (script text : List �
   pub handing_ends : (result : Result (Option Child) HostFault) → IsHandingOver number middle new result → SendingEnds of notes number old new result
   handing_ends (Ok child) over = sent_now (is_some child) over.outcome over.folder over.asked over.leaves
   handing_ends (Err fault) over =
-      subst (AreStopped of notes [] (Sent number ∷ []) [] [] old) (sym over.outcome)
+      subst (AreNotesStopped of notes [] (Sent number ∷ []) [] [] old) (sym over.outcome)
       (notes_stopped of notes (Sent number ∷ []) text old middle ready text_is lacking_now changes)
 
 -- a sending goes on after the notice that was placed
 pub ends_after : (of : Mailing) (notes : List Note) (number : ℕ) (start middle end : World) (result : Result (Option Child) HostFault) →
-    AreMade of notes [] [] [] start middle → SendingEnds of (notes ++ []) number middle end result → SendingEnds of notes number start end result
+    AreNotesMade of notes [] [] [] start middle → SendingEnds of (notes ++ []) number middle end result → SendingEnds of notes number start end result
 ends_after of notes number start middle end (Ok child) before after =
     (after.0, after.1, after.2, notes_are_made_after of notes [] (Sent number ∷ []) [] (after.0 ∷ []) [] [] start middle end before after.3)
 ends_after of notes number start middle end (Err fault) before after =
@@ -210,7 +210,7 @@ module _ (tells : Bool) (before : Session) (old : World) (number : ℕ) (script 
 
   module _ (between : Session) (middle : World) (first : CallsInside {T = Unit {0}} Failed before between (Ok tt))
       (places : tells ≡ true → Places (notice_file number) script old middle (Ok tt)) where
-    made_first : (known : tells ≡ true) (of : Mailing) (notes : List Note) → IsReady notes old.now.folder → AreMade of notes [] [] [] old middle
+    made_first : (known : tells ≡ true) (of : Mailing) (notes : List Note) → HoldsNotesAlone notes old.now.folder → AreNotesMade of notes [] [] [] old middle
     made_first known of notes ready = notice_made of notes number script old middle ready (places known).changes (places known).placed
 
     text_after : (notes : List Note) → text ≡ notes_text (notes ++ Sent number ∷ []) → text ≡ notes_text ((notes ++ []) ++ Sent number ∷ [])
@@ -240,7 +240,7 @@ module _ (tells : Bool) (before : Session) (old : World) (number : ℕ) (script 
     sent_whole last after noted new result calls then hands = record {
       inside = hands.inside;
       counts = counts_on before between after first.stays.counts (counts_on between last after calls.stays.counts hands.counts);
-      children = hands.children ∙ ap (λ (l : List Child). l ++ added_by result) (calls.stays.children ∙ first.stays.children);
+      children = hands.children ∙ ap (λ (l : List Child). l ++ added_by_notice result) (calls.stays.children ∙ first.stays.children);
       cause = record {
         later = omega (arith, first.stays.counts.file_faults, calls.stays.counts.file_faults, hands.counts.file_faults);
         rose = λ bad. absurd (hands.no_fault bad);

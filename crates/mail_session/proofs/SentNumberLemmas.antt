@@ -15,20 +15,20 @@ use Rattle.step_runs.proofs.ApartLemmas.{pairs_cons, pairs_head, pairs_nil, pair
 use Rattle.mail_notes.specs.declared.note.Note.{Note}
 use Rattle.mail_notes.specs.declared.note.Note.TheVariants.{Dropped, Noted, Sent}
 use Rattle.mail_notes.specs.declared.note.NotedJob.{NotedJob}
-use Rattle.mail_notes.specs.Hands.{Hands, Mailing}
+use Rattle.mail_notes.specs.Hands.{SendsNotices, Mailing}
 use Rattle.mail_notes.specs.Lines.{Fits, IsNote, SpellsNote}
 use Rattle.mail_notes.specs.Names.{notice_file}
 use Rattle.mail_notes.proofs.OneText.{one_number}
 use Rattle.record_lines.specs.Lines.{AreSpelled}
-use Rattle.mail_notes.specs.Notes.{AreFirst}
-use Rattle.mail_session.specs.declared.due.Due.{Due}
-use Rattle.mail_session.specs.declared.due.Due.TheVariants.{Drop, Send}
+use Rattle.mail_notes.specs.Notes.{IsNotesPrefix}
+use Rattle.mail_session.specs.declared.due.NoticeDue.{NoticeDue}
+use Rattle.mail_session.specs.declared.due.NoticeDue.TheVariants.{Drop, Send}
 use Rattle.mail_session.specs.declared.plan.MailPlan.{MailPlan}
 use Rattle.mail_session.specs.Dues.{notes_of, sent_numbers}
 use Rattle.mail_session.specs.Leaving.{GivesNotes}
 use Rattle.mail_session.specs.News.{noting_of}
 use Rattle.mail_session.specs.NoticeFiles.{is_notice_of}
-use Rattle.mail_session.specs.Steps.{AreDuesOf, due_of}
+use Rattle.mail_session.specs.Steps.{AreDuesOf, due_of_entry}
 use Rattle.mail_session.specs.inside.Working.{steps_by}
 use Rattle.mail_session.proofs.PostLemmas.{sent_join}
 
@@ -39,56 +39,56 @@ above number (first ∷ others) each =
     let apart : (first == number) ≡ false = grind (arith, nat_tests) in
     rw apart (above number others (λ other has. each other (inr has)))
 
-abbrev pub due_number : Due → ℕ
+abbrev pub due_number : NoticeDue → ℕ
 due_number (Send job end) = job.number
 due_number (Drop number) = number
 
-abbrev pub number_or : Option Due → ℕ
+abbrev pub number_or : Option NoticeDue → ℕ
 number_or None = 0
 number_or (Some due) = due_number due
 
 -- what is due of a job has its number
-pub number_due : (job : NotedJob) (held : Option JobEntry) (due : Due) → due_of job held ≡ Some due → due_number due ≡ job.number
+pub number_due : (job : NotedJob) (held : Option JobEntry) (due : NoticeDue) → due_of_entry job held ≡ Some due → due_number due ≡ job.number
 number_due job None due same = sym (ap number_or same)
 number_due job (Some (Live live state)) due same = absurd (none_some due same)
 number_due job (Some (Done (Finished ending))) due same = sym (ap number_or same)
 number_due job (Some (Done Interrupted)) due same = sym (ap number_or same)
 number_due job (Some (Done Removed)) due same = sym (ap number_or same)
 
-pub has_sent : (dues : List Due) (number : ℕ) → Has (sent_numbers (notes_of dues)) number → (due : Due) × Has dues due × (due_number due ≡ number)
+pub has_sent : (dues : List NoticeDue) (number : ℕ) → Has (sent_numbers (notes_of dues)) number → (due : NoticeDue) × Has dues due × (due_number due ≡ number)
 has_sent [] number has = absurd has
 has_sent (Send job end ∷ later) number (inl same) = (Send job end, inl refl, same)
 has_sent (Send job end ∷ later) number (inr has) = let from = has_sent later number has in (from.0, inr from.1, from.2)
 has_sent (Drop other ∷ later) number has = let from = has_sent later number has in (from.0, inr from.1, from.2)
 
-abbrev pub Rise : List Due → Type 0
-Rise dues = AllPairs (λ one other. due_number one < due_number other) dues
+abbrev pub AreDuesAscending : List NoticeDue → Type 0
+AreDuesAscending dues = AllPairs (λ one other. due_number one < due_number other) dues
 
-pub distinct_sent : (dues : List Due) → Rise dues → are_distinct (sent_numbers (notes_of dues)) ≡ true
+pub distinct_sent : (dues : List NoticeDue) → AreDuesAscending dues → are_distinct (sent_numbers (notes_of dues)) ≡ true
 distinct_sent [] rise = refl
 distinct_sent (Send job end ∷ later) rise =
     let apart : list_any (λ other. other == job.number) (sent_numbers (notes_of later)) ≡ false =
     above job.number (sent_numbers (notes_of later)) (λ other has.
     let from = has_sent later other has in
     subst (λ (n : ℕ). job.number < n) from.2
-    (pairs_head (λ (one other : Due). due_number one < due_number other) (Send job end) later rise from.0 from.1)) in
-    rw apart (distinct_sent later (pairs_tail (λ (one other : Due). due_number one < due_number other) (Send job end) later rise))
-distinct_sent (Drop number ∷ later) rise = distinct_sent later (pairs_tail (λ (one other : Due). due_number one < due_number other) (Drop number) later rise)
+    (pairs_head (λ (one other : NoticeDue). due_number one < due_number other) (Send job end) later rise from.0 from.1)) in
+    rw apart (distinct_sent later (pairs_tail (λ (one other : NoticeDue). due_number one < due_number other) (Send job end) later rise))
+distinct_sent (Drop number ∷ later) rise = distinct_sent later (pairs_tail (λ (one other : NoticeDue). due_number one < due_number other) (Drop number) later rise)
 
 module _ (table : JobTable) where
-  abbrev due_in : NotedJob → Option Due
-  due_in job = due_of job (entry_at table job.number)
+  abbrev due_in : NotedJob → Option NoticeDue
+  due_in job = due_of_entry job (entry_at table job.number)
 
-  rise_more : (job : NotedJob) (later : List NotedJob) → ((other : NotedJob) → Has later other → job.number < other.number) → Rise (filter_map due_in later) →
-      (due : Option Due) → due_in job ≡ due → Rise (cons_option due (filter_map due_in later))
+  rise_more : (job : NotedJob) (later : List NotedJob) → ((other : NotedJob) → Has later other → job.number < other.number) → AreDuesAscending (filter_map due_in later) →
+      (due : Option NoticeDue) → due_in job ≡ due → AreDuesAscending (cons_option due (filter_map due_in later))
   rise_more job later less rest None is = rest
-  rise_more job later less rest (Some due) is = pairs_cons (λ (one other : Due). due_number one < due_number other) due (filter_map due_in later) (λ other has.
+  rise_more job later less rest (Some due) is = pairs_cons (λ (one other : NoticeDue). due_number one < due_number other) due (filter_map due_in later) (λ other has.
       let from = given_has due_in later other has in
       subst (λ (n : ℕ). n < due_number other) (sym (number_due job (entry_at table job.number) due is))
       (subst (λ (n : ℕ). job.number < n) (sym (number_due from.0 (entry_at table from.0.number) other from.2)) (less from.0 from.1))) rest
 
-  rise_all : (jobs : List NotedJob) → AllPairs (λ one other. one.number < other.number) jobs → Rise (filter_map due_in jobs)
-  rise_all [] rise = pairs_nil (λ (one other : Due). due_number one < due_number other)
+  rise_all : (jobs : List NotedJob) → AllPairs (λ one other. one.number < other.number) jobs → AreDuesAscending (filter_map due_in jobs)
+  rise_all [] rise = pairs_nil (λ (one other : NoticeDue). due_number one < due_number other)
   rise_all (job ∷ later) rise =
       rise_more job later (λ other has. pairs_head (λ (one other : NotedJob). one.number < other.number) job later rise other has)
       (rise_all later (pairs_tail (λ (one other : NotedJob). one.number < other.number) job later rise)) (due_in job) refl
@@ -109,18 +109,18 @@ sent_noting [] later = refl
 sent_noting (job ∷ news) later = sent_noting news later
 
 -- the numbers of the notices that were sent differ
-pub sent_differ : (table : JobTable) (notes : List Note) (plan : MailPlan) (made next : List Note) → AreDuesOf table notes plan.dues.items → AreFirst (made ++ next) (steps_by plan) →
+pub sent_differ : (table : JobTable) (notes : List Note) (plan : MailPlan) (made next : List Note) → AreDuesOf table notes plan.dues.items → IsNotesPrefix (made ++ next) (steps_by plan) →
     are_distinct (sent_numbers made) ≡ true
 sent_differ table notes plan made next are first =
     let all : are_distinct (sent_numbers (steps_by plan)) ≡ true =
     ap are_distinct (sent_noting plan.news.items (notes_of plan.dues.items))
-    ∙ distinct_sent plan.dues.items (subst Rise (sym are.dues_are) (rise_all table are.jobs are.waiting.rise)) in
+    ∙ distinct_sent plan.dues.items (subst AreDuesAscending (sym are.dues_are) (rise_all table are.jobs are.waiting.rise)) in
     let parted : sent_numbers (steps_by plan) ≡ sent_numbers made ++ sent_numbers (next ++ first.0) =
     ap sent_numbers (first.1 ∙ append_assoc made next first.0) ∙ sent_join made (next ++ first.0) in
     distinct_first (sent_numbers made) (sent_numbers (next ++ first.0)) (ap are_distinct (sym parted) ∙ all)
 
 -- the numbers of what was handed over
-pub sent_of_hands : (of : Mailing) (notes : List Note) (given : List Handed) → Hands of notes given → sent_numbers notes ≡ map (λ (one : Handed). one.number) given
+pub sent_of_hands : (of : Mailing) (notes : List Note) (given : List Handed) → SendsNotices of notes given → sent_numbers notes ≡ map (λ (one : Handed). one.number) given
 sent_of_hands of [] given none = sym (ap (map (λ (one : Handed). one.number)) none)
 sent_of_hands of (Sent number ∷ later) given hands =
     let one = hands.2 in
@@ -144,15 +144,15 @@ notes_fit None notes none note has = absurd (subst (λ (l : List Note). Has l no
 notes_fit (Some bytes) notes lines note has = lines_fit bytes notes lines.spelled note has
 
 -- a notice that is sent is that of a job that waited
-pub sent_waits : (table : JobTable) (notes : List Note) (dues : List Due) (are : AreDuesOf table notes dues) (number : ℕ) → Has (sent_numbers (notes_of dues)) number →
+pub sent_waits : (table : JobTable) (notes : List Note) (dues : List NoticeDue) (are : AreDuesOf table notes dues) (number : ℕ) → Has (sent_numbers (notes_of dues)) number →
     (job : NotedJob) × Has are.jobs job × (job.number ≡ number)
 sent_waits table notes dues are number has =
     let from = has_sent dues number has in
-    let given = given_has (due_in table) are.jobs from.0 (subst (λ (l : List Due). Has l from.0) are.dues_are from.1) in
+    let given = given_has (due_in table) are.jobs from.0 (subst (λ (l : List NoticeDue). Has l from.0) are.dues_are from.1) in
     (given.0, given.1, sym (number_due given.0 (entry_at table given.0.number) from.0 given.2) ∙ from.2)
 
 pub sent_fit : (held : Option (List ℕ)) (table : JobTable) (notes : List Note) (plan : MailPlan) (made next : List Note) → GivesNotes held notes → AreDuesOf table notes plan.dues.items →
-    AreFirst (made ++ next) (steps_by plan) → (number : ℕ) → Has (sent_numbers made) number → Fits number
+    IsNotesPrefix (made ++ next) (steps_by plan) → (number : ℕ) → Has (sent_numbers made) number → Fits number
 sent_fit held table notes plan made next gives are first number has =
     let parted : sent_numbers (steps_by plan) ≡ sent_numbers made ++ sent_numbers (next ++ first.0) =
     ap sent_numbers (first.1 ∙ append_assoc made next first.0) ∙ sent_join made (next ++ first.0) in

@@ -17,14 +17,14 @@ use Rattle.mail_notes.specs.declared.note.Note.{Note}
 use Rattle.mail_notes.specs.Hands.{Mailing}
 use Rattle.mail_notes.specs.Lines.{HoldsNotes}
 use Rattle.mail_notes.specs.Names.{IsMailName, mail_file, mail_temp}
-use Rattle.mail_notes.specs.Runs.{IsAlong}
+use Rattle.mail_notes.specs.Runs.{IsAlongNotes}
 use Rattle.mail_notes.proofs.NameLemmas.{mail_is_none_of_the_stores}
 use Rattle.mail_session.specs.Laws.{LeftoversAreCleared, RecoveriesOpen, SessionsPost, StoppedSessionsPost}
-use Rattle.mail_session.specs.Sessions.{HasPosted, IsCleared, IsOpened, IsPosted, IsUntouched, ShowsBeside}
+use Rattle.mail_session.specs.Sessions.{HasPosted, IsCleared, AreNotesOpened, IsPosted, IsMailUntouched, ShowsBeside}
 
 -- Recovery.
 
-untouched_by : (start : World) (image : Files) (handed : List Handed) → ShowsAsBefore start.now.folder image × (handed ≡ start.now.handed) → IsUntouched start.now image handed
+untouched_by : (start : World) (image : Files) (handed : List Handed) → ShowsAsBefore start.now.folder image × (handed ≡ start.now.handed) → IsMailUntouched start.now image handed
 untouched_by start image handed is = record {
   beside = record { from = is.0.from; was = is.0.was; shown = is.0.same; others = λ name spool mail. is.0.others name spool };
   same = is.0.others mail_file (mail_is_none_of_the_stores mail_file (inl refl));
@@ -32,10 +32,10 @@ untouched_by start image handed is = record {
 }
 
 -- a recovery leaves each image as one of the start was
-pub recovery_leaves : (start opened : World) → ChangesFiles (ShowsAsBefore start.now.folder) start opened → LeavesOnly (IsUntouched start.now) start opened
+pub recovery_leaves : (start opened : World) → ChangesFiles (ShowsAsBefore start.now.folder) start opened → LeavesOnly (IsMailUntouched start.now) start opened
 recovery_leaves start opened changes = leaves_weaker _ _ start opened (untouched_by start) changes.leaves
 
-pub recovery_now : (start opened : World) → ChangesFiles (ShowsAsBefore start.now.folder) start opened → HasEachImage (IsUntouched start.now) opened.now
+pub recovery_now : (start opened : World) → ChangesFiles (ShowsAsBefore start.now.folder) start opened → HasEachImage (IsMailUntouched start.now) opened.now
 recovery_now start opened changes image of_it = untouched_by start image opened.now.handed (
   changes_end (ShowsAsBefore start.now.folder) start opened changes
       (λ one was. record { from = one; was = was; same = refl; others = λ name other. refl }) image of_it,
@@ -66,7 +66,7 @@ beside_then start middle image before alone =
 
 -- Left-over files.
 
-module _ (notes : List Note) (table : JobTable) (names : List (List ℕ)) (start opened cleared : World) (is : IsOpened notes table start opened)
+module _ (notes : List Note) (table : JobTable) (names : List (List ℕ)) (start opened cleared : World) (is : AreNotesOpened notes table start opened)
     (of_mail : (name : List ℕ) → Contains names name → IsMailName name × (name ≢ mail_file)) (changes : ChangesFiles (IsClearing names opened.now.folder) opened cleared) where
   alone_clearing : (image : Files) → IsClearing names opened.now.folder image → LeavesOthers IsMailName opened.now.folder image
   alone_clearing image gone = record { from = gone.alone.from; was = gone.alone.was; others = λ name other. gone.alone.others name (λ has. other (of_mail name has).0) }
@@ -74,7 +74,7 @@ module _ (notes : List Note) (table : JobTable) (names : List (List ℕ)) (start
   notes_kept : (image : Files) → (gone : IsClearing names opened.now.folder image) → map.get image mail_file ≡ map.get gone.alone.from mail_file
   notes_kept image gone = gone.alone.others mail_file (λ has. (of_mail mail_file has).1 refl)
 
-  untouched_still : (image : Files) (handed : List Handed) → IsClearing names opened.now.folder image × (handed ≡ opened.now.handed) → IsUntouched start.now image handed
+  untouched_still : (image : Files) (handed : List Handed) → IsClearing names opened.now.folder image × (handed ≡ opened.now.handed) → IsMailUntouched start.now image handed
   unfolding beside_then alone_clearing
   untouched_still image handed gone =
       let earlier = is.now gone.0.alone.from gone.0.alone.was in
@@ -107,8 +107,8 @@ module _ (notes : List Note) (table : JobTable) (names : List (List ℕ)) (start
 pub leftovers_are_cleared : LeftoversAreCleared
 unfolding clearing_end alone_clearing
 leftovers_are_cleared notes table names start opened cleared is of_mail among changes gone = record {
-  leaves = leaves_then (IsUntouched start.now) start opened cleared is.leaves
-      (leaves_weaker _ (IsUntouched start.now) opened cleared (untouched_still notes table names start opened cleared is of_mail changes) changes.leaves);
+  leaves = leaves_then (IsMailUntouched start.now) start opened cleared is.leaves
+      (leaves_weaker _ (IsMailUntouched start.now) opened cleared (untouched_still notes table names start opened cleared is of_mail changes) changes.leaves);
   now = λ image of_it. untouched_still notes table names start opened cleared is of_mail changes image cleared.now.handed
       (clearing_end notes table names start opened cleared is of_mail changes image of_it, changes.handed);
   handed = changes.handed ∙ is.handed;
@@ -127,12 +127,12 @@ leftovers_are_cleared notes table names start opened cleared is of_mail among ch
 
 -- Notes.
 
-untouched_posted : (of : Mailing) (notes new_ones : List Note) (start : World) (image : Files) (handed : List Handed) → IsUntouched start.now image handed →
+untouched_posted : (of : Mailing) (notes new_ones : List Note) (start : World) (image : Files) (handed : List Handed) → IsMailUntouched start.now image handed →
     IsPosted of notes new_ones start.now image handed
 untouched_posted of notes new_ones start image handed is = record { beside = is.beside; mail = inl (is.same, is.as_many) }
 
 along_posted : (of : Mailing) (notes new_ones : List Note) (table : JobTable) (start cleared : World) → IsCleared notes table start cleared → (image : Files) (handed : List Handed) →
-    IsAlong of notes new_ones cleared.now image handed → IsPosted of notes new_ones start.now image handed
+    IsAlongNotes of notes new_ones cleared.now image handed → IsPosted of notes new_ones start.now image handed
 along_posted of notes new_ones table start cleared is image handed along = record {
   beside = beside_then start.now.folder cleared.now.folder image (λ from was. (is.now from was).beside) along.alone;
   mail = inr (record {
@@ -146,11 +146,11 @@ along_posted of notes new_ones table start cleared is image handed along = recor
 }
 
 leaves_posted : (of : Mailing) (notes new_ones : List Note) (table : JobTable) (start cleared end : World) → IsCleared notes table start cleared →
-    LeavesOnly (IsAlong of notes new_ones cleared.now) cleared end → LeavesOnly (IsPosted of notes new_ones start.now) start end
+    LeavesOnly (IsAlongNotes of notes new_ones cleared.now) cleared end → LeavesOnly (IsPosted of notes new_ones start.now) start end
 leaves_posted of notes new_ones table start cleared end is leaves =
     leaves_then (IsPosted of notes new_ones start.now) start cleared end
-    (leaves_weaker (IsUntouched start.now) (IsPosted of notes new_ones start.now) start cleared (untouched_posted of notes new_ones start) is.leaves)
-    (leaves_weaker (IsAlong of notes new_ones cleared.now) (IsPosted of notes new_ones start.now) cleared end (along_posted of notes new_ones table start cleared is) leaves)
+    (leaves_weaker (IsMailUntouched start.now) (IsPosted of notes new_ones start.now) start cleared (untouched_posted of notes new_ones start) is.leaves)
+    (leaves_weaker (IsAlongNotes of notes new_ones cleared.now) (IsPosted of notes new_ones start.now) cleared end (along_posted of notes new_ones table start cleared is) leaves)
 
 shows_still : (notes : List Note) (table : JobTable) (start cleared : World) (end : Folder) → IsCleared notes table start cleared →
     ((image : Files) → IsImage end image → LeavesOthers IsMailName cleared.now.folder image) → EachShows end table
@@ -183,13 +183,13 @@ stopped_sessions_post of notes new_ones next given questions table start cleared
 }
 
 -- A session that was stopped while files were removed.
-pub clearing_posts : (of : Mailing) (notes new_ones : List Note) (table : JobTable) (names : List (List ℕ)) (start opened cleared : World) → IsOpened notes table start opened →
+pub clearing_posts : (of : Mailing) (notes new_ones : List Note) (table : JobTable) (names : List (List ℕ)) (start opened cleared : World) → AreNotesOpened notes table start opened →
     ((name : List ℕ) → Contains names name → IsMailName name × (name ≢ mail_file)) → ChangesFiles (IsClearing names opened.now.folder) opened cleared →
     HasPosted of notes new_ones table start cleared
 unfolding clearing_end alone_clearing
 clearing_posts of notes new_ones table names start opened cleared is of_mail changes = record {
   leaves = leaves_then (IsPosted of notes new_ones start.now) start opened cleared
-      (leaves_weaker (IsUntouched start.now) (IsPosted of notes new_ones start.now) start opened (untouched_posted of notes new_ones start) is.leaves)
+      (leaves_weaker (IsMailUntouched start.now) (IsPosted of notes new_ones start.now) start opened (untouched_posted of notes new_ones start) is.leaves)
       (leaves_weaker _ (IsPosted of notes new_ones start.now) opened cleared
       (λ image handed gone. untouched_posted of notes new_ones start image handed (untouched_still notes table names start opened cleared is of_mail changes image handed gone)) changes.leaves);
   now = λ image of_it. untouched_posted of notes new_ones start image cleared.now.handed

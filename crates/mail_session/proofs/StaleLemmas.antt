@@ -13,7 +13,7 @@ use Rattle.mail_notes.specs.Lines.{Fits}
 use Rattle.mail_notes.specs.Names.{IsMailName, mail_file, mail_temp, notice_file, notice_number}
 use Rattle.mail_notes.proofs.NameLemmas.{notice_numbers_are_read}
 use Rattle.mail_session.specs.Laws.{StaleFilesAreOfMail}
-use Rattle.mail_session.specs.Stale.{is_stale, is_without_kid, stale_names}
+use Rattle.mail_session.specs.Stale.{is_stale, is_notice_without_kid, stale_names}
 
 -- the notes are not left over
 pub notes_stay : (kids : List Kid) → is_stale kids mail_file ≡ false
@@ -25,16 +25,16 @@ temp_is_stale kids = refl
 
 -- and so is a notice that belongs to no kid
 pub notice_is_stale : (kids : List Kid) (number : ℕ) → Fits number → is_stale kids (notice_file number) ≡ not (has_kid kids number)
-notice_is_stale kids number fits = ap (is_without_kid kids) ((notice_numbers_are_read (notice_file number) number).1 (fits, refl))
+notice_is_stale kids number fits = ap (is_notice_without_kid kids) ((notice_numbers_are_read (notice_file number) number).1 (fits, refl))
 
-of_number : (kids : List Kid) (name : List ℕ) (read : Option ℕ) → notice_number name ≡ read → is_without_kid kids read ≡ true →
+of_number : (kids : List Kid) (name : List ℕ) (read : Option ℕ) → notice_number name ≡ read → is_notice_without_kid kids read ≡ true →
     (number : ℕ) × (name ≡ notice_file number)
 of_number kids name None is bad = absurd (let impossible : false ≡ true = bad in cc)
 of_number kids name (Some number) is without = (number, ((notice_numbers_are_read name number).0 is).1)
 
 -- what is left over is of the mail
 pub stale_is_mail : (kids : List Kid) (name : List ℕ) → is_stale kids name ≡ true → IsMailName name
-stale_is_mail kids name is = elim (or_cases (pointwise nat_eq name mail_temp) (is_without_kid kids (notice_number name)) is) [
+stale_is_mail kids name is = elim (or_cases (pointwise nat_eq name mail_temp) (is_notice_without_kid kids (notice_number name)) is) [
   | inl same ↦ inr (inl ((bytes_decides name mail_temp).0 same))
   | inr without ↦ inr (inr (of_number kids name (notice_number name) refl without))
 ]

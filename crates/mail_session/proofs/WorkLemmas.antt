@@ -18,7 +18,7 @@ use Rattle.spool_model.specs.JobTable.{JobTable}
 use Rattle.spool_shows.proofs.Membership.{Has, contained, has_contained, has_either, has_left, has_right}
 use Rattle.host_calls.specs.declared.store_fault.StoreFault.{StoreFault}
 use Rattle.host_calls.specs.declared.store_fault.StoreFault.TheVariants as fault
-use Rattle.host_calls.specs.StoreFaults.{IsOfReading, fault_of}
+use Rattle.host_calls.specs.StoreFaults.{IsReadingFault, store_fault_of}
 use Rattle.spool_store.specs.Recovering.{IsRecovered}
 use Rattle.step_runs.specs.Calls.{ShowsAsBefore}
 use Rattle.step_runs.proofs.ApartLemmas.{all_each}
@@ -34,24 +34,24 @@ use Rattle.mail_notes.specs.Hands.{Mailing}
 use Rattle.mail_notes.specs.Lines.{Fits}
 use Rattle.mail_notes.specs.Names.{mail_file, notice_file}
 use Rattle.mail_notes.proofs.NameLemmas.{mail_is_none_of_the_stores}
-use Rattle.mail_notes.specs.Runs.{IsReady}
+use Rattle.mail_notes.specs.Runs.{HoldsNotesAlone}
 use Rattle.mail_session.specs.declared.plan.MailPlan.{MailPlan}
 use Rattle.mail_session.specs.Asking.{kids_after}
 use Rattle.mail_session.specs.Dues.{AreDue, sent_numbers}
-use Rattle.mail_session.specs.Leaving.{AreNoticeFiles, AreSessionSteps, Gave, GivesNotes, HasRead, IsIdle, IsStopped, IsWhole, MailLeaves, PostAt}
+use Rattle.mail_session.specs.Leaving.{AreNoticeFiles, AreMailSteps, SessionHandsOver, GivesNotes, HasReadNotes, IsMailIdle, IsMailStopped, IsMailDone, MailLeaves, PostSpool}
 use Rattle.mail_session.specs.News.{IsNotedFrom}
 use Rattle.mail_session.specs.NoticeFiles.{is_notice_of}
-use Rattle.mail_session.specs.Posting.{Part}
-use Rattle.mail_session.specs.Sessions.{HasPosted, IsOpened}
+use Rattle.mail_session.specs.Posting.{MailPart}
+use Rattle.mail_session.specs.Sessions.{HasPosted, AreNotesOpened}
 use Rattle.mail_session.specs.inside.Planning.{IsPlanned, IsPlanIn, IsUnplanned}
-use Rattle.mail_session.specs.inside.Working.{CarriesOut, CarriesTo, Goes, MayCarryOut, ReadsNotices, Works, steps_by}
+use Rattle.mail_session.specs.inside.Working.{CarriesOutPlan, CarriesTo, MakesNotes, MayCarryOut, ReadsNotices, MailWorks, steps_by}
 use Rattle.mail_session.proofs.AskingLemmas.{kids_among}
 use Rattle.mail_session.proofs.DueLemmas.{dues_are_due}
 use Rattle.mail_session.proofs.PlanLemmas.{dues_on_the_table, holds_notes, new_on_the_table, notes_as_before}
 use Rattle.mail_session.proofs.SessionLemmas.{recoveries_open, recovery_leaves, recovery_now}
 use Rattle.mail_session.proofs.SentNumberLemmas.{none_sent, sent_differ, sent_fit, sent_of_hands}
 
-abbrev pub stand : Session → World → List ℕ → List Kid → PostAt
+abbrev pub stand : Session → World → List ℕ → List Kid → PostSpool
 stand session world program kids = record { session = session; world = world; post = record { program = program; kids = kids } }
 
 -- Kids.
@@ -76,7 +76,7 @@ children_so was now kids left added answers are now_is left_is = record {
 -- Nothing was planned.
 
 module _ (tells : Bool) (before after : Session) (old new : World) (program : List ℕ) (kids : List Kid) (children : AreChildren before.children kids) (sent : List ℕ) (none : sent ≡ []) where
-  idle : (of : StoreFault) → IsUnplanned old new of → IsIdle sent (stand before old program kids) (stand after new program kids)
+  idle : (of : StoreFault) → IsUnplanned old new of → IsMailIdle sent (stand before old program kids) (stand after new program kids)
   idle of is = record {
     none = record { none = none; kids = refl };
     leaves = recovery_leaves old new is.changes;
@@ -85,17 +85,17 @@ module _ (tells : Bool) (before after : Session) (old new : World) (program : Li
     asked = is.changes.asked;
   }
 
-  leaves_idle : (of : StoreFault) → IsOfReading of → IsUnplanned old new of → MailLeaves sent (stand before old program kids) (stand after new program kids) (end_after (Err of))
+  leaves_idle : (of : StoreFault) → IsReadingFault of → IsUnplanned old new of → MailLeaves sent (stand before old program kids) (stand after new program kids) (end_after (Err of))
   leaves_idle fault.FileFault reads is = inl (idle fault.FileFault is)
   leaves_idle fault.Memory reads is = inl (idle fault.Memory is)
   leaves_idle (fault.Damaged damage) reads is = (idle (fault.Damaged damage) is, recoveries_begin_nothing old new is.changes, is.damaged)
   leaves_idle _ reads is = absurd reads
 
-  pub works_idle : (of : StoreFault) (result : Result (Unit {0}) StoreFault) → IsErrAnd result (λ other. other ≡ of) → CallsInside {T = MailPlan} fault.FileFault before after (Err of) → IsOfReading of →
-      (tells ≡ true → IsUnplanned old new of) → Works tells (stand before old program kids) (stand after new program kids) sent result
+  pub works_idle : (of : StoreFault) (result : Result (Unit {0}) StoreFault) → IsErrAnd result (λ other. other ≡ of) → CallsInside {T = MailPlan} fault.FileFault before after (Err of) → IsReadingFault of →
+      (tells ≡ true → IsUnplanned old new of) → MailWorks tells (stand before old program kids) (stand after new program kids) sent result
   works_idle of (Ok done) err inside reads is = absurd err
   works_idle of (Err other) err inside reads is =
-      subst (λ (one : StoreFault). Works tells (stand before old program kids) (stand after new program kids) sent (Err one)) (sym err) (record {
+      subst (λ (one : StoreFault). MailWorks tells (stand before old program kids) (stand after new program kids) sent (Err one)) (sym err) (record {
         inside = inside.stays.inside;
         counts = inside.stays.counts;
         kept = ([], inside.stays.children ∙ sym (append-nil before.children));
@@ -120,10 +120,10 @@ module _ (tells : Bool) (before between after : Session) (old opened new : World
   abbrev notes : List Note
   notes = planned.plan_on.notes
 
-  abbrev at_first : PostAt
+  abbrev at_first : PostSpool
   at_first = stand before old program kids
 
-  abbrev at_last : PostAt
+  abbrev at_last : PostSpool
   at_last = stand after new program left
 
   module _ (known : tells ≡ true) where
@@ -139,7 +139,7 @@ module _ (tells : Bool) (before between after : Session) (old opened new : World
     plan_in : IsPlanIn opened table notes kids plan
     plan_in = planned.plan_on.plan_in known table recovered.current
 
-    pub is_opened : IsOpened notes table old opened
+    pub is_opened : AreNotesOpened notes table old opened
     is_opened = recoveries_open planned.kept notes old opened changes recovered (holds_notes (finite.get (reading opened) mail_file) notes plan_in.gives)
 
     pub may_carry_out : MayCarryOut opened kids plan
@@ -153,7 +153,7 @@ module _ (tells : Bool) (before between after : Session) (old opened new : World
         (λ job has. contained (notes ++ steps_by plan) (Noted job) (has_left notes (steps_by plan) (Noted job) (has_contained notes (Noted job) has)))
         plan.dues.items planned.plan_on.plan_for.dues
 
-    steps_are : AreSessionSteps (reading opened) table notes (steps_by plan)
+    steps_are : AreMailSteps (reading opened) table notes (steps_by plan)
     steps_are = record {
       news = plan.news.items;
       dues = plan.dues.items;
@@ -163,8 +163,8 @@ module _ (tells : Bool) (before between after : Session) (old opened new : World
       all = refl;
     }
 
-    read_so : (part : Part) (asked : List Asked) (result : Result (Unit {0}) HostFault) →
-        CarriesTo mailing notes table kids part asked old opened new result → HasRead table notes (steps_by plan) old new
+    read_so : (part : MailPart) (asked : List Asked) (result : Result (Unit {0}) HostFault) →
+        CarriesTo mailing notes table kids part asked old opened new result → HasReadNotes table notes (steps_by plan) old new
     read_so part asked result to = record {
       shown = recovered.shown;
       gives = subst (λ held. GivesNotes held notes) (notes_as_before planned.kept old opened recovered) plan_in.gives;
@@ -180,9 +180,9 @@ module _ (tells : Bool) (before between after : Session) (old opened new : World
       are = steps_are;
     }
 
-    module _ (part : Part) (answers : List (Option Ending)) where
-      gave_so : (result : Result (Unit {0}) HostFault) → Goes between after plan kids left [] gone part answers result → (to : CarriesTo mailing notes table kids part (questions kids answers) old opened new result) →
-          Gave part.made to.given answers mailing gone at_first at_last
+    module _ (part : MailPart) (answers : List (Option Ending)) where
+      gave_so : (result : Result (Unit {0}) HostFault) → MakesNotes between after plan kids left [] gone part answers result → (to : CarriesTo mailing notes table kids part (questions kids answers) old opened new result) →
+          SessionHandsOver part.made to.given answers mailing gone at_first at_last
       gave_so result goes to = record {
         handed = to.handed ∙ ap (λ (l : List Handed). l ++ to.given) changes.handed;
         hands = to.hands;
@@ -194,7 +194,7 @@ module _ (tells : Bool) (before between after : Session) (old opened new : World
         kids = goes.kids_are;
       }
 
-      notices_so : Goes between after plan kids left [] gone part answers (Ok tt) → ReadsNotices kids (sent_numbers part.made) opened new → AreNoticeFiles kids gone (reading old) (reading new)
+      notices_so : MakesNotes between after plan kids left [] gone part answers (Ok tt) → ReadsNotices kids (sent_numbers part.made) opened new → AreNoticeFiles kids gone (reading old) (reading new)
       notices_so goes reads =
           let fit : (number : ℕ) → Has (sent_numbers part.made) number → Fits number =
           sent_fit (finite.get (reading opened) mail_file) planned.kept.table notes plan part.made part.next plan_in.gives planned.plan_on.plan_for.dues goes.prefix in
@@ -208,7 +208,7 @@ module _ (tells : Bool) (before between after : Session) (old opened new : World
             gone = λ number fits none lacks. reads.gone number fits (apart number fits none) lacks;
           }
 
-      whole_so : Goes between after plan kids left [] gone part answers (Ok tt) → CarriesTo mailing notes table kids part (questions kids answers) old opened new (Ok tt) → IsWhole gone at_first at_last
+      whole_so : MakesNotes between after plan kids left [] gone part answers (Ok tt) → CarriesTo mailing notes table kids part (questions kids answers) old opened new (Ok tt) → IsMailDone gone at_first at_last
       whole_so goes to = record {
         table = table;
         notes = notes;
@@ -217,16 +217,16 @@ module _ (tells : Bool) (before between after : Session) (old opened new : World
         given = to.given;
         answers = answers;
         posted = subst (λ (l : List Note). HasPosted mailing notes l table old new) goes.all.0 to.posted;
-        stand = subst (λ (l : List Note). IsReady (notes ++ l) new.now.folder) goes.all.0 to.ready;
+        stand = subst (λ (l : List Note). HoldsNotesAlone (notes ++ l) new.now.folder) goes.all.0 to.ready;
         each_asked = goes.all.1;
-        gave = subst (λ (l : List Note). Gave l to.given answers mailing gone at_first at_last) goes.all.0 (gave_so (Ok tt) goes to);
+        gave = subst (λ (l : List Note). SessionHandsOver l to.given answers mailing gone at_first at_last) goes.all.0 (gave_so (Ok tt) goes to);
         notices = notices_so goes to.reads;
         others = λ name spool mail.
             let alone = to.alone (reading new) (reading_is_image new.now.folder) in
             alone.others name mail ∙ recovered.certain_others alone.from alone.was name spool ∙ recovered.others name spool;
       }
 
-      stopped_so : (of : HostFault) → Goes between after plan kids left [] gone part answers (Err of) → CarriesTo mailing notes table kids part (questions kids answers) old opened new (Err of) → IsStopped gone at_first at_last
+      stopped_so : (of : HostFault) → MakesNotes between after plan kids left [] gone part answers (Err of) → CarriesTo mailing notes table kids part (questions kids answers) old opened new (Err of) → IsMailStopped gone at_first at_last
       stopped_so of goes to = record {
         table = table;
         notes = notes;
@@ -242,19 +242,19 @@ module _ (tells : Bool) (before between after : Session) (old opened new : World
         gave = gave_so (Err of) goes to;
       }
 
-  leaves_stopped : (of : HostFault) → IsStopped gone at_first at_last → MailLeaves gone at_first at_last (end_after (Err (fault_of of)))
+  leaves_stopped : (of : HostFault) → IsMailStopped gone at_first at_last → MailLeaves gone at_first at_last (end_after (Err (store_fault_of of)))
   leaves_stopped host.Failed stopped = inr stopped
   leaves_stopped host.Memory stopped = inr stopped
 
-  host_reads : (of : HostFault) → IsOfReading (fault_of of)
+  host_reads : (of : HostFault) → IsReadingFault (store_fault_of of)
   host_reads host.Failed = tt
   host_reads host.Memory = tt
 
-  host_undamaged : (of : HostFault) (damage : Damage) → fault_of of ≡ fault.Damaged damage → ⊥
+  host_undamaged : (of : HostFault) (damage : Damage) → store_fault_of of ≡ fault.Damaged damage → ⊥
   host_undamaged host.Failed damage is = (let bad : fault.FileFault ≡ fault.Damaged damage = is in cc)
   host_undamaged host.Memory damage is = (let bad : fault.Memory ≡ fault.Damaged damage = is in cc)
 
-  host_failed : (of : HostFault) → fault_of of ≡ fault.FileFault → ◌≡◌ {A = Result (Unit {0}) HostFault} (Err of) (Err host.Failed)
+  host_failed : (of : HostFault) → store_fault_of of ≡ fault.FileFault → ◌≡◌ {A = Result (Unit {0}) HostFault} (Err of) (Err host.Failed)
   host_failed host.Failed is = refl
   host_failed host.Memory is = absurd (let bad : fault.Memory ≡ fault.FileFault = is in cc)
 
@@ -262,16 +262,16 @@ module _ (tells : Bool) (before between after : Session) (old opened new : World
   same_error one other is = cc
 
   module _ (children : AreChildren before.children kids) where
-    kids_so : (part : Part) (answers : List (Option Ending)) (result : Result (Unit {0}) HostFault) → Goes between after plan kids left [] gone part answers result → AreChildren after.children left
+    kids_so : (part : MailPart) (answers : List (Option Ending)) (result : Result (Unit {0}) HostFault) → MakesNotes between after plan kids left [] gone part answers result → AreChildren after.children left
     kids_so part answers result goes =
         children_so between.children after.children kids left part.added answers (subst (λ (l : List Child). AreChildren l kids) (sym inside.stays.children) children) goes.children goes.kids_are
 
-    distinct_so : (part : Part) (answers : List (Option Ending)) (result : Result (Unit {0}) HostFault) → Goes between after plan kids left [] gone part answers result → are_distinct gone ≡ true
+    distinct_so : (part : MailPart) (answers : List (Option Ending)) (result : Result (Unit {0}) HostFault) → MakesNotes between after plan kids left [] gone part answers result → are_distinct gone ≡ true
     distinct_so part answers result goes =
         ap are_distinct goes.sent_are ∙ sent_differ planned.kept.table notes plan part.made part.next planned.plan_on.plan_for.dues goes.prefix
 
     -- all steps were made
-    pub works_whole : CarriesOut program tells between after opened new plan kids left [] gone (Ok tt) → Works tells at_first at_last gone (Ok tt)
+    pub works_whole : CarriesOutPlan program tells between after opened new plan kids left [] gone (Ok tt) → MailWorks tells at_first at_last gone (Ok tt)
     works_whole carries = record {
       inside = carries.goes.inside;
       counts = counts_on before between after inside.stays.counts carries.goes.counts;
@@ -294,10 +294,10 @@ module _ (tells : Bool) (before between after : Session) (old opened new : World
       not_damaged damage bad = cc
 
     -- or they were stopped
-    pub works_stopped : (of : HostFault) (result : Result (Unit {0}) StoreFault) → IsErrAnd result (λ other. other ≡ fault_of of) → CarriesOut program tells between after opened new plan kids left [] gone (Err of) →
-        Works tells at_first at_last gone result
+    pub works_stopped : (of : HostFault) (result : Result (Unit {0}) StoreFault) → IsErrAnd result (λ other. other ≡ store_fault_of of) → CarriesOutPlan program tells between after opened new plan kids left [] gone (Err of) →
+        MailWorks tells at_first at_last gone result
     works_stopped of (Ok done) err carries = absurd err
-    works_stopped of (Err other) err carries = subst (λ (one : StoreFault). Works tells at_first at_last gone (Err one)) (sym err) (record {
+    works_stopped of (Err other) err carries = subst (λ (one : StoreFault). MailWorks tells at_first at_last gone (Err one)) (sym err) (record {
       inside = carries.goes.inside;
       counts = counts_on before between after inside.stays.counts carries.goes.counts;
       kept = (
@@ -306,18 +306,18 @@ module _ (tells : Bool) (before between after : Session) (old opened new : World
       );
       cause = record {
         later = omega (arith, inside.stays.counts.file_faults, carries.goes.counts.file_faults);
-        rose = λ bad. omega (arith, inside.stays.counts.file_faults, carries.goes.cause.rose (host_failed of (same_error (fault_of of) fault.FileFault bad)));
+        rose = λ bad. omega (arith, inside.stays.counts.file_faults, carries.goes.cause.rose (host_failed of (same_error (store_fault_of of) fault.FileFault bad)));
       };
       faults = host_reads of;
       children = kids_so carries.part carries.answers (Err of) carries.goes;
       distinct = distinct_so carries.part carries.answers (Err of) carries.goes;
-      unread = λ damage bad. absurd (host_undamaged of damage (same_error (fault_of of) (fault.Damaged damage) bad));
+      unread = λ damage bad. absurd (host_undamaged of damage (same_error (store_fault_of of) (fault.Damaged damage) bad));
       leaves = λ known. leaves_stopped of (stopped_so known carries.part carries.answers of carries.goes
           (carries.files known (mailing known) notes (table known) old refl (is_opened known) planned.plan_on.plan_for.text (are_due known)));
     })
 
 -- the same where nothing was sent before
 pub carries_first : (program : List ℕ) (tells : Bool) (before after : Session) (old new : World) (plan : MailPlan) (kids left : List Kid) (sent gone : List ℕ) (result : Result (Unit {0}) HostFault) →
-    sent ≡ [] → CarriesOut program tells before after old new plan kids left sent gone result → CarriesOut program tells before after old new plan kids left [] gone result
+    sent ≡ [] → CarriesOutPlan program tells before after old new plan kids left sent gone result → CarriesOutPlan program tells before after old new plan kids left [] gone result
 carries_first program tells before after old new plan kids left sent gone result none carries =
-    subst (λ (l : List ℕ). CarriesOut program tells before after old new plan kids left l gone result) none carries
+    subst (λ (l : List ℕ). CarriesOutPlan program tells before after old new plan kids left l gone result) none carries

@@ -3,25 +3,25 @@ use Rattle.std.specs.Prelude.{[], ◌∷◌, ℕ, List, Contains, map}
 use Rattle.mail_notes.specs.declared.note.Note.{Note}
 use Rattle.mail_notes.specs.declared.note.Note.TheVariants.{Dropped, Noted, Sent}
 use Rattle.mail_notes.specs.Hands.{IsEndOf, Mailing}
-use Rattle.mail_session.specs.declared.due.Due.{Due}
-use Rattle.mail_session.specs.declared.due.Due.TheVariants.{Drop, Send}
+use Rattle.mail_session.specs.declared.due.NoticeDue.{NoticeDue}
+use Rattle.mail_session.specs.declared.due.NoticeDue.TheVariants.{Drop, Send}
 
 -- the note by which it is done
-abbrev pub note_of : Due → Note
+abbrev pub note_of : NoticeDue → Note
 note_of (Send job end) = Sent job.number
 note_of (Drop number) = Dropped number
 
 -- the notes by which all of it is done
-abbrev pub notes_of : List Due → List Note
+abbrev pub notes_of : List NoticeDue → List Note
 notes_of dues = map note_of dues
 
 -- a notice is due of a job that was noted, with the end of its job
-abbrev pub IsDue : Mailing → Due → Type 0
+abbrev pub IsDue : Mailing → NoticeDue → Type 0
 IsDue of (Send job end) = Contains of.notes (Noted job) × IsEndOf of.table job.number end
 IsDue of (Drop number) = Unit {0}
 
 -- each of them is due
-abbrev pub AreDue : Mailing → List Due → Type 0
+abbrev pub AreDue : Mailing → List NoticeDue → Type 0
 AreDue of [] = Unit {0}
 AreDue of (due ∷ later) = IsDue of due × AreDue of later
 

@@ -21,11 +21,11 @@ use Rattle.mail_notes.specs.declared.note.NotedJob.{NotedJob}
 use Rattle.mail_notes.specs.Hands.{Mailing}
 use Rattle.mail_notes.specs.Lines.{HoldsNotes}
 use Rattle.mail_notes.specs.Names.{IsMailName, mail_file, mail_temp}
-use Rattle.mail_notes.specs.Runs.{AreMade, AreStopped, IsReady}
-use Rattle.mail_session.specs.declared.due.Due.{Due}
+use Rattle.mail_notes.specs.Runs.{AreNotesMade, AreNotesStopped, HoldsNotesAlone}
+use Rattle.mail_session.specs.declared.due.NoticeDue.{NoticeDue}
 use Rattle.mail_session.specs.Asking.{asked_besides}
 use Rattle.mail_session.specs.Dues.{AreDue}
-use Rattle.mail_session.specs.Sessions.{HasPosted, IsCleared, IsOpened}
+use Rattle.mail_session.specs.Sessions.{HasPosted, IsCleared, AreNotesOpened}
 use Rattle.mail_session.specs.Stale.{AreStaleFiles, stale_names}
 use Rattle.mail_session.specs.Steps.{AreDuesOf}
 
@@ -33,12 +33,12 @@ use Rattle.mail_session.specs.Steps.{AreDuesOf}
 abbrev pub RecoveriesOpen : Type 0
 RecoveriesOpen = (kept : Kept) (notes : List Note) (start opened : World) →
     ChangesFiles (ShowsAsBefore start.now.folder) start opened → (is : IsRecovered start.now.folder opened.now.folder kept) →
-    HoldsNotes (map.get (reading opened) mail_file) notes → IsOpened notes is.table start opened
+    HoldsNotes (map.get (reading opened) mail_file) notes → AreNotesOpened notes is.table start opened
 
 -- where these files of mail are removed, one that is being made among them, the notes may be made
 abbrev pub LeftoversAreCleared : Type 0
 LeftoversAreCleared = (notes : List Note) (table : JobTable) (names : List (List ℕ)) (start opened cleared : World) →
-    IsOpened notes table start opened → ((name : List ℕ) → Contains names name → IsMailName name × (name ≢ mail_file)) →
+    AreNotesOpened notes table start opened → ((name : List ℕ) → Contains names name → IsMailName name × (name ≢ mail_file)) →
     (IsSome (map.get (reading opened) mail_temp) → Contains names mail_temp) →
     ChangesFiles (IsClearing names opened.now.folder) opened cleared →
     (names ≢ [] → AreCleared names opened.now.folder cleared.now.folder) → IsCleared notes table start cleared
@@ -46,7 +46,7 @@ LeftoversAreCleared = (notes : List Note) (table : JobTable) (names : List (List
 -- a question to kids changes no file, hands nothing over and makes no note
 abbrev pub QuestionsMakeNoNote : Type 0
 QuestionsMakeNoNote = (of : Mailing) (notes : List Note) (kids : List Kid) (answers : List (Option Ending)) (world : World) →
-    IsReady notes world.now.folder → AreMade of notes [] [] (questions kids answers) world (asked_besides kids answers world)
+    HoldsNotesAlone notes world.now.folder → AreNotesMade of notes [] [] (questions kids answers) world (asked_besides kids answers world)
 
 -- the files that are left over are files of mail, none of them that of the notes, and one that is being made is among them
 abbrev pub StaleFilesAreOfMail : Type 0
@@ -55,16 +55,16 @@ StaleFilesAreOfMail = (kids : List Kid) (files : Files) → AreStaleFiles (stale
 -- notes that were made then post the session
 abbrev pub SessionsPost : Type 0
 SessionsPost = (of : Mailing) (notes new_ones : List Note) (given : List Handed) (questions : List Asked) (table : JobTable)
-    (start cleared end : World) → IsCleared notes table start cleared → AreMade of notes new_ones given questions cleared end →
+    (start cleared end : World) → IsCleared notes table start cleared → AreNotesMade of notes new_ones given questions cleared end →
     HasPosted of notes new_ones table start end
 
 -- and so do notes that were stopped, as far as they came
 abbrev pub StoppedSessionsPost : Type 0
 StoppedSessionsPost = (of : Mailing) (notes new_ones next : List Note) (given : List Handed) (questions : List Asked)
     (table : JobTable) (start cleared end : World) → IsCleared notes table start cleared →
-    AreStopped of notes new_ones next given questions cleared end → HasPosted of notes (new_ones ++ next) table start end
+    AreNotesStopped of notes new_ones next given questions cleared end → HasPosted of notes (new_ones ++ next) table start end
 
 -- what is due of the jobs that wait, by what a store keeps of the table, is due
 abbrev pub DuesAreDue : Type 0
-DuesAreDue = (of : Mailing) (notes : List Note) (table : JobTable) (dues : List Due) → table ≡ without_scripts of.table →
+DuesAreDue = (of : Mailing) (notes : List Note) (table : JobTable) (dues : List NoticeDue) → table ≡ without_scripts of.table →
     ((job : NotedJob) → Contains notes (Noted job) → Contains of.notes (Noted job)) → AreDuesOf table notes dues → AreDue of dues

@@ -8,7 +8,7 @@ use Rattle.host_calls.specs.Causes.{Rose}
 use Rattle.host_calls.specs.Folder.{Files, reading_of}
 use Rattle.host_calls.specs.Session.{IsOutside, KeepsCounts, Session}
 use Rattle.host_calls.specs.World.{HasEachImage, LeavesOnly, Moment, World, moments, reading}
-use Rattle.record_lines.specs.Lines.{AreLines}
+use Rattle.record_lines.specs.Lines.{AreRecordLines}
 use Rattle.spool_model.specs.JobTable.{JobTable}
 use Rattle.spool_shows.specs.Shown.{Shows, shown_by}
 use Rattle.spool_store.specs.Recovering.{ShowsTheSame}
@@ -19,25 +19,25 @@ use Rattle.host_session.specs.declared.turn_end.TurnEnd.{TurnEnd}
 use Rattle.host_session.specs.declared.turn_end.TurnEnd.TheVariants.{Done, Busy, FileFault, Damaged, Memory}
 use Rattle.daemon_turn.specs.Decisions.{has_kid, questions}
 use Rattle.daemon_turn.specs.Kids.{AreChildren, KeepsChildren, started_numbers}
-use Rattle.daemon_turn.specs.Leaving.{IfUnread}
+use Rattle.daemon_turn.specs.Leaving.{IfNoTableRead}
 use Rattle.mail_notes.specs.declared.note.Note.{Note}
 use Rattle.mail_notes.specs.declared.note.NotedJob.{NotedJob}
-use Rattle.mail_notes.specs.Hands.{Hands, Mailing}
+use Rattle.mail_notes.specs.Hands.{SendsNotices, Mailing}
 use Rattle.mail_notes.specs.Lines.{Fits, SpellsNote}
 use Rattle.mail_notes.specs.Names.{IsMailName, mail_file, notice_file}
-use Rattle.mail_notes.specs.Notes.{AreFirst, MayCome}
-use Rattle.mail_notes.specs.Runs.{IsReady}
-use Rattle.mail_session.specs.declared.due.Due.{Due}
+use Rattle.mail_notes.specs.Notes.{IsNotesPrefix, IsNoteAllowed}
+use Rattle.mail_notes.specs.Runs.{HoldsNotesAlone}
+use Rattle.mail_session.specs.declared.due.NoticeDue.{NoticeDue}
 use Rattle.mail_session.specs.Asking.{kids_after}
 use Rattle.mail_session.specs.Dues.{notes_of}
 use Rattle.mail_session.specs.News.{IsNotedFrom, new_numbers, noting_of}
 use Rattle.mail_session.specs.PostState.{PostState}
 use Rattle.mail_session.specs.Reading.{IsDamageOf}
-use Rattle.mail_session.specs.Sessions.{HasPosted, IsUntouched}
+use Rattle.mail_session.specs.Sessions.{HasPosted, IsMailUntouched}
 use Rattle.mail_session.specs.Steps.{AreDuesOf}
 
 -- a host at one moment, and the post that works on it
-pub record PostAt : Type 0 where
+pub record PostSpool : Type 0 where
   pub session : Session
   pub world : World
   pub post : PostState
@@ -47,19 +47,19 @@ pub record PostAt : Type 0 where
 -- what is at the name of the file of notes has these, each of which may come after those before it: an absent file has none
 abbrev pub GivesNotes : Option (List ℕ) → List Note → Type 0
 GivesNotes None notes = notes ≡ []
-GivesNotes (Some bytes) notes = AreLines SpellsNote MayCome bytes notes
+GivesNotes (Some bytes) notes = AreRecordLines SpellsNote IsNoteAllowed bytes notes
 
 -- the folder is damaged, or else its file of notes
-abbrev pub IsDamage : Files → Damage → Type 0
-IsDamage files damage =
+abbrev pub IsSpoolOrNotesDamage : Files → Damage → Type 0
+IsSpoolOrNotesDamage files damage =
     (shown_by files ≡ Err damage)
     ⊎ ((table : JobTable) × Shows files table × IsDamageOf (finite.get files mail_file) damage)
 
 -- The steps of a session on a table, after these notes: each live job of which there is no note is noted, by number, and
 -- then it is noted of each job that waits for its notice and is no longer live, by number, that it is sent or dropped.
-pub record AreSessionSteps (files : Files) (table : JobTable) (notes steps : List Note) : Type 0 where
+pub record AreMailSteps (files : Files) (table : JobTable) (notes steps : List Note) : Type 0 where
   pub news : List NotedJob
-  pub dues : List Due
+  pub dues : List NoticeDue
   pub numbers : map (λ job. job.number) news ≡ new_numbers table notes
   pub each : (job : NotedJob) → Contains news job → IsNotedFrom files table job
   pub due : AreDuesOf table notes dues
@@ -73,12 +73,12 @@ pub record IsSince (old new : World) (at : Moment) : Type 0 where
 
 -- What a session reads and is to do: the reading of its start shows the table and has the notes; the steps are those of a
 -- session, by the files as they read at one of its moments.
-pub record HasRead (table : JobTable) (notes steps : List Note) (old new : World) : Type 0 where
+pub record HasReadNotes (table : JobTable) (notes steps : List Note) (old new : World) : Type 0 where
   pub shown : Shows (reading old) table
   pub gives : GivesNotes (finite.get (reading old) mail_file) notes
   pub at : Moment
   pub since : IsSince old new at
-  pub are : AreSessionSteps (reading_of at.folder) table notes steps
+  pub are : AreMailSteps (reading_of at.folder) table notes steps
 
 -- what its notices are made of
 abbrev pub mailing_of : PostState → JobTable → List Note → List Note → Mailing
@@ -88,10 +88,10 @@ mailing_of post table notes steps = record { program = post.program; table = tab
 
 -- What the session handed over and asked, and the numbers of the scripts that were handed over, in order. The kids are
 -- those that stay, and after them the child of each start that gave one, under its number.
-pub record Gave (made : List Note) (given : List Handed) (answers : List (Option Ending)) (of : Mailing) (sent : List ℕ)
-    (old new : PostAt) : Type 0 where
+pub record SessionHandsOver (made : List Note) (given : List Handed) (answers : List (Option Ending)) (of : Mailing) (sent : List ℕ)
+    (old new : PostSpool) : Type 0 where
   pub handed : new.world.now.handed ≡ old.world.now.handed ++ given
-  pub hands : Hands of made given
+  pub hands : SendsNotices of made given
   pub sent_are : sent ≡ map (λ handed. handed.number) given
   pub asked : new.world.asked ≡ old.world.asked ++ questions old.post.kids answers
   pub added : List Kid
@@ -112,62 +112,62 @@ pub record AreNoticeFiles (kids : List Kid) (sent : List ℕ) (old new : Files) 
 
 -- The session was made to its end: all of its steps stand in each image, each kid was asked once, and each notice that is
 -- due was handed over. Other files read as before.
-pub record IsWhole (sent : List ℕ) (old new : PostAt) : Type 0 where
+pub record IsMailDone (sent : List ℕ) (old new : PostSpool) : Type 0 where
   pub table : JobTable
   pub notes : List Note
   pub steps : List Note
-  pub read : HasRead table notes steps old.world new.world
+  pub read : HasReadNotes table notes steps old.world new.world
   pub given : List Handed
   pub answers : List (Option Ending)
   pub posted : HasPosted (mailing_of old.post table notes steps) notes steps table old.world new.world
-  pub stand : IsReady (notes ++ steps) new.world.now.folder
+  pub stand : HoldsNotesAlone (notes ++ steps) new.world.now.folder
   pub each_asked : length answers ≡ length old.post.kids
-  pub gave : Gave steps given answers (mailing_of old.post table notes steps) sent old new
+  pub gave : SessionHandsOver steps given answers (mailing_of old.post table notes steps) sent old new
   pub notices : AreNoticeFiles old.post.kids sent (reading old.world) (reading new.world)
   pub others : (name : List ℕ) → ¬ (IsSpoolName name) → ¬ (IsMailName name)
       → finite.get (reading new.world) name ≡ finite.get (reading old.world) name
 
 -- The session was stopped: the first of its steps were made, and next ones may stand too, of which nothing was handed over.
-pub record IsStopped (sent : List ℕ) (old new : PostAt) : Type 0 where
+pub record IsMailStopped (sent : List ℕ) (old new : PostSpool) : Type 0 where
   pub table : JobTable
   pub notes : List Note
   pub steps : List Note
-  pub read : HasRead table notes steps old.world new.world
+  pub read : HasReadNotes table notes steps old.world new.world
   pub made : List Note
   pub next : List Note
-  pub first : AreFirst (made ++ next) steps
+  pub first : IsNotesPrefix (made ++ next) steps
   pub given : List Handed
   pub answers : List (Option Ending)
   pub posted : HasPosted (mailing_of old.post table notes steps) notes (made ++ next) table old.world new.world
   pub some_asked : length answers ≤ length old.post.kids
-  pub gave : Gave made given answers (mailing_of old.post table notes steps) sent old new
+  pub gave : SessionHandsOver made given answers (mailing_of old.post table notes steps) sent old new
 
 -- nothing was sent, and the kids are as before
-pub record IsNone (sent : List ℕ) (old new : PostState) : Type 0 where
+pub record IsNothingSent (sent : List ℕ) (old new : PostState) : Type 0 where
   pub none : sent ≡ []
   pub kids : new.kids ≡ old.kids
 
 -- The session was stopped before its first step: the reading shows what it showed, each image has the notes of one of the
 -- start, nothing was handed over or asked, and the kids are as before.
-pub record IsIdle (sent : List ℕ) (old new : PostAt) : Type 0 where
-  pub none : IsNone sent old.post new.post
-  pub leaves : LeavesOnly (IsUntouched old.world.now) old.world new.world
-  pub now : HasEachImage (IsUntouched old.world.now) new.world.now
+pub record IsMailIdle (sent : List ℕ) (old new : PostSpool) : Type 0 where
+  pub none : IsNothingSent sent old.post new.post
+  pub leaves : LeavesOnly (IsMailUntouched old.world.now) old.world new.world
+  pub now : HasEachImage (IsMailUntouched old.world.now) new.world.now
   pub shown : ShowsTheSame old.world.now.folder new.world.now.folder
   pub asked : new.world.asked ≡ old.world.asked
 
 -- what a session leaves, by its end: where it is damaged no file of mail was removed
-abbrev pub MailLeaves : List ℕ → PostAt → PostAt → TurnEnd → Type 0
-MailLeaves sent old new Done = IsWhole sent old new
-MailLeaves sent old new Busy = IsIdle sent old new × (new.world ≡ old.world)
-MailLeaves sent old new FileFault = IsIdle sent old new ⊎ IsStopped sent old new
+abbrev pub MailLeaves : List ℕ → PostSpool → PostSpool → TurnEnd → Type 0
+MailLeaves sent old new Done = IsMailDone sent old new
+MailLeaves sent old new Busy = IsMailIdle sent old new × (new.world ≡ old.world)
+MailLeaves sent old new FileFault = IsMailIdle sent old new ⊎ IsMailStopped sent old new
 MailLeaves sent old new (Damaged damage) =
-    IsIdle sent old new × IsUnbegun old.world new.world × IsDamage (reading old.world) damage
-MailLeaves sent old new Memory = IsIdle sent old new ⊎ IsStopped sent old new
+    IsMailIdle sent old new × IsUnbegun old.world new.world × IsSpoolOrNotesDamage (reading old.world) damage
+MailLeaves sent old new Memory = IsMailIdle sent old new ⊎ IsMailStopped sent old new
 
 -- A session of mail. Of every host: its session is over, its children stay and the kids are some of them; the mail program
 -- stays; why it ended so. Of a host that tells its files and is alone: what it leaves.
-pub record PostsTo (tells alone : Bool) (old new : PostAt) (end : TurnEnd) (sent : List ℕ) : Type 0 where
+pub record PostsTo (tells alone : Bool) (old new : PostSpool) (end : TurnEnd) (sent : List ℕ) : Type 0 where
   pub outside : IsOutside new.session
   pub counts : KeepsCounts old.session new.session
   pub kept : KeepsChildren old.session.children new.session.children
@@ -175,5 +175,5 @@ pub record PostsTo (tells alone : Bool) (old new : PostAt) (end : TurnEnd) (sent
   pub program : new.post.program ≡ old.post.program
   pub busy : end ≡ Busy → Rose old.session.taken new.session.taken
   pub fault : end ≡ FileFault → Rose old.session.file_faults new.session.file_faults
-  pub unread : IfUnread end (IsNone sent old.post new.post)
+  pub unread : IfNoTableRead end (IsNothingSent sent old.post new.post)
   pub leaves : tells ≡ true → alone ≡ true → MailLeaves sent old new end

@@ -11,11 +11,11 @@ use Rattle.spool_model.specs.Lists.{live_rows}
 use Rattle.mail_notes.specs.declared.note.Note.{Note}
 use Rattle.mail_notes.specs.declared.note.Note.TheVariants.{Noted}
 use Rattle.mail_notes.specs.declared.note.NotedJob.{NotedJob}
-use Rattle.mail_notes.specs.Notes.{is_named}
+use Rattle.mail_notes.specs.Notes.{has_note_of}
 
 -- no note is of the number
 abbrev pub is_new : List Note → ℕ → Bool
-is_new notes number = not (is_named number notes)
+is_new notes number = not (has_note_of number notes)
 
 -- the numbers of the live jobs that no note is of, by number
 abbrev pub new_numbers : JobTable → List Note → List ℕ

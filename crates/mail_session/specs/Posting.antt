@@ -14,9 +14,9 @@ use Rattle.mail_notes.specs.declared.note.Note.{Note}
 use Rattle.mail_notes.specs.Hands.{Mailing}
 use Rattle.mail_notes.specs.Lines.{notes_text}
 use Rattle.mail_notes.specs.Names.{mail_temp}
-use Rattle.mail_notes.specs.Notes.{AreFirst}
-use Rattle.mail_notes.specs.Runs.{AreMade, AreStopped, IsReady}
-use Rattle.mail_session.specs.declared.due.Due.{Due}
+use Rattle.mail_notes.specs.Notes.{IsNotesPrefix}
+use Rattle.mail_notes.specs.Runs.{AreNotesMade, AreNotesStopped, HoldsNotesAlone}
+use Rattle.mail_session.specs.declared.due.NoticeDue.{NoticeDue}
 use Rattle.mail_session.specs.Dues.{AreDue, notes_of, sent_numbers}
 use Rattle.mail_session.specs.NoticeFiles.{ReadsBeside}
 
@@ -26,37 +26,38 @@ kids_of number None = []
 kids_of number (Some child) = record { number = number; child = child } ∷ []
 
 -- The notes that were made, those that may stand too where it was stopped, and the kids that came.
-pub record Part : Type 0 where
+pub record MailPart : Type 0 where
   pub made : List Note
   pub next : List Note
   pub added : List Kid
 
 -- what is left where the notes were made, and where they were stopped
-abbrev pub PartEnds : Mailing → List Note → Part → List Handed → World → World → Result (Unit {0}) HostFault → Type 0
-PartEnds of notes part given old new (Ok done) = AreMade of notes part.made given [] old new
-PartEnds of notes part given old new (Err fault) = AreStopped of notes part.made part.next given [] old new
+abbrev pub MailPartEnds : Mailing → List Note → MailPart → List Handed → World → World → Result (Unit {0}) HostFault → Type 0
+MailPartEnds of notes part given old new (Ok done) = AreNotesMade of notes part.made given [] old new
+MailPartEnds of notes part given old new (Err fault) = AreNotesStopped of notes part.made part.next given [] old new
 
 -- these were handed over, and the kids are the children that came of them
-pub record Gives (of : Mailing) (notes : List Note) (part : Part) (old new : World) (result : Result (Unit {0}) HostFault) : Type 0 where
-  pub given : List Handed
-  pub numbered : started_numbers given ≡ map (λ kid. kid.number) part.added
-  pub ends : PartEnds of notes part given old new result
+pub record SendsPart (of : Mailing) (notes : List Note) (part : MailPart) (old new : World) (result : Result (Unit {0}) HostFault) : Type 0
+  where
+    pub given : List Handed
+    pub numbered : started_numbers given ≡ map (λ kid. kid.number) part.added
+    pub ends : MailPartEnds of notes part given old new result
 
 -- What is due was noted after the notes of the text, or the first of it, by a file fault or want of memory, and the kids
 -- and the numbers of the notices that were handed over were added to those before.
-pub record Posts (program : List ℕ) (tells : Bool) (before after : Session) (old new : World) (dues : List Due) (was is : List ℕ)
+pub record Posts (program : List ℕ) (tells : Bool) (before after : Session) (old new : World) (dues : List NoticeDue) (was is : List ℕ)
     (kids more : List Kid) (sent gone : List ℕ) (result : Result (Unit {0}) HostFault) : Type 0 where
-  pub part : Part
+  pub part : MailPart
   pub inside : IsInside after
   pub counts : KeepsCounts before after
   pub cause : HasCause Failed before.file_faults after.file_faults result
   pub children : after.children ≡ before.children ++ map (λ kid. kid.child) part.added
-  pub prefix : AreFirst (part.made ++ part.next) (notes_of dues)
+  pub prefix : IsNotesPrefix (part.made ++ part.next) (notes_of dues)
   pub all : IfOk result (λ done. part.made ≡ notes_of dues)
   pub text : IfOk result (λ done. is ≡ was ++ notes_text part.made)
   pub kids_are : more ≡ kids ++ part.added
   pub sent_are : gone ≡ sent ++ sent_numbers part.made
   pub no_temp : tells ≡ true → IfOk result (λ done. IsInNoImage new.now.folder mail_temp)
   pub reads : tells ≡ true → IfOk result (λ done. ReadsBeside (sent_numbers part.made) old new)
-  pub files : tells ≡ true → (of : Mailing) (notes : List Note) → of.program ≡ program → IsReady notes old.now.folder →
-      was ≡ notes_text notes → AreDue of dues → Gives of notes part old new result
+  pub files : tells ≡ true → (of : Mailing) (notes : List Note) → of.program ≡ program → HoldsNotesAlone notes old.now.folder →
+      was ≡ notes_text notes → AreDue of dues → SendsPart of notes part old new result

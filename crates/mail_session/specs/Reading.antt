@@ -2,18 +2,18 @@
 use Rattle.std.specs.Prelude.{◌≡◌, [], ℕ, List, Option, Some, None}
 use Rattle.host_calls.specs.declared.damage.Damage.{Damage}
 use Rattle.host_calls.specs.Damages.{damage_at}
-use Rattle.record_lines.specs.Lines.{AreLines, IsFirstBadLine}
+use Rattle.record_lines.specs.Lines.{AreRecordLines, IsFirstBadLine}
 use Rattle.mail_notes.specs.Book.{IsBookOf}
 use Rattle.mail_notes.specs.declared.book.MailBook.{MailBook}
 use Rattle.mail_notes.specs.declared.note.Note.{Note}
 use Rattle.mail_notes.specs.Lines.{SpellsNote}
 use Rattle.mail_notes.specs.Names.{mail_file}
-use Rattle.mail_notes.specs.Notes.{MayCome}
+use Rattle.mail_notes.specs.Notes.{IsNoteAllowed}
 
 -- the text is that of notes, each of which may come after those before it, and the book is theirs
-pub record AreRead (text : List ℕ) (book : MailBook) : Type 0 where
+pub record IsReadBook (text : List ℕ) (book : MailBook) : Type 0 where
   pub notes : List Note
-  pub lines : AreLines SpellsNote MayCome text notes
+  pub lines : AreRecordLines SpellsNote IsNoteAllowed text notes
   pub told : IsBookOf notes book
 
 -- the text is that of the file of notes; an absent file has none
@@ -24,7 +24,7 @@ IsTextOf (Some bytes) text = text ≡ bytes
 -- the file of notes with these bytes is damaged so: at the first byte of its first bad line
 pub record IsDamageAt (bytes : List ℕ) (damage : Damage) : Type 0 where
   pub place : ℕ
-  pub bad : IsFirstBadLine SpellsNote MayCome bytes place
+  pub bad : IsFirstBadLine SpellsNote IsNoteAllowed bytes place
   pub is : damage ≡ damage_at mail_file bytes place
 
 -- and one that is absent is not damaged

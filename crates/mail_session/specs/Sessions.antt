@@ -8,11 +8,11 @@ use Rattle.spool_model.specs.JobTable.{JobTable}
 use Rattle.spool_shows.specs.Shown.{shown_by}
 use Rattle.step_runs.specs.Current.{EachShows, IsSpoolName}
 use Rattle.mail_notes.specs.declared.note.Note.{Note}
-use Rattle.mail_notes.specs.Hands.{HandsByNow, Mailing}
+use Rattle.mail_notes.specs.Hands.{SendsNoticesByNow, Mailing}
 use Rattle.mail_notes.specs.Lines.{HoldsNotes}
 use Rattle.mail_notes.specs.Names.{IsMailName, mail_file}
-use Rattle.mail_notes.specs.Notes.{AreFirst}
-use Rattle.mail_notes.specs.Runs.{IsReady}
+use Rattle.mail_notes.specs.Notes.{IsNotesPrefix}
+use Rattle.mail_notes.specs.Runs.{HoldsNotesAlone}
 
 -- the image shows what an image of the start shows, and has its files that are neither the store's nor the mail's
 pub record ShowsBeside (start : Folder) (image : Files) : Type 0 where
@@ -22,7 +22,7 @@ pub record ShowsBeside (start : Folder) (image : Files) : Type 0 where
   pub others : (name : List ℕ) → ¬ (IsSpoolName name) → ¬ (IsMailName name) → map.get image name ≡ map.get from name
 
 -- and its notes too, and nothing was handed over since
-pub record IsUntouched (start : Moment) (image : Files) (handed : List Handed) : Type 0 where
+pub record IsMailUntouched (start : Moment) (image : Files) (handed : List Handed) : Type 0 where
   pub beside : ShowsBeside start.folder image
   pub same : map.get image mail_file ≡ map.get beside.from mail_file
   pub as_many : handed ≡ start.handed
@@ -31,11 +31,11 @@ pub record IsUntouched (start : Moment) (image : Files) (handed : List Handed) :
 -- notice whose note is the last, and that was not handed over yet, is under its name.
 pub record HoldsPrefix (of : Mailing) (notes new_ones : List Note) (start : Moment) (image : Files) (handed : List Handed) : Type 0 where
   pub prefix : List Note
-  pub is_prefix : AreFirst prefix new_ones
+  pub is_prefix : IsNotesPrefix prefix new_ones
   pub holds : HoldsNotes (map.get image mail_file) (notes ++ prefix)
   pub given : List Handed
   pub grown : handed ≡ start.handed ++ given
-  pub hands : HandsByNow of prefix image given
+  pub hands : SendsNoticesByNow of prefix image given
 
 -- The image shows what an image of the start shows. It has the notes of that image, and nothing was handed over since; or
 -- it holds the notes and a prefix of the new ones, and what these hand over was handed over.
@@ -45,9 +45,9 @@ pub record IsPosted (of : Mailing) (notes new_ones : List Note) (start : Moment)
       ⊎ HoldsPrefix of notes new_ones start image handed
 
 -- After the recovery: the table is shown, and each image holds the notes that are read.
-pub record IsOpened (notes : List Note) (table : JobTable) (start opened : World) : Type 0 where
-  pub leaves : LeavesOnly (IsUntouched start.now) start opened
-  pub now : HasEachImage (IsUntouched start.now) opened.now
+pub record AreNotesOpened (notes : List Note) (table : JobTable) (start opened : World) : Type 0 where
+  pub leaves : LeavesOnly (IsMailUntouched start.now) start opened
+  pub now : HasEachImage (IsMailUntouched start.now) opened.now
   pub handed : opened.now.handed ≡ start.now.handed
   pub shows : EachShows opened.now.folder table
   pub holds : HoldsNotes (map.get (reading opened) mail_file) notes
@@ -56,11 +56,11 @@ pub record IsOpened (notes : List Note) (table : JobTable) (start opened : World
 
 -- After the removals: the table is shown, and the notes may be made.
 pub record IsCleared (notes : List Note) (table : JobTable) (start cleared : World) : Type 0 where
-  pub leaves : LeavesOnly (IsUntouched start.now) start cleared
-  pub now : HasEachImage (IsUntouched start.now) cleared.now
+  pub leaves : LeavesOnly (IsMailUntouched start.now) start cleared
+  pub now : HasEachImage (IsMailUntouched start.now) cleared.now
   pub handed : cleared.now.handed ≡ start.now.handed
   pub shows : EachShows cleared.now.folder table
-  pub ready : IsReady notes cleared.now.folder
+  pub ready : HoldsNotesAlone notes cleared.now.folder
 
 -- The session came to an end: each image of each moment, and each that the end leaves, is posted, and the table is shown.
 pub record HasPosted (of : Mailing) (notes new_ones : List Note) (table : JobTable) (start end : World) : Type 0 where

@@ -9,13 +9,13 @@ use Rattle.daemon_turn.specs.Decisions.{has_kid}
 use Rattle.mail_notes.specs.Names.{IsMailName, mail_file, mail_temp, notice_number}
 
 -- the notice of the number belongs to no kid
-abbrev pub is_without_kid : List Kid → Option ℕ → Bool
-is_without_kid kids None = false
-is_without_kid kids (Some number) = not (has_kid kids number)
+abbrev pub is_notice_without_kid : List Kid → Option ℕ → Bool
+is_notice_without_kid kids None = false
+is_notice_without_kid kids (Some number) = not (has_kid kids number)
 
 -- the file of this name is left over
 abbrev pub is_stale : List Kid → List ℕ → Bool
-is_stale kids name = pointwise nat_eq name mail_temp || is_without_kid kids (notice_number name)
+is_stale kids name = pointwise nat_eq name mail_temp || is_notice_without_kid kids (notice_number name)
 
 -- the names of the files that are left over, in byte order
 abbrev pub stale_names : List Kid → Files → List (List ℕ)

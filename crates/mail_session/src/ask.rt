@@ -3,7 +3,7 @@ ghost use Rattle.std.specs.Prelude.{◌≡◌, ◌<◌, length, vec_len};
 ghost use Rattle.daemon_turn.specs.Kids.{AreChildren};
 ghost use Rattle.host_calls.specs.Session.{IsInside, StaysInside};
 ghost use Rattle.mail_session.specs.Asking.{AsksKids};
-ghost use Rattle.mail_session.specs.inside.Staying.{IsChildAt, left_by, place_by};
+ghost use Rattle.mail_session.specs.inside.Staying.{IsChildAt, kids_left_by, place_by};
 
 use daemon_turn::Kid;
 use host_calls::{Child, Ending, Host};
@@ -38,7 +38,7 @@ fn child_at(kids: &[Kid], place: usize) -> Child
 fn pass(kids: &mut Vec<Kid>, place: usize, answer: Option<Ending>) -> usize
     requires { place < vec_len kids.old }
     ensures place { result ≡ place_by place answer }
-    ensures kids { kids.new.items ≡ left_by kids.old.items place answer }
+    ensures kids { kids.new.items ≡ kids_left_by kids.old.items place answer }
 {
     match answer {
         Some(_) => {

@@ -9,7 +9,7 @@ use mail_notes::{Note, NotedJob};
 
 /// What is due of a job that was noted and is no longer live.
 #[derive(Clone, Copy)]
-pub enum Due {
+pub enum NoticeDue {
     /// Its notice, with this end.
     Send(NotedJob, TurnStepText),
     /// That it has none.
@@ -17,13 +17,13 @@ pub enum Due {
 }
 
 // The note by which it is done.
-pub(crate) fn note_of(due: &Due) -> Note
+pub(crate) fn note_of(due: &NoticeDue) -> Note
     ensures note { result ≡ note_of due.now }
     ensures can { IsNote result }
 {
     match due {
-        Due::Send(job, _) => sent(job.number),
-        Due::Drop(number) => Note::Dropped(*number),
+        NoticeDue::Send(job, _) => sent(job.number),
+        NoticeDue::Drop(number) => Note::Dropped(*number),
     }
 }
 

@@ -4,9 +4,9 @@ ghost use Rattle.std.specs.List.{filter_map};
 ghost use Rattle.spool_model.specs.JobTable.{JobTable, entry_at};
 ghost use Rattle.spool_model.specs.declared.decided.Decided.{Decided};
 ghost use Rattle.spool_store.specs.Listed.{IsLive, ListsDecided};
-ghost use Rattle.mail_session.specs.Steps.{due_by, due_of};
+ghost use Rattle.mail_session.specs.Steps.{due_by, due_of_entry};
 
-use crate::Due;
+use crate::NoticeDue;
 use listing_text::TurnStepText;
 use mail_notes::NotedJob;
 use spool_model::{Decided, Fate};
@@ -14,18 +14,22 @@ use spool_store::Store;
 use std::alloc::{AllocError, Global};
 
 /// What is due of these jobs, in their order: nothing of those that are live.
-pub fn dues_of(alloc: Global, store: &Store, jobs: &[NotedJob]) -> Result<Vec<Due>, AllocError>
+pub fn dues_of(
+    alloc: Global,
+    store: &Store,
+    jobs: &[NotedJob],
+) -> Result<Vec<NoticeDue>, AllocError>
     ensures { IfOk result (λ dues. dues.items
-        ≡ filter_map (λ job. due_of job (entry_at store.now.table job.number)) jobs.now) }
+        ≡ filter_map (λ job. due_of_entry job (entry_at store.now.table job.number)) jobs.now) }
 {
     jobs.iter()
-        .filter_map(|job| due_of(store, job))
+        .filter_map(|job| due_of_entry(store, job))
         .collect(alloc)
 }
 
 // What is due of a job; nothing where it is live.
-fn due_of(store: &Store, job: &NotedJob) -> Option<Due>
-    ensures { result ≡ due_of job.now (entry_at store.now.table job.now.number) }
+fn due_of_entry(store: &Store, job: &NotedJob) -> Option<NoticeDue>
+    ensures { result ≡ due_of_entry job.now (entry_at store.now.table job.now.number) }
 {
     match store.row(job.number) {
         Some(_) => None,
@@ -34,23 +38,23 @@ fn due_of(store: &Store, job: &NotedJob) -> Option<Due>
 }
 
 // What is due of a job that is not live.
-fn due_after(decided: &[Decided], job: &NotedJob) -> Due
+fn due_after(decided: &[Decided], job: &NotedJob) -> NoticeDue
     ensures { (table : JobTable) → ListsDecided table decided.now → (IsLive table job.now.number → ⊥)
-        → Some result ≡ due_of job.now (entry_at table job.now.number) }
+        → Some result ≡ due_of_entry job.now (entry_at table job.now.number) }
 {
     match fate_of(decided, job.number) {
         Some(fate) => due_by(job, fate),
-        None => Due::Drop(job.number),
+        None => NoticeDue::Drop(job.number),
     }
 }
 
-fn due_by(job: &NotedJob, fate: Fate) -> Due
+fn due_by(job: &NotedJob, fate: Fate) -> NoticeDue
     ensures { result ≡ due_by job.now fate }
 {
     match fate {
-        Fate::Finished(ending) => Due::Send(*job, TurnStepText::Ended(job.number, ending)),
-        Fate::Interrupted => Due::Send(*job, TurnStepText::Interrupted(job.number)),
-        Fate::Removed => Due::Drop(job.number),
+        Fate::Finished(ending) => NoticeDue::Send(*job, TurnStepText::Ended(job.number, ending)),
+        Fate::Interrupted => NoticeDue::Send(*job, TurnStepText::Interrupted(job.number)),
+        Fate::Removed => NoticeDue::Drop(job.number),
     }
 }
 

@@ -11,7 +11,7 @@ use mail_notes::{NOTICE_NICE, notice_name};
 use std::alloc::Global;
 
 // Hands the notice of the number over. No child where the host could start none.
-pub(crate) fn hand_over<H: Host>(
+pub(crate) fn send_notice<H: Host>(
     alloc: Global,
     host: &mut H,
     number: u32,

@@ -16,7 +16,7 @@ pub fn dues_are_due()
 {}
 
 /// Files of mail that are left over may be removed, and a question to kids makes no note.
-pub fn removals_and_questions_may_come()
+pub fn stale_files_and_questions()
     ensures stale { StaleFilesAreOfMail }
     ensures questions { QuestionsMakeNoNote }
 {}

@@ -21,12 +21,12 @@ mod stale;
 mod work;
 
 pub use ask::ask_kids;
-pub use due::Due;
+pub use due::NoticeDue;
 pub use dues::dues_of;
-pub use laws::{dues_are_due, removals_and_questions_may_come, sessions_of_mail_join};
+pub use laws::{dues_are_due, sessions_of_mail_join, stale_files_and_questions};
 pub use mailer::Post;
 pub use news::news_of;
-pub use noting::{add_news, note_news};
+pub use noting::{add_note_lines, note_news};
 pub use post::post_all;
 pub use read::{ReadNotes, read_notes};
 pub use report::PostReport;

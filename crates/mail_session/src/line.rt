@@ -7,7 +7,7 @@ use record_lines::LineRecord;
 use std::alloc::AllocError;
 
 // Puts the line of the note after the text.
-pub(crate) fn add_line(text: &mut Vec<u8>, note: &Note) -> Result<(), AllocError>
+pub(crate) fn add_note_line(text: &mut Vec<u8>, note: &Note) -> Result<(), AllocError>
     requires { IsNote note.now }
     ensures { OnOk result (text.new.items ≡ text.old.items ++ note_line note.now) }
 {

@@ -7,7 +7,7 @@ ghost use Rattle.mail_session.specs.Leaving.{PostsTo};
 ghost use Rattle.mail_session.specs.PostState.{may_be_program, new_post};
 
 use crate::PostReport;
-use crate::work::work;
+use crate::work::mail_session_body;
 use at_words::Numbers;
 use daemon_turn::{Kid, TurnEnd, end_of_session};
 use host_calls::Host;
@@ -69,14 +69,14 @@ impl Post {
         let worked = in_session(
             alloc,
             host,
-            &mut |host| work(alloc, host, program, kids, &mut sent),
+            &mut |host| mail_session_body(alloc, host, program, kids, &mut sent),
         );
-        report(end_of_session(worked), sent)
+        mail_report(end_of_session(worked), sent)
     }
 }
 
 // The report of a session.
-fn report(end: TurnEnd, sent: Vec<u32>) -> PostReport
+fn mail_report(end: TurnEnd, sent: Vec<u32>) -> PostReport
     requires { IsTrue (are_distinct sent.items) }
     ensures end { result.end ≡ end }
     ensures sent { result.sent ≡ sent.items }

@@ -58,12 +58,12 @@ fn live_numbers(alloc: Global, store: &Store) -> Result<Vec<u32>, AllocError>
     ensures numbers { IfOk result (λ numbers. numbers.items ≡ map (λ row. row.number) (live_rows store.now.table)) }
     ensures live { IfOk result (λ numbers. All (IsLive store.now.table) numbers.items) }
 {
-    let numbers = numbers_of(alloc, store.rows())?;
+    let numbers = numbers_of_live_rows(alloc, store.rows())?;
     Ok(numbers)
 }
 
 // The numbers of these rows.
-fn numbers_of(alloc: Global, rows: &[Row]) -> Result<Vec<u32>, AllocError>
+fn numbers_of_live_rows(alloc: Global, rows: &[Row]) -> Result<Vec<u32>, AllocError>
     ensures { IfOk result (λ numbers. numbers.items ≡ map (λ row. row.number) rows.now) }
 {
     rows.iter().map(|row| row.number).collect(alloc)
@@ -73,7 +73,7 @@ fn numbers_of(alloc: Global, rows: &[Row]) -> Result<Vec<u32>, AllocError>
 fn is_new(book: &MailBook, number: u32) -> bool
     ensures { (notes : List Note) → IsBookOf notes book.now → result ≡ is_new notes number }
 {
-    book.standing(number).is_none()
+    book.state_of(number).is_none()
 }
 
 // The jobs of the numbers, as they are noted.
@@ -97,13 +97,13 @@ fn noted_jobs<H: Host>(
     let mut news = Vec::new(alloc);
     for number in numbers {
         let job = noted_job(alloc, host, store, *number)?;
-        keep(&mut news, job)?;
+        keep_job(&mut news, job)?;
     }
     Ok(news)
 }
 
 // Puts the job after the others.
-fn keep(news: &mut Vec<NotedJob>, job: NotedJob) -> Result<(), AllocError>
+fn keep_job(news: &mut Vec<NotedJob>, job: NotedJob) -> Result<(), AllocError>
     ensures { OnOk result (news.new.items ≡ news.old.items ++ job ∷ []) }
 {
     news.push(job)?;
@@ -130,7 +130,7 @@ fn noted_job<H: Host>(
 {
     let file = store.file(number).unwrap();
     let header = store.header(alloc, host, number)?;
-    let user = named(header.user);
+    let user = user_named(header.user);
     Ok(NotedJob {
         number,
         file,
@@ -140,7 +140,7 @@ fn noted_job<H: Host>(
 }
 
 // The name of a user, which is one.
-fn named(user: UserName) -> UserName
+fn user_named(user: UserName) -> UserName
     ensures same { result ≡ user }
     ensures named { IsUserName result }
 {

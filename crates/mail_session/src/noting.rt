@@ -9,14 +9,14 @@ ghost use Rattle.mail_notes.specs.declared.note.Note.TheVariants.{Noted};
 ghost use Rattle.mail_session.specs.News.{noting_of};
 ghost use Rattle.mail_session.specs.Noting.{Notes};
 
-use crate::line::add_line;
+use crate::line::add_note_line;
 use crate::places::place_notes;
 use host_calls::{Host, HostFault};
 use mail_notes::{Note, NotedJob};
 use std::alloc::{AllocError, Global};
 
 /// Puts the lines of the notes that these jobs were seen after the text.
-pub fn add_news(text: &mut Vec<u8>, news: &[NotedJob]) -> Result<(), AllocError>
+pub fn add_note_lines(text: &mut Vec<u8>, news: &[NotedJob]) -> Result<(), AllocError>
     requires { All IsNotedJob news.now }
     ensures { OnOk result (text.new.items ≡ text.old.items ++ notes_text (noting_of news.now)) }
 {
@@ -31,7 +31,7 @@ fn add_noted(text: &mut Vec<u8>, job: &NotedJob) -> Result<(), AllocError>
     ensures { OnOk result (text.new.items ≡ text.old.items ++ note_line (Noted job.now)) }
 {
     let note = Note::Noted(*job);
-    add_line(text, &note)
+    add_note_line(text, &note)
 }
 
 /// Gives the file of notes this text, which ends with the notes of these jobs, at once. Nothing is done where there are

@@ -6,13 +6,13 @@ ghost use Rattle.mail_notes.specs.declared.note.Note.{Note};
 ghost use Rattle.mail_session.specs.Steps.{AreDuesOf};
 ghost use Rattle.mail_session.specs.inside.Planning.{Plans, PlansOn};
 ghost use Rattle.spool_model.specs.JobTable.{JobTable};
-ghost use Rattle.host_calls.specs.StoreFaults.{IsOfReading};
+ghost use Rattle.host_calls.specs.StoreFaults.{IsReadingFault};
 ghost use Rattle.step_runs.specs.Current.{IsCurrent};
 
 use crate::news::news_of;
-use crate::noting::add_news;
+use crate::noting::add_note_lines;
 use crate::stale::stale_names;
-use crate::{Due, ReadNotes, dues_of, read_notes};
+use crate::{NoticeDue, ReadNotes, dues_of, read_notes};
 use daemon_turn::Kid;
 use host_calls::{Host, Name};
 use mail_notes::{MailBook, NotedJob};
@@ -25,7 +25,7 @@ pub(crate) struct MailPlan {
     // The jobs that are noted.
     pub(crate) news: Vec<NotedJob>,
     // What is due of those that were noted before.
-    pub(crate) dues: Vec<Due>,
+    pub(crate) dues: Vec<NoticeDue>,
     // The text of the notes, and of the new ones after them.
     pub(crate) text: Vec<u8>,
     // The names of the files of mail that are left over.
@@ -33,14 +33,14 @@ pub(crate) struct MailPlan {
 }
 
 // Recovers the store, and reads what a session with these kids will do.
-pub(crate) fn make_plan<H: Host>(
+pub(crate) fn mail_plan<H: Host>(
     alloc: Global,
     host: &mut H,
     kids: &[Kid],
 ) -> Result<MailPlan, StoreFault>
     requires { IsInside (H.session host.old) }
     ensures inside { CallsInside StoreFault.FileFault (H.session host.old) (H.session host.new) result }
-    ensures of_reading { IfErr result IsOfReading }
+    ensures of_reading { IfErr result IsReadingFault }
     ensures plans { Plans H.tells (H.world host.old) (H.world host.new) kids.now result }
 {
     let store = Store::recover(alloc, host)?;
@@ -58,7 +58,7 @@ fn plan_on<H: Host>(
     requires current { IsTrue H.tells → (table : JobTable)
         × IsCurrent store.now (H.world host.old).now.folder table }
     ensures inside { CallsInside StoreFault.FileFault (H.session host.old) (H.session host.new) result }
-    ensures of_reading { IfErr result IsOfReading }
+    ensures of_reading { IfErr result IsReadingFault }
     ensures looks { IsTrue H.tells → H.world host.new ≡ H.world host.old }
     ensures plans { PlansOn H.tells (H.world host.old) store.now kids.now result }
 {
@@ -66,7 +66,7 @@ fn plan_on<H: Host>(
     let news = news_of(alloc, host, store, &book)?;
     let dues = dues_now(alloc, store, &book)?;
     let stale = stale_names(alloc, host, kids)?;
-    add_news(&mut text, news.as_slice())?;
+    add_note_lines(&mut text, news.as_slice())?;
     Ok(MailPlan {
         news,
         dues,
@@ -76,7 +76,7 @@ fn plan_on<H: Host>(
 }
 
 // What is due of the jobs that wait by the book.
-fn dues_now(alloc: Global, store: &Store, book: &MailBook) -> Result<Vec<Due>, AllocError>
+fn dues_now(alloc: Global, store: &Store, book: &MailBook) -> Result<Vec<NoticeDue>, AllocError>
     ensures { IfOk result (λ dues. (notes : List Note) → IsBookOf notes book.now
         → AreDuesOf store.now.table notes dues.items) }
 {

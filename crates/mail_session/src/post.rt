@@ -7,9 +7,9 @@ ghost use Rattle.mail_notes.specs.Names.{mail_temp};
 ghost use Rattle.mail_session.specs.Dues.{note_of};
 ghost use Rattle.mail_session.specs.Posting.{Posts, kids_of};
 
-use crate::Due;
+use crate::NoticeDue;
 use crate::due::note_of;
-use crate::line::add_line;
+use crate::line::add_note_line;
 use crate::places::place_notes;
 use crate::send::send;
 use daemon_turn::Kid;
@@ -24,7 +24,7 @@ pub fn post_all<H: Host>(
     alloc: Global,
     host: &mut H,
     program: &[u8],
-    dues: &[Due],
+    dues: &[NoticeDue],
     text: &mut Vec<u8>,
     kids: &mut Vec<Kid>,
     sent: &mut Vec<u32>,
@@ -46,7 +46,7 @@ fn post<H: Host>(
     alloc: Global,
     host: &mut H,
     program: &[u8],
-    due: &Due,
+    due: &NoticeDue,
     text: &mut Vec<u8>,
     kids: &mut Vec<Kid>,
     sent: &mut Vec<u32>,
@@ -61,23 +61,23 @@ fn post<H: Host>(
     sent.reserve(1)?;
     add_note(text, due)?;
     match due {
-        Due::Send(job, end) => {
+        NoticeDue::Send(job, end) => {
             let script = notice_text(alloc, program, job, end)?;
             let child = send(alloc, host, job.number, script.as_slice(), text.as_slice())?;
             sent.push_reserved(job.number);
             keep_kid(kids, job.number, child);
             Ok(())
         }
-        Due::Drop(_) => place_notes(alloc, host, text.as_slice()),
+        NoticeDue::Drop(_) => place_notes(alloc, host, text.as_slice()),
     }
 }
 
 // Puts the line of the note after the text.
-fn add_note(text: &mut Vec<u8>, due: &Due) -> Result<(), AllocError>
+fn add_note(text: &mut Vec<u8>, due: &NoticeDue) -> Result<(), AllocError>
     ensures { OnOk result (text.new.items ≡ text.old.items ++ note_line (note_of due.now)) }
 {
     let note = note_of(due);
-    add_line(text, &note)
+    add_note_line(text, &note)
 }
 
 // Keeps the child that came of the number's notice, if one did.

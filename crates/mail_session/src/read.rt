@@ -5,8 +5,8 @@ ghost use Rattle.host_calls.specs.Damages.{IfDamaged};
 ghost use Rattle.host_calls.specs.Session.{CallsInside, IsInside};
 ghost use Rattle.host_calls.specs.World.{reading};
 ghost use Rattle.mail_notes.specs.Names.{mail_file};
-ghost use Rattle.mail_session.specs.Reading.{AreRead, IsDamageAt, IsDamageOf, IsTextOf};
-ghost use Rattle.host_calls.specs.StoreFaults.{IsOfReading};
+ghost use Rattle.mail_session.specs.Reading.{IsReadBook, IsDamageAt, IsDamageOf, IsTextOf};
+ghost use Rattle.host_calls.specs.StoreFaults.{IsReadingFault};
 
 use host_calls::{Bytes, Damage, Host};
 use mail_notes::{MailBook, Note, mail_name};
@@ -26,16 +26,16 @@ pub struct ReadNotes {
 pub fn read_notes<H: Host>(alloc: Global, host: &mut H) -> Result<ReadNotes, StoreFault>
     requires { IsInside (H.session host.old) }
     ensures inside { CallsInside StoreFault.FileFault (H.session host.old) (H.session host.new) result }
-    ensures of_reading { IfErr result IsOfReading }
+    ensures of_reading { IfErr result IsReadingFault }
     ensures looks { IsTrue H.tells → H.world host.new ≡ H.world host.old }
-    ensures notes { IfOk result (λ read. AreRead read.text.items read.book) }
+    ensures notes { IfOk result (λ read. IsReadBook read.text.items read.book) }
     ensures text { IsTrue H.tells → IfOk result (λ read.
         IsTextOf (map.get (reading (H.world host.old)) mail_file) read.text.items) }
     ensures damaged { IsTrue H.tells → IfDamaged StoreFault.Damaged
         (IsDamageOf (map.get (reading (H.world host.old)) mail_file)) result }
 {
     match content(alloc, host, &mail_name())? {
-        Some(bytes) => notes_in(alloc, bytes),
+        Some(bytes) => notes_in_file(alloc, bytes),
         None => Ok(ReadNotes {
             text: Vec::new(alloc),
             book: MailBook::new(alloc),
@@ -44,10 +44,10 @@ pub fn read_notes<H: Host>(alloc: Global, host: &mut H) -> Result<ReadNotes, Sto
 }
 
 // The notes of a file with these bytes.
-fn notes_in(alloc: Global, bytes: Bytes) -> Result<ReadNotes, StoreFault>
-    ensures of_reading { IfErr result IsOfReading }
+fn notes_in_file(alloc: Global, bytes: Bytes) -> Result<ReadNotes, StoreFault>
+    ensures of_reading { IfErr result IsReadingFault }
     ensures no_fault { result ≢ Err StoreFault.FileFault }
-    ensures notes { IfOk result (λ read. AreRead read.text.items read.book) }
+    ensures notes { IfOk result (λ read. IsReadBook read.text.items read.book) }
     ensures text { IfOk result (λ read. read.text.items ≡ bytes) }
     ensures damaged { IfDamaged StoreFault.Damaged (IsDamageAt bytes) result }
 {

@@ -5,7 +5,7 @@ ghost use Rattle.host_calls.specs.Session.{IsInside};
 ghost use Rattle.mail_notes.specs.Names.{mail_temp};
 ghost use Rattle.mail_session.specs.inside.Sending.{Sends};
 
-use crate::hand_over::hand_over;
+use crate::hand_over::send_notice;
 use crate::places::{place_notes, place_notice};
 use host_calls::{Child, Host, HostFault};
 use std::alloc::Global;
@@ -27,5 +27,5 @@ pub(crate) fn send<H: Host>(
     place_notice(alloc, host, number, script)?;
     // A crash between the hand-over and a later note would let the next session hand the same notice over once more.
     place_notes(alloc, host, text)?;
-    hand_over(alloc, host, number)
+    send_notice(alloc, host, number)
 }

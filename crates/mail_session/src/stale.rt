@@ -3,7 +3,7 @@ ghost use Rattle.std.specs.Prelude.{◌≡◌, IfOk, IsTrue};
 ghost use Rattle.daemon_turn.specs.Decisions.{has_kid};
 ghost use Rattle.host_calls.specs.Session.{CallsInside, IsInside};
 ghost use Rattle.host_calls.specs.World.{reading};
-ghost use Rattle.mail_session.specs.Stale.{is_stale, is_without_kid, stale_names};
+ghost use Rattle.mail_session.specs.Stale.{is_stale, is_notice_without_kid, stale_names};
 
 use daemon_turn::Kid;
 use host_calls::{Host, HostFault, Name};
@@ -31,12 +31,12 @@ pub fn stale_names<H: Host>(
 fn is_stale(kids: &[Kid], name: &Name) -> bool
     ensures { result ≡ is_stale kids.now name.now }
 {
-    *name == mail_temp_name() || is_without_kid(kids, notice_number(name))
+    *name == mail_temp_name() || is_notice_without_kid(kids, notice_number(name))
 }
 
 // Whether the notice of the number belongs to no kid.
-fn is_without_kid(kids: &[Kid], number: Option<u32>) -> bool
-    ensures { result ≡ is_without_kid kids.now number }
+fn is_notice_without_kid(kids: &[Kid], number: Option<u32>) -> bool
+    ensures { result ≡ is_notice_without_kid kids.now number }
 {
     match number {
         Some(number) => !has_kid(kids, number),

@@ -4,11 +4,11 @@ ghost use Rattle.host_calls.specs.Folder.{IsInNoImage};
 ghost use Rattle.host_calls.specs.Session.{IsInside};
 ghost use Rattle.daemon_turn.specs.Kids.{AreChildren};
 ghost use Rattle.mail_notes.specs.Names.{mail_temp};
-ghost use Rattle.mail_session.specs.inside.Working.{CarriesOut, Makes, MayCarryOut, Works};
+ghost use Rattle.mail_session.specs.inside.Working.{CarriesOutPlan, Makes, MayCarryOut, MailWorks};
 
 use crate::ask::ask_kids;
 use crate::noting::note_news;
-use crate::plan::{MailPlan, make_plan};
+use crate::plan::{MailPlan, mail_plan};
 use crate::post::post_all;
 use daemon_turn::Kid;
 use host_calls::{Host, HostFault};
@@ -17,7 +17,7 @@ use std::alloc::Global;
 use whole_file::clear;
 
 // Makes the steps of a session, with the kids that there are, and keeps the numbers of the notices that were sent.
-pub(crate) fn work<H: Host>(
+pub(crate) fn mail_session_body<H: Host>(
     alloc: Global,
     host: &mut H,
     program: &[u8],
@@ -27,7 +27,7 @@ pub(crate) fn work<H: Host>(
     requires inside { IsInside (H.session host.old) }
     requires children { AreChildren (H.session host.old).children kids.old.items }
     requires none { sent.old.items ≡ [] }
-    ensures { Works H.tells
+    ensures { MailWorks H.tells
         (record {
           session = H.session host.old;
           world = H.world host.old;
@@ -40,13 +40,13 @@ pub(crate) fn work<H: Host>(
         })
         sent.new.items result }
 {
-    let mut plan = make_plan(alloc, host, kids.as_slice())?;
-    carry_out(alloc, host, program, &mut plan, kids, sent)?;
+    let mut plan = mail_plan(alloc, host, kids.as_slice())?;
+    carry_out_plan(alloc, host, program, &mut plan, kids, sent)?;
     Ok(())
 }
 
 // Removes the files that are left over, and makes the steps.
-fn carry_out<H: Host>(
+fn carry_out_plan<H: Host>(
     alloc: Global,
     host: &mut H,
     program: &[u8],
@@ -57,7 +57,7 @@ fn carry_out<H: Host>(
     requires inside { IsInside (H.session host.old) }
     requires may { IsTrue H.tells → MayCarryOut (H.world host.old) kids.old.items plan.old }
     requires children { AreChildren (H.session host.old).children kids.old.items }
-    ensures { CarriesOut program.now H.tells (H.session host.old) (H.session host.new)
+    ensures { CarriesOutPlan program.now H.tells (H.session host.old) (H.session host.new)
         (H.world host.old) (H.world host.new) plan.old kids.old.items kids.new.items
         sent.old.items sent.new.items result }
 {

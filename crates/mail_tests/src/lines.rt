@@ -1,6 +1,6 @@
 //! Files of notes, and their first bad lines.
-use mail_notes::{MailBook, MailStanding, Note};
-use record_lines::{LinesFault, read_lines, read_records_can_be_written, text_of};
+use mail_notes::{MailBook, Note, NoticeState};
+use record_lines::{LinesFault, lines_text, read_lines, read_records_can_be_written};
 use std::test::Fail;
 
 #[test]
@@ -11,7 +11,7 @@ fn a_file_of_each_kind_of_line(rt: HostRuntime) -> Result<(), Fail> {
     let mut book = MailBook::new(alloc);
     let read = read_lines::<Note, MailBook>(alloc, text, &mut book)?;
     read_records_can_be_written::<Note>(text);
-    let written = text_of(alloc, read.as_slice())?;
+    let written = lines_text(alloc, read.as_slice())?;
     assert_eq!(rt; written.as_slice(), text);
     let waiting = book.waiting(alloc)?;
     assert_eq!(rt; waiting.len(), 1);
@@ -19,8 +19,8 @@ fn a_file_of_each_kind_of_line(rt: HostRuntime) -> Result<(), Fail> {
     assert_eq!(rt; waiting[0].file.as_bytes(), b"b0000000a01b968a0".as_slice());
     assert_eq!(rt; waiting[0].user.as_bytes(), b"root".as_slice());
     assert!(rt; waiting[0].always);
-    assert!(rt; matches!(book.standing(1), Some(MailStanding::Closed)));
-    assert!(rt; book.standing(3).is_none());
+    assert!(rt; matches!(book.state_of(1), Some(NoticeState::Closed)));
+    assert!(rt; book.state_of(3).is_none());
     Ok(())
 }
 

@@ -18,12 +18,12 @@ use Rattle.spool_shows.proofs.Membership.{Has}
 use Rattle.step_runs.proofs.ApartLemmas.{all_each}
 use Rattle.mail_notes.specs.declared.note.Note.{Note}
 use Rattle.mail_notes.specs.Names.{mail_file}
-use Rattle.mail_session.specs.Sessions.{IsUntouched}
+use Rattle.mail_session.specs.Sessions.{IsMailUntouched}
 use Rattle.at_mail.specs.Once.{HasWholeNotes, notice_numbers}
 use Rattle.at_mail.proofs.OnceLemmas.{IsOnce, IsShut, KeepsOnce, LeavesRetired, crash_keeps, event_keeps, keeps_by, once_since, untouched, whole_once}
 use Rattle.at_mail.proofs.SentLemmas.{AreNotes, given_notes, gives_spelled, has, holds_spelled, one_reading}
 use Rattle.mail_trim.specs.Events.{NoneLivesAgain, NoticesAreHandedOnceWithTrims, TrimEvent, TrimEvents, TrimsAreEvents, a_trim, crashed, next_event, no_event, no_trim}
-use Rattle.mail_trim.specs.Leaving.{HoldsEither, IsStopped, IsTrimming, IsUntrimmed, TrimLeaves}
+use Rattle.mail_trim.specs.Leaving.{HoldsEither, IsTrimStopped, IsTrimming, IsUntrimmed, TrimLeaves}
 use Rattle.mail_trim.specs.Trimming.{is_live_in, is_over, stays, trimmed}
 use Rattle.mail_trim.proofs.StayingLemmas.{closed_stays, drawn, gone_over, named_gone, named_stays, not_live, staying}
 use Rattle.mail_trim.proofs.NamedLemmas.{steps_name_none}
@@ -99,7 +99,7 @@ module _ (starts : List World) (opening : List Handed) (old new : World) (inv : 
 
   untrimmed : IsUntrimmed old new → KeepsOnce (IsRetired (old ∷ starts)) opening old new
   untrimmed is =
-      keeps_by (IsRetired (old ∷ starts)) opening old new later (IsUntouched old.now) (untouched (IsRetired (old ∷ starts)) opening old new later) is.leaves is.now
+      keeps_by (IsRetired (old ∷ starts)) opening old new later (IsMailUntouched old.now) (untouched (IsRetired (old ∷ starts)) opening old new later) is.leaves is.now
 
   unchanged : new ≡ old → KeepsOnce (IsRetired (old ∷ starts)) opening old new
   unchanged same = record {
@@ -156,12 +156,12 @@ module _ (starts : List World) (opening : List Handed) (old new : World) (inv : 
     trimming : KeepsOnce (IsRetired (old ∷ starts)) opening old new
     trimming = record {
       leaves = leaves_then (IsOnce (IsRetired (old ∷ starts)) opening) old is.opened new
-          (leaves_weaker (IsUntouched old.now) (IsOnce (IsRetired (old ∷ starts)) opening) old is.opened (untouched (IsRetired (old ∷ starts)) opening old is.opened later) is.is_opened.leaves)
+          (leaves_weaker (IsMailUntouched old.now) (IsOnce (IsRetired (old ∷ starts)) opening) old is.opened (untouched (IsRetired (old ∷ starts)) opening old is.opened later) is.is_opened.leaves)
           (leaves_weaker (HoldsEither table notes is.opened.now) (IsOnce (IsRetired (old ∷ starts)) opening) is.opened new trimmed_once is.leaves);
       now = λ image of. trimmed_once image new.now.handed (is.now image of);
     }
 
-  stopped : IsStopped old new → KeepsOnce (IsRetired (old ∷ starts)) opening old new
+  stopped : IsTrimStopped old new → KeepsOnce (IsRetired (old ∷ starts)) opening old new
   stopped (inl none) = untrimmed none
   stopped (inr (table, notes, is)) = trimming table notes is
 

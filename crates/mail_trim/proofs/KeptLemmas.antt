@@ -6,9 +6,9 @@ use Rattle.spool_model.specs.declared.row.Row.{Row}
 use Rattle.spool_model.specs.JobTable.{JobEntry, JobTable, entry_at}
 use Rattle.spool_store.specs.Listed.{IsLive, IsRowOf}
 use Rattle.record_lines.proofs.SayingLemmas.{none_says}
-use Rattle.mail_notes.specs.Book.{StandsAt}
+use Rattle.mail_notes.specs.Book.{IsNoticeStateAt}
 use Rattle.mail_notes.specs.declared.note.Note.{Note}
-use Rattle.mail_notes.specs.Notes.{is_closed, is_closing, names}
+use Rattle.mail_notes.specs.Notes.{has_closing_note, is_closing_note, is_note_of}
 use Rattle.mail_trim.specs.Trimming.{is_live_in, is_of_live}
 
 -- a number with a row is live
@@ -25,5 +25,5 @@ pub no_row : (table : JobTable) (number : ℕ) → (IsLive table number → ⊥)
 no_row table number none = not_live (entry_at table number) number table refl none
 
 -- how a number stands tells whether its notice was sent or dropped
-pub open_none : (notes : List Note) (number : ℕ) → StandsAt notes number None → is_closed number notes ≡ false
-open_none notes number none = none_says (names number) is_closing notes none
+pub open_none : (notes : List Note) (number : ℕ) → IsNoticeStateAt notes number None → has_closing_note number notes ≡ false
+open_none notes number none = none_says (is_note_of number) is_closing_note notes none

@@ -14,7 +14,7 @@ use Rattle.host_calls.specs.declared.store_fault.StoreFault.TheVariants as fault
 use Rattle.host_calls.specs.Damages.{IfDamaged}
 use Rattle.host_calls.specs.Folder.{Files, IsImage}
 use Rattle.host_calls.specs.Session.{CallsInside}
-use Rattle.host_calls.specs.StoreFaults.{IsOfReading, fault_of}
+use Rattle.host_calls.specs.StoreFaults.{IsReadingFault, store_fault_of}
 use Rattle.host_calls.specs.World.{World, reading}
 use Rattle.host_calls.proofs.FolderLemmas.{reading_is_image}
 use Rattle.host_calls.proofs.WorldLemmas.{leaves_weaker}
@@ -38,12 +38,12 @@ use Rattle.mail_notes.specs.Names.{mail_file, mail_temp}
 use Rattle.mail_notes.proofs.NameLemmas.{mail_is_none_of_the_stores}
 use Rattle.mail_session.specs.Leaving.{GivesNotes}
 use Rattle.mail_session.specs.Reading.{IsDamageOf}
-use Rattle.mail_session.specs.Sessions.{IsOpened}
+use Rattle.mail_session.specs.Sessions.{AreNotesOpened}
 use Rattle.mail_session.proofs.PlanLemmas.{holds_notes, notes_as_before}
 use Rattle.mail_session.proofs.SessionLemmas.{recoveries_open, recovery_leaves, recovery_now}
 use Rattle.mail_trim.specs.Leaving.{HoldsEither, IsTrimmed, IsTrimming, IsUntrimmed, TrimLeaves, TrimsTo}
 use Rattle.mail_trim.specs.Trimming.{trimmed}
-use Rattle.mail_trim.specs.inside.Writing.{IsWritten}
+use Rattle.mail_trim.specs.inside.Writing.{IsTrimWritten}
 use Rattle.mail_trim.proofs.StayingLemmas.{trimmed_alike}
 
 -- neither name is one of the store's
@@ -62,7 +62,7 @@ untrimmed old new changes shown = record {
 }
 
 -- the store could not be recovered
-pub leaves_unrecovered : (of : StoreFault) (old new : World) → IsOfReading of → ChangesFiles (ShowsAsBefore old.now.folder) old new → Recovered old.now.folder new.now.folder (Err of) →
+pub leaves_unrecovered : (of : StoreFault) (old new : World) → IsReadingFault of → ChangesFiles (ShowsAsBefore old.now.folder) old new → Recovered old.now.folder new.now.folder (Err of) →
     IfDamaged {T = Kept} fault.Damaged (λ damage. reading new ≡ reading old) (Err of) → TrimLeaves old new (end_after (Err of))
 leaves_unrecovered fault.FileFault old new reads changes recovered untouched = inl (untrimmed old new changes recovered)
 leaves_unrecovered fault.Memory old new reads changes recovered untouched = inl (untrimmed old new changes recovered)
@@ -75,14 +75,14 @@ still : (kept : Kept) (old opened : World) → ChangesFiles (ShowsAsBefore old.n
 still kept old opened changes is = untrimmed old opened changes (is.current.shows (reading opened) (reading_is_image opened.now.folder) ∙ sym is.shown)
 
 module _ {T : Type 0} (kept : Kept) (old opened : World) (changes : ChangesFiles (ShowsAsBefore old.now.folder) old opened) (is : IsRecovered old.now.folder opened.now.folder kept) where
-  unread : (of : StoreFault) → IsOfReading of → IfDamaged {T = T} fault.Damaged (IsDamageOf (finite.get (reading opened) mail_file)) (Err of) → TrimLeaves old opened (end_after (Err of))
+  unread : (of : StoreFault) → IsReadingFault of → IfDamaged {T = T} fault.Damaged (IsDamageOf (finite.get (reading opened) mail_file)) (Err of) → TrimLeaves old opened (end_after (Err of))
   unread fault.FileFault reads damaged = inl (still kept old opened changes is)
   unread fault.Memory reads damaged = inl (still kept old opened changes is)
   unread (fault.Damaged damage) reads damaged =
       (still kept old opened changes is, inr (is.table, is.shown, subst (λ held. IsDamageOf held damage) (notes_as_before kept old opened is) (damaged damage refl)))
   unread _ reads damaged = absurd reads
 
-  pub leaves_unread : (of : StoreFault) (read : World) → read ≡ opened → IsOfReading of → IfDamaged {T = T} fault.Damaged (IsDamageOf (finite.get (reading opened) mail_file)) (Err of) →
+  pub leaves_unread : (of : StoreFault) (read : World) → read ≡ opened → IsReadingFault of → IfDamaged {T = T} fault.Damaged (IsDamageOf (finite.get (reading opened) mail_file)) (Err of) →
       TrimLeaves old read (end_after (Err of))
   leaves_unread of read looks reads damaged =
       subst (λ (world : World). TrimLeaves old world (end_after (Err of))) (sym looks) (unread of reads damaged)
@@ -90,7 +90,7 @@ module _ {T : Type 0} (kept : Kept) (old opened : World) (changes : ChangesFiles
 -- The store was recovered, and the notes were read.
 module _ (kept : Kept) (old opened : World) (changes : ChangesFiles (ShowsAsBefore old.now.folder) old opened) (is : IsRecovered old.now.folder opened.now.folder kept) (notes : List Note)
     (gives : GivesNotes (finite.get (reading opened) mail_file) notes) where
-  opens : IsOpened notes is.table old opened
+  opens : AreNotesOpened notes is.table old opened
   opens = recoveries_open kept notes old opened changes is (holds_notes (finite.get (reading opened) mail_file) notes gives)
 
   gave : GivesNotes (finite.get (reading old) mail_file) notes
@@ -164,13 +164,13 @@ module _ (kept : Kept) (old opened : World) (changes : ChangesFiles (ShowsAsBefo
     placed_on = subst (λ (from : World). ChangesFiles (IsPlacing mail_temp mail_file (notes_text (trimmed kept.table notes)) from.now.folder) from new) looks places
 
     -- the replacement was stopped
-    pub leaves_stopped : (of : HostFault) → TrimLeaves old new (end_after (Err (fault_of of)))
+    pub leaves_stopped : (of : HostFault) → TrimLeaves old new (end_after (Err (store_fault_of of)))
     leaves_stopped host.Failed = inr (is.table, notes, trimming new placed_on)
     leaves_stopped host.Memory = inr (is.table, notes, trimming new placed_on)
 
     -- or done
-    pub leaves_trimmed : IsWritten kept.table notes read new → IsTrimmed old new
-    leaves_trimmed written = elim (subst (λ (from : World). IsWritten kept.table notes from new) looks written) [
+    pub leaves_trimmed : IsTrimWritten kept.table notes read new → IsTrimmed old new
+    leaves_trimmed written = elim (subst (λ (from : World). IsTrimWritten kept.table notes from new) looks written) [
       | inl placed ↦ replaced new placed_on placed
       | inr none ↦ subst (IsTrimmed old) (sym none.0) (unchanged none.1)
     ]
@@ -190,13 +190,13 @@ untrimmed_same old new same = record {
 -- what one call of the work does
 pub record Trims {H : Type 0} (g : Ghosts H) (first last : H) (done : Result (Unit {0}) StoreFault) : Type 0 where
   pub inside : CallsInside fault.FileFault (g.session first) (g.session last) done
-  pub reads : IfErr done IsOfReading
+  pub reads : IfErr done IsReadingFault
   pub leaves : g.tells ≡ true → TrimLeaves (g.world first) (g.world last) (end_after done)
 
 module _ {H F : Type 0} (g : Ghosts H) (calls : Calls H F (Result (Unit {0}) StoreFault)) (work left : F) (old new : H)
     (within : (first last : H) (done : Result (Unit {0}) StoreFault) → CalledAtMut calls work first done left last → Trims g first last done) where
   pub reads_of_session : (result : Result (Result (Unit {0}) StoreFault) EnterFault) → EndsSession g calls work left old new result →
-      IfOk result (λ done. IfErr done IsOfReading)
+      IfOk result (λ done. IfErr done IsReadingFault)
   reads_of_session (Ok done) ends = (within ends.first ends.last done ends.did).reads
   reads_of_session (Err of) ends = tt
 

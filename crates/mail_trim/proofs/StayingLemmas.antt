@@ -14,12 +14,12 @@ use Rattle.step_runs.specs.WithoutScripts.{entry_without_script, without_scripts
 use Rattle.step_runs.proofs.ApartLemmas.{filter_alike}
 use Rattle.step_runs.proofs.RowLemmas.{row_held}
 use Rattle.step_runs.proofs.WithoutScriptsLemmas.{entries_are_without_scripts}
-use Rattle.mail_notes.specs.Book.{AreWaiting, IsWaiting}
+use Rattle.mail_notes.specs.Book.{AreAwaitingNotice, IsWaiting}
 use Rattle.mail_notes.specs.declared.note.Note.{Note}
 use Rattle.mail_notes.specs.declared.note.Note.TheVariants.{Noted}
 use Rattle.mail_notes.specs.declared.note.NotedJob.{NotedJob}
-use Rattle.mail_notes.specs.Notes.{is_closed, is_closing, is_named, is_noted, is_noting, names, number_of, waits}
-use Rattle.mail_session.specs.Leaving.{AreSessionSteps}
+use Rattle.mail_notes.specs.Notes.{has_closing_note, is_closing_note, has_note_of, is_noted, is_noting, is_note_of, number_of_note, awaits_notice}
+use Rattle.mail_session.specs.Leaving.{AreMailSteps}
 use Rattle.mail_session.specs.News.{is_new, new_numbers}
 use Rattle.mail_trim.specs.Laws.{NoJobLivesAgain, TrimsChangeNoSession}
 use Rattle.mail_trim.specs.Trimming.{is_live_in, is_of_live, is_over, stays, trimmed}
@@ -55,54 +55,54 @@ not_both false closed is = refl
 -- The notes of one number stay, or all of them go.
 module _ (table : JobTable) (notes : List Note) where
   abbrev pub staying : ℕ → Bool
-  staying number = not (is_closed number notes) || not (is_over table number)
+  staying number = not (has_closing_note number notes) || not (is_over table number)
 
-  stays_by : (number : ℕ) (note : Note) → names number note ≡ true → stays table notes note ≡ staying number
-  stays_by number note of = ap staying (same_number (number_of note) number of)
+  stays_by : (number : ℕ) (note : Note) → is_note_of number note ≡ true → stays table notes note ≡ staying number
+  stays_by number note of = ap staying (same_number (number_of_note note) number of)
 
   -- a test on the notes of the number
-  any_stays : (number : ℕ) (test : Note → Bool) → ((note : Note) → test note ≡ true → names number note ≡ true) → staying number ≡ true
+  any_stays : (number : ℕ) (test : Note → Bool) → ((note : Note) → test note ≡ true → is_note_of number note ≡ true) → staying number ≡ true
       → list_any test (trimmed table notes) ≡ list_any test notes
   any_stays number test of is = any_kept test (stays table notes) notes (λ note passes. stays_by number note (of note passes) ∙ is)
 
-  none_stays : (number : ℕ) (test : Note → Bool) → ((note : Note) → test note ≡ true → names number note ≡ true) → staying number ≡ false
+  none_stays : (number : ℕ) (test : Note → Bool) → ((note : Note) → test note ≡ true → is_note_of number note ≡ true) → staying number ≡ false
       → list_any test (trimmed table notes) ≡ false
   none_stays number test of is = none_kept test (stays table notes) notes (λ note passes. stays_by number note (of note passes) ∙ is)
 
-  of_both : (number : ℕ) (test : Note → Bool) (note : Note) → (names number note && test note) ≡ true → names number note ≡ true
-  of_both number test note is = (and_parts (names number note) (test note) is).0
+  of_both : (number : ℕ) (test : Note → Bool) (note : Note) → (is_note_of number note && test note) ≡ true → is_note_of number note ≡ true
+  of_both number test note is = (and_parts (is_note_of number note) (test note) is).0
 
-  pub named_stays : (number : ℕ) → staying number ≡ true → is_named number (trimmed table notes) ≡ is_named number notes
-  named_stays number is = any_stays number (names number) (λ note of. of) is
+  pub named_stays : (number : ℕ) → staying number ≡ true → has_note_of number (trimmed table notes) ≡ has_note_of number notes
+  named_stays number is = any_stays number (is_note_of number) (λ note of. of) is
 
-  pub named_gone : (number : ℕ) → staying number ≡ false → is_named number (trimmed table notes) ≡ false
-  named_gone number is = none_stays number (names number) (λ note of. of) is
+  pub named_gone : (number : ℕ) → staying number ≡ false → has_note_of number (trimmed table notes) ≡ false
+  named_gone number is = none_stays number (is_note_of number) (λ note of. of) is
 
   noted_stays : (number : ℕ) → staying number ≡ true → is_noted number (trimmed table notes) ≡ is_noted number notes
-  noted_stays number is = any_stays number (λ note. names number note && is_noting note) (of_both number is_noting) is
+  noted_stays number is = any_stays number (λ note. is_note_of number note && is_noting note) (of_both number is_noting) is
 
   noted_gone : (number : ℕ) → staying number ≡ false → is_noted number (trimmed table notes) ≡ false
-  noted_gone number is = none_stays number (λ note. names number note && is_noting note) (of_both number is_noting) is
+  noted_gone number is = none_stays number (λ note. is_note_of number note && is_noting note) (of_both number is_noting) is
 
-  pub closed_stays : (number : ℕ) → staying number ≡ true → is_closed number (trimmed table notes) ≡ is_closed number notes
-  closed_stays number is = any_stays number (λ note. names number note && is_closing note) (of_both number is_closing) is
+  pub closed_stays : (number : ℕ) → staying number ≡ true → has_closing_note number (trimmed table notes) ≡ has_closing_note number notes
+  closed_stays number is = any_stays number (λ note. is_note_of number note && is_closing_note note) (of_both number is_closing_note) is
 
-  gone_closed : (number : ℕ) → staying number ≡ false → is_closed number notes ≡ true
-  gone_closed number is = closed_by (is_closed number notes) (is_over table number) is
+  gone_closed : (number : ℕ) → staying number ≡ false → has_closing_note number notes ≡ true
+  gone_closed number is = closed_by (has_closing_note number notes) (is_over table number) is
 
   pub gone_over : (number : ℕ) → staying number ≡ false → is_over table number ≡ true
-  gone_over number is = over_by (is_closed number notes) (is_over table number) is
+  gone_over number is = over_by (has_closing_note number notes) (is_over table number) is
 
   -- Jobs that wait.
-  waits_if : (number : ℕ) (stay : Bool) → staying number ≡ stay → waits number (trimmed table notes) ≡ waits number notes
+  waits_if : (number : ℕ) (stay : Bool) → staying number ≡ stay → awaits_notice number (trimmed table notes) ≡ awaits_notice number notes
   waits_if number true is =
-      ap (λ noted. noted && not (is_closed number (trimmed table notes))) (noted_stays number is)
+      ap (λ noted. noted && not (has_closing_note number (trimmed table notes))) (noted_stays number is)
       ∙ ap (λ closed. is_noted number notes && not closed) (closed_stays number is)
   waits_if number false is =
-      ap (λ noted. noted && not (is_closed number (trimmed table notes))) (noted_gone number is)
-      ∙ sym (not_both (is_noted number notes) (is_closed number notes) (gone_closed number is))
+      ap (λ noted. noted && not (has_closing_note number (trimmed table notes))) (noted_gone number is)
+      ∙ sym (not_both (is_noted number notes) (has_closing_note number notes) (gone_closed number is))
 
-  waits_alike : (number : ℕ) → waits number (trimmed table notes) ≡ waits number notes
+  waits_alike : (number : ℕ) → awaits_notice number (trimmed table notes) ≡ awaits_notice number notes
   waits_alike number = waits_if number (staying number) refl
 
   waiting_if : (number : ℕ) (job : NotedJob) (stay : Bool) → staying number ≡ stay → IsWaiting (trimmed table notes) number job → IsWaiting notes number job
@@ -125,14 +125,14 @@ module _ (table : JobTable) (notes : List Note) where
         open_yet = closed_stays number stay ∙ is.open_yet;
       }
 
-  all_before : (jobs : List NotedJob) → AreWaiting (trimmed table notes) jobs → AreWaiting notes jobs
+  all_before : (jobs : List NotedJob) → AreAwaitingNotice (trimmed table notes) jobs → AreAwaitingNotice notes jobs
   all_before jobs are = record {
     each = λ job has. waiting_if job.number job (staying job.number) refl (are.each job has);
     all = λ number is. are.all number (waits_alike number ∙ is);
     rise = are.rise;
   }
 
-  all_after : (jobs : List NotedJob) → AreWaiting notes jobs → AreWaiting (trimmed table notes) jobs
+  all_after : (jobs : List NotedJob) → AreAwaitingNotice notes jobs → AreAwaitingNotice (trimmed table notes) jobs
   all_after jobs are = record {
     each = λ job has. waiting_after job.number job (are.each job has);
     all = λ number is. are.all number (sym (waits_alike number) ∙ is);
@@ -141,7 +141,7 @@ module _ (table : JobTable) (notes : List Note) where
 
   -- Jobs that are new.
   module _ (later : JobTable) (again : NoJobLivesAgain table later) where
-    named_if : (number : ℕ) → is_live_in later number ≡ true → (stay : Bool) → staying number ≡ stay → is_named number (trimmed table notes) ≡ is_named number notes
+    named_if : (number : ℕ) → is_live_in later number ≡ true → (stay : Bool) → staying number ≡ stay → has_note_of number (trimmed table notes) ≡ has_note_of number notes
     named_if number lives true stay = named_stays number stay
     named_if number lives false gone =
         let over = and_parts (nat_le number table.last) (not (is_live_in table number)) (gone_over number gone) in
@@ -160,7 +160,7 @@ module _ (table : JobTable) (notes : List Note) where
         filter_alike (is_new (trimmed table notes)) (is_new notes) (map (λ (row : Row). row.number) (live_rows later))
         (λ number has. ap not (named_if number (live_number number has) (staying number) refl))
 
-    steps_before : (steps : List Note) (files : Files) → AreSessionSteps files later (trimmed table notes) steps → AreSessionSteps files later notes steps
+    steps_before : (steps : List Note) (files : Files) → AreMailSteps files later (trimmed table notes) steps → AreMailSteps files later notes steps
     steps_before steps files are = record {
       news = are.news;
       dues = are.dues;
@@ -170,7 +170,7 @@ module _ (table : JobTable) (notes : List Note) where
       all = are.all;
     }
 
-    steps_after : (steps : List Note) (files : Files) → AreSessionSteps files later notes steps → AreSessionSteps files later (trimmed table notes) steps
+    steps_after : (steps : List Note) (files : Files) → AreMailSteps files later notes steps → AreMailSteps files later (trimmed table notes) steps
     steps_after steps files are = record {
       news = are.news;
       dues = are.dues;
@@ -207,4 +207,4 @@ over_alike kept table number is =
 pub trimmed_alike : (kept table : JobTable) (notes : List Note) → kept ≡ without_scripts table → trimmed kept notes ≡ trimmed table notes
 trimmed_alike kept table notes is =
     filter_alike (stays kept notes) (stays table notes) notes
-    (λ note has. ap (λ over. not (is_closed (number_of note) notes) || not over) (over_alike kept table (number_of note) is))
+    (λ note has. ap (λ over. not (has_closing_note (number_of_note note) notes) || not over) (over_alike kept table (number_of_note note) is))

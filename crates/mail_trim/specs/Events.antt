@@ -6,7 +6,7 @@ use Rattle.host_calls.specs.World.{World, reading}
 use Rattle.host_session.specs.declared.turn_end.TurnEnd.{TurnEnd}
 use Rattle.spool_model.specs.JobTable.{JobTable}
 use Rattle.spool_shows.specs.Shown.{Shows}
-use Rattle.at_mail.specs.Once.{HasOnceSince, HasWholeNotes, IsCrash, MailEvent}
+use Rattle.at_mail.specs.Once.{HasOnceSince, HasWholeNotes, IsCrashOfEvent, MailEvent}
 use Rattle.mail_trim.specs.Laws.{NoJobLivesAgain}
 use Rattle.mail_trim.specs.Leaving.{TrimLeaves, TrimsTo}
 
@@ -26,7 +26,7 @@ pub data TrimEvents (first : World) : List World → World → Type 0 where
   next_event : (starts : List World) (before after : World) → TrimEvents first starts before
       → All (λ start. NoneLivesAgain start before) starts → TrimEvent before after → TrimEvents first (before ∷ starts) after
   crashed : (starts : List World) (before during after : World) → TrimEvents first starts before
-      → All (λ start. NoneLivesAgain start before) starts → TrimEvent before during → IsCrash before during after
+      → All (λ start. NoneLivesAgain start before) starts → TrimEvent before during → IsCrashOfEvent before during after
       → TrimEvents first (before ∷ starts) after
 
 -- where each image of the folder had a whole file of notes

@@ -5,7 +5,7 @@ use Rattle.spool_model.specs.declared.step.Step.{Step}
 use Rattle.spool_model.specs.JobTable.{JobTable}
 use Rattle.spool_model.specs.Steps.{AreLegal, FollowDraws, after_steps}
 use Rattle.mail_notes.specs.declared.note.Note.{Note}
-use Rattle.mail_session.specs.Leaving.{AreSessionSteps}
+use Rattle.mail_session.specs.Leaving.{AreMailSteps}
 use Rattle.mail_trim.specs.Trimming.{is_live_in, trimmed}
 
 -- a job that is live in the later table was live in the first one, or its number was drawn since
@@ -20,4 +20,4 @@ StepsReviveNoJob = (table : JobTable) (steps : List Step) → AreLegal table ste
 -- after a trim the steps of a session on a later table are those that they are without it
 abbrev pub TrimsChangeNoSession : Type 0
 TrimsChangeNoSession = (table later : JobTable) (notes steps : List Note) (files : Files) → NoJobLivesAgain table later →
-    (AreSessionSteps files later (trimmed table notes) steps ↔ AreSessionSteps files later notes steps)
+    (AreMailSteps files later (trimmed table notes) steps ↔ AreMailSteps files later notes steps)

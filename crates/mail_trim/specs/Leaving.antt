@@ -16,8 +16,8 @@ use Rattle.whole_file.specs.Others.{IsEither, LeavesOthers}
 use Rattle.mail_notes.specs.declared.note.Note.{Note}
 use Rattle.mail_notes.specs.Lines.{HoldsNotes}
 use Rattle.mail_notes.specs.Names.{mail_file, mail_temp}
-use Rattle.mail_session.specs.Leaving.{GivesNotes, IsDamage}
-use Rattle.mail_session.specs.Sessions.{IsOpened, IsUntouched}
+use Rattle.mail_session.specs.Leaving.{GivesNotes, IsSpoolOrNotesDamage}
+use Rattle.mail_session.specs.Sessions.{AreNotesOpened, IsMailUntouched}
 use Rattle.mail_trim.specs.Trimming.{trimmed}
 
 -- The image shows the table, and holds the notes or those of them that stay. Other files are left alone, and nothing was
@@ -34,7 +34,7 @@ pub record IsTrimming (table : JobTable) (notes : List Note) (old new : World) :
   pub shown : Shows (reading old) table
   pub gives : GivesNotes (finite.get (reading old) mail_file) notes
   pub opened : World
-  pub is_opened : IsOpened notes table old opened
+  pub is_opened : AreNotesOpened notes table old opened
   pub leaves : LeavesOnly (HoldsEither table notes opened.now) opened new
   pub now : HasEachImage (HoldsEither table notes opened.now) new.now
   pub asked : new.asked ≡ old.asked
@@ -51,22 +51,22 @@ pub record IsTrimmed (old new : World) : Type 0 where
 -- No note was dropped: the reading shows what it showed, each image has the notes of one of the start, and nothing was
 -- handed over or asked.
 pub record IsUntrimmed (old new : World) : Type 0 where
-  pub leaves : LeavesOnly (IsUntouched old.now) old new
-  pub now : HasEachImage (IsUntouched old.now) new.now
+  pub leaves : LeavesOnly (IsMailUntouched old.now) old new
+  pub now : HasEachImage (IsMailUntouched old.now) new.now
   pub shown : ShowsTheSame old.now.folder new.now.folder
   pub asked : new.asked ≡ old.asked
 
 -- the trim was stopped before its replacement, or in it
-abbrev pub IsStopped : World → World → Type 0
-IsStopped old new = IsUntrimmed old new ⊎ ((table : JobTable) × (notes : List Note) × IsTrimming table notes old new)
+abbrev pub IsTrimStopped : World → World → Type 0
+IsTrimStopped old new = IsUntrimmed old new ⊎ ((table : JobTable) × (notes : List Note) × IsTrimming table notes old new)
 
 -- what a trim leaves, by its end
 abbrev pub TrimLeaves : World → World → TurnEnd → Type 0
 TrimLeaves old new Done = IsTrimmed old new
 TrimLeaves old new Busy = new ≡ old
-TrimLeaves old new FileFault = IsStopped old new
-TrimLeaves old new (Damaged damage) = IsUntrimmed old new × IsDamage (reading old) damage
-TrimLeaves old new Memory = IsStopped old new
+TrimLeaves old new FileFault = IsTrimStopped old new
+TrimLeaves old new (Damaged damage) = IsUntrimmed old new × IsSpoolOrNotesDamage (reading old) damage
+TrimLeaves old new Memory = IsTrimStopped old new
 
 -- A trim. Of every host: its session is over, it started no child, and why it ended so. Of a host that tells its files and
 -- is alone: what it leaves.

@@ -23,12 +23,12 @@ pub record HasTrimmed (old new : OutsideAt) (final : Cause) : Type 0 where
   pub says : IsSaid (codes "atpost") old.tells.errors (cause_of_end end) old.holds.errors new.holds.errors final
 
 -- No trim was made, and this cause was said.
-pub record HasMadeNone (of : Cause) (old new : OutsideAt) (final : Cause) : Type 0 where
+pub record HasMadeNoTrim (of : Cause) (old new : OutsideAt) (final : Cause) : Type 0 where
   pub session : new.session ≡ old.session
   pub spool : new.holds.spool ≡ old.holds.spool
   pub says : IsSaid (codes "atpost") old.tells.errors of old.holds.errors new.holds.errors final
 
 -- How the program ends, by what its words ask for. Out of memory may come before the trim, and leaves all as it was.
 abbrev pub TrimEnds : Result (Unit {0}) WordsFault → OutsideAt → OutsideAt → Cause → Type 0
-TrimEnds (Ok asked) old new final = HasTrimmed old new final ⊎ HasMadeNone Memory old new final
-TrimEnds (Err fault) old new final = HasMadeNone (words_cause fault) old new final ⊎ HasMadeNone Memory old new final
+TrimEnds (Ok asked) old new final = HasTrimmed old new final ⊎ HasMadeNoTrim Memory old new final
+TrimEnds (Err fault) old new final = HasMadeNoTrim (words_cause fault) old new final ⊎ HasMadeNoTrim Memory old new final

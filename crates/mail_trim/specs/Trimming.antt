@@ -3,7 +3,7 @@ use Rattle.std.specs.Prelude.{◌&&◌, ◌||◌, ℕ, Bool, false, List, Option
 use Rattle.spool_model.specs.JobTable.{JobEntry, JobTable, entry_at}
 use Rattle.spool_model.specs.Lists.{is_live}
 use Rattle.mail_notes.specs.declared.note.Note.{Note}
-use Rattle.mail_notes.specs.Notes.{is_closed, number_of}
+use Rattle.mail_notes.specs.Notes.{has_closing_note, number_of_note}
 
 -- the entry is that of a live job
 abbrev pub is_of_live : Option JobEntry → Bool
@@ -20,7 +20,7 @@ is_over table number = nat_le number table.last && not (is_live_in table number)
 
 -- the note stays: the notice of its job was neither sent nor dropped, or the job is not over
 abbrev pub stays : JobTable → List Note → Note → Bool
-stays table notes note = not (is_closed (number_of note) notes) || not (is_over table (number_of note))
+stays table notes note = not (has_closing_note (number_of_note note) notes) || not (is_over table (number_of_note note))
 
 -- the notes that stay, in their order
 abbrev pub trimmed : JobTable → List Note → List Note

@@ -13,9 +13,9 @@ unfoldable pub trim_app : App
 trim_app = app_with (codes "atpost") (long_flag_rule (codes "trim") ∷ [])
 
 -- what the matches of the words ask for
-abbrev pub rows_asked : List Row → Result (Unit {0}) WordsFault
-rows_asked rows = if is_set (codes "trim") rows then Ok tt else Err Usage
+abbrev pub trim_rows_asked : List Row → Result (Unit {0}) WordsFault
+trim_rows_asked rows = if is_set (codes "trim") rows then Ok tt else Err Usage
 
 -- what the words ask for, the first of which stands for the program's name; without it they ask for nothing
 abbrev pub trim_asked : List Text → Result (Unit {0}) WordsFault
-trim_asked words = named_asked trim_app rows_asked words
+trim_asked words = named_asked trim_app trim_rows_asked words

@@ -28,12 +28,17 @@ pub fn trim_program<H: Host, E: Sink>(
     ensures trims { TrimEnds (trim_asked (map string_bytes words.now))
         (trim_outside H.Host E.Sink host.old err.old) (trim_outside H.Host E.Sink host.new err.new) result.cause }
 {
-    let cause = answer(alloc, words, host, err);
+    let cause = trim_as_asked(alloc, words, host, err);
     Status::of(cause)
 }
 
 // Does what the words ask for. Answers the cause, which was said.
-fn answer<H: Host, E: Sink>(alloc: Global, words: &[String], host: &mut H, err: &mut E) -> Cause
+fn trim_as_asked<H: Host, E: Sink>(
+    alloc: Global,
+    words: &[String],
+    host: &mut H,
+    err: &mut E,
+) -> Cause
     requires { IsOutside (H.session host.old) }
     ensures made_as { (E.outlet err.new).made_as ≡ (E.outlet err.old).made_as }
     ensures trims { TrimEnds (trim_asked (map string_bytes words.now))

@@ -4,7 +4,7 @@ ghost use Rattle.std.specs.FinMap as map;
 ghost use Rattle.std.specs.List.{All};
 ghost use Rattle.host_calls.specs.Damages.{IfDamaged};
 ghost use Rattle.host_calls.specs.Session.{CallsInside, IsInside};
-ghost use Rattle.host_calls.specs.StoreFaults.{IsOfReading};
+ghost use Rattle.host_calls.specs.StoreFaults.{IsReadingFault};
 ghost use Rattle.host_calls.specs.World.{reading};
 ghost use Rattle.mail_notes.specs.Book.{IsBookOf};
 ghost use Rattle.mail_notes.specs.Lines.{SpellsNote};
@@ -30,7 +30,7 @@ pub(crate) struct AllNotes {
 pub(crate) fn all_notes<H: Host>(alloc: Global, host: &mut H) -> Result<AllNotes, StoreFault>
     requires { IsInside (H.session host.old) }
     ensures inside { CallsInside StoreFault.FileFault (H.session host.old) (H.session host.new) result }
-    ensures of_reading { IfErr result IsOfReading }
+    ensures of_reading { IfErr result IsReadingFault }
     ensures looks { IsTrue H.tells → H.world host.new ≡ H.world host.old }
     ensures told { IfOk result (λ read. IsBookOf read.notes.items read.book) }
     ensures spelled { IfOk result (λ read. All (CanBeSpelled SpellsNote) read.notes.items) }
@@ -40,7 +40,7 @@ pub(crate) fn all_notes<H: Host>(alloc: Global, host: &mut H) -> Result<AllNotes
         (IsDamageOf (map.get (reading (H.world host.old)) mail_file)) result }
 {
     match content(alloc, host, &mail_name())? {
-        Some(bytes) => notes_in(alloc, bytes.as_slice()),
+        Some(bytes) => all_notes_in(alloc, bytes.as_slice()),
         None => Ok(AllNotes {
             notes: Vec::new(alloc),
             book: MailBook::new(alloc),
@@ -49,8 +49,8 @@ pub(crate) fn all_notes<H: Host>(alloc: Global, host: &mut H) -> Result<AllNotes
 }
 
 // The notes of a file with these bytes.
-fn notes_in(alloc: Global, bytes: &[u8]) -> Result<AllNotes, StoreFault>
-    ensures of_reading { IfErr result IsOfReading }
+fn all_notes_in(alloc: Global, bytes: &[u8]) -> Result<AllNotes, StoreFault>
+    ensures of_reading { IfErr result IsReadingFault }
     ensures no_fault { result ≢ Err StoreFault.FileFault }
     ensures told { IfOk result (λ read. IsBookOf read.notes.items read.book) }
     ensures spelled { IfOk result (λ read. All (CanBeSpelled SpellsNote) read.notes.items) }

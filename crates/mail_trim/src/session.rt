@@ -1,7 +1,7 @@
 //! A trim, in a session of its own.
 ghost use Rattle.std.specs.Prelude.{IfErr, IsTrue};
 ghost use Rattle.host_calls.specs.Session.{CallsInside, IsInside, IsOutside};
-ghost use Rattle.host_calls.specs.StoreFaults.{IsOfReading};
+ghost use Rattle.host_calls.specs.StoreFaults.{IsReadingFault};
 ghost use Rattle.host_session.specs.Ends.{end_after};
 ghost use Rattle.mail_trim.specs.Leaving.{TrimLeaves, TrimsTo};
 
@@ -19,15 +19,15 @@ pub fn trim<H: Host>(alloc: Global, host: &mut H) -> TurnEnd
     ensures { TrimsTo H.tells H.alone (H.session host.old) (H.session host.new)
         (H.world host.old) (H.world host.new) result }
 {
-    let worked = in_session(alloc, host, &mut |host| work(alloc, host));
+    let worked = in_session(alloc, host, &mut |host| trim_session_body(alloc, host));
     end_of_session(worked)
 }
 
 // Recovers the store, reads the notes, and keeps those that stay.
-fn work<H: Host>(alloc: Global, host: &mut H) -> Result<(), StoreFault>
+fn trim_session_body<H: Host>(alloc: Global, host: &mut H) -> Result<(), StoreFault>
     requires { IsInside (H.session host.old) }
     ensures inside { CallsInside StoreFault.FileFault (H.session host.old) (H.session host.new) result }
-    ensures of_reading { IfErr result IsOfReading }
+    ensures of_reading { IfErr result IsReadingFault }
     ensures leaves { IsTrue H.tells → TrimLeaves (H.world host.old) (H.world host.new) (end_after result) }
 {
     let store = Store::recover(alloc, host)?;

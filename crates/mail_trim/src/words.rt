@@ -4,7 +4,7 @@ ghost use Rattle.clap.specs.Matches.{found_of};
 ghost use Rattle.clap.specs.Simple.{app_of};
 ghost use Rattle.clap.specs.Walk.{rows_of};
 ghost use Rattle.at_words.specs.Answers.{Answers};
-ghost use Rattle.mail_trim.specs.Words.{rows_asked, trim_app, trim_asked};
+ghost use Rattle.mail_trim.specs.Words.{trim_rows_asked, trim_app, trim_asked};
 
 use at_words::{WordsFault, bare_command, has_flag, parsed, with_long_flag};
 use clap::{ArgMatches, Command};
@@ -17,20 +17,20 @@ pub(crate) fn ask_for_a_trim(alloc: Global, words: &[String]) -> Result<(), Word
     if words.is_empty() {
         return Err(WordsFault::Usage);
     }
-    let command = command(alloc)?;
+    let command = trim_command(alloc)?;
     let matches = parsed(command, words)?;
-    asked(&matches)
+    is_trim_asked(&matches)
 }
 
-fn command<'a>(alloc: Global) -> Result<Command<'a>, AllocError>
+fn trim_command<'a>(alloc: Global) -> Result<Command<'a>, AllocError>
     ensures { IfOk result (λ made. app_of made ≡ trim_app) }
 {
     with_long_flag(alloc, bare_command(alloc, "atpost"), "trim")
 }
 
 // Whether the matches ask for it.
-fn asked(matches: &ArgMatches) -> Result<(), WordsFault>
-    ensures { Answers (rows_asked (rows_of (found_of matches.now))) result }
+fn is_trim_asked(matches: &ArgMatches) -> Result<(), WordsFault>
+    ensures { Answers (trim_rows_asked (rows_of (found_of matches.now))) result }
 {
     if has_flag(matches, "trim") {
         Ok(())

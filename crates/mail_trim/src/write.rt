@@ -6,7 +6,7 @@ ghost use Rattle.mail_notes.specs.Book.{IsBookOf};
 ghost use Rattle.mail_notes.specs.Lines.{SpellsNote, notes_text};
 ghost use Rattle.mail_notes.specs.Names.{mail_file, mail_temp};
 ghost use Rattle.mail_trim.specs.Trimming.{trimmed};
-ghost use Rattle.mail_trim.specs.inside.Writing.{IsWritten};
+ghost use Rattle.mail_trim.specs.inside.Writing.{IsTrimWritten};
 ghost use Rattle.record_lines.specs.Lines.{CanBeSpelled};
 ghost use Rattle.whole_file.specs.Others.{ChangesFiles};
 ghost use Rattle.whole_file.specs.Placing.{IsPlaced, IsPlacing};
@@ -16,7 +16,7 @@ use crate::kept::keep_notes;
 use crate::read::AllNotes;
 use host_calls::{Host, HostFault};
 use mail_notes::{Note, mail_name, mail_temp_name};
-use record_lines::text_of;
+use record_lines::lines_text;
 use spool_store::Store;
 use std::alloc::Global;
 use whole_file::replace;
@@ -37,7 +37,7 @@ pub(crate) fn write_kept<H: Host>(
         (notes_text (trimmed store.now.table read.old.notes.items)) (H.world host.old).now.folder)
         (H.world host.old) (H.world host.new) }
     ensures written { IsTrue H.tells → OnOk result
-        (IsWritten store.now.table read.old.notes.items (H.world host.old) (H.world host.new)) }
+        (IsTrimWritten store.now.table read.old.notes.items (H.world host.old) (H.world host.new)) }
 {
     let count = read.notes.len();
     keep_notes(store, &read.book, &mut read.notes);
@@ -58,7 +58,7 @@ fn replace_notes<H: Host>(alloc: Global, host: &mut H, notes: &[Note]) -> Result
     ensures placed { IsTrue H.tells → OnOk result (IsPlaced mail_temp mail_file (notes_text notes.now)
         (H.world host.old).now.folder (H.world host.new).now.folder) }
 {
-    let text = text_of(alloc, notes)?;
+    let text = lines_text(alloc, notes)?;
     replace(
         alloc,
         host,

@@ -7,7 +7,7 @@ use Rattle.std.proofs.lemmas.List.Folds.{list_any-append}
 use Rattle.host_calls.specs.Folder.{Body, with_body, made_body, written_body, certain_body, is_within}
 use Rattle.memory_host.specs.inside.Bodies.{KeptBody, body_of, kept_at, kept_made, kept_written, kept_synced, kept_crashed, none_kept, lies_in, with_kept, with_each}
 use Rattle.memory_host.specs.Crash.{crashed_body}
-use Rattle.memory_host.specs.inside.Known.{AreBodied, IsCertain, Lists}
+use Rattle.memory_host.specs.inside.Known.{AreBodied, IsSyncedBody, ListsNumber}
 use Rattle.memory_host.specs.declared.bodies.Bodies.{Bodies}
 use Rattle.memory_host.specs.declared.body.Range.{Range}
 use Rattle.memory_host.proofs.BodyLemmas.{picked_bytes-certain}
@@ -55,7 +55,7 @@ module _ (change : KeptBody → KeptBody) (still : change none_kept ≡ none_kep
   module _ (again : (kept : KeptBody) → change (change kept) ≡ change kept) where
     -- each body is as it will be, or listed
     abbrev AreDone : List KeptBody → List ℕ → Type 0
-    AreDone list numbers = (number : ℕ) → (change (kept_at list number) ≡ kept_at list number) ⊎ Lists numbers number
+    AreDone list numbers = (number : ℕ) → (change (kept_at list number) ≡ kept_at list number) ⊎ ListsNumber numbers number
 
     -- one body more is as it will be
     done_more : (first : ℕ) (others : List ℕ) (list : List KeptBody) → AreDone list (first ∷ others) → AreDone (with_kept change first list) others
@@ -87,11 +87,11 @@ module _ (change : KeptBody → KeptBody) (still : change none_kept ≡ none_kep
 
 -- The bodies after each kind of step.
 
-Lists-left : (first second : List ℕ) (number : ℕ) → Lists first number → Lists (first ++ second) number
+Lists-left : (first second : List ℕ) (number : ℕ) → ListsNumber first number → ListsNumber (first ++ second) number
 Lists-left [] second number listed = absurd listed
 Lists-left (one ∷ others) second number listed = elim listed [ inl same ↦ inl same | inr later ↦ inr (Lists-left others second number later) ]
 
-Lists-last : (first : List ℕ) (number : ℕ) → Lists (first ++ number ∷ []) number
+Lists-last : (first : List ℕ) (number : ℕ) → ListsNumber (first ++ number ∷ []) number
 Lists-last [] number = inl refl
 Lists-last (one ∷ others) number = inr (Lists-last others number)
 
@@ -104,7 +104,7 @@ at_number bodies number value new other own else_same = by_case (other == number
 
 module _ (body : ℕ → Body) (old new : Bodies) (is : AreBodied body old) where
   -- one body changed
-  bodied_changed : (change : KeptBody → KeptBody) (meaning : Body → Body) → change none_kept ≡ none_kept → ((kept : KeptBody) → body_of (change kept) ≡ meaning (body_of kept)) → (number : ℕ) → new.list.items ≡ with_kept change number old.list.items → ((other : ℕ) → (IsCertain (kept_at old.list.items other) ⊎ Lists old.unsettled.items other) → (IsCertain (kept_at new.list.items other) ⊎ Lists new.unsettled.items other)) → AreBodied (with_body body number (meaning (body number))) new
+  bodied_changed : (change : KeptBody → KeptBody) (meaning : Body → Body) → change none_kept ≡ none_kept → ((kept : KeptBody) → body_of (change kept) ≡ meaning (body_of kept)) → (number : ℕ) → new.list.items ≡ with_kept change number old.list.items → ((other : ℕ) → (IsSyncedBody (kept_at old.list.items other) ⊎ ListsNumber old.unsettled.items other) → (IsSyncedBody (kept_at new.list.items other) ⊎ ListsNumber new.unsettled.items other)) → AreBodied (with_body body number (meaning (body number))) new
   bodied_changed change meaning still means number done keeps = record {
     each = λ other. at_number body number (meaning (body number)) (body_of (kept_at new.list.items other)) other
         (λ same. ap (λ l. body_of (kept_at l other)) done ∙ ap (λ n. body_of (kept_at (with_kept change number old.list.items) n)) same ∙ ap body_of (kept_at-this change still number old.list.items) ∙ means (kept_at old.list.items number) ∙ ap meaning (sym (is.each number)))
@@ -113,22 +113,22 @@ module _ (body : ℕ → Body) (old new : Bodies) (is : AreBodied body old) wher
   }
 
   -- all bodies changed, where those that are not listed stay so
-  bodied_all : (change : KeptBody → KeptBody) (meaning : Body → Body) → change none_kept ≡ none_kept → ((kept : KeptBody) → change (change kept) ≡ change kept) → ((kept : KeptBody) → IsCertain kept → change kept ≡ kept) → ((kept : KeptBody) → IsCertain (change kept)) → ((kept : KeptBody) → body_of (change kept) ≡ meaning (body_of kept)) → new.list.items ≡ with_each change old.unsettled.items old.list.items → AreBodied (λ number. meaning (body number)) new
+  bodied_all : (change : KeptBody → KeptBody) (meaning : Body → Body) → change none_kept ≡ none_kept → ((kept : KeptBody) → change (change kept) ≡ change kept) → ((kept : KeptBody) → IsSyncedBody kept → change kept ≡ kept) → ((kept : KeptBody) → IsSyncedBody (change kept)) → ((kept : KeptBody) → body_of (change kept) ≡ meaning (body_of kept)) → new.list.items ≡ with_each change old.unsettled.items old.list.items → AreBodied (λ number. meaning (body number)) new
   bodied_all change meaning still again stays certain means done =
       let at : (number : ℕ) → kept_at new.list.items number ≡ change (kept_at old.list.items number) = λ number. ap (λ l. kept_at l number) done ∙ with_each-all change still again old.unsettled.items old.list.items (λ other. elim (is.listed other) [ inl settled ↦ inl (stays (kept_at old.list.items other) settled) | inr listed ↦ inr listed ]) number in
       record {
         each = λ number. ap meaning (is.each number) ∙ sym (means (kept_at old.list.items number)) ∙ ap body_of (sym (at number));
-        listed = λ number. inl (subst IsCertain (sym (at number)) (certain (kept_at old.list.items number)));
+        listed = λ number. inl (subst IsSyncedBody (sym (at number)) (certain (kept_at old.list.items number)));
       }
 
   pub bodied_synced : (number : ℕ) → new.list.items ≡ with_kept kept_synced number old.list.items → new.unsettled.items ≡ old.unsettled.items → AreBodied (with_body body number (certain_body (body number))) new
   bodied_synced number done same = bodied_changed kept_synced certain_body refl (λ kept. refl) number done (λ other settled. by_number other settled) where
-    by_number : (other : ℕ) → (IsCertain (kept_at old.list.items other) ⊎ Lists old.unsettled.items other) → (IsCertain (kept_at new.list.items other) ⊎ Lists new.unsettled.items other)
+    by_number : (other : ℕ) → (IsSyncedBody (kept_at old.list.items other) ⊎ ListsNumber old.unsettled.items other) → (IsSyncedBody (kept_at new.list.items other) ⊎ ListsNumber new.unsettled.items other)
     by_number other settled = elim (cases_eq other number) [
-      | inl equal ↦ inl (subst IsCertain (sym (ap (λ l. kept_at l other) done ∙ ap (kept_at (with_kept kept_synced number old.list.items)) equal ∙ kept_at-this kept_synced refl number old.list.items)) refl)
+      | inl equal ↦ inl (subst IsSyncedBody (sym (ap (λ l. kept_at l other) done ∙ ap (kept_at (with_kept kept_synced number old.list.items)) equal ∙ kept_at-this kept_synced refl number old.list.items)) refl)
       | inr differ ↦ elim settled [
-        | inl certain ↦ inl (subst IsCertain (sym (ap (λ l. kept_at l other) done ∙ kept_at-other kept_synced number old.list.items other differ)) certain)
-        | inr listed ↦ inr (subst (λ l. Lists l other) (sym same) listed)
+        | inl certain ↦ inl (subst IsSyncedBody (sym (ap (λ l. kept_at l other) done ∙ kept_at-other kept_synced number old.list.items other differ)) certain)
+        | inr listed ↦ inr (subst (λ l. ListsNumber l other) (sym same) listed)
       ]
     ]
 
@@ -138,10 +138,10 @@ module _ (body : ℕ → Body) (old new : Bodies) (is : AreBodied body old) wher
         (λ same. ap (λ l. body_of (kept_at l other)) done ∙ ap (λ n. body_of (kept_at (with_kept (kept_written offset bytes) number old.list.items) n)) same ∙ ap body_of (kept_at-own (kept_written offset bytes) number old.list.items inside) ∙ body_of-written offset bytes (kept_at old.list.items number) ∙ ap (written_body offset bytes) (sym (is.each number)))
         (λ differ. ap (λ l. body_of (kept_at l other)) done ∙ ap body_of (kept_at-other (kept_written offset bytes) number old.list.items other differ) ∙ sym (is.each other));
     listed = λ other. elim (cases_eq other number) [
-      | inl equal ↦ inr (subst (λ l. Lists l other) (sym more) (subst (λ n. Lists (old.unsettled.items ++ number ∷ []) n) (sym equal) (Lists-last old.unsettled.items number)))
+      | inl equal ↦ inr (subst (λ l. ListsNumber l other) (sym more) (subst (λ n. ListsNumber (old.unsettled.items ++ number ∷ []) n) (sym equal) (Lists-last old.unsettled.items number)))
       | inr differ ↦ elim (is.listed other) [
-        | inl certain ↦ inl (subst IsCertain (sym (ap (λ l. kept_at l other) done ∙ kept_at-other (kept_written offset bytes) number old.list.items other differ)) certain)
-        | inr listed ↦ inr (subst (λ l. Lists l other) (sym more) (Lists-left old.unsettled.items (number ∷ []) other listed))
+        | inl certain ↦ inl (subst IsSyncedBody (sym (ap (λ l. kept_at l other) done ∙ kept_at-other (kept_written offset bytes) number old.list.items other differ)) certain)
+        | inr listed ↦ inr (subst (λ l. ListsNumber l other) (sym more) (Lists-left old.unsettled.items (number ∷ []) other listed))
       ]
     ];
   }
@@ -152,10 +152,10 @@ module _ (body : ℕ → Body) (old new : Bodies) (is : AreBodied body old) wher
         (λ same. ap (λ l. body_of (kept_at l other)) done ∙ ap (λ n. body_of (kept_at (old.list.items ++ kept_made bytes ∷ []) n)) same ∙ ap body_of (get_or-append_seam old.list.items (kept_made bytes) [] none_kept))
         (λ differ. ap body_of (elsewhere other differ) ∙ sym (is.each other));
     listed = λ other. elim (cases_eq other (length old.list.items)) [
-      | inl equal ↦ inr (subst (λ l. Lists l other) (sym more) (subst (λ n. Lists (old.unsettled.items ++ length old.list.items ∷ []) n) (sym equal) (Lists-last old.unsettled.items (length old.list.items))))
+      | inl equal ↦ inr (subst (λ l. ListsNumber l other) (sym more) (subst (λ n. ListsNumber (old.unsettled.items ++ length old.list.items ∷ []) n) (sym equal) (Lists-last old.unsettled.items (length old.list.items))))
       | inr differ ↦ elim (is.listed other) [
-        | inl certain ↦ inl (subst IsCertain (sym (elsewhere other differ)) certain)
-        | inr listed ↦ inr (subst (λ l. Lists l other) (sym more) (Lists-left old.unsettled.items (length old.list.items ∷ []) other listed))
+        | inl certain ↦ inl (subst IsSyncedBody (sym (elsewhere other differ)) certain)
+        | inr listed ↦ inr (subst (λ l. ListsNumber l other) (sym more) (Lists-left old.unsettled.items (length old.list.items ∷ []) other listed))
       ]
     ];
   } where

@@ -12,7 +12,7 @@ use Rattle.host_calls.specs.declared.child.Asked.{Asked}
 use Rattle.host_calls.specs.declared.child.Child.{Child}
 use Rattle.host_calls.specs.declared.child.Ending.{Ending}
 use Rattle.memory_host.specs.Children.{AreAnswers, answer_of, plan_of, questions_to}
-use Rattle.memory_host.specs.inside.Kin.{AreKin, AreWaits}
+use Rattle.memory_host.specs.inside.Kin.{AreChildrenAsPlanned, AreWaits}
 use Rattle.memory_host.specs.declared.child_plans.ChildPlan.{ChildPlan}
 
 -- the first question counts, or not
@@ -108,12 +108,12 @@ waits_started plans asked waits new asks waiting more is known child inside =
 -- What is kept of the children.
 
 -- the same lists
-pub kin_alike : (plans : List ChildPlan) (asked asked_more : List Asked) (waits waits_more : List ℕ) (children children_more : List Child) → AreKin plans asked waits children → asked_more ≡ asked → waits_more ≡ waits → children_more ≡ children → AreKin plans asked_more waits_more children_more
+pub kin_alike : (plans : List ChildPlan) (asked asked_more : List Asked) (waits waits_more : List ℕ) (children children_more : List Child) → AreChildrenAsPlanned plans asked waits children → asked_more ≡ asked → waits_more ≡ waits → children_more ≡ children → AreChildrenAsPlanned plans asked_more waits_more children_more
 kin_alike plans asked asked_more waits waits_more children children_more is same_asked same_waits same_children =
-    subst (λ l. AreKin plans l waits_more children_more) (sym same_asked) (subst (λ l. AreKin plans asked l children_more) (sym same_waits) (subst (λ l. AreKin plans asked waits l) (sym same_children) is))
+    subst (λ l. AreChildrenAsPlanned plans l waits_more children_more) (sym same_asked) (subst (λ l. AreChildrenAsPlanned plans asked l children_more) (sym same_waits) (subst (λ l. AreChildrenAsPlanned plans asked waits l) (sym same_children) is))
 
 -- one start more, of which no child came
-pub kin_failed : (plans : List ChildPlan) (asked : List Asked) (waits new : List ℕ) (children : List Child) (asks : ℕ) → AreKin plans asked waits children → new ≡ waits ++ asks ∷ [] → asks ≡ (plan_of plans (length waits)).asks → AreKin plans asked new children
+pub kin_failed : (plans : List ChildPlan) (asked : List Asked) (waits new : List ℕ) (children : List Child) (asks : ℕ) → AreChildrenAsPlanned plans asked waits children → new ≡ waits ++ asks ∷ [] → asks ≡ (plan_of plans (length waits)).asks → AreChildrenAsPlanned plans asked new children
 kin_failed plans asked waits new children asks is more planned =
     let longer : length new ≡ length waits + 1 = ap length more ∙ length-append waits (asks ∷ []) in
     record {
@@ -124,7 +124,7 @@ kin_failed plans asked waits new children asks is more planned =
     }
 
 -- one start more, and its child
-pub kin_started : (plans : List ChildPlan) (asked : List Asked) (waits new : List ℕ) (children : List Child) (asks : ℕ) (child : Child) → AreKin plans asked waits children → new ≡ waits ++ asks ∷ [] → asks ≡ (plan_of plans (length waits)).asks → child.id ≡ length waits → AreKin plans asked new (children ++ child ∷ [])
+pub kin_started : (plans : List ChildPlan) (asked : List Asked) (waits new : List ℕ) (children : List Child) (asks : ℕ) (child : Child) → AreChildrenAsPlanned plans asked waits children → new ≡ waits ++ asks ∷ [] → asks ≡ (plan_of plans (length waits)).asks → child.id ≡ length waits → AreChildrenAsPlanned plans asked new (children ++ child ∷ [])
 kin_started plans asked waits new children asks child is more planned number =
     let longer : length new ≡ length waits + 1 = ap length more ∙ length-append waits (asks ∷ []) in
     let failed = kin_failed plans asked waits new children asks is more planned in
@@ -139,11 +139,11 @@ kin_started plans asked waits new children asks child is more planned number =
     }
 
 -- no child has the number of the next start
-pub is_new : (plans : List ChildPlan) (asked : List Asked) (waits : List ℕ) (children : List Child) (child : Child) → AreKin plans asked waits children → child.id ≡ length waits → ¬ (Contains children child)
+pub is_new : (plans : List ChildPlan) (asked : List Asked) (waits : List ℕ) (children : List Child) (child : Child) → AreChildrenAsPlanned plans asked waits children → child.id ≡ length waits → ¬ (Contains children child)
 is_new plans asked waits children child is number among = let below : child.id < length waits = is.started child among in absurd (omega arith)
 
 -- one question more
-pub kin_asked : (plans : List ChildPlan) (asked : List Asked) (waits new : List ℕ) (children : List Child) (one : Asked) → AreKin plans asked waits children → Contains children one.child → new ≡ set waits one.child.id (get_or waits one.child.id 0 - 1) → one.answer ≡ cond (get_or waits one.child.id 0 == 0) (Some (plan_of plans one.child.id).ending) None → AreKin plans (asked ++ one ∷ []) new children
+pub kin_asked : (plans : List ChildPlan) (asked : List Asked) (waits new : List ℕ) (children : List Child) (one : Asked) → AreChildrenAsPlanned plans asked waits children → Contains children one.child → new ≡ set waits one.child.id (get_or waits one.child.id 0 - 1) → one.answer ≡ cond (get_or waits one.child.id 0 == 0) (Some (plan_of plans one.child.id).ending) None → AreChildrenAsPlanned plans (asked ++ one ∷ []) new children
 kin_asked plans asked waits new children one is among changed answer =
     let known : one.child.id < length waits = is.started one.child among in
     let as_long : length new ≡ length waits = ap length changed ∙ length-set waits one.child.id (get_or waits one.child.id 0 - 1) in
@@ -155,6 +155,6 @@ kin_asked plans asked waits new children one is among changed answer =
     }
 
 -- an ending that was given is given again at the next question
-pub ends_again : (plans : List ChildPlan) (asked : List Asked) (waits : List ℕ) (children : List Child) (child : Child) (answer : Option Ending) → AreKin plans asked waits children → Contains children child → answer ≡ cond (get_or waits child.id 0 == 0) (Some (plan_of plans child.id).ending) None → (ending : Ending) → Contains asked (record { child = child; answer = Some ending }) → answer ≡ Some ending
+pub ends_again : (plans : List ChildPlan) (asked : List Asked) (waits : List ℕ) (children : List Child) (child : Child) (answer : Option Ending) → AreChildrenAsPlanned plans asked waits children → Contains children child → answer ≡ cond (get_or waits child.id 0 == 0) (Some (plan_of plans child.id).ending) None → (ending : Ending) → Contains asked (record { child = child; answer = Some ending }) → answer ≡ Some ending
 ends_again plans asked waits children child answer is among given ending before =
     given ∙ sym (answer_by_wait plans child.id (questions_to child.id asked) (get_or waits child.id 0) (is.waiting child.id (is.started child among))) ∙ again plans asked child ending is.answered before

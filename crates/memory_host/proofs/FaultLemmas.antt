@@ -8,7 +8,7 @@ use Rattle.host_calls.specs.declared.child.Child.{Child}
 use Rattle.host_calls.specs.declared.fault.StartFault.{StartFault}
 use Rattle.host_calls.specs.declared.fault.StartFault.TheVariants.{Failed}
 use Rattle.memory_host.specs.inside.Faults.{AreFaultsPlanned, HasNoFuse, below_in, failing_calls, finds_taken}
-use Rattle.memory_host.specs.Plan.{IsQuiet, Progress, first_progress, is_blown, is_planned, next_part, next_start, next_start_fails, part_of, progress_after_call, progress_after_reboot, progress_after_start}
+use Rattle.memory_host.specs.Plan.{IsFaultless, Progress, first_progress, is_blown, is_planned, next_part, next_start, next_start_fails, part_of, progress_after_call, progress_after_reboot, progress_after_start}
 use Rattle.memory_host.specs.declared.failing_list.Failing.{Failing}
 use Rattle.memory_host.specs.declared.plan.Plan.{Plan}
 
@@ -143,7 +143,7 @@ module _ (at : Progress) (fuses : List ℕ) (file_faults start_faults taken : �
   fault_named : is_some (next_part at) ≡ true → HasNoFuse at.plan fuses → is_planned at.calls (failing_calls at.plan.failing) ≡ true
   fault_named named none = part_named at.plan.failing at.calls (part_planned named none)
 
-  not_quiet : is_some (next_part at) ≡ true → IsQuiet at.plan → fuses ≡ [] → ⊥
+  not_quiet : is_some (next_part at) ≡ true → IsFaultless at.plan → fuses ≡ [] → ⊥
   not_quiet named quiet later =
       let no_part : is_some (part_of at.plan.failing at.calls) ≡ false = ap (λ list. is_some (part_of list at.calls)) quiet.failing in
       differs (part_planned named (record { first = quiet.fuse; later = later })) no_part
@@ -222,7 +222,7 @@ module _ (at : Progress) (fuses : List ℕ) (file_faults start_faults taken : �
     cause : (is_some (next_part at) ≡ true) ⊎ (is_planned at.starts at.plan.failing_starts ≡ true)
     cause = either_holds (is_some (next_part at)) (is_planned at.starts at.plan.failing_starts) fails
 
-    unplanned : IsQuiet at.plan → fuses ≡ [] → ⊥
+    unplanned : IsFaultless at.plan → fuses ≡ [] → ⊥
     unplanned quiet later = elim cause [
       | inl named ↦ not_quiet named quiet later
       | inr named ↦ let none : is_planned at.starts at.plan.failing_starts ≡ false = ap (is_planned at.starts) quiet.failing_starts in differs named none

@@ -19,7 +19,7 @@ use Rattle.memory_host.specs.Planned.{ChangesAsPlanned}
 use Rattle.memory_host.specs.declared.failing_list.Part.{Part}
 use Rattle.memory_host.specs.declared.failing_list.Part.TheVariants.{Nothing}
 use Rattle.memory_host.specs.declared.memory_host.MemoryHost.{MemoryHost}
-use Rattle.memory_host.specs.Past.{Story, after_call, history_of, moment_of, with_handed}
+use Rattle.memory_host.specs.Past.{CallLog, after_call, history_of, moment_of, with_handed}
 use Rattle.memory_host.specs.inside.Story.{state_of, with_next}
 use Rattle.memory_host.specs.declared.past_call.PastCall.{PastCall}
 use Rattle.memory_host.specs.declared.past_call.PastCall.TheVariants.{HandedOver, Rebooted}
@@ -31,7 +31,7 @@ call_failed done part old new Failed same = record { outcome = inl (ap (λ w. w.
 call_failed done part old new Memory same = record { outcome = same; handed = ap (λ w. w.now.handed) same; asked = ap (λ w. w.asked) same; leaves = record { more = []; run = ap moments same; each = tt } }
 
 -- the world after one call more
-world_next : (call : PastCall) (story : Story) (asked : List Asked) → world_of (with_next call story) asked ≡ record { now = moment_of (after_call call (state_of story)); before = moment_of (state_of story) ∷ (history_of story).before; asked = asked }
+world_next : (call : PastCall) (story : CallLog) (asked : List Asked) → world_of (with_next call story) asked ≡ record { now = moment_of (after_call call (state_of story)); before = moment_of (state_of story) ∷ (history_of story).before; asked = asked }
 world_next call story asked = ap (λ past. record { now = moment_of past.now; before = past.before; asked = asked }) (history_next call story)
 
 -- the answer of a call that succeeds
@@ -39,7 +39,7 @@ abbrev fine : Result (Unit {0}) HostFault
 fine = Ok tt
 
 -- a call that did its work, and failed then or not
-pub call_done : (call : PastCall) (story : Story) (asked : List Asked) (new : World) (done part : Folder → Folder → Type 0) (fails : Bool) (result : Result (Unit {0}) HostFault) → new ≡ world_of (with_next call story) asked → (after_call call (state_of story)).handed ≡ (state_of story).handed → done (state_of story).folder (after_call call (state_of story)).folder → part (state_of story).folder (after_call call (state_of story)).folder → result ≡ cond fails (Err Failed) fine → FileCall done part (world_of story asked) new result
+pub call_done : (call : PastCall) (story : CallLog) (asked : List Asked) (new : World) (done part : Folder → Folder → Type 0) (fails : Bool) (result : Result (Unit {0}) HostFault) → new ≡ world_of (with_next call story) asked → (after_call call (state_of story)).handed ≡ (state_of story).handed → done (state_of story).folder (after_call call (state_of story)).folder → part (state_of story).folder (after_call call (state_of story)).folder → result ≡ cond fails (Err Failed) fine → FileCall done part (world_of story asked) new result
 call_done call story asked new done part fails result is handed is_done is_part answer = subst (λ w. FileCall done part (world_of story asked) w result) (sym (is ∙ world_next call story asked)) (subst (λ r. FileCall done part (world_of story asked) next r) (sym answer) (by_answer fails)) where
   next : World
   next = record { now = moment_of (after_call call (state_of story)); before = moment_of (state_of story) ∷ (history_of story).before; asked = asked }
@@ -58,7 +58,7 @@ no_memory true is = cc
 no_memory false is = cc
 
 -- a call that changes the folder goes as planned: it did its work, and failed then or not
-pub change_done : (call : PastCall) (done part : Folder → Folder → Type 0) (old new : MemoryHost) (past : Story) (planned : Option Part) (result : Result (Unit {0}) HostFault) → past ≡ with_next call old.past → memory_world new ≡ world_of past old.asked.items → (after_call call (state_of old.past)).handed ≡ (state_of old.past).handed → done (state_of old.past).folder (after_call call (state_of old.past)).folder → part (state_of old.past).folder (after_call call (state_of old.past)).folder → CallsInside Failed (memory_session old) (memory_session new) result → progress_of new ≡ progress_after_call (progress_of old) → result ≡ cond (is_some planned) (Err Failed) fine → planned ≡ next_part (progress_of old) → ¬ (planned ≡ Some Nothing) → ChangesAsPlanned done part old new result
+pub change_done : (call : PastCall) (done part : Folder → Folder → Type 0) (old new : MemoryHost) (past : CallLog) (planned : Option Part) (result : Result (Unit {0}) HostFault) → past ≡ with_next call old.past → memory_world new ≡ world_of past old.asked.items → (after_call call (state_of old.past)).handed ≡ (state_of old.past).handed → done (state_of old.past).folder (after_call call (state_of old.past)).folder → part (state_of old.past).folder (after_call call (state_of old.past)).folder → CallsInside Failed (memory_session old) (memory_session new) result → progress_of new ≡ progress_after_call (progress_of old) → result ≡ cond (is_some planned) (Err Failed) fine → planned ≡ next_part (progress_of old) → ¬ (planned ≡ Some Nothing) → ChangesAsPlanned done part old new result
 change_done call done part old new past planned result goes_on known handed is_done is_part inside counted answer next works = record {
   inside = inside;
   files = call_done call old.past old.asked.items (memory_world new) done part (is_some planned) result world handed is_done is_part answer;
@@ -142,7 +142,7 @@ done_synced folder number name held = record { number = number; held = held.held
 
 -- A start.
 
-module _ (number body nice : ℕ) (story : Story) (asked : List Asked) (name : List ℕ) (held : IsHeldAt (names_of (state_of story).folder) name body) where
+module _ (number body nice : ℕ) (story : CallLog) (asked : List Asked) (name : List ℕ) (held : IsHeldAt (names_of (state_of story).folder) name body) where
   started_world : Bool → World
   started_world started = record { now = moment_of (with_handed number body nice started (state_of story)); before = moment_of (state_of story) ∷ (history_of story).before; asked = asked }
 
@@ -171,5 +171,5 @@ module _ (number body nice : ℕ) (story : Story) (asked : List Asked) (name : L
   start_failed new is = subst (λ w. StartCall {T = Child} number name nice (world_of story asked) w (Err NoStart)) (sym (is ∙ world_next (HandedOver number body nice false) story asked)) (record { outcome = hands false; folder = refl; asked = refl; leaves = leaves_start false })
 
 -- the world after a crash
-pub reboot_world : (pick : ℕ) (story : Story) (asked : List Asked) → world_of (with_next (Rebooted pick) story) asked ≡ after_reboot pick (world_of story asked)
+pub reboot_world : (pick : ℕ) (story : CallLog) (asked : List Asked) → world_of (with_next (Rebooted pick) story) asked ≡ after_reboot pick (world_of story asked)
 reboot_world pick story asked = world_next (Rebooted pick) story asked

@@ -4,7 +4,7 @@ use Rattle.std.specs.Prelude.{None}
 use Rattle.memory_host.specs.Children.{AreAnswers}
 use Rattle.memory_host.specs.Host.{memory_session, memory_world, progress_of}
 use Rattle.memory_host.specs.Laws.{ChildrenAnswerAsPlanned, FaultsArePlanned, HasFewFaults, QuietHostsHaveNoFault}
-use Rattle.memory_host.specs.Plan.{IsQuiet}
+use Rattle.memory_host.specs.Plan.{IsFaultless}
 use Rattle.memory_host.specs.declared.plan.Plan.{Plan}
 use Rattle.memory_host.proofs.FaultLemmas.{few_faults}
 use Rattle.memory_host.proofs.SpellingLemmas.{spelled-one}
@@ -12,7 +12,7 @@ use Rattle.memory_host.proofs.SpellingLemmas.{spelled-one}
 pub quiet_hosts_have_no_fault : QuietHostsHaveNoFault
 quiet_hosts_have_no_fault host plan same quiet =
     let one = spelled-one host.plan plan host.fuses.items [] same in
-    let own : IsQuiet host.plan = subst IsQuiet (sym one.0) quiet in
+    let own : IsFaultless host.plan = subst IsFaultless (sym one.0) quiet in
     record {
       file_faults = host.faults.no_file_fault own one.1;
       start_faults = host.faults.no_start_fault own one.1;

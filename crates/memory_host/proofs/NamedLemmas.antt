@@ -8,10 +8,10 @@ use Rattle.std.specs.Cmp.Lexicographic.{nat_list_cmp_total}
 use Rattle.std.proofs.lemmas.List.Folds.{list_any-append}
 use Rattle.std.specs.FinMap as finite
 use Rattle.std.specs.FinMap.{get-insert, get-remove}
-use Rattle.host_calls.specs.Folder.{Change, Made, Renamed, Removed, Names, name_cmp, changed, moved, names_after}
+use Rattle.host_calls.specs.Folder.{Change, Made, Renamed, Removed, Names, name_cmp, changed_names, moved, names_after}
 use Rattle.memory_host.specs.Crash.{is_picked, picked_names}
 use Rattle.memory_host.specs.inside.Table.{Holders, HoldsSameCertain, HoldsSameNow, KeepsPlaces, are_touching, certain_in, changed_at, has_place, meant, moved_at, now_in, pending_of, picked_holders, put_at, touches, where_touched}
-use Rattle.memory_host.specs.inside.Known.{AreNamed}
+use Rattle.memory_host.specs.inside.Known.{AreNamesKept}
 use Rattle.memory_host.specs.declared.name_table.NameTable.{NameTable}
 use Rattle.memory_host.specs.declared.pending.Change.{Change as KeptChange}
 use Rattle.memory_host.specs.declared.pending.Change.TheVariants as kept
@@ -31,7 +31,7 @@ get-moved None names from to other = refl
 get-moved (Some body) names from to other = get-put (finite.remove names from) to body other ∙ ap (cond (eq_by_cmp name_cmp to other) (Some body)) (get-drop names from other)
 
 -- a change of names, by look-ups
-pub get-changed : (change : Change) (names : Names) (other : List ℕ) → finite.get (changed change names) other ≡ changed_at change (finite.get names) other
+pub get-changed : (change : Change) (names : Names) (other : List ℕ) → finite.get (changed_names change names) other ≡ changed_at change (finite.get names) other
 get-changed (Made name body) names other = get-put names name body other
 get-changed (Renamed from to) names other = get-moved (finite.get names from) names from to other
 get-changed (Removed name) names other = get-drop names name other
@@ -85,7 +85,7 @@ names_after-untouched (change ∷ older) certain name off =
 get-picked : (pick : ℕ) (pending : List Change) (certain : Names) (holders : Holders) → ((name : List ℕ) → finite.get certain name ≡ holders name) → (name : List ℕ) → finite.get (picked_names pick pending certain) name ≡ picked_holders pick pending holders name
 get-picked pick [] certain holders same name = same name
 get-picked pick (change ∷ older) certain holders same name = by_pick (is_picked pick (length older)) (get-picked pick older certain holders same) where
-  by_pick : (b : Bool) → ((other : List ℕ) → finite.get (picked_names pick older certain) other ≡ picked_holders pick older holders other) → finite.get (cond b (changed change (picked_names pick older certain)) (picked_names pick older certain)) name ≡ cond b (changed_at change (picked_holders pick older holders)) (picked_holders pick older holders) name
+  by_pick : (b : Bool) → ((other : List ℕ) → finite.get (picked_names pick older certain) other ≡ picked_holders pick older holders other) → finite.get (cond b (changed_names change (picked_names pick older certain)) (picked_names pick older certain)) name ≡ cond b (changed_at change (picked_holders pick older holders)) (picked_holders pick older holders) name
   by_pick true rest =
       get-changed change (picked_names pick older certain) name
       ∙ changed_at-alike change (finite.get (picked_names pick older certain)) (picked_holders pick older holders) rest name
@@ -94,15 +94,15 @@ get-picked pick (change ∷ older) certain holders same name = by_pick (is_picke
 picked-untouched : (pick : ℕ) (pending : List Change) (certain : Names) (name : List ℕ) → AreUntouched pending name → finite.get (picked_names pick pending certain) name ≡ finite.get certain name
 picked-untouched pick [] certain name off = refl
 picked-untouched pick (change ∷ older) certain name off = by_pick (is_picked pick (length older)) (picked-untouched pick older certain name off.1) where
-  by_pick : (b : Bool) → finite.get (picked_names pick older certain) name ≡ finite.get certain name → finite.get (cond b (changed change (picked_names pick older certain)) (picked_names pick older certain)) name ≡ finite.get certain name
+  by_pick : (b : Bool) → finite.get (picked_names pick older certain) name ≡ finite.get certain name → finite.get (cond b (changed_names change (picked_names pick older certain)) (picked_names pick older certain)) name ≡ finite.get certain name
   by_pick true rest = get-changed change (picked_names pick older certain) name ∙ changed_at-untouched change (finite.get (picked_names pick older certain)) name off.0 ∙ rest
   by_pick false rest = rest
 
 -- The table after each kind of step.
 
-module _ (certain : Names) (pending : List Change) (old new : NameTable) (is : AreNamed certain pending old) where
+module _ (certain : Names) (pending : List Change) (old new : NameTable) (is : AreNamesKept certain pending old) where
   -- a table that holds the same
-  pub named_same : HoldsSameNow old.held new.held → HoldsSameCertain old.held new.held → new.pending.items ≡ old.pending.items → ((name : List ℕ) → has_place old.held name ≡ true → has_place new.held name ≡ true) → AreNamed certain pending new
+  pub named_same : HoldsSameNow old.held new.held → HoldsSameCertain old.held new.held → new.pending.items ≡ old.pending.items → ((name : List ℕ) → has_place old.held name ≡ true → has_place new.held name ≡ true) → AreNamesKept certain pending new
   named_same same_now same_certain same_pending stays = record {
     certain_names = λ name. is.certain_names name ∙ sym (same_certain name);
     now_names = λ name. is.now_names name ∙ sym (same_now name);
@@ -111,7 +111,7 @@ module _ (certain : Names) (pending : List Change) (old new : NameTable) (is : A
   }
 
   -- one change more
-  pub named_change : (change : KeptChange) → ((name : List ℕ) → now_in new.held name ≡ changed_at (meant change) (now_in old.held) name) → HoldsSameCertain old.held new.held → KeepsPlaces old.held new.held → ((name : List ℕ) → touches change name ≡ true → has_place old.held name ≡ true) → new.pending.items ≡ old.pending.items ++ change ∷ [] → AreNamed certain (meant change ∷ pending) new
+  pub named_change : (change : KeptChange) → ((name : List ℕ) → now_in new.held name ≡ changed_at (meant change) (now_in old.held) name) → HoldsSameCertain old.held new.held → KeepsPlaces old.held new.held → ((name : List ℕ) → touches change name ≡ true → has_place old.held name ≡ true) → new.pending.items ≡ old.pending.items ++ change ∷ [] → AreNamesKept certain (meant change ∷ pending) new
   named_change change now same_certain same_places has pushed = record {
     certain_names = λ name. is.certain_names name ∙ sym (same_certain name);
     now_names = λ name.
@@ -130,7 +130,7 @@ module _ (certain : Names) (pending : List Change) (old new : NameTable) (is : A
     by_cases name false false first second either = cc
 
   -- all names were made certain
-  pub named_sync : HoldsSameNow old.held new.held → ((name : List ℕ) → certain_in new.held name ≡ where_touched old.pending.items (now_in old.held) (certain_in old.held) name) → new.pending.items ≡ [] → AreNamed (names_after pending certain) [] new
+  pub named_sync : HoldsSameNow old.held new.held → ((name : List ℕ) → certain_in new.held name ≡ where_touched old.pending.items (now_in old.held) (certain_in old.held) name) → new.pending.items ≡ [] → AreNamesKept (names_after pending certain) [] new
   named_sync same_now made none = record {
     certain_names = λ name. is.now_names name ∙ sym (made name ∙ agree name);
     now_names = λ name. is.now_names name ∙ sym (same_now name);
@@ -150,7 +150,7 @@ module _ (certain : Names) (pending : List Change) (old new : NameTable) (is : A
     absurd_of name e = cc
 
   -- the changes that are picked were made
-  pub named_crash : (pick : ℕ) → ((name : List ℕ) → now_in new.held name ≡ picked_holders pick (pending_of old.pending.items) (where_touched old.pending.items (certain_in old.held) (now_in old.held)) name) → ((name : List ℕ) → certain_in new.held name ≡ where_touched old.pending.items (now_in new.held) (certain_in old.held) name) → new.pending.items ≡ [] → AreNamed (picked_names pick pending certain) [] new
+  pub named_crash : (pick : ℕ) → ((name : List ℕ) → now_in new.held name ≡ picked_holders pick (pending_of old.pending.items) (where_touched old.pending.items (certain_in old.held) (now_in old.held)) name) → ((name : List ℕ) → certain_in new.held name ≡ where_touched old.pending.items (now_in new.held) (certain_in old.held) name) → new.pending.items ≡ [] → AreNamesKept (picked_names pick pending certain) [] new
   named_crash pick now made none = record {
     certain_names = λ name. sym (made name ∙ agree name);
     now_names = picked;

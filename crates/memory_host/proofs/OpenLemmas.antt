@@ -24,7 +24,7 @@ use Rattle.host_calls.specs.World.{World}
 use Rattle.memory_host.specs.Host.{IsNew, memory_world}
 use Rattle.memory_host.specs.declared.memory_host.MemoryHost.{MemoryHost}
 use Rattle.memory_host.specs.declared.plan.Plan.{Plan}
-use Rattle.memory_host.specs.inside.Known.{IsCertain, KeepsNumbersApart, IsKnown}
+use Rattle.memory_host.specs.inside.Known.{IsSyncedBody, KeepsNumbersApart, IsStateKept}
 use Rattle.memory_host.specs.declared.bodies.Bodies.{Bodies}
 use Rattle.memory_host.specs.declared.name_table.NameTable.{NameTable}
 use Rattle.memory_host.specs.declared.past_call.PastCall.{PastCall}
@@ -121,7 +121,7 @@ sound_nothing = record {
   no_name names chosen name number held = let none : finite.get names name ≡ None = ap (λ m. finite.get m name) chosen ∙ get-empty name_cmp name in cc
 
 -- what a new table and new bodies belong to
-pub known_nothing : (names : NameTable) (bodies : Bodies) → IsEmpty names.held → names.pending.items ≡ [] → bodies.list.items ≡ [] → bodies.unsettled.items ≡ [] → IsKnown nothing names bodies []
+pub known_nothing : (names : NameTable) (bodies : Bodies) → IsEmpty names.held → names.pending.items ≡ [] → bodies.list.items ≡ [] → bodies.unsettled.items ≡ [] → IsStateKept nothing names bodies []
 known_nothing names bodies no_names no_changes no_bodies settled_all = record {
   named = record {
     certain_names = λ name. get-empty name_cmp name ∙ sym (ap (λ entries. certain_part (lookup (is_at (name_cmp name)) entries)) no_names);
@@ -131,7 +131,7 @@ known_nothing names bodies no_names no_changes no_bodies settled_all = record {
   };
   bodied = record {
     each = λ number. ap (λ l. body_of (kept_at l number)) (sym no_bodies);
-    listed = λ number. inl (subst (λ l. IsCertain (kept_at l number)) (sym no_bodies) refl);
+    listed = λ number. inl (subst (λ l. IsSyncedBody (kept_at l number)) (sym no_bodies) refl);
   };
   counted = sym (ap length no_bodies);
   scripts = refl;
@@ -157,9 +157,9 @@ opens files sorted = record {
       ∙ sym (get-from_entries nat_list_cmp_total files name))
 
 -- what is kept of a folder that was opened
-pub known_opened : (files : List (List ℕ × List ℕ)) (calls : List PastCall) (names : NameTable) (bodies : Bodies) (handed : List Handed) → calls ≡ [] → IsKnown (with_folder (settled (with_files files nothing).folder) (with_files files nothing)) names bodies handed → IsKnown (state_of (record { opening = files; calls = calls })) names bodies handed
+pub known_opened : (files : List (List ℕ × List ℕ)) (calls : List PastCall) (names : NameTable) (bodies : Bodies) (handed : List Handed) → calls ≡ [] → IsStateKept (with_folder (settled (with_files files nothing).folder) (with_files files nothing)) names bodies handed → IsStateKept (state_of (record { opening = files; calls = calls })) names bodies handed
 unfolding history_of
-known_opened files calls names bodies handed none is = subst (λ all. IsKnown (with_calls all (opened files)).now names bodies handed) (sym none) is
+known_opened files calls names bodies handed none is = subst (λ all. IsStateKept (with_calls all (opened files)).now names bodies handed) (sym none) is
 
 -- a host that was made without a file has no name in any image
 pub no_name_at_first : (files : Files) (plan : Plan) (host : MemoryHost) (world : World) → IsNew files plan host → files ≡ finite.empty → world ≡ memory_world host → (name : List ℕ) → IsInNoImage world.now.folder name

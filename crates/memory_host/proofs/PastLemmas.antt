@@ -8,10 +8,10 @@ use Rattle.host_calls.proofs.FolderLemmas.{all_are_some, get-files_of}
 use Rattle.host_calls.specs.World.{IsWithinFile}
 use Rattle.memory_host.specs.inside.Bodies.{body_of, kept_at, kept_made, kept_written, kept_synced, kept_crashed, none_kept, with_kept, with_each}
 use Rattle.memory_host.specs.Crash.{picked_names, rebooted}
-use Rattle.memory_host.specs.Past.{History, State, Story, after_call, history_of, with_call, with_calls, with_folder, with_handed, with_new_file}
+use Rattle.memory_host.specs.Past.{History, State, CallLog, after_call, history_of, with_call, with_calls, with_folder, with_handed, with_new_file}
 use Rattle.memory_host.specs.inside.Story.{state_of, with_next}
 use Rattle.memory_host.specs.inside.Table.{HoldsSameCertain, HoldsSameNow, KeepsPlaces, certain_in, changed_at, has_place, meant, now_in, pending_of, picked_holders, touches, where_touched}
-use Rattle.memory_host.specs.inside.Known.{AreBodied, ListsUnsettled, AreNamed, IsKnown}
+use Rattle.memory_host.specs.inside.Known.{AreBodied, ListsUnsettled, AreNamesKept, IsStateKept}
 use Rattle.memory_host.specs.declared.bodies.Bodies.{Bodies}
 use Rattle.memory_host.specs.declared.name_table.NameTable.{NameTable}
 use Rattle.memory_host.specs.declared.past_call.PastCall.{PastCall}
@@ -25,24 +25,24 @@ with_calls-push [] call past = refl
 with_calls-push (first ∷ later) call past = with_calls-push later call (with_call first past)
 
 -- one call more is one moment more
-pub history_next : (call : PastCall) (story : Story) → history_of (with_next call story) ≡ with_call call (history_of story)
+pub history_next : (call : PastCall) (story : CallLog) → history_of (with_next call story) ≡ with_call call (history_of story)
 unfolding history_of
 history_next call story = with_calls-push story.calls call _
 
 -- what is kept after one call more
-pub known_next : (call : PastCall) (story : Story) (before calls : List PastCall) (names : NameTable) (bodies : Bodies) (handed : List Handed) → calls ≡ before ++ call ∷ [] → before ≡ story.calls → IsKnown (after_call call (state_of story)) names bodies handed → IsKnown (state_of (record { opening = story.opening; calls = calls })) names bodies handed
+pub known_next : (call : PastCall) (story : CallLog) (before calls : List PastCall) (names : NameTable) (bodies : Bodies) (handed : List Handed) → calls ≡ before ++ call ∷ [] → before ≡ story.calls → IsStateKept (after_call call (state_of story)) names bodies handed → IsStateKept (state_of (record { opening = story.opening; calls = calls })) names bodies handed
 known_next call story before calls names bodies handed more same_before is =
     let same : state_of (record { opening = story.opening; calls = calls }) ≡ after_call call (state_of story) =
     ap (λ all. state_of (record { opening = story.opening; calls = all })) (more ∙ ap (λ all. all ++ call ∷ []) same_before) ∙ ap (λ past. past.now) (history_next call story) in
-    subst (λ at. IsKnown at names bodies handed) (sym same) is
+    subst (λ at. IsStateKept at names bodies handed) (sym same) is
 
 -- the same calls
-pub known_kept : (story : Story) (calls : List PastCall) (names : NameTable) (bodies : Bodies) (handed : List Handed) → calls ≡ story.calls → IsKnown (state_of story) names bodies handed → IsKnown (state_of (record { opening = story.opening; calls = calls })) names bodies handed
-known_kept story calls names bodies handed same is = subst (λ all. IsKnown (state_of (record { opening = story.opening; calls = all })) names bodies handed) (sym same) is
+pub known_kept : (story : CallLog) (calls : List PastCall) (names : NameTable) (bodies : Bodies) (handed : List Handed) → calls ≡ story.calls → IsStateKept (state_of story) names bodies handed → IsStateKept (state_of (record { opening = story.opening; calls = calls })) names bodies handed
+known_kept story calls names bodies handed same is = subst (λ all. IsStateKept (state_of (record { opening = story.opening; calls = all })) names bodies handed) (sym same) is
 
 -- What is read.
 
-module _ (at : State) (names : NameTable) (bodies : Bodies) (handed : List Handed) (is : IsKnown at names bodies handed) where
+module _ (at : State) (names : NameTable) (bodies : Bodies) (handed : List Handed) (is : IsStateKept at names bodies handed) where
   -- the number that the table holds is held by the name alone
   pub held_at : (name : List ℕ) (number : ℕ) → now_in names.held name ≡ Some number → IsHeldAt (names_of at.folder) name number
   held_at name number found =
@@ -74,7 +74,7 @@ module _ (at : State) (names : NameTable) (bodies : Bodies) (handed : List Hande
   fresh_known chosen is_chosen name found = let small : at.next < at.next = is.sound.below chosen is_chosen name at.next found in absurd (omega arith)
 
 -- bodies that hold the same
-pub known_alike : (at : State) (names : NameTable) (bodies more : Bodies) (handed : List Handed) → IsKnown at names bodies handed → more.list.items ≡ bodies.list.items → more.unsettled.items ≡ bodies.unsettled.items → IsKnown at names more handed
+pub known_alike : (at : State) (names : NameTable) (bodies more : Bodies) (handed : List Handed) → IsStateKept at names bodies handed → more.list.items ≡ bodies.list.items → more.unsettled.items ≡ bodies.unsettled.items → IsStateKept at names more handed
 known_alike at names bodies more handed is list unsettled = record {
   named = is.named;
   bodied = record {
@@ -88,9 +88,9 @@ known_alike at names bodies more handed is list unsettled = record {
 
 -- What is kept after each call.
 
-module _ (at : State) (names after : NameTable) (bodies more : Bodies) (handed : List Handed) (is : IsKnown at names bodies handed) where
+module _ (at : State) (names after : NameTable) (bodies more : Bodies) (handed : List Handed) (is : IsStateKept at names bodies handed) where
   -- a table that holds the same
-  pub known_same : HoldsSameNow names.held after.held → HoldsSameCertain names.held after.held → after.pending.items ≡ names.pending.items → ((name : List ℕ) → has_place names.held name ≡ true → has_place after.held name ≡ true) → IsKnown at after bodies handed
+  pub known_same : HoldsSameNow names.held after.held → HoldsSameCertain names.held after.held → after.pending.items ≡ names.pending.items → ((name : List ℕ) → has_place names.held name ≡ true → has_place after.held name ≡ true) → IsStateKept at after bodies handed
   known_same now certain pending places = record {
     named = named_same at.folder.certain at.folder.pending names after is.named now certain pending places;
     bodied = is.bodied;
@@ -100,11 +100,11 @@ module _ (at : State) (names after : NameTable) (bodies more : Bodies) (handed :
   }
 
   -- a file was made
-  pub known_made : (name bytes : List ℕ) (number : ℕ) → number ≡ length bodies.list.items → ((other : List ℕ) → now_in after.held other ≡ changed_at (meant (kept.Made name number)) (now_in names.held) other) → HoldsSameCertain names.held after.held → KeepsPlaces names.held after.held → ((other : List ℕ) → touches (kept.Made name number) other ≡ true → has_place names.held other ≡ true) → after.pending.items ≡ names.pending.items ++ kept.Made name number ∷ [] → more.list.items ≡ bodies.list.items ++ kept_made bytes ∷ [] → more.unsettled.items ≡ bodies.unsettled.items ++ length bodies.list.items ∷ [] → IsKnown (with_new_file name bytes at) after more handed
+  pub known_made : (name bytes : List ℕ) (number : ℕ) → number ≡ length bodies.list.items → ((other : List ℕ) → now_in after.held other ≡ changed_at (meant (kept.Made name number)) (now_in names.held) other) → HoldsSameCertain names.held after.held → KeepsPlaces names.held after.held → ((other : List ℕ) → touches (kept.Made name number) other ≡ true → has_place names.held other ≡ true) → after.pending.items ≡ names.pending.items ++ kept.Made name number ∷ [] → more.list.items ≡ bodies.list.items ++ kept_made bytes ∷ [] → more.unsettled.items ≡ bodies.unsettled.items ++ length bodies.list.items ∷ [] → IsStateKept (with_new_file name bytes at) after more handed
   known_made name bytes number is_next now certain places has pending list unsettled =
       let same : number ≡ at.next = is_next ∙ sym is.counted in
       record {
-        named = subst (λ n. AreNamed at.folder.certain (Made name n ∷ at.folder.pending) after) same (named_change at.folder.certain at.folder.pending names after is.named (kept.Made name number) now certain places has pending);
+        named = subst (λ n. AreNamesKept at.folder.certain (Made name n ∷ at.folder.pending) after) same (named_change at.folder.certain at.folder.pending names after is.named (kept.Made name number) now certain places has pending);
         bodied = subst (λ n. AreBodied (with_body at.folder.body n (made_body bytes)) more) (sym is.counted) (bodied_made at.folder.body bodies more is.bodied bytes list unsettled);
         counted = ap (λ n. n + 1) is.counted ∙ sym (ap length list ∙ length-append bodies.list.items (kept_made bytes ∷ []));
         scripts = is.scripts;
@@ -112,7 +112,7 @@ module _ (at : State) (names after : NameTable) (bodies more : Bodies) (handed :
       }
 
   -- a name was moved or removed
-  pub known_renamed : (from to : List ℕ) → ((other : List ℕ) → now_in after.held other ≡ changed_at (meant (kept.Renamed from to)) (now_in names.held) other) → HoldsSameCertain names.held after.held → KeepsPlaces names.held after.held → ((other : List ℕ) → touches (kept.Renamed from to) other ≡ true → has_place names.held other ≡ true) → after.pending.items ≡ names.pending.items ++ kept.Renamed from to ∷ [] → IsKnown (with_folder (with_change (Renamed from to) at.folder) at) after bodies handed
+  pub known_renamed : (from to : List ℕ) → ((other : List ℕ) → now_in after.held other ≡ changed_at (meant (kept.Renamed from to)) (now_in names.held) other) → HoldsSameCertain names.held after.held → KeepsPlaces names.held after.held → ((other : List ℕ) → touches (kept.Renamed from to) other ≡ true → has_place names.held other ≡ true) → after.pending.items ≡ names.pending.items ++ kept.Renamed from to ∷ [] → IsStateKept (with_folder (with_change (Renamed from to) at.folder) at) after bodies handed
   known_renamed from to now certain places has pending = record {
     named = named_change at.folder.certain at.folder.pending names after is.named (kept.Renamed from to) now certain places has pending;
     bodied = is.bodied;
@@ -121,7 +121,7 @@ module _ (at : State) (names after : NameTable) (bodies more : Bodies) (handed :
     sound = sound_change at.folder.certain at.folder.pending at.next (Renamed from to) tt is.sound;
   }
 
-  pub known_removed : (name : List ℕ) → ((other : List ℕ) → now_in after.held other ≡ changed_at (meant (kept.Removed name)) (now_in names.held) other) → HoldsSameCertain names.held after.held → KeepsPlaces names.held after.held → ((other : List ℕ) → touches (kept.Removed name) other ≡ true → has_place names.held other ≡ true) → after.pending.items ≡ names.pending.items ++ kept.Removed name ∷ [] → IsKnown (with_folder (with_change (Removed name) at.folder) at) after bodies handed
+  pub known_removed : (name : List ℕ) → ((other : List ℕ) → now_in after.held other ≡ changed_at (meant (kept.Removed name)) (now_in names.held) other) → HoldsSameCertain names.held after.held → KeepsPlaces names.held after.held → ((other : List ℕ) → touches (kept.Removed name) other ≡ true → has_place names.held other ≡ true) → after.pending.items ≡ names.pending.items ++ kept.Removed name ∷ [] → IsStateKept (with_folder (with_change (Removed name) at.folder) at) after bodies handed
   known_removed name now certain places has pending = record {
     named = named_change at.folder.certain at.folder.pending names after is.named (kept.Removed name) now certain places has pending;
     bodied = is.bodied;
@@ -131,7 +131,7 @@ module _ (at : State) (names after : NameTable) (bodies more : Bodies) (handed :
   }
 
   -- the names were synced
-  pub known_names : HoldsSameNow names.held after.held → ((name : List ℕ) → certain_in after.held name ≡ where_touched names.pending.items (now_in names.held) (certain_in names.held) name) → after.pending.items ≡ [] → IsKnown (with_folder (with_names_certain at.folder) at) after bodies handed
+  pub known_names : HoldsSameNow names.held after.held → ((name : List ℕ) → certain_in after.held name ≡ where_touched names.pending.items (now_in names.held) (certain_in names.held) name) → after.pending.items ≡ [] → IsStateKept (with_folder (with_names_certain at.folder) at) after bodies handed
   known_names now certain none = record {
     named = named_sync at.folder.certain at.folder.pending names after is.named now certain none;
     bodied = is.bodied;
@@ -141,7 +141,7 @@ module _ (at : State) (names after : NameTable) (bodies more : Bodies) (handed :
   }
 
   -- all was synced
-  pub known_settled : HoldsSameNow names.held after.held → ((name : List ℕ) → certain_in after.held name ≡ where_touched names.pending.items (now_in names.held) (certain_in names.held) name) → after.pending.items ≡ [] → more.list.items ≡ with_each kept_synced bodies.unsettled.items bodies.list.items → IsKnown (with_folder (settled at.folder) at) after more handed
+  pub known_settled : HoldsSameNow names.held after.held → ((name : List ℕ) → certain_in after.held name ≡ where_touched names.pending.items (now_in names.held) (certain_in names.held) name) → after.pending.items ≡ [] → more.list.items ≡ with_each kept_synced bodies.unsettled.items bodies.list.items → IsStateKept (with_folder (settled at.folder) at) after more handed
   known_settled now certain none done = record {
     named = named_sync at.folder.certain at.folder.pending names after is.named now certain none;
     bodied = bodied_settled at.folder.body bodies more is.bodied done;
@@ -151,7 +151,7 @@ module _ (at : State) (names after : NameTable) (bodies more : Bodies) (handed :
   }
 
   -- the folder crashed
-  pub known_crashed : (pick : ℕ) → ((name : List ℕ) → now_in after.held name ≡ picked_holders pick (pending_of names.pending.items) (where_touched names.pending.items (certain_in names.held) (now_in names.held)) name) → ((name : List ℕ) → certain_in after.held name ≡ where_touched names.pending.items (now_in after.held) (certain_in names.held) name) → after.pending.items ≡ [] → more.list.items ≡ with_each (kept_crashed pick) bodies.unsettled.items bodies.list.items → IsKnown (with_folder (rebooted pick at.folder) at) after more handed
+  pub known_crashed : (pick : ℕ) → ((name : List ℕ) → now_in after.held name ≡ picked_holders pick (pending_of names.pending.items) (where_touched names.pending.items (certain_in names.held) (now_in names.held)) name) → ((name : List ℕ) → certain_in after.held name ≡ where_touched names.pending.items (now_in after.held) (certain_in names.held) name) → after.pending.items ≡ [] → more.list.items ≡ with_each (kept_crashed pick) bodies.unsettled.items bodies.list.items → IsStateKept (with_folder (rebooted pick at.folder) at) after more handed
   known_crashed pick now certain none done = record {
     named = named_crash at.folder.certain at.folder.pending names after is.named pick now certain none;
     bodied = bodied_crashed at.folder.body bodies more is.bodied pick done;
@@ -161,7 +161,7 @@ module _ (at : State) (names after : NameTable) (bodies more : Bodies) (handed :
   }
 
   -- a range was written
-  pub known_written : (number offset : ℕ) (bytes : List ℕ) → number < length bodies.list.items → more.list.items ≡ with_kept (kept_written offset bytes) number bodies.list.items → more.unsettled.items ≡ bodies.unsettled.items ++ number ∷ [] → IsKnown (with_folder (with_changed number (written_body offset bytes) at.folder) at) names more handed
+  pub known_written : (number offset : ℕ) (bytes : List ℕ) → number < length bodies.list.items → more.list.items ≡ with_kept (kept_written offset bytes) number bodies.list.items → more.unsettled.items ≡ bodies.unsettled.items ++ number ∷ [] → IsStateKept (with_folder (with_changed number (written_body offset bytes) at.folder) at) names more handed
   known_written number offset bytes inside done unsettled = record {
     named = is.named;
     bodied = bodied_written at.folder.body bodies more is.bodied offset bytes number inside done unsettled;
@@ -171,7 +171,7 @@ module _ (at : State) (names after : NameTable) (bodies more : Bodies) (handed :
   }
 
   -- a file was synced
-  pub known_synced : (number : ℕ) → more.list.items ≡ with_kept kept_synced number bodies.list.items → more.unsettled.items ≡ bodies.unsettled.items → IsKnown (with_folder (with_changed number certain_body at.folder) at) names more handed
+  pub known_synced : (number : ℕ) → more.list.items ≡ with_kept kept_synced number bodies.list.items → more.unsettled.items ≡ bodies.unsettled.items → IsStateKept (with_folder (with_changed number certain_body at.folder) at) names more handed
   known_synced number done same = record {
     named = is.named;
     bodied = bodied_synced at.folder.body bodies more is.bodied number done same;
@@ -181,7 +181,7 @@ module _ (at : State) (names after : NameTable) (bodies more : Bodies) (handed :
   }
 
   -- a script was handed over
-  pub known_handed : (number body nice : ℕ) (started : Bool) (scripts : List Handed) → scripts ≡ handed ++ record { number = number; script = (at.folder.body body).bytes; nice = nice; started = started } ∷ [] → IsKnown (with_handed number body nice started at) names bodies scripts
+  pub known_handed : (number body nice : ℕ) (started : Bool) (scripts : List Handed) → scripts ≡ handed ++ record { number = number; script = (at.folder.body body).bytes; nice = nice; started = started } ∷ [] → IsStateKept (with_handed number body nice started at) names bodies scripts
   known_handed number body nice started scripts more = record {
     named = is.named;
     bodied = is.bodied;

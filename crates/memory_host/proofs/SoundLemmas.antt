@@ -3,7 +3,7 @@ use Rattle.std.proofs.Common.{◌≡◌, ◌⊎◌, ◌+◌, ◌<◌, ℕ, Bool,
 use Rattle.std.specs.Prelude.{Option, Some, None, length}
 use Rattle.std.specs.Ordering.{eq_by_cmp}
 use Rattle.std.specs.FinMap as finite
-use Rattle.host_calls.specs.Folder.{Change, Made, Renamed, Removed, Names, AreAfterSome, name_cmp, changed}
+use Rattle.host_calls.specs.Folder.{Change, Made, Renamed, Removed, Names, AreAfterSome, name_cmp, changed_names}
 use Rattle.memory_host.specs.Crash.{is_picked, picked_names}
 use Rattle.memory_host.specs.inside.Table.{Holders, changed_at, moved_at, put_at}
 use Rattle.memory_host.specs.inside.Known.{KeepsNumbersApart}
@@ -116,10 +116,10 @@ sound_from certain pending next all = record { below = λ names chosen. (all nam
 -- one change more
 pub sound_change : (certain : Names) (pending : List Change) (next : ℕ) (change : Change) → AllowsChange change next → KeepsNumbersApart certain pending next → KeepsNumbersApart certain (change ∷ pending) (next_after change next)
 sound_change certain pending next change new is = sound_from certain (change ∷ pending) (next_after change next) (λ names chosen. by_choice names chosen.0 (all_apart certain pending next is chosen.0 chosen.1) chosen.2) where
-  by_choice : (names before : Names) → AreApart (finite.get before) next → (names ≡ before) ⊎ (names ≡ changed change before) → AreApart (finite.get names) (next_after change next)
+  by_choice : (names before : Names) → AreApart (finite.get before) next → (names ≡ before) ⊎ (names ≡ changed_names change before) → AreApart (finite.get names) (next_after change next)
   by_choice names before apart either = elim either [
     | inl same ↦ subst (λ m. AreApart (finite.get m) (next_after change next)) (sym same) (apart_later (finite.get before) change next apart)
-    | inr done ↦ subst (λ m. AreApart (finite.get m) (next_after change next)) (sym done) (apart_same (changed_at change (finite.get before)) (finite.get (changed change before)) (next_after change next) (λ name. sym (get-changed change before name)) (apart_changed change (finite.get before) next apart new))
+    | inr done ↦ subst (λ m. AreApart (finite.get m) (next_after change next)) (sym done) (apart_same (changed_at change (finite.get before)) (finite.get (changed_names change before)) (next_after change next) (λ name. sym (get-changed change before name)) (apart_changed change (finite.get before) next apart new))
   ]
 
 -- one of the choices was taken
@@ -130,6 +130,6 @@ sound_chosen certain pending next names chosen is = sound_from names [] next (λ
 pub picked_chosen : (pick : ℕ) (pending : List Change) (certain : Names) → AreAfterSome pending certain (picked_names pick pending certain)
 picked_chosen pick [] certain = refl
 picked_chosen pick (change ∷ older) certain = (picked_names pick older certain, picked_chosen pick older certain, by_pick (is_picked pick (length older))) where
-  by_pick : (b : Bool) → (cond b (changed change (picked_names pick older certain)) (picked_names pick older certain) ≡ picked_names pick older certain) ⊎ (cond b (changed change (picked_names pick older certain)) (picked_names pick older certain) ≡ changed change (picked_names pick older certain))
+  by_pick : (b : Bool) → (cond b (changed_names change (picked_names pick older certain)) (picked_names pick older certain) ≡ picked_names pick older certain) ⊎ (cond b (changed_names change (picked_names pick older certain)) (picked_names pick older certain) ≡ changed_names change (picked_names pick older certain))
   by_pick true = inr refl
   by_pick false = inl refl

@@ -1,6 +1,6 @@
 -- Which image a crash leaves, by a number that picks it (own).
 use Rattle.std.specs.Prelude.{◌+◌, ◌/◌, ◌%◌, ◌^◌, ◌==◌, [], ◌∷◌, ℕ, Bool, true, false, List, length, take, if◌then◌else◌}
-use Rattle.host_calls.specs.Folder.{Body, Change, Folder, Names, changed}
+use Rattle.host_calls.specs.Folder.{Body, Change, Folder, Names, changed_names}
 
 -- the body of a number that no file has
 abbrev pub no_body : Body
@@ -14,7 +14,7 @@ is_picked pick number = pick / 2 ^ (number % 64) % 2 == 1
 abbrev pub picked_names : ℕ → List Change → Names → Names
 picked_names pick [] certain = certain
 picked_names pick (change ∷ older) certain =
-    if is_picked pick (length older) then changed change (picked_names pick older certain) else picked_names pick older certain
+    if is_picked pick (length older) then changed_names change (picked_names pick older certain) else picked_names pick older certain
 
 -- the byte at an uncertain place
 abbrev pub picked_byte : ℕ → ℕ → ℕ

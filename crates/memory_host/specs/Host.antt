@@ -6,7 +6,7 @@ use Rattle.host_calls.specs.Session.{Session}
 use Rattle.host_calls.specs.World.{World, reading}
 use Rattle.host_calls.specs.Folder.{Files, IsImage}
 use Rattle.memory_host.specs.Crash.{rebooted}
-use Rattle.memory_host.specs.Past.{Story, history_of, moment_of}
+use Rattle.memory_host.specs.Past.{CallLog, history_of, moment_of}
 use Rattle.memory_host.specs.Plan.{Progress, first_progress, progress_after_reboot}
 use Rattle.memory_host.specs.Spelling.{spelled}
 use Rattle.memory_host.specs.declared.plan.Plan.{Plan}
@@ -25,7 +25,7 @@ memory_session host =
     }
 
 -- the moments of a story, and the questions to children
-abbrev pub world_of : Story → List Asked → World
+abbrev pub world_of : CallLog → List Asked → World
 world_of story asked = record { now = moment_of (history_of story).now; before = (history_of story).before; asked = asked }
 
 -- its moments and questions

@@ -8,7 +8,7 @@ use Rattle.memory_host.specs.Inputs.{KeepToContent, given_contents, inputs_spell
 use Rattle.memory_host.specs.ListReadings.{answers_so_far, readers_so_far}
 use Rattle.memory_host.specs.MemoryInputs.{contents_given, sources_so_far}
 use Rattle.memory_host.specs.MemorySink.{outlet_so_far}
-use Rattle.memory_host.specs.Plan.{IsQuiet}
+use Rattle.memory_host.specs.Plan.{IsFaultless}
 use Rattle.memory_host.specs.Readings.{KeepToLists}
 use Rattle.memory_host.specs.Sink.{KeepsToPuts}
 use Rattle.memory_host.specs.Spelling.{spelled}
@@ -32,7 +32,7 @@ pub record HasNoFault (session : Session) : Type 0 where
 -- a host that spells a quiet plan and no fuse of a reboot has no fault
 abbrev pub QuietHostsHaveNoFault : Type 0
 QuietHostsHaveNoFault = (host : MemoryHost) (plan : Plan)
-    → (memory_session host).made_as ≡ spelled plan [] → IsQuiet plan → HasNoFault (memory_session host)
+    → (memory_session host).made_as ≡ spelled plan [] → IsFaultless plan → HasNoFault (memory_session host)
 
 -- at most as many faults as entries of the plan
 pub record HasFewFaults (plan : Plan) (session : Session) : Type 0 where

@@ -75,10 +75,10 @@ abbrev pub opened : List (List ℕ × List ℕ) → History
 opened files = record { now = with_folder (settled (with_files files nothing).folder) (with_files files nothing); before = [] }
 
 -- the files at first, and each call that changed something, in order
-pub record Story : Type 0 where
+pub record CallLog : Type 0 where
   pub opening : List (List ℕ × List ℕ)
   pub calls : List PastCall
 
 -- what the story came to
-unfoldable pub history_of : Story → History
+unfoldable pub history_of : CallLog → History
 history_of story = with_calls story.calls (opened story.opening)

@@ -13,7 +13,7 @@ use Rattle.memory_host.specs.declared.failing_list.Part.TheVariants.{Nothing}
 use Rattle.memory_host.specs.declared.plan.Plan.{Plan}
 
 -- nothing is planned to fail
-pub record IsQuiet (plan : Plan) : Type 0 where
+pub record IsFaultless (plan : Plan) : Type 0 where
   pub failing : plan.failing ≡ []
   pub taken : plan.taken ≡ []
   pub failing_starts : plan.failing_starts ≡ []

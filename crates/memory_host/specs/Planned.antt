@@ -15,7 +15,7 @@ use Rattle.memory_host.specs.declared.failing_list.Part.TheVariants.{Nothing, Al
 use Rattle.memory_host.specs.declared.memory_host.MemoryHost.{MemoryHost}
 
 -- the call is counted, unless it answers want of memory
-pub record IsCounted {T E : Type 0} (memory : E) (old new : MemoryHost) (result : Result T E) : Type 0 where
+pub record IsCallCounted {T E : Type 0} (memory : E) (old new : MemoryHost) (result : Result T E) : Type 0 where
   pub counted : result ≢ Err memory → progress_of new ≡ progress_after_call (progress_of old)
   pub uncounted : result ≡ Err memory → progress_of new ≡ progress_of old
 
@@ -25,7 +25,7 @@ pub record LooksAsPlanned {T : Type 0} (old new : MemoryHost) (result : Result T
   pub world : memory_world new ≡ memory_world old
   pub fails : IsSome (next_part (progress_of old)) → result ≡ Err Failed
   pub passes : next_part (progress_of old) ≡ None → result ≢ Err Failed
-  pub count : IsCounted Memory old new result
+  pub count : IsCallCounted Memory old new result
 
 -- a call that changes the folder fails where that is planned, and has done nothing or all by then
 pub record ChangesAsPlanned {T : Type 0} (done part : Folder → Folder → Type 0) (old new : MemoryHost)
@@ -37,7 +37,7 @@ pub record ChangesAsPlanned {T : Type 0} (done part : Folder → Folder → Type
   pub all : next_part (progress_of old) ≡ Some All → result ≢ Err Memory
       → (result ≡ Err Failed) × done (memory_world old).now.folder (memory_world new).now.folder
   pub passes : next_part (progress_of old) ≡ None → result ≢ Err Failed
-  pub count : IsCounted Memory old new result
+  pub count : IsCallCounted Memory old new result
 
 -- a start answers as planned, and is counted both as a call and as a start
 pub record StartsAsPlanned (number : ℕ) (name : List ℕ) (nice : ℕ) (old new : MemoryHost)

@@ -86,7 +86,7 @@ impl Bodies {
         ensures list { self.new.list.items ≡ with_each kept_synced self.old.unsettled.items self.old.list.items }
         ensures unsettled { self.new.unsettled.items ≡ [] }
     {
-        sync_each(&mut self.list, &self.unsettled);
+        sync_bodies(&mut self.list, &self.unsettled);
         self.unsettled.clear();
     }
 
@@ -102,7 +102,7 @@ impl Bodies {
 }
 
 // Makes the bodies of these numbers certain.
-fn sync_each(list: &mut [Body], numbers: &[usize])
+fn sync_bodies(list: &mut [Body], numbers: &[usize])
     ensures { list.new ≡ with_each kept_synced numbers.now list.old }
 {
     for number in numbers {

@@ -105,12 +105,12 @@ pub fn take_each_back(held: &mut BTreeMap<Name, Held>, changes: &[Change])
     ensures places { KeepsPlaces held.old held.new }
 {
     for change in changes {
-        take_back(held, change);
+        undo_change(held, change);
     }
 }
 
 // Takes this change back.
-fn take_back(held: &mut BTreeMap<Name, Held>, change: &Change)
+fn undo_change(held: &mut BTreeMap<Name, Held>, change: &Change)
     ensures now { (name : List ℕ) → now_in held.new name
         ≡ (if touches change.now name then certain_in held.old name else now_in held.old name) }
     ensures certain { HoldsSameCertain held.old held.new }

@@ -19,21 +19,21 @@ pub struct Held {
 pub fn now_of(held: &BTreeMap<Name, Held>, name: &Name) -> Option<usize>
     ensures { result ≡ now_in held.now name.now }
 {
-    match kept_of(held, name) {
+    match held_entry(held, name) {
         Some(kept) => kept.now,
         None => None,
     }
 }
 
 // What is kept of a name.
-fn kept_of(held: &BTreeMap<Name, Held>, name: &Name) -> Option<Held>
+fn held_entry(held: &BTreeMap<Name, Held>, name: &Name) -> Option<Held>
     ensures { result ≡ get name_cmp held.now name.now }
 {
     held.get(name).copied()
 }
 
 // Sets what is kept of a name that is kept.
-fn put_held(held: &mut BTreeMap<Name, Held>, name: &Name, kept: Held)
+fn set_entry(held: &mut BTreeMap<Name, Held>, name: &Name, kept: Held)
     requires { IsSome (get name_cmp held.old name.now) }
     ensures { IsEntrySet name.now (Some kept) held.old held.new }
 {
@@ -43,7 +43,7 @@ fn put_held(held: &mut BTreeMap<Name, Held>, name: &Name, kept: Held)
 }
 
 // Keeps nothing of a name.
-fn drop_held(held: &mut BTreeMap<Name, Held>, name: &Name)
+fn remove_entry(held: &mut BTreeMap<Name, Held>, name: &Name)
     ensures { IsEntrySet name.now None held.old held.new }
 {
     let _ = held.remove(name);
@@ -56,8 +56,8 @@ pub fn set_now(held: &mut BTreeMap<Name, Held>, name: &Name, now: Option<usize>)
     ensures certain { HoldsSameCertain held.old held.new }
     ensures places { KeepsPlaces held.old held.new }
 {
-    if let Some(kept) = kept_of(held, name) {
-        put_held(
+    if let Some(kept) = held_entry(held, name) {
+        set_entry(
             held,
             name,
             Held {
@@ -74,7 +74,7 @@ pub fn settle_name(held: &mut BTreeMap<Name, Held>, name: &Name)
     ensures certain { (other : List ℕ) → certain_in held.new other
         ≡ (if eq_by_cmp name_cmp name.now other then now_in held.old other else certain_in held.old other) }
 {
-    if let Some(kept) = kept_of(held, name) {
+    if let Some(kept) = held_entry(held, name) {
         settle_kept(held, name, kept.now);
     }
 }
@@ -88,8 +88,8 @@ fn settle_kept(held: &mut BTreeMap<Name, Held>, name: &Name, now: Option<usize>)
         ≡ (if eq_by_cmp name_cmp name.now other then now_in held.old other else certain_in held.old other) }
 {
     match now {
-        None => drop_held(held, name),
-        Some(_) => put_held(held, name, Held { certain: now, now }),
+        None => remove_entry(held, name),
+        Some(_) => set_entry(held, name, Held { certain: now, now }),
     }
 }
 
@@ -100,9 +100,9 @@ pub fn take_name_back(held: &mut BTreeMap<Name, Held>, name: &Name)
     ensures certain { HoldsSameCertain held.old held.new }
     ensures places { KeepsPlaces held.old held.new }
 {
-    if let Some(kept) = kept_of(held, name) {
+    if let Some(kept) = held_entry(held, name) {
         let certain = kept.certain;
-        put_held(
+        set_entry(
             held,
             name,
             Held {

@@ -7,7 +7,7 @@ ghost use Rattle.host_calls.specs.Session.{Enters, IsInside, IsLeft, IsOutside, 
 ghost use Rattle.host_calls.specs.World.{Asks, IsWithinFile, bytes_from, reading, size_of};
 ghost use Rattle.memory_host.specs.Host.{memory_session, memory_world, progress_of};
 ghost use Rattle.memory_host.specs.Plan.{next_entry, progress_after_call};
-ghost use Rattle.memory_host.specs.Planned.{ChangesAsPlanned, IsCounted, LooksAsPlanned, StartsAsPlanned};
+ghost use Rattle.memory_host.specs.Planned.{ChangesAsPlanned, IsCallCounted, LooksAsPlanned, StartsAsPlanned};
 
 use crate::{MemoryHost, Part};
 use host_calls::{Asked, Child, Ending, EnterFault, Host, HostFault, Name, StartFault};
@@ -235,7 +235,7 @@ impl Host for MemoryHost {
         ensures inside { StaysInside (memory_session self.old) (memory_session self.new) }
         ensures was_started { result ≢ Ok (Some Ending.NotStarted) }
         ensures asked { Asks child.now (memory_world self.old) (memory_world self.new) result }
-        ensures count { IsCounted alloc_error self.old self.new result }
+        ensures count { IsCallCounted alloc_error self.old self.new result }
     {
         self.asked.reserve(1)?;
         self.turn = self.turn.next();

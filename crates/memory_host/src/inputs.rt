@@ -1,7 +1,7 @@
 //! Inputs whose content is given.
 ghost use Rattle.std.specs.Prelude.{◌≡◌, ◌≤◌, true, false, IfOk, Some, Err, is_some, take, length, option_map};
 ghost use Rattle.host_calls.specs.Causes.{HasCause};
-ghost use Rattle.host_calls.specs.Inputs.{AreReadOnce, IsPrefixOf};
+ghost use Rattle.host_calls.specs.Inputs.{AreReadOnce, IsInputPrefix};
 ghost use Rattle.memory_host.specs.Inputs.{inputs_spelling, given_contents};
 
 use host_calls::{Bytes, InputFault, Inputs};
@@ -62,7 +62,7 @@ impl Inputs for MemoryInputs {
     ghost sources = { sources_so_far };
 
     fn standard(&mut self, alloc: Global, most: usize) -> Result<Bytes, InputFault>
-        ensures prefix { IfOk result (IsPrefixOf (Some (contents_given self.old).standard) most) }
+        ensures prefix { IfOk result (IsInputPrefix (Some (contents_given self.old).standard) most) }
         ensures few { IfOk result (λ bytes. length bytes ≤ most) }
         ensures contents { contents_given self.new ≡ contents_given self.old }
         ensures once { AreReadOnce (sources_so_far self.old) (sources_so_far self.new) }
@@ -76,11 +76,11 @@ impl Inputs for MemoryInputs {
             self.input_faults = self.input_faults.saturating_add(1);
             return Err(InputFault::Failed);
         }
-        Ok(prefix(alloc, self.standard.as_slice(), most)?)
+        Ok(content_prefix(alloc, self.standard.as_slice(), most)?)
     }
 
     fn file(&mut self, alloc: Global, _path: &str, most: usize) -> Result<Bytes, InputFault>
-        ensures prefix { IfOk result (IsPrefixOf ((contents_given self.old).file _path.now) most) }
+        ensures prefix { IfOk result (IsInputPrefix ((contents_given self.old).file _path.now) most) }
         ensures few { IfOk result (λ bytes. length bytes ≤ most) }
         ensures contents { contents_given self.new ≡ contents_given self.old }
         ensures once { AreReadOnce (sources_so_far self.old) (sources_so_far self.new) }
@@ -91,7 +91,7 @@ impl Inputs for MemoryInputs {
     {
         self.reads = self.reads.saturating_add(1);
         match &self.file {
-            Some(bytes) if !self.fails => Ok(prefix(alloc, bytes.as_slice(), most)?),
+            Some(bytes) if !self.fails => Ok(content_prefix(alloc, bytes.as_slice(), most)?),
             _ => {
                 self.input_faults = self.input_faults.saturating_add(1);
                 Err(InputFault::Failed)
@@ -101,7 +101,7 @@ impl Inputs for MemoryInputs {
 }
 
 // The first bytes, all of them or `most`.
-fn prefix(alloc: Global, bytes: &[u8], most: usize) -> Result<Bytes, AllocError>
+fn content_prefix(alloc: Global, bytes: &[u8], most: usize) -> Result<Bytes, AllocError>
     ensures { IfOk result (λ prefix. prefix ≡ take most bytes.now) }
 {
     Bytes::of(alloc, &bytes[..most.min(bytes.len())])

@@ -1,7 +1,7 @@
 //! A spool folder in memory.
 ghost use Rattle.std.specs.Prelude.{◌≡◌, ◌<◌, ◌++◌, length, option_to_list, vec_len, vec_capacity};
 ghost use Rattle.memory_host.specs.inside.Faults.{AreFaultsPlanned};
-ghost use Rattle.memory_host.specs.inside.Kin.{AreKin};
+ghost use Rattle.memory_host.specs.inside.Kin.{AreChildrenAsPlanned};
 
 use crate::past::Past;
 use crate::turn::Turn;
@@ -35,7 +35,7 @@ pub struct MemoryHost {
           starts = length waits.items;
         })
         fuses.items file_faults start_faults taken },
-    ghost kin: { AreKin plan.children asked.items waits.items children.items },
+    ghost kin: { AreChildrenAsPlanned plan.children asked.items waits.items children.items },
 }
 
 impl MemoryHost {

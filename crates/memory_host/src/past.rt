@@ -28,15 +28,15 @@ pub struct Past {
 }
 
 impl Model for Past {
-    ghost use Rattle.memory_host.specs.Past.{Story};
+    ghost use Rattle.memory_host.specs.Past.{CallLog};
     ghost use Rattle.memory_host.specs.inside.Story.{state_of};
-    ghost use Rattle.memory_host.specs.inside.Known.{IsKnown};
+    ghost use Rattle.memory_host.specs.inside.Known.{IsStateKept};
 
-    ghost Value = { Story };
+    ghost Value = { CallLog };
 
     ghost view = { λ past. record { opening = past.opening.entries; calls = past.calls.items } };
 
-    ghost invariant = { λ past. IsKnown (state_of (record { opening = past.opening.entries; calls = past.calls.items }))
+    ghost invariant = { λ past. IsStateKept (state_of (record { opening = past.opening.entries; calls = past.calls.items }))
         past.names past.bodies past.handed.items };
 }
 
@@ -48,7 +48,7 @@ impl Past {
         let mut names = NameTable::new(alloc);
         let mut bodies = Bodies::new(alloc);
         for (name, bytes) in files.inner.iter() {
-            make_file(alloc, &mut names, &mut bodies, name, bytes.as_slice())?;
+            add_file(alloc, &mut names, &mut bodies, name, bytes.as_slice())?;
         }
         names.sync();
         bodies.settle();
@@ -116,7 +116,7 @@ impl Past {
     {
         self.calls.reserve(1)?;
         let copy = Bytes::of(alloc, bytes)?;
-        make_file(alloc, &mut self.names, &mut self.bodies, name, bytes)?;
+        add_file(alloc, &mut self.names, &mut self.bodies, name, bytes)?;
         self.calls.push_reserved(PastCall::Made(*name, copy));
         Ok(())
     }
@@ -242,7 +242,7 @@ impl Past {
 
 // Makes a file under the next number. Where there is no room, at most a name that holds nothing is
 // kept more.
-fn make_file(
+fn add_file(
     alloc: Global,
     names: &mut NameTable,
     bodies: &mut Bodies,

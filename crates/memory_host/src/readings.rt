@@ -64,13 +64,13 @@ impl Readings for ListReadings {
     ghost readers = { readers_so_far };
 
     fn now(&mut self) -> i64 {
-        let now = answer(&self.nows, self.now_count);
+        let now = planned_answer(&self.nows, self.now_count);
         self.now_count = self.now_count.saturating_add(1);
         now
     }
 
     fn load(&mut self) -> Option<u32> {
-        let load = answer(&self.loads, self.load_count);
+        let load = planned_answer(&self.loads, self.load_count);
         self.load_count = self.load_count.saturating_add(1);
         self.load_faults = faults_after(self.load_faults, load);
         load
@@ -82,7 +82,7 @@ impl Readings for ListReadings {
 }
 
 // The answer of this number: the entry of the number, or the last of a list that is shorter.
-fn answer<T: Copy>(given: &[T], number: u64) -> T
+fn planned_answer<T: Copy>(given: &[T], number: u64) -> T
     requires { 0 < length given.now }
     ensures { answer_at given.now number ≡ Some result }
 {

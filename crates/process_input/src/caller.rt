@@ -1,7 +1,7 @@
 //! Who calls, and from where.
 ghost use Rattle.std.specs.Prelude.{◌<◌, IfOk};
 
-use crate::environment::{text_of, variable, variables_of};
+use crate::environment::{variable, variable_or, variables_of};
 use crate::umask::umask_of;
 use cause_output::Caller;
 use civil_minute::zone_of;
@@ -14,8 +14,8 @@ pub fn caller_of(rt: &HostRuntime) -> Result<Caller, AllocError>
 {
     let zone = variable(rt, "TZ")?;
     let context = Context {
-        user: text_of(rt, "LOGNAME", "")?,
-        directory: text_of(rt, "PWD", "")?,
+        user: variable_or(rt, "LOGNAME", "")?,
+        directory: variable_or(rt, "PWD", "")?,
         umask: umask_of(rt),
         environment: variables_of(rt)?,
     };

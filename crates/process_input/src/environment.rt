@@ -13,7 +13,7 @@ const ROOM: usize = 512;
 const DOUBLINGS: u32 = 40;
 
 /// The words by which this process was called.
-pub fn words_of(rt: &HostRuntime) -> Result<Vec<String>, StartupError> {
+pub fn process_words(rt: &HostRuntime) -> Result<Vec<String>, StartupError> {
     match env::args(rt) {
         Ok(words) => Ok(words.collect::<Vec<String>>(rt.alloc())?),
         Err(error) if error.kind() == ErrorKind::OutOfMemory => Err(StartupError::Memory),
@@ -22,7 +22,7 @@ pub fn words_of(rt: &HostRuntime) -> Result<Vec<String>, StartupError> {
 }
 
 /// The value of a variable, or the usual one where it is not there or no text.
-pub fn text_of(rt: &HostRuntime, name: &str, usual: &str) -> Result<Text, AllocError> {
+pub fn variable_or(rt: &HostRuntime, name: &str, usual: &str) -> Result<Text, AllocError> {
     match variable(rt, name)? {
         Some(value) => Ok(Text::from(value)),
         None => Text::of(rt.alloc(), usual),
@@ -42,14 +42,14 @@ pub fn variable(rt: &HostRuntime, name: &str) -> Result<Option<String>, AllocErr
 pub fn variables_of(rt: &HostRuntime) -> Result<Variables, AllocError> {
     let alloc = rt.alloc();
     let mut variables = Variables::new(alloc);
-    for (name, value) in &entries_of(rt)? {
+    for (name, value) in &environment_variables(rt)? {
         variables.push(alloc, name.as_str(), value.as_str())?;
     }
     Ok(variables)
 }
 
 /// The names and values of all variables that are texts, in the order of the runtime.
-pub fn entries_of(rt: &HostRuntime) -> Result<Vec<(Text, Text)>, AllocError> {
+pub fn environment_variables(rt: &HostRuntime) -> Result<Vec<(Text, Text)>, AllocError> {
     let alloc = rt.alloc();
     let mut entries = Vec::new(alloc);
     for place in 0..usize::MAX {

@@ -2,7 +2,7 @@
 ghost use Rattle.std.specs.Prelude.{◌≡◌, IfNone, IfOk, OnSome, map, option_map, remove, string_bytes};
 ghost use Rattle.host_calls.specs.Session.{IsOutside};
 ghost use Rattle.memory_host.specs.Host.{memory_session};
-ghost use Rattle.process_input.specs.Folders.{folder_in, is_folder};
+ghost use Rattle.process_input.specs.Folders.{folder_word, is_folder_word};
 
 use memory_host::{Files, MemoryHost, Plan};
 use std::alloc::{AllocError, Global};
@@ -10,18 +10,18 @@ use std::alloc::{AllocError, Global};
 /// Takes the folder out of the words of a program that names it first: the word after the program's name. None, and the
 /// words as they were, where there is no such word, or it begins with `-`.
 pub fn take_folder(words: &mut Vec<String>) -> Option<String>
-    ensures folder { option_map string_bytes result ≡ folder_in (map string_bytes words.old.items) }
+    ensures folder { option_map string_bytes result ≡ folder_word (map string_bytes words.old.items) }
     ensures taken { OnSome result (words.new.items ≡ remove words.old.items 1) }
     ensures left { IfNone result (words.new.items ≡ words.old.items) }
 {
     match words.as_slice() {
-        [_, word, ..] if is_folder(word) => Some(words.remove(1)),
+        [_, word, ..] if is_folder_word(word) => Some(words.remove(1)),
         _ => None,
     }
 }
 
-fn is_folder(word: &str) -> bool
-    ensures { result ≡ is_folder word.now }
+fn is_folder_word(word: &str) -> bool
+    ensures { result ≡ is_folder_word word.now }
 {
     !matches!(word.as_bytes(), [b'-', ..])
 }

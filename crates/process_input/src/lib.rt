@@ -10,7 +10,7 @@ mod streams;
 mod umask;
 
 pub use caller::caller_of;
-pub use environment::{entries_of, text_of, variable, variables_of, words_of};
+pub use environment::{environment_variables, process_words, variable, variable_or, variables_of};
 pub use folder::{no_spool, take_folder};
 pub use startup_error::{StartupError, say_startup_error};
 pub use streams::held_streams;

@@ -12,7 +12,7 @@ use Rattle.std.proofs.lemmas.Map.Keys.{IsDistinct-IsPermutation}
 use Rattle.std.proofs.lemmas.Map.Made.{AllPairs-from_IsDistinct, IsDistinct-from_AllPairs}
 use Rattle.spool_model.specs.JobTable.{is_batch_queue}
 use Rattle.spool_model.specs.declared.row.Row.{Row}
-use Rattle.queue_rules.specs.Order.{AreInDueOrder, Differ, IsFirstBatch, IsNumberOf, is_ready, is_ready_batch, is_ready_job, place_of, places_of, row_numbers}
+use Rattle.queue_rules.specs.Order.{AreInDueOrder, Differ, IsFirstBatch, IsNumberOf, is_ready, is_ready_batch, is_ready_job, place_in_queue, places_of, row_numbers}
 
 -- a row that is kept by a test is a row, and passes it
 kept_rows : (test : Row → Bool) (rows : List Row) → All (λ row. IsNumberOf test rows row.number) (filter test rows)
@@ -27,7 +27,7 @@ kept_rows test rows =
 
 -- the places of the rows that pass a test have numbers of such rows
 kept_places : (test : Row → Bool) (rows : List Row) → All (λ place. IsNumberOf test rows place.1) (places_of test rows)
-kept_places test rows = All-map (λ place. IsNumberOf test rows place.1) place_of (filter test rows) (kept_rows test rows)
+kept_places test rows = All-map (λ place. IsNumberOf test rows place.1) place_in_queue (filter test rows) (kept_rows test rows)
 
 -- each number in due order is that of a ready row outside the batch queues
 pub due_numbers : (rows : List Row) (now : ℤ) (numbers : List ℕ) → AreInDueOrder rows now numbers → All (IsNumberOf (is_ready_job now) rows) numbers
@@ -76,7 +76,7 @@ due_numbers_differ rows now numbers differ due =
     let apart : AllPairs AreApart (filter test rows) = AllPairs-filter AreApart test rows (pairs_unmap (λ first second. first ≢ second) (λ row. row.number) rows differ) in
     let kept : Differ (map (λ place. place.1) (places_of test rows)) =
     pairs_map (λ first second. first ≢ second) (λ (place : ℕ × ℕ). place.1) (places_of test rows)
-    (pairs_map (λ (first second : ℕ × ℕ). first.1 ≢ second.1) place_of (filter test rows) apart) in
+    (pairs_map (λ (first second : ℕ × ℕ). first.1 ≢ second.1) place_in_queue (filter test rows) apart) in
     subst Differ (sym due.numbered)
     (AllPairs-from_IsDistinct same_number (map (λ place. place.1) due.places)
     (IsDistinct-IsPermutation nat_eq flips (map (λ place. place.1) (places_of test rows)) (map (λ place. place.1) due.places)

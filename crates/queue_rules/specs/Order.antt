@@ -24,8 +24,8 @@ abbrev pub is_ready_batch : ℤ → Row → Bool
 is_ready_batch now row = is_ready now row && is_batch_queue row.queue
 
 -- the place of a job in the line: its minute and its number
-abbrev pub place_of : Row → ℕ × ℕ
-place_of row = (row.minute, row.number)
+abbrev pub place_in_queue : Row → ℕ × ℕ
+place_in_queue row = (row.minute, row.number)
 
 -- the first place stands before the second, or is the same
 abbrev pub IsNotAfter : ℕ × ℕ → ℕ × ℕ → Type 0
@@ -38,7 +38,7 @@ pub record IsFirstOf (places : List (ℕ × ℕ)) (place : ℕ × ℕ) : Type 0 
 
 -- the places of the rows that pass a test
 abbrev pub places_of : (Row → Bool) → List Row → List (ℕ × ℕ)
-places_of test rows = map place_of (filter test rows)
+places_of test rows = map place_in_queue (filter test rows)
 
 -- the numbers of the jobs outside the batch queues that are ready, by minute, then number
 pub record AreInDueOrder (rows : List Row) (now : ℤ) (numbers : List ℕ) : Type 0 where

@@ -11,7 +11,7 @@ use crate::streams::{RealErrors, RealOutput, real_errors, real_output};
 use at_account::account_program;
 use host_calls::{Host, Sink, Text};
 use listing_text::Status;
-use process_input::{StartupError, no_spool, take_folder, words_of};
+use process_input::{StartupError, no_spool, process_words, take_folder};
 use std::alloc::{AllocError, Global};
 use unix_host::Waits;
 use witnessed_host::{Silent, Witness};
@@ -67,7 +67,7 @@ fn account_over_none(rt: &HostRuntime) -> Result<Status, AllocError>
 pub fn run_account(rt: &HostRuntime) -> Result<Status, StartupError>
     ensures code { IfOk result (λ status. status ≡ status_of status.cause) }
 {
-    let mut words = words_of(rt)?;
+    let mut words = process_words(rt)?;
     let status = match take_folder(&mut words) {
         Some(folder) => account_over(rt, &words, Text::from(folder), Waits::Asking)?,
         None => account_over_none(rt)?,

@@ -16,7 +16,7 @@ use crate::streams::{
 use at_day::{Caller, program};
 use host_calls::{Host, Inputs, Readings, Sink, Text};
 use listing_text::Status;
-use process_input::{StartupError, caller_of, text_of, words_of};
+use process_input::{StartupError, caller_of, process_words, variable_or};
 use std::alloc::{AllocError, Global};
 use unix_host::Waits;
 use witnessed_host::{InputWitness, Silent, Witness};
@@ -112,9 +112,9 @@ pub fn at_over(
 pub fn run_at(rt: &HostRuntime) -> Result<Status, StartupError>
     ensures code { IfOk result (λ status. status ≡ status_of status.cause) }
 {
-    let words = words_of(rt)?;
+    let words = process_words(rt)?;
     let caller = caller_of(rt)?;
-    let spool = text_of(rt, "ATSPOOL", SPOOL)?;
+    let spool = variable_or(rt, "ATSPOOL", SPOOL)?;
     let mut clock = real_clock(rt)?;
     Ok(at_over(rt, &words, &caller, spool, Waits::Asking, &mut clock)?)
 }

@@ -3,7 +3,7 @@ ghost use Rattle.std.specs.Prelude.{◌≡◌, IfOk, map, string_bytes};
 ghost use Rattle.cause_output.specs.Outside.{stream_at};
 ghost use Rattle.host_calls.specs.Session.{IsLeft, IsOutside};
 ghost use Rattle.listing_text.specs.Cause.{status_of};
-ghost use Rattle.spool_check.specs.Checking.{Ends};
+ghost use Rattle.spool_check.specs.Checking.{CheckEnds};
 ghost use Rattle.spool_check.specs.Outside.{HasRisenInEither, folders_at};
 ghost use Rattle.spool_check.specs.Words.{check_asked};
 
@@ -11,7 +11,7 @@ use crate::folders::{RealFolder, existing_folder, new_folder};
 use crate::streams::{RealErrors, RealOutput, real_errors, real_output};
 use host_calls::{Host, Sink, Text};
 use listing_text::Status;
-use process_input::{StartupError, no_spool, take_folder, words_of};
+use process_input::{StartupError, no_spool, process_words, take_folder};
 use spool_check::check_program;
 use std::alloc::{AllocError, Global};
 use unix_host::Waits;
@@ -41,7 +41,7 @@ pub fn check_answer<W: Witness + Drop, G: Host>(
         HasRisenInEither (at folder.old to.old output.old) (at folder.new to.new output.new) result.cause }
     ensures ends { let at = folders_at ⟦<RealFolder<W> as Host>⟧ G.Host ⟦<RealOutput as Sink>⟧ in
         let said = stream_at ⟦<RealErrors as Sink>⟧ in
-        Ends (check_asked (map string_bytes words.now)) (at folder.old to.old output.old)
+        CheckEnds (check_asked (map string_bytes words.now)) (at folder.old to.old output.old)
         (at folder.new to.new output.new) (said errors.old) (said errors.new) result.cause }
 {
     check_program(alloc, words, folder, to, output, errors)
@@ -110,7 +110,7 @@ fn check_over_none(rt: &HostRuntime) -> Result<Status, AllocError>
 pub fn run_check(rt: &HostRuntime) -> Result<Status, StartupError>
     ensures code { IfOk result (λ status. status ≡ status_of status.cause) }
 {
-    let mut words = words_of(rt)?;
+    let mut words = process_words(rt)?;
     let status = match take_folder(&mut words) {
         Some(folder) => {
             let new = take_folder(&mut words).map(Text::from);

@@ -12,7 +12,7 @@ use cause_output::Caller;
 use cron_turn::cron_program;
 use host_calls::{Host, Inputs, Readings, Sink, Text};
 use listing_text::Status;
-use process_input::{StartupError, caller_of, no_spool, take_folder, words_of};
+use process_input::{StartupError, caller_of, no_spool, process_words, take_folder};
 use std::alloc::{AllocError, Global};
 use unix_host::Waits;
 use witnessed_host::{InputWitness, Silent, Witness};
@@ -103,7 +103,7 @@ fn cron_over_none(
 pub fn run_cron(rt: &HostRuntime) -> Result<Status, StartupError>
     ensures code { IfOk result (λ status. status ≡ status_of status.cause) }
 {
-    let mut words = words_of(rt)?;
+    let mut words = process_words(rt)?;
     let caller = caller_of(rt)?;
     let mut clock = real_clock(rt)?;
     let status = match take_folder(&mut words) {

@@ -10,7 +10,7 @@ use crate::streams::{RealClock, RealErrors, real_clock, real_errors};
 use at_mail::post_program;
 use host_calls::{Host, Readings, Sink, Text};
 use listing_text::Status;
-use process_input::{StartupError, no_spool, take_folder, words_of};
+use process_input::{StartupError, no_spool, process_words, take_folder};
 use std::alloc::{AllocError, Global};
 use unix_host::Waits;
 use witnessed_host::{Silent, Witness};
@@ -61,7 +61,7 @@ fn post_over_none(rt: &HostRuntime, clock: &mut RealClock) -> Result<Status, All
 pub fn run_post(rt: &HostRuntime) -> Result<Status, StartupError>
     ensures code { IfOk result (λ status. status ≡ status_of status.cause) }
 {
-    let mut words = words_of(rt)?;
+    let mut words = process_words(rt)?;
     let mut clock = real_clock(rt)?;
     let status = match take_folder(&mut words) {
         Some(folder) => post_over(rt, &words, Text::from(folder), Waits::Asking, &mut clock)?,

@@ -13,7 +13,7 @@ use crate::streams::{RealClock, RealErrors, RealOutput, real_clock, real_errors,
 use at_stat::{StatStatus, stat_program};
 use cause_output::Caller;
 use host_calls::{Host, Readings, Sink, Text};
-use process_input::{StartupError, caller_of, say_startup_error, text_of, words_of};
+use process_input::{StartupError, caller_of, process_words, say_startup_error, variable_or};
 use std::alloc::{AllocError, Global};
 use std::process::ExitCode;
 use unix_host::Waits;
@@ -74,9 +74,9 @@ pub fn stat_over(
 pub fn run_stat(rt: &HostRuntime) -> Result<StatStatus, StartupError>
     ensures code { IfOk result HasCode }
 {
-    let words = words_of(rt)?;
+    let words = process_words(rt)?;
     let caller = caller_of(rt)?;
-    let spool = text_of(rt, "ATSPOOL", SPOOL)?;
+    let spool = variable_or(rt, "ATSPOOL", SPOOL)?;
     let mut clock = real_clock(rt)?;
     Ok(stat_over(rt, &words, &caller, spool, Waits::Asking, &mut clock)?)
 }

@@ -21,8 +21,8 @@ verdict (Ok value) = Ok value
 verdict (Err fault) = Err Failed
 
 -- the folder of the model
-abbrev pub folder_in : MemoryHost → Folder
-folder_in host = (memory_world host).now.folder
+abbrev pub folder_of_model : MemoryHost → Folder
+folder_of_model host = (memory_world host).now.folder
 
 -- the bytes that were found, or none
 abbrev pub bytes_or_none : Option (List ℕ) → List ℕ
@@ -46,16 +46,16 @@ handed_from folder number name nice started =
 -- the past with the moment of one step more
 abbrev pub past_after : Past → Step → Past
 past_after past (Changed model) =
-    record { handed = past.handed; before = record { folder = folder_in model.value; handed = past.handed } ∷ past.before }
+    record { handed = past.handed; before = record { folder = folder_of_model model.value; handed = past.handed } ∷ past.before }
 past_after past (HandedOver model number name nice started) = record {
-  handed = past.handed ++ handed_from (folder_in model.value) number name nice started ∷ [];
-  before = record { folder = folder_in model.value; handed = past.handed } ∷ past.before;
+  handed = past.handed ++ handed_from (folder_of_model model.value) number name nice started ∷ [];
+  before = record { folder = folder_of_model model.value; handed = past.handed } ∷ past.before;
 }
 
 -- the world: the model's folder now, after all steps, with the questions to children so far
 abbrev pub world_with : MemoryHost → Past → List Asked → World
 world_with model past asked =
-    record { now = record { folder = folder_in model; handed = past.handed }; before = past.before; asked = asked }
+    record { now = record { folder = folder_of_model model; handed = past.handed }; before = past.before; asked = asked }
 
 abbrev pub kept_world : MemoryHost → List Step → List Asked → World
 kept_world model steps asked = world_with model (fold past_after no_past steps) asked

@@ -4,7 +4,7 @@ use Rattle.std.proofs.lemmas.List.{length-take, take-append-drop, take_all, take
 use Rattle.std.proofs.Math.Seq.{take-add}
 use Rattle.std.specs.List.{All}
 use Rattle.std.proofs.lemmas.List.Elements.{All-nil, All-cons}
-use Rattle.record_lines.specs.Lines.{AreLegalAfter, AreLines, AreSpelled, BeginsWith, CanBeSpelled, HasNoNewline, IsBadLine, IsFirstBadLine, IsGoodLine, no_newline, no_record}
+use Rattle.record_lines.specs.Lines.{AreLegalAfter, AreRecordLines, AreSpelled, BeginsWith, CanBeSpelled, HasNoNewline, HasBadFirstLine, IsFirstBadLine, IsGoodLine, no_newline, no_record}
 use Rattle.record_lines.proofs.LineLemmas.{newline_stands, one_split}
 
 -- a line spells one record at most
@@ -33,8 +33,8 @@ legal_both legal before (one ∷ later) more (may, first) second =
 
 -- a file and lines that may come after its own
 pub lines_both : {R : Type 0} (spells : List ℕ → R → Type 0) (legal : List R → R → Type 0) (bytes added : List ℕ) (records more : List R)
-    → AreLines spells legal bytes records → AreSpelled spells added more → AreLegalAfter legal records more
-    → AreLines spells legal (bytes ++ added) (records ++ more)
+    → AreRecordLines spells legal bytes records → AreSpelled spells added more → AreLegalAfter legal records more
+    → AreRecordLines spells legal (bytes ++ added) (records ++ more)
 lines_both spells legal bytes added records more file second may = record {
   spelled = spelled_both spells bytes added records more file.spelled second;
   in_turn = legal_both legal [] records more file.in_turn may;
@@ -65,15 +65,15 @@ take_line line rest count counted =
 
 -- a good line after a file's makes a longer file
 pub good_more : {R : Type 0} (spells : List ℕ → R → Type 0) (legal : List R → R → Type 0) (bytes : List ℕ) (offset : ℕ) (records : List R) (one : R) (count : ℕ)
-    → AreLines spells legal (take offset bytes) records → IsGoodLine spells legal records (drop offset bytes) one count
-    → AreLines spells legal (take (offset + count) bytes) (records ++ one ∷ [])
+    → AreRecordLines spells legal (take offset bytes) records → IsGoodLine spells legal records (drop offset bytes) one count
+    → AreRecordLines spells legal (take (offset + count) bytes) (records ++ one ∷ [])
 good_more spells legal bytes offset records one count file good =
     let begins = good.begins in
     let parted : length (drop offset bytes) ≡ length (begins.line ++ 10 ∷ good.rest) = ap length begins.parted in
     let counted : count ≡ length begins.line + 1 = let all : length (begins.line ++ 10 ∷ good.rest) ≡ length begins.line + (1 + length good.rest) = simp length-append (omega arith) in let here = good.counted in omega arith in
     let text : take (offset + count) bytes ≡ take offset bytes ++ (begins.line ++ 10 ∷ []) =
     take-add offset count bytes ∙ ap (λ more. take offset bytes ++ more) (ap (take count) begins.parted ∙ take_line begins.line good.rest count counted) in
-    subst (λ all. AreLines spells legal all (records ++ one ∷ [])) (sym text)
+    subst (λ all. AreRecordLines spells legal all (records ++ one ∷ [])) (sym text)
     (lines_both spells legal (take offset bytes) (begins.line ++ 10 ∷ []) records (one ∷ []) file
     ([], (record { line = begins.line; whole = begins.whole; parted = refl; spelled = begins.spelled }, refl)) (good.may, tt))
 
@@ -125,27 +125,27 @@ legal_rest legal before (one ∷ early) rest (may, all) =
 
 -- where lines spell records that may come, the first line isn't bad
 not_bad : {R : Type 0} (spells : List ℕ → R → Type 0) (legal : List R → R → Type 0) (early rest : List R) (bytes more : List ℕ)
-    → 0 < length bytes → AreSpelled spells bytes rest → AreLegalAfter legal early rest → IsBadLine spells legal early (bytes ++ more) → ⊥
+    → 0 < length bytes → AreSpelled spells bytes rest → AreLegalAfter legal early rest → HasBadFirstLine spells legal early (bytes ++ more) → ⊥
 not_bad spells legal early [] bytes more some spelled may bad = let none : length bytes ≡ 0 = ap length spelled in omega arith
 not_bad spells legal early (one ∷ later) bytes more some (rest, (begins, spelled)) (may, _) bad = by_case bad where
   begin : bytes ++ more ≡ begins.line ++ 10 ∷ (rest ++ more)
   begin = ap (λ text. text ++ more) begins.parted ∙ append_assoc begins.line (10 ∷ rest) more
 
-  by_case : IsBadLine spells legal early (bytes ++ more) → ⊥
+  by_case : HasBadFirstLine spells legal early (bytes ++ more) → ⊥
   by_case (no_newline none) = newline_stands begins.line (rest ++ more) (subst HasNoNewline begin none)
   by_case (no_record line left whole parted none) =
       let both = one_split 10 line begins.line left (rest ++ more) whole begins.whole (sym parted ∙ begin) in
       none one (subst (λ text. spells text one) (sym both.0) begins.spelled) may
 
 pub none_bad : {R : Type 0} (spells : List ℕ → R → Type 0) (legal : List R → R → Type 0) → SpellsOne spells → (bytes : List ℕ) (records : List R) (offset : ℕ)
-    → AreLines spells legal bytes records → IsFirstBadLine spells legal bytes offset → ⊥
+    → AreRecordLines spells legal bytes records → IsFirstBadLine spells legal bytes offset → ⊥
 none_bad spells legal unique bytes records offset file first =
     let left = spelled_rest spells unique (take offset bytes) (drop offset bytes) first.records records first.before.spelled
     (subst (λ text. AreSpelled spells text records) (sym (take-append-drop offset bytes)) file.spelled) in
     let inside = first.inside in
     not_bad spells legal first.records left.rest (drop offset bytes) [] (omega (arith, length-drop offset bytes)) left.spelled
     (legal_rest legal [] first.records left.rest (subst (AreLegalAfter legal []) left.whole file.in_turn))
-    (subst (IsBadLine spells legal first.records) (sym (append-nil (drop offset bytes))) first.bad)
+    (subst (HasBadFirstLine spells legal first.records) (sym (append-nil (drop offset bytes))) first.bad)
 
 -- no first bad line stands before another
 not_before : {R : Type 0} (spells : List ℕ → R → Type 0) (legal : List R → R → Type 0) → SpellsOne spells → (bytes : List ℕ) (one two : ℕ)
@@ -161,7 +161,7 @@ not_before spells legal unique bytes one two first second before =
     let some : 0 < length between = omega (arith, length-take count (drop one bytes), length-drop one bytes) in
     not_bad spells legal first.records left.rest between (drop count (drop one bytes)) some left.spelled
     (legal_rest legal [] first.records left.rest (subst (AreLegalAfter legal []) left.whole second.before.in_turn))
-    (subst (IsBadLine spells legal first.records) (sym (take-append-drop count (drop one bytes))) first.bad)
+    (subst (HasBadFirstLine spells legal first.records) (sym (take-append-drop count (drop one bytes))) first.bad)
 
 pub one_offset : {R : Type 0} (spells : List ℕ → R → Type 0) (legal : List R → R → Type 0) → SpellsOne spells → (bytes : List ℕ) (one two : ℕ)
     → IsFirstBadLine spells legal bytes one → IsFirstBadLine spells legal bytes two → one ≡ two

@@ -29,25 +29,25 @@ AreLegalAfter legal before [] = Unit {0}
 AreLegalAfter legal before (one ∷ later) = legal before one × AreLegalAfter legal (before ++ one ∷ []) later
 
 -- the file has these records
-pub record AreLines {R : Type 0} (spells : List ℕ → R → Type 0) (legal : List R → R → Type 0) (bytes : List ℕ) (records : List R)
+pub record AreRecordLines {R : Type 0} (spells : List ℕ → R → Type 0) (legal : List R → R → Type 0) (bytes : List ℕ) (records : List R)
     : Type 0 where
   pub spelled : AreSpelled spells bytes records
   pub in_turn : AreLegalAfter legal [] records
 
 -- after these records the first line of the bytes is bad: it lacks its newline, or spells no record that may come next
-pub data IsBadLine {R : Type 0} (spells : List ℕ → R → Type 0) (legal : List R → R → Type 0) (before : List R) (bytes : List ℕ)
+pub data HasBadFirstLine {R : Type 0} (spells : List ℕ → R → Type 0) (legal : List R → R → Type 0) (before : List R) (bytes : List ℕ)
     : Type 0 where
-  no_newline : HasNoNewline bytes → IsBadLine spells legal before bytes
+  no_newline : HasNoNewline bytes → HasBadFirstLine spells legal before bytes
   no_record : (line rest : List ℕ) → HasNoNewline line → bytes ≡ line ++ 10 ∷ rest
-      → ((one : R) → spells line one → ¬ legal before one) → IsBadLine spells legal before bytes
+      → ((one : R) → spells line one → ¬ legal before one) → HasBadFirstLine spells legal before bytes
 
 -- the first bad line of the file begins at this offset
 pub record IsFirstBadLine {R : Type 0} (spells : List ℕ → R → Type 0) (legal : List R → R → Type 0) (bytes : List ℕ) (offset : ℕ)
     : Type 0 where
   pub records : List R
-  pub before : AreLines spells legal (take offset bytes) records
+  pub before : AreRecordLines spells legal (take offset bytes) records
   pub inside : offset < length bytes
-  pub bad : IsBadLine spells legal records (drop offset bytes)
+  pub bad : HasBadFirstLine spells legal records (drop offset bytes)
 
 -- after these records the first line of the bytes spells one that may come next, and is so long with its newline
 pub record IsGoodLine {R : Type 0} (spells : List ℕ → R → Type 0) (legal : List R → R → Type 0) (before : List R) (bytes : List ℕ)

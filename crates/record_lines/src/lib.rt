@@ -12,4 +12,4 @@ pub use keeper::Keeper;
 pub use laws::{added_lines_read_back, files_have_one_reading, read_records_can_be_written};
 pub use reader::{LinesFault, read_lines};
 pub use record::LineRecord;
-pub use writer::text_of;
+pub use writer::lines_text;

@@ -1,7 +1,7 @@
 //! The reader of a file of records.
 ghost use Rattle.std.specs.Prelude.{◌≡◌, ◌+◌, ◌==◌, ◌∷◌, ◌++◌, [], ℕ, List, IfOk, IfErr, IfSome, IfNone, OnOk};
 ghost use Rattle.std.specs.List.{position};
-ghost use Rattle.record_lines.specs.Lines.{AreLines, IsBadLine, IsFirstBadLine, IsGoodLine};
+ghost use Rattle.record_lines.specs.Lines.{AreRecordLines, HasBadFirstLine, IsFirstBadLine, IsGoodLine};
 ghost use Rattle.record_lines.specs.declared.reader.LinesFault.TheVariants as lines;
 
 use crate::{Keeper, LineRecord};
@@ -30,7 +30,7 @@ pub fn read_lines<R: LineRecord, K: Keeper<R>>(
     keeper: &mut K,
 ) -> Result<Vec<R>, LinesFault>
     requires { K.tells [] keeper.old }
-    ensures lines { IfOk result (λ records. AreLines R.spells K.legal bytes.now records.items) }
+    ensures lines { IfOk result (λ records. AreRecordLines R.spells K.legal bytes.now records.items) }
     ensures told { IfOk result (λ records. K.tells records.items keeper.new) }
     ensures damaged { IfErr result (λ fault. (offset : ℕ) → fault ≡ lines.At offset
         → IsFirstBadLine R.spells K.legal bytes.now offset) }
@@ -41,7 +41,7 @@ pub fn read_lines<R: LineRecord, K: Keeper<R>>(
         let Some(first) = first_line::<R, K>(&bytes[offset..], keeper) else {
             return Err(LinesFault::At(offset));
         };
-        keep(&mut records, keeper, &first.one)?;
+        keep_record(&mut records, keeper, &first.one)?;
         offset += first.length;
     }
     Ok(records)
@@ -59,7 +59,7 @@ fn first_line<R: LineRecord, K: Keeper<R>>(rest: &[u8], keeper: &K) -> Option<Fi
     ensures good { IfSome result (λ first. (before : List R) → K.tells before keeper.now
         → IsGoodLine R.spells K.legal before rest.now first.one first.length) }
     ensures bad { IfNone result ((before : List R) → K.tells before keeper.now
-        → IsBadLine R.spells K.legal before rest.now) }
+        → HasBadFirstLine R.spells K.legal before rest.now) }
 {
     let end = line_end(rest)?;
     let one = R::read(&rest[..end])?;
@@ -80,7 +80,7 @@ fn line_end(rest: &[u8]) -> Option<usize>
 }
 
 // Puts one record more after the others.
-fn keep<R: LineRecord, K: Keeper<R>>(
+fn keep_record<R: LineRecord, K: Keeper<R>>(
     records: &mut Vec<R>,
     keeper: &mut K,
     one: &R,

@@ -8,7 +8,7 @@ use host_calls::Bytes;
 use std::alloc::{AllocError, Global};
 
 /// The lines of these records, in order, each with its newline.
-pub fn text_of<R: LineRecord>(alloc: Global, records: &[R]) -> Result<Bytes, AllocError>
+pub fn lines_text<R: LineRecord>(alloc: Global, records: &[R]) -> Result<Bytes, AllocError>
     requires { All (CanBeSpelled R.spells) records.now }
     ensures { IfOk result (λ text. AreSpelled R.spells text records.now) }
 {

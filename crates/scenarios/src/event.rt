@@ -1,11 +1,11 @@
 //! What happens in a scenario.
 use crate::Why;
-use crate::values::{load, none, number, second, text, two};
+use crate::values::{load, none, number_word, second_word, text_word, two};
 use std::alloc::{AllocError, Global};
 
 /// An event of a scenario.
 #[derive(Drop)]
-pub enum Event {
+pub enum ScenarioEvent {
     /// A call of a tool, with all its words.
     Run(Vec<String>),
     /// A call of the program that counts jobs, with all its words.
@@ -33,40 +33,40 @@ pub enum Event {
 }
 
 /// The event that a line says by its first word and the rest of its words.
-pub fn event_of(alloc: Global, word: &[u8], rest: &[Vec<u8>]) -> Result<Event, Why> {
+pub fn event_of(alloc: Global, word: &[u8], rest: &[Vec<u8>]) -> Result<ScenarioEvent, Why> {
     match word {
-        b"run" => Ok(Event::Run(texts(alloc, rest)?)),
-        b"account" => Ok(Event::Account(texts(alloc, rest)?)),
-        b"stat" => Ok(Event::Stat(texts(alloc, rest)?)),
-        b"post" => Ok(Event::Post(texts(alloc, rest)?)),
-        b"cron" => Ok(Event::Cron(texts(alloc, rest)?)),
-        b"check" => Ok(Event::Check(texts(alloc, rest)?)),
-        b"salvage" => Ok(Event::Salvage(texts(alloc, rest)?)),
+        b"run" => Ok(ScenarioEvent::Run(texts(alloc, rest)?)),
+        b"account" => Ok(ScenarioEvent::Account(texts(alloc, rest)?)),
+        b"stat" => Ok(ScenarioEvent::Stat(texts(alloc, rest)?)),
+        b"post" => Ok(ScenarioEvent::Post(texts(alloc, rest)?)),
+        b"cron" => Ok(ScenarioEvent::Cron(texts(alloc, rest)?)),
+        b"check" => Ok(ScenarioEvent::Check(texts(alloc, rest)?)),
+        b"salvage" => Ok(ScenarioEvent::Salvage(texts(alloc, rest)?)),
         b"daemon" => {
             let (limit, interval) = two(rest)?;
-            Ok(Event::Daemon(number(limit)?, number(interval)?))
+            Ok(ScenarioEvent::Daemon(number_word(limit)?, number_word(interval)?))
         }
         b"turn" => {
             let (now, read) = two(rest)?;
-            Ok(Event::Turn(second(now)?, load(read)?))
+            Ok(ScenarioEvent::Turn(second_word(now)?, load(read)?))
         }
-        b"reboot" => reboot(rest),
+        b"reboot" => reboot_event(rest),
         b"counts" => {
             none(rest)?;
-            Ok(Event::Counts)
+            Ok(ScenarioEvent::Counts)
         }
         b"show" => {
             none(rest)?;
-            Ok(Event::Show)
+            Ok(ScenarioEvent::Show)
         }
         _ => Err(Why::NoSuchLine),
     }
 }
 
-fn reboot(rest: &[Vec<u8>]) -> Result<Event, Why> {
+fn reboot_event(rest: &[Vec<u8>]) -> Result<ScenarioEvent, Why> {
     match rest {
-        [pick] => Ok(Event::Reboot(number(pick)?, None)),
-        [pick, fuse] => Ok(Event::Reboot(number(pick)?, Some(number(fuse)?))),
+        [pick] => Ok(ScenarioEvent::Reboot(number_word(pick)?, None)),
+        [pick, fuse] => Ok(ScenarioEvent::Reboot(number_word(pick)?, Some(number_word(fuse)?))),
         _ => Err(Why::Count),
     }
 }
@@ -75,7 +75,7 @@ fn reboot(rest: &[Vec<u8>]) -> Result<Event, Why> {
 fn texts(alloc: Global, words: &[Vec<u8>]) -> Result<Vec<String>, Why> {
     let mut all = Vec::new(alloc);
     for word in words {
-        let word = String::from_str(alloc, text(word)?)?;
+        let word = String::from_str(alloc, text_word(word)?)?;
         all.push(word).map_err(|_| Why::Memory)?;
     }
     Ok(all)

@@ -4,7 +4,7 @@ ghost use Rattle.memory_host.specs.Host.{memory_session};
 ghost use Rattle.scenarios.specs.Machine.{HaveChildren};
 
 use crate::Why;
-use crate::event::Event;
+use crate::event::ScenarioEvent;
 use crate::printed::{counts_line, show_asked, show_handed, show_run, show_turn};
 use crate::settings::Settings;
 use crate::transcript::Transcript;
@@ -43,26 +43,26 @@ impl Machine {
     pub fn make(
         &mut self,
         alloc: Global,
-        event: Event,
+        event: ScenarioEvent,
         settings: &Settings,
         transcript: &mut Transcript,
     ) -> Result<(), Why> {
         match event {
-            Event::Run(words) => Ok(self.run(alloc, &words, settings, transcript)?),
-            Event::Account(words) => Ok(self.account(alloc, &words, settings, transcript)?),
-            Event::Stat(words) => Ok(self.stat(alloc, &words, settings, transcript)?),
-            Event::Post(words) => Ok(self.post(alloc, &words, settings, transcript)?),
-            Event::Cron(words) => Ok(self.cron(alloc, &words, settings, transcript)?),
-            Event::Check(words) => Ok(self.check(alloc, &words, settings, transcript)?),
-            Event::Salvage(words) => Ok(self.salvage(alloc, &words, settings, transcript)?),
-            Event::Daemon(limit, interval) => {
+            ScenarioEvent::Run(words) => Ok(self.run(alloc, &words, settings, transcript)?),
+            ScenarioEvent::Account(words) => Ok(self.account(alloc, &words, settings, transcript)?),
+            ScenarioEvent::Stat(words) => Ok(self.stat(alloc, &words, settings, transcript)?),
+            ScenarioEvent::Post(words) => Ok(self.post(alloc, &words, settings, transcript)?),
+            ScenarioEvent::Cron(words) => Ok(self.cron(alloc, &words, settings, transcript)?),
+            ScenarioEvent::Check(words) => Ok(self.check(alloc, &words, settings, transcript)?),
+            ScenarioEvent::Salvage(words) => Ok(self.salvage(alloc, &words, settings, transcript)?),
+            ScenarioEvent::Daemon(limit, interval) => {
                 self.daemon = Daemon::new(alloc, limit, interval);
                 Ok(())
             }
-            Event::Turn(now, load) => self.turn(alloc, now, load, transcript),
-            Event::Reboot(pick, fuse) => Ok(self.reboot(alloc, pick, fuse, transcript)?),
-            Event::Counts => Ok(self.counts(alloc, transcript)?),
-            Event::Show => Ok(self.show(alloc, transcript)?),
+            ScenarioEvent::Turn(now, load) => self.turn(alloc, now, load, transcript),
+            ScenarioEvent::Reboot(pick, fuse) => Ok(self.reboot(alloc, pick, fuse, transcript)?),
+            ScenarioEvent::Counts => Ok(self.counts(alloc, transcript)?),
+            ScenarioEvent::Show => Ok(self.show(alloc, transcript)?),
         }
     }
 

@@ -25,7 +25,7 @@ use std::{env, fs, io};
 const ENDING: &str = ".scenarios";
 
 fn main(rt: HostRuntime) -> ExitCode {
-    match run(&rt) {
+    match run_files(&rt) {
         Ok(()) => ExitCode::from(0),
         Err(error) => {
             let _ = eprintln!(rt; "{error}");
@@ -35,7 +35,7 @@ fn main(rt: HostRuntime) -> ExitCode {
 }
 
 // Runs the files that the arguments name, or all that stand here.
-fn run(rt: &HostRuntime) -> Result<()> {
+fn run_files(rt: &HostRuntime) -> Result<()> {
     let mut paths = env::args(rt)?.skip(1).collect::<Vec<String>>(rt.alloc())?;
     if paths.is_empty() {
         paths = scenario_files(rt)?;

@@ -4,7 +4,7 @@ ghost use Rattle.host_calls.specs.Session.{IsOutside};
 ghost use Rattle.memory_host.specs.Host.{memory_session};
 
 use crate::Why;
-use crate::values::{name, number, one, two};
+use crate::values::{name, number_word, one, two};
 use host_calls::{Ending, Name};
 use memory_host::{ChildPlan, Failing, Files, MemoryHost, Part, Plan};
 use std::alloc::{AllocError, Global};
@@ -77,8 +77,8 @@ impl Opening {
         let [asks, how, code] = rest else {
             return Err(Why::Count);
         };
-        let asks = number(asks)?;
-        let code = number(code)?;
+        let asks = number_word(asks)?;
+        let code = number_word(code)?;
         let ending = match how.as_slice() {
             b"exit" => Ending::Exit(code),
             b"signal" => Ending::Signal(code),
@@ -94,22 +94,22 @@ impl Opening {
             b"all" => Part::All,
             _ => return Err(Why::NoSuchLine),
         };
-        let call = number(call)?;
+        let call = number_word(call)?;
         Ok(self.plan.failing.push(alloc, Failing { call, part })?)
     }
 
     fn add_taken(&mut self, alloc: Global, rest: &[Vec<u8>]) -> Result<(), Why> {
-        let call = number(one(rest)?)?;
+        let call = number_word(one(rest)?)?;
         Ok(self.plan.taken.push(alloc, call)?)
     }
 
     fn add_failing_start(&mut self, alloc: Global, rest: &[Vec<u8>]) -> Result<(), Why> {
-        let call = number(one(rest)?)?;
+        let call = number_word(one(rest)?)?;
         Ok(self.plan.failing_starts.push(alloc, call)?)
     }
 
     fn set_fuse(&mut self, rest: &[Vec<u8>]) -> Result<(), Why> {
-        self.plan.fuse = Some(number(one(rest)?)?);
+        self.plan.fuse = Some(number_word(one(rest)?)?);
         Ok(())
     }
 

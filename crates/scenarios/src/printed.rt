@@ -31,8 +31,8 @@ pub fn show_run(
 ) -> Result<(), AllocError> {
     let line = format!(in alloc; "{word} {code}")?;
     transcript.line(line.as_str())?;
-    put(transcript, "  out", out)?;
-    put(transcript, "  err", err)?;
+    put_sink(transcript, "  out", out)?;
+    put_sink(transcript, "  err", err)?;
     if rested == 0 {
         return Ok(());
     }
@@ -41,7 +41,7 @@ pub fn show_run(
 }
 
 // Prints what was put on a sink, if anything was.
-fn put(transcript: &mut Transcript, before: &str, content: &[u8]) -> Result<(), AllocError> {
+fn put_sink(transcript: &mut Transcript, before: &str, content: &[u8]) -> Result<(), AllocError> {
     if content.is_empty() {
         return Ok(());
     }
@@ -95,7 +95,7 @@ pub fn counts_line(
     counts: &Result<Counts, StoreFault>,
 ) -> Result<String, AllocError> {
     match counts {
-        Ok(counts) => counted_line(alloc, counts),
+        Ok(counts) => line_of_counts(alloc, counts),
         Err(StoreFault::Damaged(damage)) => {
             let name = str::from_utf8(damage.name.as_bytes()).unwrap_or("");
             let offset = damage.offset;
@@ -106,7 +106,7 @@ pub fn counts_line(
     }
 }
 
-fn counted_line(alloc: Global, counts: &Counts) -> Result<String, AllocError> {
+fn line_of_counts(alloc: Global, counts: &Counts) -> Result<String, AllocError> {
     let Counts {
         last,
         pending,

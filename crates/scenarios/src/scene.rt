@@ -1,12 +1,12 @@
 //! Scenarios as far as they were read.
 use crate::Why;
-use crate::event::{Event, event_of};
+use crate::event::{ScenarioEvent, event_of};
 use crate::machine::Machine;
 use crate::opening::{Opening, is_opening_word};
 use crate::settings::Settings;
 use crate::transcript::Transcript;
-use crate::values::{one, text};
-use crate::words::words_of;
+use crate::values::{one, text_word};
+use crate::words::words_of_line;
 use std::alloc::Global;
 use std::mem;
 
@@ -41,7 +41,7 @@ impl Scenes {
         if line.is_empty() || line[0] == b'#' {
             return Ok(());
         }
-        let words = words_of(alloc, line)?;
+        let words = words_of_line(alloc, line)?;
         let taken = self.take_words(alloc, &words, transcript);
         drop(words);
         taken
@@ -73,7 +73,7 @@ impl Scenes {
         rest: &[Vec<u8>],
         transcript: &mut Transcript,
     ) -> Result<(), Why> {
-        let name = text(one(rest)?)?;
+        let name = text_word(one(rest)?)?;
         self.last = Some(Scene::new(alloc)?);
         let line = format!(in alloc; "scenario {name}")?;
         Ok(transcript.line(line.as_str())?)
@@ -116,7 +116,7 @@ impl Scene {
     fn make(
         &mut self,
         alloc: Global,
-        event: Event,
+        event: ScenarioEvent,
         transcript: &mut Transcript,
     ) -> Result<(), Why> {
         if self.machine.is_none() {

@@ -2,7 +2,7 @@
 ghost use Rattle.std.specs.Prelude.{◌<◌, IfOk, vec_len};
 
 use crate::Why;
-use crate::values::{load, none, number, one, second, text, two, umask};
+use crate::values::{load, none, number_word, one, second_word, text_word, two, umask};
 use at_day::Caller;
 use civil_minute::{Zone, zone_of};
 use host_calls::Text;
@@ -77,12 +77,12 @@ impl Settings {
     }
 
     fn set_user(&mut self, alloc: Global, rest: &[Vec<u8>]) -> Result<(), Why> {
-        self.caller.context.user = Text::of(alloc, text(one(rest)?)?)?;
+        self.caller.context.user = Text::of(alloc, text_word(one(rest)?)?)?;
         Ok(())
     }
 
     fn set_directory(&mut self, alloc: Global, rest: &[Vec<u8>]) -> Result<(), Why> {
-        self.caller.context.directory = Text::of(alloc, text(one(rest)?)?)?;
+        self.caller.context.directory = Text::of(alloc, text_word(one(rest)?)?)?;
         Ok(())
     }
 
@@ -100,11 +100,11 @@ impl Settings {
     fn add_variable(&mut self, alloc: Global, rest: &[Vec<u8>]) -> Result<(), Why> {
         let (name, value) = two(rest)?;
         let variables = &mut self.caller.context.environment;
-        Ok(variables.push(alloc, text(name)?, text(value)?)?)
+        Ok(variables.push(alloc, text_word(name)?, text_word(value)?)?)
     }
 
     fn set_zone(&mut self, alloc: Global, rest: &[Vec<u8>]) -> Result<(), Why> {
-        self.caller.zone = zone_of(alloc, Some(text(one(rest)?)?))?;
+        self.caller.zone = zone_of(alloc, Some(text_word(one(rest)?)?))?;
         Ok(())
     }
 
@@ -129,7 +129,7 @@ impl Settings {
     }
 
     fn set_nows(&mut self, alloc: Global, rest: &[Vec<u8>]) -> Result<(), Why> {
-        self.nows = each(alloc, rest, second)?;
+        self.nows = each(alloc, rest, second_word)?;
         Ok(())
     }
 
@@ -158,8 +158,8 @@ impl Settings {
     // Takes a line that says how calls write, or that all is sound.
     fn take_output(&mut self, word: &[u8], rest: &[Vec<u8>]) -> Result<bool, Why> {
         match word {
-            b"failing-out" => self.failing_out = Some(number(one(rest)?)?),
-            b"failing-err" => self.failing_err = Some(number(one(rest)?)?),
+            b"failing-out" => self.failing_out = Some(number_word(one(rest)?)?),
+            b"failing-err" => self.failing_err = Some(number_word(one(rest)?)?),
             b"sound-outside" => {
                 none(rest)?;
                 self.is_file = true;

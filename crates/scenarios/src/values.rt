@@ -31,7 +31,7 @@ pub fn none(words: &[Vec<u8>]) -> Result<(), Why> {
 }
 
 /// A word as text.
-pub fn text(word: &[u8]) -> Result<&str, Why> {
+pub fn text_word(word: &[u8]) -> Result<&str, Why> {
     str::from_utf8(word).map_err(|_| Why::Text)
 }
 
@@ -41,21 +41,21 @@ pub fn name(word: &[u8]) -> Result<Name, Why> {
 }
 
 /// A word as a number in decimal digits, without a leading zero.
-pub fn number<T: FromStr>(word: &[u8]) -> Result<T, Why>
+pub fn number_word<T: FromStr>(word: &[u8]) -> Result<T, Why>
 where
     T::Err: Drop,
 {
     if word.len() > 1 && word[0] == b'0' || !word.iter().all(u8::is_ascii_digit) {
         return Err(Why::Number);
     }
-    text(word)?.parse().map_err(|_| Why::Number)
+    text_word(word)?.parse().map_err(|_| Why::Number)
 }
 
 /// A word as a second, which a minus may stand before.
-pub fn second(word: &[u8]) -> Result<i64, Why> {
+pub fn second_word(word: &[u8]) -> Result<i64, Why> {
     match word.strip_prefix(b"-") {
-        Some(digits) => Ok(-i64::from(number::<u32>(digits)?)),
-        None => number(word),
+        Some(digits) => Ok(-i64::from(number_word::<u32>(digits)?)),
+        None => number_word(word),
     }
 }
 
@@ -64,14 +64,14 @@ pub fn load(word: &[u8]) -> Result<Option<u32>, Why> {
     if word == b"-".as_slice() {
         return Ok(None);
     }
-    Ok(Some(number(word)?))
+    Ok(Some(number_word(word)?))
 }
 
 /// A word as a umask in octal digits.
 pub fn umask(word: &[u8]) -> Result<u16, Why>
     ensures { IfOk result (λ mask. mask < 512) }
 {
-    let mask = u16::from_str_radix(text(word)?, 8).map_err(|_| Why::Number)?;
+    let mask = u16::from_str_radix(text_word(word)?, 8).map_err(|_| Why::Number)?;
     if mask > 0o777 {
         return Err(Why::Number);
     }

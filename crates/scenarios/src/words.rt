@@ -28,7 +28,7 @@ struct Reader {
 }
 
 /// The words of a line.
-pub fn words_of(alloc: Global, line: &[u8]) -> Result<Vec<Vec<u8>>, Why> {
+pub fn words_of_line(alloc: Global, line: &[u8]) -> Result<Vec<Vec<u8>>, Why> {
     let mut reader = Reader {
         words: Vec::new(alloc),
         word: Vec::new(alloc),

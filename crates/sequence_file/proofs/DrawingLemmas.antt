@@ -5,22 +5,22 @@ use Rattle.host_calls.specs.World.{World}
 use Rattle.host_calls.proofs.WorldLemmas.{leaves_weaker}
 use Rattle.whole_file.specs.Others.{ChangesFiles}
 use Rattle.whole_file.specs.Placing.{IsPlacing}
-use Rattle.sequence_file.specs.Drawing.{EachGives, IsDrawing}
-use Rattle.sequence_file.specs.Sequence.{Gives, SpellsIn, sequence_file}
+use Rattle.sequence_file.specs.Drawing.{EachGivesNumber, IsDrawing}
+use Rattle.sequence_file.specs.Sequence.{GivesNumber, SpellsIn, sequence_file}
 use Rattle.whole_file.specs.Temporary.{temporary_file}
 
 -- while the file of the next number is placed, an image gives the last number or the next one
-placing_drawing : (last : ℕ) (text : List ℕ) (start : Folder) (image : Files) → SpellsIn true text (last + 1) → EachGives last start → IsPlacing temporary_file sequence_file text start image → IsDrawing last start image
+placing_drawing : (last : ℕ) (text : List ℕ) (start : Folder) (image : Files) → SpellsIn true text (last + 1) → EachGivesNumber last start → IsPlacing temporary_file sequence_file text start image → IsDrawing last start image
 placing_drawing last text start image spelled gives placing = record {
   alone = placing.alone;
   gives = elim placing.placed [
-    | inl same ↦ inl (subst (λ content. Gives content last) (sym same) (gives placing.alone.from placing.alone.was))
-    | inr new ↦ inr (subst (λ content. Gives content (last + 1)) (sym new) (true, spelled))
+    | inl same ↦ inl (subst (λ content. GivesNumber content last) (sym same) (gives placing.alone.from placing.alone.was))
+    | inr new ↦ inr (subst (λ content. GivesNumber content (last + 1)) (sym new) (true, spelled))
   ];
 }
 
 -- the call that places it
-pub drawing : (last : ℕ) (temp target text : List ℕ) (old new : World) → temp ≡ temporary_file → target ≡ sequence_file → SpellsIn true text (last + 1) → EachGives last old.now.folder → ChangesFiles (IsPlacing temp target text old.now.folder) old new → ChangesFiles (IsDrawing last old.now.folder) old new
+pub drawing : (last : ℕ) (temp target text : List ℕ) (old new : World) → temp ≡ temporary_file → target ≡ sequence_file → SpellsIn true text (last + 1) → EachGivesNumber last old.now.folder → ChangesFiles (IsPlacing temp target text old.now.folder) old new → ChangesFiles (IsDrawing last old.now.folder) old new
 drawing last temp target text old new is_temp is_target spelled gives changes =
     let start : Folder = old.now.folder in
     let named : (image : Files) → IsPlacing temp target text start image → IsPlacing temporary_file sequence_file text start image =

@@ -6,11 +6,11 @@ use Rattle.host_calls.specs.Damages.{damage_at}
 use Rattle.hex_digits.specs.Values.{number_in}
 use Rattle.std.proofs.lemmas.Bool.{and_from, and_parts, eqb-true}
 use Rattle.hex_digits.proofs.ValueLemmas.{number_given, number_spelled}
-use Rattle.sequence_file.specs.Faults.{IsDamage}
+use Rattle.sequence_file.specs.Faults.{IsSequenceDamage}
 use Rattle.sequence_file.specs.LastNumber.{fitting, last_in, longest_fitting, number_or_damage, sequence_as, sequence_in}
 use Rattle.sequence_file.specs.Laws.{LastNumbersAreGiven, LastNumbersAreDamaged}
 use Rattle.sequence_file.specs.Places.{IsFittingPrefix, fits_at}
-use Rattle.sequence_file.specs.Sequence.{Gives, IsFaultAt, SpellsIn, SpellsSequence, sequence_file}
+use Rattle.sequence_file.specs.Sequence.{GivesNumber, IsFaultAt, SpellsIn, SpellsSequence, sequence_file}
 use Rattle.sequence_file.proofs.SequenceLemmas.{fault_at}
 use Rattle.spool_model.specs.Numbers.{number_digits}
 use Rattle.std.specs.Option.{option_or}
@@ -46,11 +46,11 @@ sequence_spelled bytes number is = by_found (sequence_as true bytes) refl is whe
   by_found (Some other) some same = (true, spelled_as true bytes number (some ∙ same))
   by_found None none same = (false, spelled_as false bytes number same)
 
-pub last_given : (content : Option (List ℕ)) (number : ℕ) → Gives content number → last_in content ≡ Ok number
+pub last_given : (content : Option (List ℕ)) (number : ℕ) → GivesNumber content number → last_in content ≡ Ok number
 last_given None number is = ap Ok (sym is)
 last_given (Some bytes) number spelled = ap (number_or_damage bytes) (sequence_given bytes number spelled)
 
-pub last_spelled : (content : Option (List ℕ)) (number : ℕ) → last_in content ≡ Ok number → Gives content number
+pub last_spelled : (content : Option (List ℕ)) (number : ℕ) → last_in content ≡ Ok number → GivesNumber content number
 last_spelled None number is = cc
 last_spelled (Some bytes) number is = sequence_spelled bytes number (given_number (sequence_in bytes) is) where
   given_number : (found : Option ℕ) → number_or_damage bytes found ≡ Ok number → found ≡ Some number
@@ -102,17 +102,17 @@ one_fault bytes damage name fault =
     let byte : slice_get bytes (longest_fitting bytes) ≡ damage.byte = ap (slice_get bytes) same ∙ fault.there in
     λ i. record { name = sym name i; offset = same i; byte = byte i }
 
-pub last_damage : (content : Option (List ℕ)) (damage : Damage) → IsDamage content damage → last_in content ≡ Err damage
+pub last_damage : (content : Option (List ℕ)) (damage : Damage) → IsSequenceDamage content damage → last_in content ≡ Err damage
 last_damage content damage is = ap last_in is.held ∙ by_number (sequence_in is.bytes) refl where
   by_number : (found : Option ℕ) → sequence_in is.bytes ≡ found → number_or_damage is.bytes found ≡ Err damage
   by_number (Some number) given = absurd (is.fault.wrong number (last_spelled (Some is.bytes) number (ap (number_or_damage is.bytes) given)))
   by_number None given = ap Err (one_fault is.bytes damage is.name_is is.fault)
 
 -- a damage that is given is where the file breaks its form
-damage_given : (content : Option (List ℕ)) (damage : Damage) → last_in content ≡ Err damage → IsDamage content damage
+damage_given : (content : Option (List ℕ)) (damage : Damage) → last_in content ≡ Err damage → IsSequenceDamage content damage
 damage_given None damage is = cc
 damage_given (Some bytes) damage is = by_number (sequence_in bytes) refl where
-  by_number : (found : Option ℕ) → sequence_in bytes ≡ found → IsDamage (Some bytes) damage
+  by_number : (found : Option ℕ) → sequence_in bytes ≡ found → IsSequenceDamage (Some bytes) damage
   by_number (Some number) found =
       let given : Ok number ≡ Err damage = sym (ap (number_or_damage bytes) found) ∙ is in
       cc
@@ -121,7 +121,7 @@ damage_given (Some bytes) damage is = by_number (sequence_in bytes) refl where
       let same : damage_at sequence_file bytes (longest_fitting bytes) ≡ damage = cc in
       let wrong : (number : ℕ) → ¬ (SpellsSequence bytes number) = λ number spelled.
       let here : None ≡ Some number = sym found ∙ sequence_given bytes number spelled in cc in
-      subst (IsDamage (Some bytes)) same (record {
+      subst (IsSequenceDamage (Some bytes)) same (record {
         bytes = bytes;
         held = refl;
         name_is = refl;

@@ -15,7 +15,7 @@ use Rattle.hex_digits.proofs.DigitLemmas.{read_more}
 use Rattle.hex_digits.proofs.ValueLemmas.{digit_fits}
 use Rattle.sequence_file.specs.Places.{IsFittingPrefix, fits_at}
 use Rattle.hex_digits.specs.Values.{is_digit}
-use Rattle.sequence_file.specs.Sequence.{HasRightPrefix, IsFaultAt, SpellsIn, SpellsSequence}
+use Rattle.sequence_file.specs.Sequence.{HasSequencePrefix, IsFaultAt, SpellsIn, SpellsSequence}
 use Rattle.spool_model.specs.Numbers.{number_digits}
 
 -- the tests of the places, at each of them
@@ -129,7 +129,7 @@ digits_and_newline new_form digits number counted spelled =
     }
 
 -- bytes that fit are the prefix of a right file
-right_prefix : (new_form : Bool) (bytes : List ℕ) (count : ℕ) → IsFittingPrefix new_form bytes count → HasRightPrefix bytes count
+right_prefix : (new_form : Bool) (bytes : List ℕ) (count : ℕ) → IsFittingPrefix new_form bytes count → HasSequencePrefix bytes count
 right_prefix new_form bytes count fitting =
     let digits : List ℕ = filled (number_digits new_form) bytes count in
     let counted : length digits ≡ number_digits new_form = filled_counted (number_digits new_form) bytes count in
@@ -175,11 +175,11 @@ fault_at bytes new_form_count old_form_count byte wrong new_form_fitting old_for
   longest = λ other prefix. by_form other prefix prefix.spelled.0 prefix.spelled.1;
   there = there;
 } where
-  by_order : (new_form_count < old_form_count) ⊎ (old_form_count ≤ new_form_count) → HasRightPrefix bytes (max new_form_count old_form_count)
-  by_order (inl less) = subst (HasRightPrefix bytes) (omega arith) (right_prefix false bytes old_form_count old_form_fitting)
-  by_order (inr more) = subst (HasRightPrefix bytes) (omega arith) (right_prefix true bytes new_form_count new_form_fitting)
+  by_order : (new_form_count < old_form_count) ⊎ (old_form_count ≤ new_form_count) → HasSequencePrefix bytes (max new_form_count old_form_count)
+  by_order (inl less) = subst (HasSequencePrefix bytes) (omega arith) (right_prefix false bytes old_form_count old_form_fitting)
+  by_order (inr more) = subst (HasSequencePrefix bytes) (omega arith) (right_prefix true bytes new_form_count new_form_fitting)
 
-  by_form : (other : ℕ) (prefix : HasRightPrefix bytes other) (new_form : Bool) → SpellsIn new_form prefix.right prefix.number → other ≤ max new_form_count old_form_count
+  by_form : (other : ℕ) (prefix : HasSequencePrefix bytes other) (new_form : Bool) → SpellsIn new_form prefix.right prefix.number → other ≤ max new_form_count old_form_count
   by_form other prefix true spelled = omega (arith, longest_prefix true bytes prefix.right prefix.number new_form_count other new_form_fitting spelled prefix.inside prefix.prefix)
   by_form other prefix false spelled = omega (arith, longest_prefix false bytes prefix.right prefix.number old_form_count other old_form_fitting spelled prefix.inside prefix.prefix)
 

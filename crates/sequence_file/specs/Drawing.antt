@@ -4,20 +4,20 @@ use Rattle.std.specs.FinMap as map
 use Rattle.host_calls.specs.Folder.{Files, Folder, IsImage}
 use Rattle.whole_file.specs.Others.{IsEither, LeavesOthers}
 use Rattle.whole_file.specs.Placing.{IsPlaced}
-use Rattle.sequence_file.specs.Sequence.{Gives, SpellsIn, sequence_file}
+use Rattle.sequence_file.specs.Sequence.{GivesNumber, SpellsIn, sequence_file}
 use Rattle.whole_file.specs.Temporary.{temporary_file}
 
 -- the sequence file gives the number in every image
-abbrev pub EachGives : ℕ → Folder → Type 0
-EachGives number folder = (image : Files) → IsImage folder image → Gives (map.get image sequence_file) number
+abbrev pub EachGivesNumber : ℕ → Folder → Type 0
+EachGivesNumber number folder = (image : Files) → IsImage folder image → GivesNumber (map.get image sequence_file) number
 
 -- the image gives the last number or the next one, and other files are left alone
 pub record IsDrawing (last : ℕ) (start : Folder) (image : Files) : Type 0 where
   pub alone : LeavesOthers (IsEither temporary_file sequence_file) start image
-  pub gives : Gives (map.get image sequence_file) last ⊎ Gives (map.get image sequence_file) (last + 1)
+  pub gives : GivesNumber (map.get image sequence_file) last ⊎ GivesNumber (map.get image sequence_file) (last + 1)
 
 -- the sequence file gives the number in every image, with the same bytes in the new form, and all else reads as before
-pub record IsDrawn (number : ℕ) (old new : Folder) : Type 0 where
+pub record IsNumberDrawn (number : ℕ) (old new : Folder) : Type 0 where
   pub text : List ℕ
   pub spelled : SpellsIn true text number
   pub placed : IsPlaced temporary_file sequence_file text old new

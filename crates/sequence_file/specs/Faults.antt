@@ -10,9 +10,9 @@ use Rattle.sequence_file.specs.declared.fault.SequenceFault.TheVariants.{Damaged
 use Rattle.sequence_file.specs.Sequence.{IsFaultAt, sequence_file}
 
 -- a fault of the host, as this one
-abbrev pub fault_of : HostFault → SequenceFault
-fault_of HostFailed = Failed
-fault_of HostMemory = Memory
+abbrev pub sequence_fault_of : HostFault → SequenceFault
+sequence_fault_of HostFailed = Failed
+sequence_fault_of HostMemory = Memory
 
 -- a fault of the sequence file's reading, as one of the store
 abbrev pub fault_of_sequence : SequenceFault → StoreFault
@@ -21,7 +21,7 @@ fault_of_sequence Memory = store.Memory
 fault_of_sequence (Damaged damage) = store.Damaged damage
 
 -- the sequence file is there, and this is where it breaks its form
-pub record IsDamage (content : Option (List ℕ)) (damage : Damage) : Type 0 where
+pub record IsSequenceDamage (content : Option (List ℕ)) (damage : Damage) : Type 0 where
   pub bytes : List ℕ
   pub held : content ≡ Some bytes
   pub name_is : damage.name ≡ sequence_file

@@ -18,12 +18,12 @@ abbrev pub SpellsSequence : List ℕ → ℕ → Type 0
 SpellsSequence bytes number = (new_form : Bool) × SpellsIn new_form bytes number
 
 -- the file gives the number; without a file it is 0
-abbrev pub Gives : Option (List ℕ) → ℕ → Type 0
-Gives None number = number ≡ 0
-Gives (Some bytes) number = SpellsSequence bytes number
+abbrev pub GivesNumber : Option (List ℕ) → ℕ → Type 0
+GivesNumber None number = number ≡ 0
+GivesNumber (Some bytes) number = SpellsSequence bytes number
 
 -- the first bytes are those of some right file
-pub record HasRightPrefix (bytes : List ℕ) (count : ℕ) : Type 0 where
+pub record HasSequencePrefix (bytes : List ℕ) (count : ℕ) : Type 0 where
   pub number : ℕ
   pub right : List ℕ
   pub spelled : SpellsSequence right number
@@ -33,6 +33,6 @@ pub record HasRightPrefix (bytes : List ℕ) (count : ℕ) : Type 0 where
 -- The bytes are no right file. Up to the offset they are those of some right file, and no further.
 pub record IsFaultAt (bytes : List ℕ) (offset : ℕ) (byte : Option ℕ) : Type 0 where
   pub wrong : (number : ℕ) → ¬ (SpellsSequence bytes number)
-  pub prefix : HasRightPrefix bytes offset
-  pub longest : (count : ℕ) → HasRightPrefix bytes count → count ≤ offset
+  pub prefix : HasSequencePrefix bytes offset
+  pub longest : (count : ℕ) → HasSequencePrefix bytes count → count ≤ offset
   pub there : slice_get bytes offset ≡ byte

@@ -1,6 +1,6 @@
 //! Why the last number could not be read.
 ghost use Rattle.std.specs.Prelude.{◌≡◌};
-ghost use Rattle.sequence_file.specs.Faults.{fault_of, fault_of_sequence};
+ghost use Rattle.sequence_file.specs.Faults.{sequence_fault_of, fault_of_sequence};
 
 use host_calls::{Damage, HostFault, StoreFault};
 use std::fmt;
@@ -24,7 +24,7 @@ impl fmt::Debug for SequenceFault {
 }
 
 impl From<HostFault> for SequenceFault {
-    ghost from_gives = { λ fault made. made ≡ fault_of fault };
+    ghost from_gives = { λ fault made. made ≡ sequence_fault_of fault };
 
     fn from(fault: HostFault) -> Self {
         match fault {

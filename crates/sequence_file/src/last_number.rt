@@ -5,12 +5,12 @@ ghost use Rattle.host_calls.specs.Damages.{IfDamaged};
 ghost use Rattle.host_calls.specs.Session.{CallsInside, IsInside};
 ghost use Rattle.host_calls.specs.World.{reading};
 ghost use Rattle.spool_model.specs.declared.number.TheConstants.{LAST_NUMBER};
-ghost use Rattle.sequence_file.specs.Sequence.{Gives, sequence_file};
-ghost use Rattle.sequence_file.specs.Faults.{IsDamage};
+ghost use Rattle.sequence_file.specs.Sequence.{GivesNumber, sequence_file};
+ghost use Rattle.sequence_file.specs.Faults.{IsSequenceDamage};
 
 use crate::SequenceFault;
 use crate::names::sequence_name;
-use crate::text::read;
+use crate::text::read_sequence;
 use host_calls::Host;
 use std::alloc::Global;
 use whole_file::content;
@@ -22,12 +22,12 @@ pub fn last<H: Host>(alloc: Global, host: &mut H) -> Result<u32, SequenceFault>
     ensures looks { IsTrue H.tells → H.world host.new ≡ H.world host.old }
     ensures few { IfOk result (λ number. number ≤ LAST_NUMBER) }
     ensures number { IsTrue H.tells
-        → IfOk result (Gives (map.get (reading (H.world host.old)) sequence_file)) }
+        → IfOk result (GivesNumber (map.get (reading (H.world host.old)) sequence_file)) }
     ensures damaged { IsTrue H.tells
-        → IfDamaged SequenceFault.Damaged (IsDamage (map.get (reading (H.world host.old)) sequence_file)) result }
+        → IfDamaged SequenceFault.Damaged (IsSequenceDamage (map.get (reading (H.world host.old)) sequence_file)) result }
 {
     let Some(bytes) = content(alloc, host, &sequence_name())? else {
         return Ok(0);
     };
-    read(bytes.as_slice()).map_err(SequenceFault::Damaged)
+    read_sequence(bytes.as_slice()).map_err(SequenceFault::Damaged)
 }

@@ -13,4 +13,4 @@ pub use fault::SequenceFault;
 pub use last_number::last;
 pub use laws::last_numbers_are_read;
 pub use names::sequence_name;
-pub use text::{read, text_of};
+pub use text::{read_sequence, sequence_file_text};

@@ -9,28 +9,28 @@ use host_calls::Damage;
 use spool_model::number_digits;
 
 /// The file of a number, in the new form.
-pub fn text_of(number: u32) -> [u8; 9]
+pub fn sequence_file_text(number: u32) -> [u8; 9]
     ensures { SpellsIn true result number }
 {
     let mut text = *b"00000000\n";
-    hex_digits::write(&mut text[..number_digits(true)], number as u64);
+    hex_digits::write_hex(&mut text[..number_digits(true)], number as u64);
     text
 }
 
 /// The number that the file gives, or the place where it breaks its form.
-pub fn read(bytes: &[u8]) -> Result<u32, Damage>
+pub fn read_sequence(bytes: &[u8]) -> Result<u32, Damage>
     ensures number { IfOk result (SpellsSequence bytes.now) }
     ensures name { IfErr result (λ damage. damage.name ≡ sequence_file) }
     ensures damaged { IfErr result (λ damage. IsFaultAt bytes.now damage.offset damage.byte) }
 {
-    match number_of(bytes, true).or(number_of(bytes, false)) {
+    match number_in_file(bytes, true).or(number_in_file(bytes, false)) {
         Some(number) => Ok(number),
         None => Err(damage_of(bytes)),
     }
 }
 
 // The number of the file, if it is of this form.
-fn number_of(bytes: &[u8], new_form: bool) -> Option<u32>
+fn number_in_file(bytes: &[u8], new_form: bool) -> Option<u32>
     ensures number { IfSome result (SpellsIn new_form bytes.now) }
     ensures none { IfNone result ((number : ℕ) → ¬ (SpellsIn new_form bytes.now number)) }
 {
@@ -38,7 +38,7 @@ fn number_of(bytes: &[u8], new_form: bool) -> Option<u32>
     if bytes.len() != 1 + digits || bytes[digits] != b'\n' {
         return None;
     }
-    let number = hex_digits::read(&bytes[..digits])?;
+    let number = hex_digits::read_hex(&bytes[..digits])?;
     Some(number as u32)
 }
 

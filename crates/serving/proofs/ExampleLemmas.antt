@@ -18,15 +18,15 @@ use Rattle.host_session.specs.declared.turn_end.TurnEnd.TheVariants.{Done, Busy,
 use Rattle.daemon_turn.specs.declared.turn_input.TurnInput.{TurnInput}
 use Rattle.spool_model.specs.declared.turn_step.TurnStep.{TurnStep}
 use Rattle.spool_model.specs.declared.turn_step.TurnStep.TheVariants.{Ended, HandedOver}
-use Rattle.daemon_turn.specs.Kids.{AreByNumber, AreChildren}
+use Rattle.daemon_turn.specs.Kids.{AreKidsByNumber, AreChildren}
 use Rattle.daemon_turn.specs.Leaving.{DaemonAt, TurnsTo}
 use Rattle.serving.specs.Examples.{ServesTwice, SmallServings, daemon_with, first_child, first_kid, host_with, midnight, minute_later, second_later, served_with, sink, known}
-use Rattle.serving.specs.Items.{Item, ends_after, next_rest}
+use Rattle.serving.specs.Items.{TurnItem, ends_after, next_rest}
 use Rattle.cause_output.specs.Ends.{SaysEnd}
 use Rattle.serving.specs.Lines.{SaysEnds, daemon_name, turn_lines}
-use Rattle.serving.specs.Outcomes.{at_the_end, outcome_by}
-use Rattle.serving.specs.Serves.{AnswersTurn, RestsAfter, ServeAt, Served, Serves, next_turn, no_turn}
-use Rattle.serving.specs.Serving.{SaysOutcome}
+use Rattle.serving.specs.Outcomes.{at_the_end, serve_outcome}
+use Rattle.serving.specs.Serves.{AnswersTurn, RestsAfter, ServeState, Served, Serves, next_turn, no_turn}
+use Rattle.serving.specs.Serving.{SaysServeOutcome}
 
 -- a moment of a host that doesn't tell its files, with its daemon
 abbrev standing : World → List Child → ℕ → List Kid → DaemonAt
@@ -37,7 +37,7 @@ standing world children taken kids = record { session = host_with children taken
 no_kids : (children : List Child) → AreChildren children []
 no_kids children = record { each = λ kid has. absurd (omega (arith, has.1)) }
 
-no_order : AreByNumber []
+no_order : AreKidsByNumber []
 no_order = λ i j kid earlier within. absurd (omega (arith, within))
 
 one_kid : AreChildren (first_child ∷ []) (first_kid ∷ [])
@@ -46,13 +46,13 @@ one_kid = record { each = λ kid has. at kid has.0 has.1 has.2 } where
   at kid zero low is = (0, lit< tt, ap (λ (one : Kid). one.child) is)
   at kid (suc k) low is = absurd (omega (arith, low))
 
-one_order : AreByNumber (first_kid ∷ [])
+one_order : AreKidsByNumber (first_kid ∷ [])
 one_order = λ i j kid earlier within. absurd (let low : j < 1 = within in omega (arith, earlier, low))
 
 -- The turns.
 
 -- one that was made to its end
-turned : (world : World) (at : TurnInput) (taken : ℕ) (children more : List Child) (kids left : List Kid) (steps : List TurnStep) → AreChildren (children ++ more) left → AreByNumber left
+turned : (world : World) (at : TurnInput) (taken : ℕ) (children more : List Child) (kids left : List Kid) (steps : List TurnStep) → AreChildren (children ++ more) left → AreKidsByNumber left
     → TurnsTo false false at (standing world children taken kids) (standing world (children ++ more) taken left) Done steps
 turned world at taken children more kids left steps are ordered = record {
   outside = refl;
@@ -85,7 +85,7 @@ held world at = record {
 }
 
 -- one after the other
-two_turns : (once : Bool) (one other : Item) (start between rested end : ServeAt) → Served known once [] one start between → ends_after once (Some one) between.spool.daemon.kids ≡ false
+two_turns : (once : Bool) (one other : TurnItem) (start between rested end : ServeState) → Served known once [] one start between → ends_after once (Some one) between.spool.daemon.kids ≡ false
     → RestsAfter true once (Some one) between rested → Served known once (one ∷ []) other rested end → Serves known once start (one ∷ other ∷ []) end
 two_turns once one other start between rested end first goes_on rests second =
     next_turn (one ∷ []) other between rested end (next_turn [] one start start between no_turn refl (record { clock = refl; spool = refl }) first) goes_on rests second
@@ -116,7 +116,7 @@ answered now load end steps old new answers readers = record {
 silent : (content : List ℕ) → IsSilent (sink content) (sink content)
 silent content = record { content = refl; later = lit≤ tt }
 
-done_silent : (one other : Item) → one.end ≡ Done → other.end ≡ Done → SaysEnds (one ∷ other ∷ []) (sink []) (sink [])
+done_silent : (one other : TurnItem) → one.end ≡ Done → other.end ≡ Done → SaysEnds (one ∷ other ∷ []) (sink []) (sink [])
 done_silent one other first second = (
   sink [],
   subst (λ (end : TurnEnd). SaysEnd daemon_name end (sink []) (sink [])) (sym first) (silent []),
@@ -125,9 +125,9 @@ done_silent one other first second = (
 
 -- What two turns come to.
 
-module _ (world : World) (once : Bool) (one other : Item) (end : ServeAt) (serves : Serves known once (served_with world [] 0 [] [] [] 0 0) (one ∷ other ∷ []) end) where
+module _ (world : World) (once : Bool) (one other : TurnItem) (end : ServeState) (serves : Serves known once (served_with world [] 0 [] [] [] 0 0) (one ∷ other ∷ []) end) where
   serves_twice : (printed between said : List ℕ) (of : Cause) → printed ≡ turn_lines (one ∷ other ∷ []) → SaysEnds (one ∷ other ∷ []) (sink []) (sink between)
-      → SaysOutcome true (outcome_by at_the_end once (one ∷ other ∷ []) end.spool.daemon.kids false) (sink between) (sink said) of → ServesTwice world once end printed said of
+      → SaysServeOutcome true (serve_outcome at_the_end once (one ∷ other ∷ []) end.spool.daemon.kids false) (sink between) (sink said) of → ServesTwice world once end printed said of
   serves_twice printed between said of lines says outcome = record {
     items = one ∷ other ∷ [];
     last = end;
@@ -144,14 +144,14 @@ module _ (world : World) (once : Bool) (one other : Item) (end : ServeAt) (serve
 
 -- The four.
 
-abbrev opening : World → ServeAt
+abbrev opening : World → ServeState
 opening world = served_with world [] 0 [] [] [] 0 0
 
 -- a job handed over, and after that turn
-abbrev handed_at : ℤ → Item
+abbrev handed_at : ℤ → TurnItem
 handed_at now = record { now = now; load = Some 42; end = Done; steps = HandedOver 1 now ∷ [] }
 
-abbrev handed : World → ℕ → ServeAt
+abbrev handed : World → ℕ → ServeState
 handed world rested = served_with world (first_child ∷ []) 0 (first_kid ∷ []) (midnight ∷ []) (Some 42 ∷ []) rested 0
 
 hands_over : (world : World) (once : Bool) → Served known once [] (handed_at midnight) (opening world) (handed world 0)
@@ -162,10 +162,10 @@ hands_over world once = record {
 }
 
 -- its child exited with 3, or with 0
-abbrev ended_with : ℤ → Option ℕ → ℕ → Item
+abbrev ended_with : ℤ → Option ℕ → ℕ → TurnItem
 ended_with now load code = record { now = now; load = load; end = Done; steps = Ended 1 (Exit code) ∷ [] }
 
-rests : (once : Bool) (item : Item) (seconds : ℕ) (old new : ServeAt) → next_rest once item.end item.now ≡ seconds → new.clock.answers ≡ with_rest seconds old.clock.answers → new.clock.readers ≡ old.clock.readers
+rests : (once : Bool) (item : TurnItem) (seconds : ℕ) (old new : ServeState) → next_rest once item.end item.now ≡ seconds → new.clock.answers ≡ with_rest seconds old.clock.answers → new.clock.readers ≡ old.clock.readers
     → new.spool ≡ old.spool → RestsAfter true once (Some item) old new
 rests once item seconds old new is answers readers spool = record {
   clock = record { known = λ tells. subst (λ (count : ℕ). new.clock.answers ≡ with_rest count old.clock.answers) (sym is) answers; readers = readers };
@@ -176,7 +176,7 @@ minutes : (world : World) → ServesTwice world false
     (served_with world (first_child ∷ []) 0 [] (midnight ∷ minute_later ∷ []) (Some 42 ∷ None ∷ []) 60 1) (codes "job 1 handed over\njob 1 exit 3\n") [] cause.Done
 unfolding digits
 minutes world =
-    let end : ServeAt = served_with world (first_child ∷ []) 0 [] (midnight ∷ minute_later ∷ []) (Some 42 ∷ None ∷ []) 60 1 in
+    let end : ServeState = served_with world (first_child ∷ []) 0 [] (midnight ∷ minute_later ∷ []) (Some 42 ∷ None ∷ []) 60 1 in
     let second : Served known false (handed_at midnight ∷ []) (ended_with minute_later None 3) (handed world 60) end = record {
       now = a_minute_later;
       read = record { known = λ tells. refl; made_as = refl; later = lit≤ tt; unread = λ none. lit≤ tt };
@@ -191,7 +191,7 @@ until_alone : (world : World) → ServesTwice world true
     (served_with world (first_child ∷ []) 0 [] (midnight ∷ second_later ∷ []) (Some 42 ∷ Some 42 ∷ []) 1 0) (codes "job 1 handed over\njob 1 exit 0\n") [] cause.Done
 unfolding digits
 until_alone world =
-    let end : ServeAt = served_with world (first_child ∷ []) 0 [] (midnight ∷ second_later ∷ []) (Some 42 ∷ Some 42 ∷ []) 1 0 in
+    let end : ServeState = served_with world (first_child ∷ []) 0 [] (midnight ∷ second_later ∷ []) (Some 42 ∷ Some 42 ∷ []) 1 0 in
     let second : Served known true (handed_at midnight ∷ []) (ended_with second_later (Some 42) 0) (handed world 1) end = record {
       now = a_second_later;
       read = answered second_later 42 Done _ (handed world 1).clock end.clock refl refl;
@@ -203,14 +203,14 @@ until_alone world =
     (codes "job 1 handed over\njob 1 exit 0\n") [] [] cause.Done refl (done_silent (handed_at midnight) (ended_with second_later (Some 42) 0) refl refl) (inl (refl, λ tells. refl))
 
 -- a turn that did nothing
-abbrev idle : Item
+abbrev idle : TurnItem
 idle = record { now = second_later; load = Some 42; end = Done; steps = [] }
 
 still_running : (world : World) → ServesTwice world true
     (served_with world (first_child ∷ []) 0 (first_kid ∷ []) (midnight ∷ second_later ∷ []) (Some 42 ∷ Some 42 ∷ []) 1 0) (codes "job 1 handed over\n") (codes "atd: jobs still running\n") cause.StillRunning
 unfolding digits
 still_running world =
-    let end : ServeAt = served_with world (first_child ∷ []) 0 (first_kid ∷ []) (midnight ∷ second_later ∷ []) (Some 42 ∷ Some 42 ∷ []) 1 0 in
+    let end : ServeState = served_with world (first_child ∷ []) 0 (first_kid ∷ []) (midnight ∷ second_later ∷ []) (Some 42 ∷ Some 42 ∷ []) 1 0 in
     let second : Served known true (handed_at midnight ∷ []) idle (handed world 1) end = record {
       now = a_second_later;
       read = answered second_later 42 Done _ (handed world 1).clock end.clock refl refl;
@@ -223,17 +223,17 @@ still_running world =
     (inl (refl, λ tells. inl (record { content = refl; later = lit≤ tt })))
 
 -- a turn that found the spool taken, and after it
-abbrev taken : Item
+abbrev taken : TurnItem
 taken = record { now = midnight; load = Some 42; end = Busy; steps = [] }
 
-abbrev refused : World → ℕ → ServeAt
+abbrev refused : World → ℕ → ServeState
 refused world rested = served_with world [] 1 [] (midnight ∷ []) (Some 42 ∷ []) rested 0
 
 taken_first : (world : World) → ServesTwice world false
     (served_with world (first_child ∷ []) 1 (first_kid ∷ []) (midnight ∷ second_later ∷ []) (Some 42 ∷ Some 42 ∷ []) 1 0) (codes "job 1 handed over\n") (codes "atd: spool busy\n") cause.Done
 unfolding digits
 taken_first world =
-    let end : ServeAt = served_with world (first_child ∷ []) 1 (first_kid ∷ []) (midnight ∷ second_later ∷ []) (Some 42 ∷ Some 42 ∷ []) 1 0 in
+    let end : ServeState = served_with world (first_child ∷ []) 1 (first_kid ∷ []) (midnight ∷ second_later ∷ []) (Some 42 ∷ Some 42 ∷ []) 1 0 in
     let first : Served known false [] taken (opening world) (refused world 0) =
     record { now = at_midnight; read = answered midnight 42 Busy _ (opening world).clock (refused world 0).clock refl refl; turn = held world _ } in
     let second : Served known false (taken ∷ []) (handed_at second_later) (refused world 1) end = record {

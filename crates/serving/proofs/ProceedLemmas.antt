@@ -11,25 +11,25 @@ use Rattle.cause_output.specs.Sinks.{IsSilent, SinkAt}
 use Rattle.daemon_turn.specs.Leaving.{DaemonAt, TurnsTo}
 use Rattle.daemon_turn.specs.declared.mode.Mode.{Mode}
 use Rattle.host_session.specs.declared.turn_end.TurnEnd.{TurnEnd}
-use Rattle.serving.specs.Items.{Item, ends_after, first_end, is_last, last_item, mode_after, next_rest}
+use Rattle.serving.specs.Items.{TurnItem, ends_after, first_end, is_last_turn, last_item, mode_after, next_rest}
 use Rattle.cause_output.specs.Ends.{SaysEnd}
 use Rattle.cause_output.proofs.EndLemmas.{silent_same}
 use Rattle.cause_output.proofs.PutLemmas.{nothing_put}
 use Rattle.serving.specs.Lines.{SaysEnds, daemon_name, step_lines, turn_lines}
-use Rattle.serving.specs.Outcomes.{at_a_line, at_the_clock, at_the_end, damage_outcome, last_outcome, turns_outcome}
-use Rattle.serving.specs.Serves.{AnswersTurn, RestsAfter, ServeAt, Served, Serves, StopsAtClock, next_turn, no_turn}
+use Rattle.serving.specs.Outcomes.{at_a_line, at_the_clock, at_the_end, damage_outcome, last_turn_outcome, turns_outcome}
+use Rattle.serving.specs.Serves.{AnswersTurn, RestsAfter, ServeState, Served, Serves, ServeStopsAtClock, next_turn, no_turn}
 use Rattle.cause_output.specs.Outside.{Telling}
-use Rattle.serving.specs.Serving.{Prints, SaysOutcome, Serving}
-use Rattle.serving.specs.declared.outcome.Outcome.{Outcome}
-use Rattle.serving.specs.declared.outcome.Outcome.TheVariants.{Own}
+use Rattle.serving.specs.Serving.{TurnsPrint, SaysServeOutcome, Serving}
+use Rattle.serving.specs.declared.outcome.ServeOutcome.{ServeOutcome}
+use Rattle.serving.specs.declared.outcome.ServeOutcome.TheVariants.{Own}
 use Rattle.serving.specs.declared.progress.Progress.{Progress}
-use Rattle.serving.specs.inside.Progressing.{HasEnded, HasServed, IsRest, PrintsMore, Proceeds, first_or, mode_by, outcome_if}
+use Rattle.serving.specs.inside.Progressing.{HasEnded, HasServed, IsRest, PrintsMore, Proceeds, first_end_or, mode_by, outcome_if}
 use Rattle.serving.proofs.OutcomeLemmas.{no_damage}
 use Rattle.serving.proofs.ServeLemmas.{but_last_more, first_more, last_more, lines_more, mode_same, one_longer}
 use Rattle.serving.proofs.SinkLemmas.{ends_more, ends_silent}
 
 -- nothing was served yet
-pub nothing_served : (tells : Telling) (once : Bool) (made : Progress) (at : ServeAt) (out err : SinkAt) → made ≡ record { first = None; rest = 0; output_failed = false }
+pub nothing_served : (tells : Telling) (once : Bool) (made : Progress) (at : ServeState) (out err : SinkAt) → made ≡ record { first = None; rest = 0; output_failed = false }
     → HasServed tells once [] made at at out out err err
 nothing_served tells once made at out err same =
     subst (λ (of : Progress). HasServed tells once [] of at at out out err err) (sym same) (record {
@@ -41,10 +41,10 @@ nothing_served tells once made at out err same =
       says = λ known. silent_same err err refl;
     })
 
-module _ (tells : Telling) (once : Bool) (items : List Item) (made : Progress) (first now : ServeAt) (out_first out_now err_first err_now : SinkAt)
+module _ (tells : Telling) (once : Bool) (items : List TurnItem) (made : Progress) (first now : ServeState) (out_first out_now err_first err_now : SinkAt)
     (has : HasServed tells once items made first now out_first out_now err_first err_now) where
   -- the clock went out of range
-  pub ended_at_clock : (after : ServeAt) (turns : ℕ) → length items < turns → StopsAtClock tells.clock once (last_item items) now after
+  pub ended_at_clock : (after : ServeState) (turns : ℕ) → length items < turns → ServeStopsAtClock tells.clock once (last_item items) now after
       → HasEnded tells once turns first after out_first out_now err_first err_now (Own (cause.Refused BadClock))
   ended_at_clock after turns few stops = record {
     items = items;
@@ -59,7 +59,7 @@ module _ (tells : Telling) (once : Bool) (items : List Item) (made : Progress) (
     comes = refl;
   }
 
-  module _ (item : Item) (rested after : ServeAt) (rests : RestsAfter tells.clock once (last_item items) now rested)
+  module _ (item : TurnItem) (rested after : ServeState) (rests : RestsAfter tells.clock once (last_item items) now rested)
       (served : Served tells once items item rested after) (out_new err_new : SinkAt) where
     serves_more : Serves tells once first (items ++ item ∷ []) after
     serves_more = next_turn items item now rested after has.serves has.goes_on rests served
@@ -78,25 +78,25 @@ module _ (tells : Telling) (once : Bool) (items : List Item) (made : Progress) (
       few = few_more turns few;
       serves = serves_more;
       stops = refl;
-      prints = subst (λ (text : List ℕ). Prints tells.output at_a_line output_failed text out_first out_new) (sym (lines_more items item)) (prints (turn_lines items) out_first has.prints);
-      says = λ known. subst (λ (of : List Item). SaysEnds of err_first err_new) (sym (but_last_more items item))
+      prints = subst (λ (text : List ℕ). TurnsPrint tells.output at_a_line output_failed text out_first out_new) (sym (lines_more items item)) (prints (turn_lines items) out_first has.prints);
+      says = λ known. subst (λ (of : List TurnItem). SaysEnds of err_first err_new) (sym (but_last_more items item))
           (ends_silent items err_first err_now err_new (has.says known) (silent known));
       comes = refl;
     }
 
-    module _ (next : Progress) (begins : next.first ≡ first_or made.first item.end) (prints : PrintsMore tells.output (step_lines item.steps) made.output_failed next.output_failed out_now out_new true)
+    module _ (next : Progress) (begins : next.first ≡ first_end_or made.first item.end) (prints : PrintsMore tells.output (step_lines item.steps) made.output_failed next.output_failed out_now out_new true)
         (says : tells.errors ≡ true → SaysEnd daemon_name item.end err_now err_new) where
       begun_more : next.first ≡ first_end (items ++ item ∷ [])
-      begun_more = begins ∙ ap (λ (end : Option TurnEnd). first_or end item.end) has.begun ∙ sym (first_more items item)
+      begun_more = begins ∙ ap (λ (end : Option TurnEnd). first_end_or end item.end) has.begun ∙ sym (first_more items item)
 
-      prints_more : Prints tells.output at_the_end next.output_failed (turn_lines (items ++ item ∷ [])) out_first out_new
-      prints_more = subst (λ (text : List ℕ). Prints tells.output at_the_end next.output_failed text out_first out_new) (sym (lines_more items item)) (prints (turn_lines items) out_first has.prints)
+      prints_more : TurnsPrint tells.output at_the_end next.output_failed (turn_lines (items ++ item ∷ [])) out_first out_new
+      prints_more = subst (λ (text : List ℕ). TurnsPrint tells.output at_the_end next.output_failed text out_first out_new) (sym (lines_more items item)) (prints (turn_lines items) out_first has.prints)
 
       says_more : tells.errors ≡ true → SaysEnds (items ++ item ∷ []) err_first err_new
       says_more known = ends_more items item err_first err_now err_new (has.says known) (says known)
 
       -- the turn was the last
-      ended_after : (outcome : Outcome) (turns : ℕ) → length items < turns → is_last once item.end after.spool.daemon.kids ≡ true
+      ended_after : (outcome : ServeOutcome) (turns : ℕ) → length items < turns → is_last_turn once item.end after.spool.daemon.kids ≡ true
           → outcome ≡ damage_outcome item.end (turns_outcome once next.first after.spool.daemon.kids next.output_failed)
           → HasEnded tells once turns first after out_first out_new err_first err_new outcome
       ended_after outcome turns few last comes = record {
@@ -106,28 +106,28 @@ module _ (tells : Telling) (once : Bool) (items : List Item) (made : Progress) (
         output_failed = next.output_failed;
         few = few_more turns few;
         serves = serves_more;
-        stops = (inr (subst (λ (of : Option Item). ends_after once of after.spool.daemon.kids ≡ true) (sym (last_more items item)) last), refl);
+        stops = (inr (subst (λ (of : Option TurnItem). ends_after once of after.spool.daemon.kids ≡ true) (sym (last_more items item)) last), refl);
         prints = prints_more;
         says = says_more;
         comes =
             comes
             ∙ ap (λ (end : Option TurnEnd). damage_outcome item.end (turns_outcome once end after.spool.daemon.kids next.output_failed)) begun_more
-            ∙ ap (λ (of : Option Item). last_outcome of (turns_outcome once (first_end (items ++ item ∷ [])) after.spool.daemon.kids next.output_failed)) (sym (last_more items item));
+            ∙ ap (λ (of : Option TurnItem). last_turn_outcome of (turns_outcome once (first_end (items ++ item ∷ [])) after.spool.daemon.kids next.output_failed)) (sym (last_more items item));
       }
 
       -- a further one is to come
-      served_more : is_last once item.end after.spool.daemon.kids ≡ false → next.rest ≡ next_rest once item.end item.now
+      served_more : is_last_turn once item.end after.spool.daemon.kids ≡ false → next.rest ≡ next_rest once item.end item.now
           → HasServed tells once (items ++ item ∷ []) next first after out_first out_new err_first err_new
       served_more further rest = record {
         serves = serves_more;
-        goes_on = subst (λ (of : Option Item). ends_after once of after.spool.daemon.kids ≡ false) (sym (last_more items item)) further;
+        goes_on = subst (λ (of : Option TurnItem). ends_after once of after.spool.daemon.kids ≡ false) (sym (last_more items item)) further;
         begun = begun_more;
-        rest = subst (λ (of : Option Item). IsRest once of next.rest) (sym (last_more items item)) rest;
+        rest = subst (λ (of : Option TurnItem). IsRest once of next.rest) (sym (last_more items item)) rest;
         prints = prints_more;
         says = says_more;
       }
 
-      by_last : (last : Bool) (result : Option Outcome) → is_last once item.end after.spool.daemon.kids ≡ last → next.rest ≡ next_rest once item.end item.now
+      by_last : (last : Bool) (result : Option ServeOutcome) → is_last_turn once item.end after.spool.daemon.kids ≡ last → next.rest ≡ next_rest once item.end item.now
           → result ≡ (if last then Some (damage_outcome item.end (turns_outcome once next.first after.spool.daemon.kids next.output_failed)) else None)
           → Proceeds tells once items next first after out_first out_new err_first err_new result
       by_last true None is rest comes = absurd (cc)
@@ -136,13 +136,13 @@ module _ (tells : Telling) (once : Bool) (items : List Item) (made : Progress) (
       by_last false None is rest comes = (item, served_more is rest)
       by_last false (Some outcome) is rest comes = absurd (cc)
 
-      pub proceeds : (result : Option Outcome) → next.rest ≡ next_rest once item.end item.now
+      pub proceeds : (result : Option ServeOutcome) → next.rest ≡ next_rest once item.end item.now
           → result ≡ outcome_if once item.end next.first after.spool.daemon.kids next.output_failed
           → Proceeds tells once items next first after out_first out_new err_first err_new result
-      proceeds result rest comes = by_last (is_last once item.end after.spool.daemon.kids) result refl rest comes
+      proceeds result rest comes = by_last (is_last_turn once item.end after.spool.daemon.kids) result refl rest comes
 
   -- all turns were made
-  pub ended_made : (turns : ℕ) (outcome : Outcome) → length items ≡ turns → outcome ≡ turns_outcome once made.first now.spool.daemon.kids made.output_failed
+  pub ended_made : (turns : ℕ) (outcome : ServeOutcome) → length items ≡ turns → outcome ≡ turns_outcome once made.first now.spool.daemon.kids made.output_failed
       → HasEnded tells once turns first now out_first out_now err_first err_now outcome
   ended_made turns outcome all comes = record {
     items = items;
@@ -161,8 +161,8 @@ module _ (tells : Telling) (once : Bool) (items : List Item) (made : Progress) (
   }
 
 -- serving, with its last line
-pub serving_of : (tells : Telling) (once : Bool) (turns : ℕ) (first now : ServeAt) (out_first out_now err_first err_now err_end : SinkAt) (outcome : Outcome) (final : Cause)
-    → HasEnded tells once turns first now out_first out_now err_first err_now outcome → SaysOutcome tells.errors outcome err_now err_end final
+pub serving_of : (tells : Telling) (once : Bool) (turns : ℕ) (first now : ServeState) (out_first out_now err_first err_now err_end : SinkAt) (outcome : ServeOutcome) (final : Cause)
+    → HasEnded tells once turns first now out_first out_now err_first err_now outcome → SaysServeOutcome tells.errors outcome err_now err_end final
     → Serving tells once turns first now out_first out_now err_first err_end final
 serving_of tells once turns first now out_first out_now err_first err_now err_end outcome final ended says = record {
   items = ended.items;
@@ -175,11 +175,11 @@ serving_of tells once turns first now out_first out_now err_first err_now err_en
   prints = ended.prints;
   between = err_now;
   says = ended.says;
-  outcome = subst (λ (of : Outcome). SaysOutcome tells.errors of err_now err_end final) ended.comes says;
+  outcome = subst (λ (of : ServeOutcome). SaysServeOutcome tells.errors of err_now err_end final) ended.comes says;
 }
 
 -- a turn that was made, as its calls answered
-pub answers_turn : (tells : Bool) (item : Item) (was between is : Answers) (had next has : Readers) → (tells ≡ true → between ≡ with_now item.now was)
+pub answers_turn : (tells : Bool) (item : TurnItem) (was between is : Answers) (had next has : Readers) → (tells ≡ true → between ≡ with_now item.now was)
     → next ≡ had → (tells ≡ true → is ≡ with_load item.load between) → has.made_as ≡ next.made_as → next.load_faults ≤ has.load_faults
     → (item.load ≡ None → Rose next.load_faults has.load_faults)
     → AnswersTurn tells item (record { answers = was; readers = had }) (record { answers = is; readers = has })
@@ -190,7 +190,7 @@ answers_turn tells item was between is had next has now same load made later unr
   unread = λ none. subst (λ (readers : Readers). Rose readers.load_faults has.load_faults) same (unread none);
 }
 
-pub served_by : (tells : Telling) (once : Bool) (items : List Item) (first : Option TurnEnd) (item : Item) (old new : ServeAt) (mode : Mode) (second : ℤ) → first ≡ first_end items
+pub served_by : (tells : Telling) (once : Bool) (items : List TurnItem) (first : Option TurnEnd) (item : TurnItem) (old new : ServeState) (mode : Mode) (second : ℤ) → first ≡ first_end items
     → mode ≡ mode_by once first → second ≡ item.now → IsClockSecond item.now → AnswersTurn tells.clock item old.clock new.clock
     → TurnsTo tells.files tells.alone (record { now = second; load = item.load; mode = mode }) old.spool new.spool item.end item.steps → Served tells once items item old new
 served_by tells once items first item old new mode second begun of_mode same range read turn = record {

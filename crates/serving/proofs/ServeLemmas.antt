@@ -12,55 +12,55 @@ use Rattle.daemon_turn.specs.Leaving.{DaemonAt}
 use Rattle.host_session.specs.declared.turn_end.TurnEnd.{TurnEnd}
 use Rattle.host_session.specs.declared.turn_end.TurnEnd.TheVariants.{Done, Busy, FileFault, Damaged, Memory}
 use Rattle.host_session.proofs.SessionLemmas.{counts_on, no_counts}
-use Rattle.serving.specs.Items.{Item, but_last, first_end, last_item, mode_after}
+use Rattle.serving.specs.Items.{TurnItem, but_last, first_end, last_item, mode_after}
 use Rattle.serving.specs.Lines.{step_lines, turn_lines}
-use Rattle.serving.specs.Serves.{RestsAfter, ServeAt, Served, Serves, no_turn, next_turn, rest_of, serve_at}
+use Rattle.serving.specs.Serves.{RestsAfter, ServeState, Served, Serves, no_turn, next_turn, rest_of, serve_at}
 use Rattle.cause_output.specs.Outside.{RestsOn, Telling}
-use Rattle.serving.specs.inside.Progressing.{IsRest, first_or, mode_by, rest_if}
+use Rattle.serving.specs.inside.Progressing.{IsRest, first_end_or, mode_by, rest_if}
 
 -- The list of turns with one more.
 
-pub last_more : (items : List Item) (item : Item) → last_item (items ++ item ∷ []) ≡ Some item
+pub last_more : (items : List TurnItem) (item : TurnItem) → last_item (items ++ item ∷ []) ≡ Some item
 last_more [] item = refl
 last_more (one ∷ []) item = refl
 last_more (one ∷ other ∷ items) item = last_more (other ∷ items) item
 
-pub first_more : (items : List Item) (item : Item) → first_end (items ++ item ∷ []) ≡ first_or (first_end items) item.end
+pub first_more : (items : List TurnItem) (item : TurnItem) → first_end (items ++ item ∷ []) ≡ first_end_or (first_end items) item.end
 first_more [] item = refl
 first_more (one ∷ items) item = refl
 
-pub but_last_more : (items : List Item) (item : Item) → but_last (items ++ item ∷ []) ≡ items
+pub but_last_more : (items : List TurnItem) (item : TurnItem) → but_last (items ++ item ∷ []) ≡ items
 but_last_more [] item = refl
 but_last_more (one ∷ []) item = refl
-but_last_more (one ∷ other ∷ items) item = ap (λ (others : List Item). one ∷ others) (but_last_more (other ∷ items) item)
+but_last_more (one ∷ other ∷ items) item = ap (λ (others : List TurnItem). one ∷ others) (but_last_more (other ∷ items) item)
 
-pub lines_more : (items : List Item) (item : Item) → turn_lines (items ++ item ∷ []) ≡ turn_lines items ++ step_lines item.steps
+pub lines_more : (items : List TurnItem) (item : TurnItem) → turn_lines (items ++ item ∷ []) ≡ turn_lines items ++ step_lines item.steps
 lines_more [] item = append-nil (step_lines item.steps)
 lines_more (one ∷ items) item =
     ap (λ (others : List ℕ). step_lines one.steps ++ others) (lines_more items item)
     ∙ sym (append_assoc (step_lines one.steps) (turn_lines items) (step_lines item.steps))
 
-pub one_longer : (items : List Item) (item : Item) → length (items ++ item ∷ []) ≡ length items + 1
+pub one_longer : (items : List TurnItem) (item : TurnItem) → length (items ++ item ∷ []) ≡ length items + 1
 one_longer [] item = refl
 one_longer (one ∷ items) item = (let longer : length (items ++ item ∷ []) ≡ length items + 1 = one_longer items item in omega arith)
 
 -- The mode and the rest.
 
-pub mode_same : (once : Bool) (items : List Item) (first : Option TurnEnd) → first ≡ first_end items → mode_by once first ≡ mode_after once items
+pub mode_same : (once : Bool) (items : List TurnItem) (first : Option TurnEnd) → first ≡ first_end items → mode_by once first ≡ mode_after once items
 mode_same once items first same = ap (λ (end : Option TurnEnd). mode_by once end) same ∙ by_items once items where
-  by_items : (flag : Bool) (of : List Item) → mode_by flag (first_end of) ≡ mode_after flag of
+  by_items : (flag : Bool) (of : List TurnItem) → mode_by flag (first_end of) ≡ mode_after flag of
   by_items false of = refl
   by_items true [] = refl
   by_items true (item ∷ of) = refl
 
 -- the rest that is kept is that after the last turn
-rest_same : (once : Bool) (seconds : ℕ) (items : List Item) → IsRest once (last_item items) seconds → rest_if (first_end items) seconds ≡ rest_of once (last_item items)
+rest_same : (once : Bool) (seconds : ℕ) (items : List TurnItem) → IsRest once (last_item items) seconds → rest_if (first_end items) seconds ≡ rest_of once (last_item items)
 rest_same once seconds [] rest = refl
 rest_same once seconds (item ∷ []) rest = ap Some rest
 rest_same once seconds (item ∷ other ∷ items) rest = rest_same once seconds (other ∷ items) rest
 
 module _ (tells once : Bool) (session : Session) (world : World) (daemon : DaemonState) (was is : Answers) (had has : Readers) (seconds : ℕ) where
-  pub rests_after : (items : List Item) (first : Option TurnEnd) → first ≡ first_end items → IsRest once (last_item items) seconds
+  pub rests_after : (items : List TurnItem) (first : Option TurnEnd) → first ≡ first_end items → IsRest once (last_item items) seconds
       → RestsOn tells (rest_if first seconds) (record { answers = was; readers = had }) (record { answers = is; readers = has })
       → RestsAfter tells once (last_item items) (serve_at session world daemon was had) (serve_at session world daemon is has)
   rests_after items first same rest rests = record {
@@ -78,8 +78,8 @@ pub children_then : (old middle new : List Child) → KeepsChildren old middle �
 children_then old middle new first second =
     (first.0 ++ second.0, second.1 ∙ ap (λ (before : List Child). before ++ second.0) first.1 ∙ append_assoc old first.0 second.0)
 
-module _ (tells : Telling) (once : Bool) (first : ServeAt) where
-  pub serves_counts : (items : List Item) (last : ServeAt) → Serves tells once first items last → KeepsCounts first.spool.session last.spool.session
+module _ (tells : Telling) (once : Bool) (first : ServeState) where
+  pub serves_counts : (items : List TurnItem) (last : ServeState) → Serves tells once first items last → KeepsCounts first.spool.session last.spool.session
   serves_counts _ _ no_turn = no_counts first.spool.session
   serves_counts _ _ (next_turn before item last rested after serves goes_on rests served) =
       counts_on first.spool.session last.spool.session after.spool.session (serves_counts before last serves)
@@ -107,8 +107,8 @@ rose_wider (Some FileFault) first old middle new before beyond rose =
 rose_wider (Some (Damaged damage)) first old middle new before beyond rose = tt
 rose_wider (Some Memory) first old middle new before beyond rose = tt
 
-module _ (tells : Telling) (once : Bool) (first : ServeAt) where
-  rose_served : (before : List Item) (item : Item) (old new : ServeAt) → Served tells once before item old new → RoseFirst (Some item.end) old.spool.session new.spool.session
+module _ (tells : Telling) (once : Bool) (first : ServeState) where
+  rose_served : (before : List TurnItem) (item : TurnItem) (old new : ServeState) → Served tells once before item old new → RoseFirst (Some item.end) old.spool.session new.spool.session
   rose_served before item old new served = by_end item.end served.turn.busy served.turn.fault where
     by_end : (end : TurnEnd) → (end ≡ Busy → Rose old.spool.session.taken new.spool.session.taken)
         → (end ≡ FileFault → Rose old.spool.session.file_faults new.spool.session.file_faults) → RoseFirst (Some end) old.spool.session new.spool.session
@@ -118,7 +118,7 @@ module _ (tells : Telling) (once : Bool) (first : ServeAt) where
     by_end (Damaged damage) busy fault = tt
     by_end Memory busy fault = tt
 
-  rose_more : (before : List Item) (item : Item) (last rested after : ServeAt) → RoseFirst (first_end before) first.spool.session last.spool.session
+  rose_more : (before : List TurnItem) (item : TurnItem) (last rested after : ServeState) → RoseFirst (first_end before) first.spool.session last.spool.session
       → KeepsCounts first.spool.session last.spool.session → RestsAfter tells.clock once (last_item before) last rested → Served tells once before item rested after
       → RoseFirst (first_end (before ++ item ∷ [])) first.spool.session after.spool.session
   rose_more [] item last rested after rose counts rests served =
@@ -130,7 +130,7 @@ module _ (tells : Telling) (once : Bool) (first : ServeAt) where
       (subst (λ (spool : DaemonAt). KeepsCounts spool.session after.spool.session) rests.spool served.turn.counts)
       rose
 
-  pub rose_first : (items : List Item) (last : ServeAt) → Serves tells once first items last → RoseFirst (first_end items) first.spool.session last.spool.session
+  pub rose_first : (items : List TurnItem) (last : ServeState) → Serves tells once first items last → RoseFirst (first_end items) first.spool.session last.spool.session
   rose_first _ _ no_turn = tt
   rose_first _ _ (next_turn before item last rested after serves goes_on rests served) =
       rose_more before item last rested after (rose_first before last serves) (serves_counts tells once first before last serves) rests served

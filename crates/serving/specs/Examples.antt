@@ -8,7 +8,7 @@ use Rattle.listing_text.specs.declared.cause.Cause.TheVariants as cause
 use Rattle.cause_output.specs.Sinks.{SinkAt}
 use Rattle.daemon_turn.specs.declared.kid.Kid.{Kid}
 use Rattle.daemon_turn.specs.Daemons.{DaemonState}
-use Rattle.serving.specs.Serves.{ServeAt, serve_at}
+use Rattle.serving.specs.Serves.{ServeState, serve_at}
 use Rattle.cause_output.specs.Outside.{Telling, telling}
 use Rattle.serving.specs.Serving.{Serving}
 
@@ -33,7 +33,7 @@ abbrev pub daemon_with : List Kid → DaemonState
 daemon_with kids = record { kids = kids; limit = 150; interval = 60 }
 
 -- what the readings answered, for how many seconds a rest was asked, and how often no load could be read
-abbrev pub served_with : World → List Child → ℕ → List Kid → List ℤ → List (Option ℕ) → ℕ → ℕ → ServeAt
+abbrev pub served_with : World → List Child → ℕ → List Kid → List ℤ → List (Option ℕ) → ℕ → ℕ → ServeState
 served_with world children taken kids nows loads rested unread =
     serve_at (host_with children taken) world (daemon_with kids)
     (record { nows = nows; loads = loads; rested = rested }) (record { made_as = []; load_faults = unread })
@@ -53,7 +53,7 @@ abbrev pub minute_later : ℤ
 minute_later = pos 1735689660
 
 -- serving began with a daemon without kids, and ended so: what is served with then, what was printed and said, and the cause
-abbrev pub ServesTwice : World → Bool → ServeAt → List ℕ → List ℕ → Cause → Type 0
+abbrev pub ServesTwice : World → Bool → ServeState → List ℕ → List ℕ → Cause → Type 0
 ServesTwice world once end printed said of =
     Serving known once 2 (served_with world [] 0 [] [] [] 0 0) end (sink []) (sink printed) (sink []) (sink said) of
 

@@ -9,7 +9,7 @@ use Rattle.listing_text.specs.declared.cause.Cause.{Cause}
 use Rattle.listing_text.specs.declared.cause.Cause.TheVariants.{Done, Memory, StillRunning}
 use Rattle.cause_output.specs.Sinks.{SinkAt}
 use Rattle.step_runs.specs.Good.{IsGood}
-use Rattle.serving.specs.Serves.{ServeAt}
+use Rattle.serving.specs.Serves.{ServeState}
 use Rattle.cause_output.specs.Outside.{Telling}
 use Rattle.serving.specs.Serving.{Serving}
 
@@ -27,7 +27,7 @@ IsLastInRange answers = (now : ℤ) (earlier : Answers) → answers ≡ with_now
 -- Where the reading shows a table, no count of files, of taken locks or of the output rose, and the clock's last answer is
 -- in its range, serving is done, or kids are left, or it finds no memory.
 abbrev pub ServingIsDone : Type 0
-ServingIsDone = (tells : Telling) (once : Bool) (turns : ℕ) (old new : ServeAt)
+ServingIsDone = (tells : Telling) (once : Bool) (turns : ℕ) (old new : ServeState)
     (out_old out_new err_old err_new : SinkAt) (cause : Cause) →
     Serving tells once turns old new out_old out_new err_old err_new cause →
     tells.files ≡ true → tells.alone ≡ true → tells.clock ≡ true →

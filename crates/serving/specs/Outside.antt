@@ -9,7 +9,7 @@ use Rattle.host_calls.specs.declared.readings.Readings as readings
 use Rattle.host_calls.specs.declared.sink.Sink as sink
 use Rattle.host_calls.specs.Session.{IsOutside, KeepsCounts, Session}
 use Rattle.listing_text.specs.declared.cause.Cause.{Cause}
-use Rattle.serving.specs.Serves.{ServeAt, serve_at}
+use Rattle.serving.specs.Serves.{ServeState, serve_at}
 use Rattle.serving.specs.Serving.{Serving}
 
 -- no session is on, no child is forgotten, and no count has fallen
@@ -24,7 +24,7 @@ abbrev pub serving_outside : {H R O E : Type 0} → host.Ghosts H → readings.G
 serving_outside h r o e host readings out err = outside_at h r no_inputs o e host readings tt out err
 
 -- what is served with, once the daemon keeps this
-abbrev pub served_at : OutsideAt → DaemonState → ServeAt
+abbrev pub served_at : OutsideAt → DaemonState → ServeState
 served_at at daemon = serve_at at.session at.holds.spool daemon at.holds.answers at.readers
 
 -- How it is served, at most so many turns, and only until no kid is left where that is asked for: the daemon keeps this

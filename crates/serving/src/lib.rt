@@ -10,5 +10,5 @@ mod progress;
 mod serve_loop;
 
 pub use laws::{serving_ends_well, small_servings};
-pub use outcome::Outcome;
+pub use outcome::ServeOutcome;
 pub use serve_loop::{LONGEST_REST, SHORT_REST, serve};

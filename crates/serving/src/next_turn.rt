@@ -4,13 +4,13 @@ ghost use Rattle.cause_output.specs.Sinks.{SinkAt, sink_at};
 ghost use Rattle.cause_output.specs.Ends.{SaysEndOr};
 ghost use Rattle.daemon_turn.specs.Kids.{AreChildren, KeepsChildren};
 ghost use Rattle.host_calls.specs.Session.{IsOutside, KeepsCounts};
-ghost use Rattle.serving.specs.Items.{Item};
+ghost use Rattle.serving.specs.Items.{TurnItem};
 ghost use Rattle.serving.specs.Lines.{daemon_name, step_lines};
-ghost use Rattle.serving.specs.Serves.{ServeAt, serve_at};
+ghost use Rattle.serving.specs.Serves.{ServeState, serve_at};
 ghost use Rattle.cause_output.specs.Outside.{telling};
 ghost use Rattle.serving.specs.inside.Progressing.{HasServed, PrintsMore, Proceeds};
 
-use crate::Outcome;
+use crate::ServeOutcome;
 use crate::outcome_line::DAEMON_NAME;
 use crate::progress::Progress;
 use cause_output::{put_lines, say_end};
@@ -32,7 +32,7 @@ pub(crate) fn next_turn<H: Host, R: Readings, O: Sink, E: Sink>(
     readings: &mut R,
     out: &mut O,
     err: &mut E,
-) -> Option<Outcome>
+) -> Option<ServeOutcome>
     requires outside { IsOutside (H.session host.old) }
     requires children { AreChildren (H.session host.old).children daemon.old.kids }
     ensures outside { IsOutside (H.session host.new) }
@@ -42,7 +42,7 @@ pub(crate) fn next_turn<H: Host, R: Readings, O: Sink, E: Sink>(
     ensures readers_made { (R.readers readings.new).made_as ≡ (R.readers readings.old).made_as }
     ensures out_made { (O.outlet out.new).made_as ≡ (O.outlet out.old).made_as }
     ensures errors_made { (E.outlet err.new).made_as ≡ (E.outlet err.old).made_as }
-    ensures proceeds { (items : List Item) (first : ServeAt) (out_first err_first : SinkAt) →
+    ensures proceeds { (items : List TurnItem) (first : ServeState) (out_first err_first : SinkAt) →
         HasServed (telling H.tells H.alone R.tells false O.tells E.tells) once items progress.old first
         (serve_at (H.session host.old) (H.world host.old) daemon.old (R.answers readings.old) (R.readers readings.old))
         out_first (sink_at (O.content out.old) (O.outlet out.old))
@@ -55,19 +55,19 @@ pub(crate) fn next_turn<H: Host, R: Readings, O: Sink, E: Sink>(
     progress.rest(readings);
     let now = readings.now();
     if !is_clock_second(now) {
-        return Some(Outcome::Own(Cause::Refused(Refusal::BadClock)));
+        return Some(ServeOutcome::Own(Cause::Refused(Refusal::BadClock)));
     }
     let load = readings.load();
     let report = daemon.turn(alloc, host, now, load, progress.mode(once));
-    if !tell(alloc, &report, &mut progress.output_failed, out, err) {
-        return Some(Outcome::Own(Cause::Memory));
+    if !report_turn(alloc, &report, &mut progress.output_failed, out, err) {
+        return Some(ServeOutcome::Own(Cause::Memory));
     }
     progress.add(once, now, &report.end);
     progress.outcome_after(once, &report.end, daemon.kids())
 }
 
 // Prints what a turn did and says how it ended. Answers whether each line found memory.
-fn tell<O: Sink, E: Sink>(
+fn report_turn<O: Sink, E: Sink>(
     alloc: Global,
     report: &TurnReport,
     output_failed: &mut bool,

@@ -2,9 +2,9 @@
 ghost use Rattle.std.specs.Prelude.{◌≡◌};
 ghost use Rattle.cause_output.specs.Sinks.{sink_at};
 ghost use Rattle.serving.specs.Lines.{daemon_name};
-ghost use Rattle.serving.specs.Serving.{SaysOutcome};
+ghost use Rattle.serving.specs.Serving.{SaysServeOutcome};
 
-use crate::Outcome;
+use crate::ServeOutcome;
 use cause_output::say_cause;
 use host_calls::Sink;
 use listing_text::Cause;
@@ -14,13 +14,13 @@ use std::alloc::Global;
 pub(crate) const DAEMON_NAME: &str = "atd";
 
 // Says the last line, and answers the cause. The line of a turn was said after it.
-pub(crate) fn say_outcome<E: Sink>(alloc: Global, outcome: Outcome, err: &mut E) -> Cause
+pub(crate) fn say_serve_outcome<E: Sink>(alloc: Global, outcome: ServeOutcome, err: &mut E) -> Cause
     ensures made_as { (E.outlet err.new).made_as ≡ (E.outlet err.old).made_as }
-    ensures says { SaysOutcome E.tells outcome
+    ensures says { SaysServeOutcome E.tells outcome
         (sink_at (E.content err.old) (E.outlet err.old)) (sink_at (E.content err.new) (E.outlet err.new)) result }
 {
     match outcome {
-        Outcome::OfTurn(cause) => cause,
-        Outcome::Own(cause) => say_cause(alloc, DAEMON_NAME, cause, err),
+        ServeOutcome::OfTurn(cause) => cause,
+        ServeOutcome::Own(cause) => say_cause(alloc, DAEMON_NAME, cause, err),
     }
 }

@@ -4,9 +4,9 @@ ghost use Rattle.clock_range.specs.ClockRange.{IsClockSecond};
 ghost use Rattle.cause_output.specs.Outside.{RestsOn, clock_at};
 ghost use Rattle.serving.specs.Items.{next_rest};
 ghost use Rattle.serving.specs.Outcomes.{end_outcome, kids_outcome, output_outcome, turns_outcome};
-ghost use Rattle.serving.specs.inside.Progressing.{first_or, mode_by, outcome_if, rest_if};
+ghost use Rattle.serving.specs.inside.Progressing.{first_end_or, mode_by, outcome_if, rest_if};
 
-use crate::Outcome;
+use crate::ServeOutcome;
 use crate::serve_loop::{LONGEST_REST, SHORT_REST};
 use daemon_turn::{Kid, Mode, TurnEnd};
 use host_calls::Readings;
@@ -58,20 +58,25 @@ impl Progress {
     // One turn more was made.
     pub(crate) fn add(&mut self, once: bool, now: i64, end: &TurnEnd)
         requires { IsClockSecond now }
-        ensures first { self.new.first ≡ first_or self.old.first end.now }
+        ensures first { self.new.first ≡ first_end_or self.old.first end.now }
         ensures rest { self.new.rest ≡ next_rest once end.now now }
         ensures output_failed { self.new.output_failed ≡ self.old.output_failed }
     {
-        self.first = first_or(&self.first, end);
+        self.first = first_end_or(&self.first, end);
         self.rest = next_rest(once, end, now);
     }
 
     // What serving comes to after a turn that ended so, if no further one is made.
-    pub(crate) fn outcome_after(&self, once: bool, end: &TurnEnd, kids: &[Kid]) -> Option<Outcome>
+    pub(crate) fn outcome_after(
+        &self,
+        once: bool,
+        end: &TurnEnd,
+        kids: &[Kid],
+    ) -> Option<ServeOutcome>
         ensures { result ≡ outcome_if once end.now self.now.first kids.now self.now.output_failed }
     {
         if let TurnEnd::Damaged(damage) = end {
-            return Some(Outcome::OfTurn(Cause::Damaged(*damage)));
+            return Some(ServeOutcome::OfTurn(Cause::Damaged(*damage)));
         }
         if once && kids.is_empty() {
             Some(self.outcome(once, kids))
@@ -81,7 +86,7 @@ impl Progress {
     }
 
     // What serving comes to where all turns are made.
-    pub(crate) fn outcome(&self, once: bool, kids: &[Kid]) -> Outcome
+    pub(crate) fn outcome(&self, once: bool, kids: &[Kid]) -> ServeOutcome
         ensures { result ≡ turns_outcome once self.now.first kids.now self.now.output_failed }
     {
         if !once {
@@ -96,8 +101,8 @@ impl Progress {
 }
 
 // The end of the first turn, once one more ended so.
-fn first_or(first: &Option<TurnEnd>, end: &TurnEnd) -> Option<TurnEnd>
-    ensures { result ≡ first_or first.now end.now }
+fn first_end_or(first: &Option<TurnEnd>, end: &TurnEnd) -> Option<TurnEnd>
+    ensures { result ≡ first_end_or first.now end.now }
 {
     match first {
         Some(first) => Some(*first),
@@ -123,35 +128,35 @@ fn next_rest(once: bool, end: &TurnEnd, now: i64) -> u32
 }
 
 // The output failed, or all was done.
-fn output_outcome(output_failed: bool) -> Outcome
+fn output_outcome(output_failed: bool) -> ServeOutcome
     ensures { result ≡ output_outcome output_failed }
 {
     if output_failed {
-        Outcome::Own(Cause::OutputFault)
+        ServeOutcome::Own(Cause::OutputFault)
     } else {
-        Outcome::Own(Cause::Done)
+        ServeOutcome::Own(Cause::Done)
     }
 }
 
 // Kids that are left come before that.
-fn kids_outcome(kids: &[Kid], output_failed: bool) -> Outcome
+fn kids_outcome(kids: &[Kid], output_failed: bool) -> ServeOutcome
     ensures { result ≡ kids_outcome kids.now output_failed }
 {
     match kids {
         [] => output_outcome(output_failed),
-        [..] => Outcome::Own(Cause::StillRunning),
+        [..] => ServeOutcome::Own(Cause::StillRunning),
     }
 }
 
 // What a turn ended with, unless it was done.
-fn end_outcome(end: &TurnEnd, other: Outcome) -> Outcome
+fn end_outcome(end: &TurnEnd, other: ServeOutcome) -> ServeOutcome
     ensures { result ≡ end_outcome end.now other }
 {
     match end {
         TurnEnd::Done => other,
-        TurnEnd::Busy => Outcome::OfTurn(Cause::Busy),
-        TurnEnd::FileFault => Outcome::OfTurn(Cause::FileFault),
-        TurnEnd::Damaged(damage) => Outcome::OfTurn(Cause::Damaged(*damage)),
-        TurnEnd::Memory => Outcome::OfTurn(Cause::Memory),
+        TurnEnd::Busy => ServeOutcome::OfTurn(Cause::Busy),
+        TurnEnd::FileFault => ServeOutcome::OfTurn(Cause::FileFault),
+        TurnEnd::Damaged(damage) => ServeOutcome::OfTurn(Cause::Damaged(*damage)),
+        TurnEnd::Memory => ServeOutcome::OfTurn(Cause::Memory),
     }
 }

@@ -9,9 +9,9 @@ ghost use Rattle.serving.specs.Serves.{serve_at};
 ghost use Rattle.cause_output.specs.Outside.{telling};
 ghost use Rattle.serving.specs.inside.Progressing.{HasEnded};
 
-use crate::Outcome;
+use crate::ServeOutcome;
 use crate::next_turn::next_turn;
-use crate::outcome_line::say_outcome;
+use crate::outcome_line::say_serve_outcome;
 use crate::progress::Progress;
 use daemon_turn::Daemon;
 use host_calls::{Host, Readings, Sink};
@@ -60,7 +60,7 @@ pub fn serve<H: Host, R: Readings, O: Sink, E: Sink>(
         (serving_outside H.Host R.Readings O.Sink E.Sink host.new readings.new out.new err.new) }
 {
     let outcome = make_turns(alloc, daemon, turns, once, host, readings, out, err);
-    Status::of(say_outcome(alloc, outcome, err))
+    Status::of(say_serve_outcome(alloc, outcome, err))
 }
 
 // Makes turns until one ends it or all are made. Answers what it comes to.
@@ -73,7 +73,7 @@ fn make_turns<H: Host, R: Readings, O: Sink, E: Sink>(
     readings: &mut R,
     out: &mut O,
     err: &mut E,
-) -> Outcome
+) -> ServeOutcome
     requires outside { IsOutside (H.session host.old) }
     requires children { AreChildren (H.session host.old).children daemon.old.kids }
     ensures outside { IsOutside (H.session host.new) }

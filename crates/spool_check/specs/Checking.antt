@@ -14,21 +14,21 @@ use Rattle.listing_text.specs.declared.refusal.Refusal.{Refusal}
 use Rattle.listing_text.specs.declared.refusal.Refusal.TheVariants.{TargetNotEmpty}
 use Rattle.spool_faults.specs.Faults.{faults_of}
 use Rattle.spool_faults.specs.Listed.{LeavesFolder}
-use Rattle.spool_salvage.specs.Salvaging.{HasSalvage, IsRefused, IsSalvaging, is_spool}
+use Rattle.spool_salvage.specs.Salvaging.{HasSalvage, IsTargetRefused, IsSalvaging, is_spool}
 use Rattle.whole_file.specs.Others.{ChangesFiles}
 use Rattle.spool_check.specs.Outside.{FoldersAt, Visit}
 use Rattle.spool_check.specs.Telling.{fault_lines}
 
 -- What is put on the output, by the cause: all lines where every fault was told, else a prefix of them.
-abbrev pub PrintsBy : Cause → List ℕ → SinkAt → SinkAt → Type 0
-PrintsBy Done lines old new = IsPut lines old new
-PrintsBy Faulty lines old new = IsPut lines old new
-PrintsBy (Refused refusal) lines old new = IsPut lines old new
-PrintsBy OutputFault lines old new = IsCut lines old new
-PrintsBy FileFault lines old new = IsPutInPart lines old new
-PrintsBy Busy lines old new = IsPutInPart lines old new
-PrintsBy Memory lines old new = IsPutInPart lines old new
-PrintsBy _ lines old new = ⊥
+abbrev pub PrintsFaultsBy : Cause → List ℕ → SinkAt → SinkAt → Type 0
+PrintsFaultsBy Done lines old new = IsPut lines old new
+PrintsFaultsBy Faulty lines old new = IsPut lines old new
+PrintsFaultsBy (Refused refusal) lines old new = IsPut lines old new
+PrintsFaultsBy OutputFault lines old new = IsCut lines old new
+PrintsFaultsBy FileFault lines old new = IsPutInPart lines old new
+PrintsFaultsBy Busy lines old new = IsPutInPart lines old new
+PrintsFaultsBy Memory lines old new = IsPutInPart lines old new
+PrintsFaultsBy _ lines old new = ⊥
 
 -- where all was done there is a fault, or there is none
 abbrev pub FindsBy : Cause → List Damage → Type 0
@@ -43,7 +43,7 @@ pub record IsSalvaged (files : Files) (first last : World) : Type 0 where
 
 -- what a refusal leaves: the new folder is a spool, and was left as it is
 abbrev pub RefusedBy : Refusal → World → World → Type 0
-RefusedBy TargetNotEmpty first last = IsRefused first last
+RefusedBy TargetNotEmpty first last = IsTargetRefused first last
 RefusedBy _ first last = ⊥
 
 -- what is left in the new folder, by the cause
@@ -65,15 +65,15 @@ pub record Writes (files : Files) (old new : FolderAt) (cause : Cause) : Type 0 
   pub by : old.tells ≡ true → WritesBy cause files visit.first visit.last
 
 -- the causes for which the checker may end; a new folder that is a spool is refused only where it salvages
-abbrev pub MayEnd : Bool → Cause → Type 0
-MayEnd salvage Done = Unit {0}
-MayEnd salvage Faulty = Unit {0}
-MayEnd salvage FileFault = Unit {0}
-MayEnd salvage OutputFault = Unit {0}
-MayEnd salvage Busy = Unit {0}
-MayEnd salvage Memory = Unit {0}
-MayEnd salvage (Refused TargetNotEmpty) = salvage ≡ true
-MayEnd salvage _ = ⊥
+abbrev pub MayEndCheck : Bool → Cause → Type 0
+MayEndCheck salvage Done = Unit {0}
+MayEndCheck salvage Faulty = Unit {0}
+MayEndCheck salvage FileFault = Unit {0}
+MayEndCheck salvage OutputFault = Unit {0}
+MayEndCheck salvage Busy = Unit {0}
+MayEndCheck salvage Memory = Unit {0}
+MayEndCheck salvage (Refused TargetNotEmpty) = salvage ≡ true
+MayEndCheck salvage _ = ⊥
 
 -- without a salvage the new folder is left alone
 abbrev pub WritesWhere : Bool → Bool → Files → FolderAt → FolderAt → Cause → Type 0
@@ -83,9 +83,9 @@ WritesWhere true tells files old new cause = tells ≡ true → Writes files old
 -- What was done within a visit of the folder that is checked. It is left as it was, its faults are told, and the new folder is written.
 pub record Checks (salvage tells : Bool) (first last : World) (to_old to_new : FolderAt) (was is : StreamAt) (cause : Cause) : Type 0 where
   pub leaves : tells ≡ true → LeavesFolder first last
-  pub prints : tells ≡ true → was.tells ≡ true → PrintsBy cause (fault_lines (faults_of (reading first))) was.sink is.sink
+  pub prints : tells ≡ true → was.tells ≡ true → PrintsFaultsBy cause (fault_lines (faults_of (reading first))) was.sink is.sink
   pub finds : tells ≡ true → FindsBy cause (faults_of (reading first))
-  pub may_end : MayEnd salvage cause
+  pub may_end : MayEndCheck salvage cause
   pub writes : WritesWhere salvage tells (reading first) to_old to_new cause
 
 -- Such a visit, of the folder that is checked.
@@ -95,12 +95,12 @@ pub record IsChecked (salvage : Bool) (old new : FoldersAt) (cause : Cause) : Ty
 
 -- What was done, by what the words ask for. Where they ask for nothing nothing was touched, and the cause says so, unless no
 -- memory was found to read them.
-abbrev pub Does : Result Bool WordsFault → FoldersAt → FoldersAt → Cause → Type 0
-Does (Ok salvage) old new cause = IsChecked salvage old new cause
-Does (Err fault) old new cause = (new ≡ old) × ((cause ≡ words_cause fault) ⊎ (cause ≡ Memory))
+abbrev pub ChecksAsRequested : Result Bool WordsFault → FoldersAt → FoldersAt → Cause → Type 0
+ChecksAsRequested (Ok salvage) old new cause = IsChecked salvage old new cause
+ChecksAsRequested (Err fault) old new cause = (new ≡ old) × ((cause ≡ words_cause fault) ⊎ (cause ≡ Memory))
 
 -- How the checker ends: what it did, and the line of its cause, which is said under its name.
-pub record Ends (asked : Result Bool WordsFault) (old new : FoldersAt) (err_old err_new : StreamAt) (final : Cause) : Type 0 where
+pub record CheckEnds (asked : Result Bool WordsFault) (old new : FoldersAt) (err_old err_new : StreamAt) (final : Cause) : Type 0 where
   pub cause : Cause
-  pub does : Does asked old new cause
+  pub does : ChecksAsRequested asked old new cause
   pub says : IsSaid (codes "atcheck") err_old.tells cause err_old.sink err_new.sink final

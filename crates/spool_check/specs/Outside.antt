@@ -4,7 +4,7 @@ use Rattle.cause_output.specs.Outside.{FolderAt, StreamAt, folder_at, stream_at}
 use Rattle.host_calls.specs.Causes.{Rose}
 use Rattle.host_calls.specs.declared.host.Host as host
 use Rattle.host_calls.specs.declared.sink.Sink as sink
-use Rattle.host_calls.specs.World.{GoesOn, World}
+use Rattle.host_calls.specs.World.{TimePasses, World}
 use Rattle.listing_text.specs.declared.cause.Cause.{Cause}
 use Rattle.listing_text.specs.declared.cause.Cause.TheVariants.{Busy, FileFault, OutputFault}
 
@@ -25,8 +25,8 @@ folders_at h g o from to out = handed (folder_at h from) (folder_at g to) (strea
 pub record Visit (old new : FolderAt) : Type 0 where
   pub first : World
   pub last : World
-  pub begun : old.tells ≡ true → GoesOn old.world first
-  pub over : old.tells ≡ true → GoesOn last new.world
+  pub begun : old.tells ≡ true → TimePasses old.world first
+  pub over : old.tells ≡ true → TimePasses last new.world
   pub alone : old.tells ≡ true → old.alone ≡ true → (first ≡ old.world) × (last ≡ new.world)
 
 -- A fault of a file, or a lock that was taken, comes only where the count of the one folder or the other rose, and a

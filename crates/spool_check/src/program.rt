@@ -4,14 +4,14 @@ ghost use Rattle.cause_output.specs.Outside.{FolderAt, folder_at, stream_at};
 ghost use Rattle.cause_output.specs.Sinks.{sink_at};
 ghost use Rattle.host_calls.specs.Session.{IsLeft, IsOutside};
 ghost use Rattle.listing_text.specs.Cause.{status_of};
-ghost use Rattle.spool_check.specs.Checking.{Does, Ends, IsChecked};
-ghost use Rattle.spool_check.specs.inside.Looking.{Tells, cause_by};
+ghost use Rattle.spool_check.specs.Checking.{ChecksAsRequested, CheckEnds, IsChecked};
+ghost use Rattle.spool_check.specs.inside.Looking.{ReportsFaults, cause_by};
 ghost use Rattle.spool_check.specs.Outside.{HasRisenInEither, handed, folders_at};
 ghost use Rattle.spool_check.specs.Words.{check_asked};
 
 use crate::look::look;
 use crate::save::check_and_save;
-use crate::tell::tell;
+use crate::tell::report_faults;
 use crate::words::asks_to_salvage;
 use cause_output::{CommandError, cause_of_words, say_cause};
 use host_calls::{Damage, Host, Sink};
@@ -40,17 +40,17 @@ pub fn check_program<H: Host, G: Host, O: Sink, E: Sink>(
     ensures err_made { (E.outlet err.new).made_as ≡ (E.outlet err.old).made_as }
     ensures risen { HasRisenInEither (folders_at H.Host G.Host O.Sink from.old to.old out.old)
         (folders_at H.Host G.Host O.Sink from.new to.new out.new) result.cause }
-    ensures ends { Ends (check_asked (map string_bytes words.now))
+    ensures ends { CheckEnds (check_asked (map string_bytes words.now))
         (folders_at H.Host G.Host O.Sink from.old to.old out.old)
         (folders_at H.Host G.Host O.Sink from.new to.new out.new)
         (stream_at E.Sink err.old) (stream_at E.Sink err.new) result.cause }
 {
-    let cause = carry_out(alloc, words, from, to, out);
+    let cause = check_by_words(alloc, words, from, to, out);
     Status::of(say_cause(alloc, TOOL, cause, err))
 }
 
 // Does what the words ask for. The line of the cause is still to be said.
-fn carry_out<H: Host, G: Host, O: Sink>(
+fn check_by_words<H: Host, G: Host, O: Sink>(
     alloc: Global,
     words: &[String],
     from: &mut H,
@@ -64,17 +64,17 @@ fn carry_out<H: Host, G: Host, O: Sink>(
     ensures made_as { (O.outlet out.new).made_as ≡ (O.outlet out.old).made_as }
     ensures risen { HasRisenInEither (folders_at H.Host G.Host O.Sink from.old to.old out.old)
         (folders_at H.Host G.Host O.Sink from.new to.new out.new) result }
-    ensures does { Does (check_asked (map string_bytes words.now))
+    ensures does { ChecksAsRequested (check_asked (map string_bytes words.now))
         (folders_at H.Host G.Host O.Sink from.old to.old out.old)
         (folders_at H.Host G.Host O.Sink from.new to.new out.new) result }
 {
     match asks_to_salvage(alloc, words) {
-        Ok(salvage) => check(alloc, salvage, from, to, out),
+        Ok(salvage) => check_folder(alloc, salvage, from, to, out),
         Err(fault) => cause_of_words(fault),
     }
 }
 
-fn check<H: Host, G: Host, O: Sink>(
+fn check_folder<H: Host, G: Host, O: Sink>(
     alloc: Global,
     salvage: bool,
     from: &mut H,
@@ -92,13 +92,13 @@ fn check<H: Host, G: Host, O: Sink>(
         (folders_at H.Host G.Host O.Sink from.new to.new out.new) result }
 {
     if salvage {
-        cause_of(check_and_save(alloc, from, to, out))
+        cause_of_check(check_and_save(alloc, from, to, out))
     } else {
-        cause_of(list(alloc, from, out))
+        cause_of_check(list_faults(alloc, from, out))
     }
 }
 
-fn cause_of(ended: Result<Cause, CommandError>) -> Cause
+fn cause_of_check(ended: Result<Cause, CommandError>) -> Cause
     ensures { result ≡ cause_by ended }
 {
     match ended {
@@ -108,7 +108,11 @@ fn cause_of(ended: Result<Cause, CommandError>) -> Cause
 }
 
 // Tells the faults of the folder. Its session is over before the lines are put: a slow reader holds no lock.
-fn list<H: Host, O: Sink>(alloc: Global, from: &mut H, out: &mut O) -> Result<Cause, CommandError>
+fn list_faults<H: Host, O: Sink>(
+    alloc: Global,
+    from: &mut H,
+    out: &mut O,
+) -> Result<Cause, CommandError>
     requires { IsOutside (H.session from.old) }
     ensures left { IsLeft (H.session from.old) (H.session from.new) }
     ensures made_as { (O.outlet out.new).made_as ≡ (O.outlet out.old).made_as }
@@ -132,8 +136,8 @@ fn tell_outside<H: Host, O: Sink>(
 ) -> Result<Cause, CommandError>
     requires { IsOutside (H.session from.now) }
     ensures made_as { (O.outlet out.new).made_as ≡ (O.outlet out.old).made_as }
-    ensures tells { Tells O.tells faults.now
+    ensures tells { ReportsFaults O.tells faults.now
         (sink_at (O.content out.old) (O.outlet out.old)) (sink_at (O.content out.new) (O.outlet out.new)) result }
 {
-    tell(alloc, faults, out)
+    report_faults(alloc, faults, out)
 }

@@ -5,16 +5,16 @@ ghost use Rattle.cause_output.specs.Causes.{cause_in, error_of};
 ghost use Rattle.host_calls.specs.Session.{IsInside, IsLeft, IsOutside, StaysInside};
 ghost use Rattle.host_calls.specs.World.{reading};
 ghost use Rattle.spool_check.specs.Checking.{Checks, IsChecked, Writes};
-ghost use Rattle.spool_check.specs.inside.Looking.{IsOfSaving, RisesOfBoth, cause_by, salvage_cause};
+ghost use Rattle.spool_check.specs.inside.Looking.{IsSalvageCause, RisesOfBoth, cause_by, salvage_cause};
 ghost use Rattle.spool_check.specs.Outside.{HasRisenInEither, folders_at};
 ghost use Rattle.spool_faults.specs.Plan.{IsPlanOf};
 
-use crate::tell::tell;
+use crate::tell::report_faults;
 use cause_output::CommandError;
 use host_calls::{Host, Sink};
 use listing_text::{Cause, Refusal};
-use spool_faults::{Plan, take_survey};
-use spool_salvage::{SalvageFault, fill};
+use spool_faults::{SalvagePlan, diagnose};
+use spool_salvage::{SalvageFault, fill_target};
 use std::alloc::Global;
 
 // Tells the faults of the folder, and then writes what is saved of it into the new one. The lines come first, so that
@@ -59,8 +59,8 @@ fn tell_and_save<H: Host, G: Host, O: Sink>(
         (folder_at G.Host to.old) (folder_at G.Host to.new)
         (stream_at O.Sink out.old) (stream_at O.Sink out.new) (cause_by result) }
 {
-    let found = take_survey(alloc, from)?;
-    let verdict = tell(alloc, found.faults.as_slice(), out)?;
+    let found = diagnose(alloc, from)?;
+    let verdict = report_faults(alloc, found.faults.as_slice(), out)?;
     save(alloc, from, to, &found.plan)?;
     Ok(verdict)
 }
@@ -70,7 +70,7 @@ fn save<H: Host, G: Host>(
     alloc: Global,
     from: &mut H,
     to: &mut G,
-    plan: &Plan,
+    plan: &SalvagePlan,
 ) -> Result<(), CommandError>
     requires from { IsInside (H.session from.old) }
     requires to { IsOutside (G.session to.old) }
@@ -79,22 +79,22 @@ fn save<H: Host, G: Host>(
     ensures from { StaysInside (H.session from.old) (H.session from.new) }
     ensures to { IsLeft (G.session to.old) (G.session to.new) }
     ensures looks { IsTrue H.tells → H.world from.new ≡ H.world from.old }
-    ensures comes { IfErr result (λ stopped. IsOfSaving stopped.cause) }
+    ensures comes { IfErr result (λ stopped. IsSalvageCause stopped.cause) }
     ensures rises { RisesOfBoth (H.session from.old) (H.session from.new)
         (G.session to.old) (G.session to.new) (cause_in result) }
     ensures saves { IsTrue H.tells → Writes (reading (H.world from.old))
         (folder_at G.Host to.old) (folder_at G.Host to.new) (cause_in result) }
 {
     to.enter(alloc)?;
-    let filled = fill(alloc, from, to, plan);
+    let filled = fill_target(alloc, from, to, plan);
     to.leave();
     match filled {
         Ok(()) => Ok(()),
-        Err(fault) => Err(stopped_by(fault)),
+        Err(fault) => Err(error_of_salvage(fault)),
     }
 }
 
-fn stopped_by(fault: SalvageFault) -> CommandError
+fn error_of_salvage(fault: SalvageFault) -> CommandError
     ensures { result ≡ error_of (salvage_cause fault) }
 {
     let cause = match fault {

@@ -1,10 +1,10 @@
 //! Telling the faults of a folder.
 ghost use Rattle.std.specs.Prelude.{◌≡◌};
-ghost use Rattle.cause_output.specs.Putting.{PutsLines, lines_of};
+ghost use Rattle.cause_output.specs.Putting.{PutsLines, joined_lines};
 ghost use Rattle.cause_output.specs.Sinks.{sink_at};
 ghost use Rattle.listing_text.specs.Cause.{fault_line_of};
-ghost use Rattle.spool_check.specs.inside.Looking.{Tells};
-ghost use Rattle.spool_check.specs.Telling.{verdict_of};
+ghost use Rattle.spool_check.specs.inside.Looking.{ReportsFaults};
+ghost use Rattle.spool_check.specs.Telling.{cause_of_faults};
 
 use cause_output::CommandError;
 use host_calls::{Damage, Sink, SinkFault};
@@ -12,13 +12,13 @@ use listing_text::{Cause, fault_line};
 use std::alloc::Global;
 
 // Puts the line of each fault, and answers whether there is one.
-pub(crate) fn tell<O: Sink>(
+pub(crate) fn report_faults<O: Sink>(
     alloc: Global,
     faults: &[Damage],
     out: &mut O,
 ) -> Result<Cause, CommandError>
     ensures made_as { (O.outlet out.new).made_as ≡ (O.outlet out.old).made_as }
-    ensures tells { Tells O.tells faults.now
+    ensures tells { ReportsFaults O.tells faults.now
         (sink_at (O.content out.old) (O.outlet out.old)) (sink_at (O.content out.new) (O.outlet out.new)) result }
 {
     put_faults(alloc, faults, out)?;
@@ -26,7 +26,7 @@ pub(crate) fn tell<O: Sink>(
 }
 
 fn verdict(faults: &[Damage]) -> Cause
-    ensures { result ≡ verdict_of faults.now }
+    ensures { result ≡ cause_of_faults faults.now }
 {
     if faults.is_empty() {
         Cause::Done
@@ -38,7 +38,7 @@ fn verdict(faults: &[Damage]) -> Cause
 // Puts the lines of the faults, in order, up to one that could not be put.
 fn put_faults<O: Sink>(alloc: Global, faults: &[Damage], out: &mut O) -> Result<(), SinkFault>
     ensures made_as { (O.outlet out.new).made_as ≡ (O.outlet out.old).made_as }
-    ensures puts { PutsLines O.tells (lines_of fault_line_of faults.now)
+    ensures puts { PutsLines O.tells (joined_lines fault_line_of faults.now)
         (sink_at (O.content out.old) (O.outlet out.old)) (sink_at (O.content out.new) (O.outlet out.new)) result }
 {
     for fault in faults {

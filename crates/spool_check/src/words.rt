@@ -15,12 +15,12 @@ pub(crate) fn asks_to_salvage(alloc: Global, words: &[String]) -> Result<bool, W
     if words.is_empty() {
         return Err(WordsFault::Usage);
     }
-    let command = command(alloc)?;
+    let command = check_command(alloc)?;
     let matches = parsed(command, words)?;
     Ok(has_flag(&matches, "salvage"))
 }
 
-fn command<'a>(alloc: Global) -> Result<Command<'a>, AllocError>
+fn check_command<'a>(alloc: Global) -> Result<Command<'a>, AllocError>
     ensures { IfOk result (λ made. app_of made ≡ check_app) }
 {
     with_long_flag(alloc, bare_command(alloc, "atcheck"), "salvage")

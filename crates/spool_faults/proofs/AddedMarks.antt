@@ -21,18 +21,18 @@ use Rattle.spool_shows.proofs.Membership.{Has, any_passes, filtered_has, given_h
 use Rattle.start_journal.specs.declared.mark.Mark.{Mark}
 use Rattle.start_journal.specs.declared.mark.Mark.TheVariants.{Removed, Started, Ended, Interrupted, Forgotten, Batch}
 use Rattle.start_journal.specs.Journals.{are_sound, is_legal_after}
-use Rattle.start_journal.specs.Marks.{AreLegalAfter, IsLegalAfter, decides, ends, is_decided, is_ended, is_named, is_started, names, starts}
+use Rattle.start_journal.specs.Marks.{AreLegalMarksAfter, IsLegalAfter, decides, is_end_of, is_decided, is_ended, has_mark_of, has_start_of, is_mark_of, is_start_of}
 use Rattle.start_journal.specs.SlotBytes.{can_write}
 use Rattle.start_journal.specs.Taken.{journal_faults, marks_taken}
 use Rattle.start_journal.proofs.LifeLemmas.{ends_decides, none_narrower}
 use Rattle.start_journal.proofs.MarkLemmas.{ends_names}
 use Rattle.start_journal.proofs.ReadLemmas.{IsSound, legal_list, sound_is, sound_more, sound_tested}
 use Rattle.spool_faults.specs.Faults.{files_taken, first_files, has_header}
-use Rattle.spool_faults.specs.Salvaged.{given_up, is_unnamed, loses_marks, marks_with, removal, saved_marks, taken_back}
+use Rattle.spool_faults.specs.Salvaged.{given_up, is_unnamed, loses_marks, marks_with, removal_mark, saved_marks, taken_back}
 use Rattle.spool_faults.proofs.SavedMarks.{taken_sound}
 
 -- each mark is legal after those before it
-legal_at : (start before later : List Mark) (mark : Mark) → AreLegalAfter start (before ++ mark ∷ later) → IsLegalAfter (start ++ before) mark
+legal_at : (start before later : List Mark) (mark : Mark) → AreLegalMarksAfter start (before ++ mark ∷ later) → IsLegalAfter (start ++ before) mark
 legal_at start [] later mark legal = subst (λ list. IsLegalAfter list mark) (sym (append-nil start)) legal.0
 legal_at start (first ∷ before) later mark legal = subst (λ list. IsLegalAfter list mark) (append_assoc start (first ∷ []) before) (legal_at (start ++ first ∷ []) before later mark legal.1)
 
@@ -75,16 +75,16 @@ is_given_up all files (Started number queue second) other is = by_test (is_decid
   by_test false undecided given = by_damage (start_damage 0 queue (file_of number files)) undecided given
 
 -- no mark that is given up names a number that no mark names
-none_given_up : (all : List Mark) (files : List JobFile) (number : ℕ) (marks : List Mark) → is_named number marks ≡ false → is_named number (filter_map (given_up all files) marks) ≡ false
+none_given_up : (all : List Mark) (files : List JobFile) (number : ℕ) (marks : List Mark) → has_mark_of number marks ≡ false → has_mark_of number (filter_map (given_up all files) marks) ≡ false
 none_given_up all files number [] none = refl
 none_given_up all files number (mark ∷ later) none =
-    let parts : (names number mark ≡ false) × (is_named number later ≡ false) = or_parts _ _ none in
+    let parts : (is_mark_of number mark ≡ false) × (has_mark_of number later ≡ false) = or_parts _ _ none in
     by_given (given_up all files mark) refl parts.0 (none_given_up all files number later parts.1) where
-      by_given : (given : Option Mark) → given_up all files mark ≡ given → names number mark ≡ false → is_named number (filter_map (given_up all files) later) ≡ false → is_named number (cons_option given (filter_map (given_up all files) later)) ≡ false
+      by_given : (given : Option Mark) → given_up all files mark ≡ given → is_mark_of number mark ≡ false → has_mark_of number (filter_map (given_up all files) later) ≡ false → has_mark_of number (cons_option given (filter_map (given_up all files) later)) ≡ false
       by_given None is unnamed rest = rest
       by_given (Some other) is unnamed rest =
           let from = is_given_up all files mark other is in
-          or_from _ _ (ap (names number) from.gives ∙ sym (ap (names number) from.started) ∙ unnamed) rest
+          or_from _ _ (ap (is_mark_of number) from.gives ∙ sym (ap (is_mark_of number) from.started) ∙ unnamed) rest
 
 -- a start that is given up may be interrupted after those before it
 one_given_up : (all : List Mark) (files : List JobFile) (before later : List Mark) (mark : Mark) → before ++ mark ∷ later ≡ all → IsSound all
@@ -100,13 +100,13 @@ one_given_up all files before later mark is sound so_far =
           let from = is_given_up all files mark other gives in
           let has : Has all (Started from.number from.queue from.second) = subst (λ m. Has all m) from.started has_mark in
           let same_all : before ++ Started from.number from.queue from.second ∷ later ≡ all = ap (λ m. before ++ m ∷ later) (sym from.started) ∙ is in
-          let new : is_named from.number before ≡ false = legal_at [] before later (Started from.number from.queue from.second) (subst (λ list. AreLegalAfter [] list) (sym same_all) (legal_list [] all sound.legal)) in
-          let starts_it : starts from.number (Started from.number from.queue from.second) ≡ true = by_same from.number in
-          let started : is_started from.number (all ++ filter_map (given_up all files) before) ≡ true = any_passes (starts from.number) (all ++ filter_map (given_up all files) before) (Started from.number from.queue from.second) (has_left all (filter_map (given_up all files) before) (Started from.number from.queue from.second) has) starts_it in
-          let not_ended_all : is_ended from.number all ≡ false = none_narrower (ends from.number) (decides from.number) all (ends_decides from.number) from.undecided in
-          let not_ended_earlier : is_ended from.number (filter_map (given_up all files) before) ≡ false = none_narrower (ends from.number) (names from.number) (filter_map (given_up all files) before) (ends_names from.number) (none_given_up all files from.number before new) in
-          let not_ended : is_ended from.number (all ++ filter_map (given_up all files) before) ≡ false = list_any-append (ends from.number) all (filter_map (given_up all files) before) ∙ or_from (is_ended from.number all) (is_ended from.number (filter_map (given_up all files) before)) not_ended_all not_ended_earlier in
-          let legal : is_legal_after (all ++ filter_map (given_up all files) before) (Interrupted from.number) ≡ true = and_from (is_started from.number (all ++ filter_map (given_up all files) before)) (not (is_ended from.number (all ++ filter_map (given_up all files) before))) started (ap not not_ended) in
+          let new : has_mark_of from.number before ≡ false = legal_at [] before later (Started from.number from.queue from.second) (subst (λ list. AreLegalMarksAfter [] list) (sym same_all) (legal_list [] all sound.legal)) in
+          let starts_it : is_start_of from.number (Started from.number from.queue from.second) ≡ true = by_same from.number in
+          let started : has_start_of from.number (all ++ filter_map (given_up all files) before) ≡ true = any_passes (is_start_of from.number) (all ++ filter_map (given_up all files) before) (Started from.number from.queue from.second) (has_left all (filter_map (given_up all files) before) (Started from.number from.queue from.second) has) starts_it in
+          let not_ended_all : is_ended from.number all ≡ false = none_narrower (is_end_of from.number) (decides from.number) all (ends_decides from.number) from.undecided in
+          let not_ended_earlier : is_ended from.number (filter_map (given_up all files) before) ≡ false = none_narrower (is_end_of from.number) (is_mark_of from.number) (filter_map (given_up all files) before) (ends_names from.number) (none_given_up all files from.number before new) in
+          let not_ended : is_ended from.number (all ++ filter_map (given_up all files) before) ≡ false = list_any-append (is_end_of from.number) all (filter_map (given_up all files) before) ∙ or_from (is_ended from.number all) (is_ended from.number (filter_map (given_up all files) before)) not_ended_all not_ended_earlier in
+          let legal : is_legal_after (all ++ filter_map (given_up all files) before) (Interrupted from.number) ≡ true = and_from (has_start_of from.number (all ++ filter_map (given_up all files) before)) (not (is_ended from.number (all ++ filter_map (given_up all files) before))) started (ap not not_ended) in
           let written : can_write (Started from.number from.queue from.second) ≡ true = passes_all can_write all (Started from.number from.queue from.second) sound.writable has in
           let writable : can_write (Interrupted from.number) ≡ true = (and_parts (nat_le 1 from.number) (is_ascii_alphabetic from.queue) (and_parts (nat_le 1 from.number && is_ascii_alphabetic from.queue) (is_clock_second from.second) written).0).0 in
           subst (λ m. IsSound (all ++ (filter_map (given_up all files) before ++ m ∷ []))) (sym from.gives)
@@ -123,7 +123,7 @@ interrupted_sound all files before (mark ∷ later) is sound so_far =
 
 -- The numbers that the first list does not name and that stand not among these are not named in the second one.
 abbrev NamesOnly : List Mark → List ℕ → List Mark → Type 0
-NamesOnly all before base = (number : ℕ) → list_any (λ one. one == number) before ≡ false → is_named number all ≡ false → is_named number base ≡ false
+NamesOnly all before base = (number : ℕ) → list_any (λ one. one == number) before ≡ false → has_mark_of number all ≡ false → has_mark_of number base ≡ false
 
 -- the files have numbers that can be written
 abbrev HaveNumbers : List JobFile → Type 0
@@ -131,7 +131,7 @@ HaveNumbers files = (file : JobFile) → Has files file → nat_le 1 file.job.nu
 
 -- a job that no mark names may be taken back after those before it
 removed_sound : (all : List Mark) (before : List ℕ) (files : List JobFile) (base : List Mark) → IsSound base → NamesOnly all before base → HaveNumbers files
-    → IsSound (base ++ map removal (filter (is_unnamed all) (first_files before files)))
+    → IsSound (base ++ map removal_mark (filter (is_unnamed all) (first_files before files)))
 removed_sound all before [] base sound only numbers = subst IsSound (sym (append-nil base)) sound
 removed_sound all before (file ∷ later) base sound only numbers =
     by_seen (list_any (λ one. one == file.job.number) before) refl
@@ -144,27 +144,27 @@ removed_sound all before (file ∷ later) base sound only numbers =
       with_one : NamesOnly all (file.job.number ∷ before) (base ++ Removed file.job.number ∷ [])
       with_one number new unnamed =
           let parts : ((file.job.number == number) ≡ false) × (list_any (λ one. one == number) before ≡ false) = or_parts (file.job.number == number) (list_any (λ one. one == number) before) new in
-          list_any-append (names number) base (Removed file.job.number ∷ []) ∙ or_from (is_named number base) (is_named number (Removed file.job.number ∷ [])) (only number parts.1 unnamed) (or_from (file.job.number == number) false parts.0 refl)
+          list_any-append (is_mark_of number) base (Removed file.job.number ∷ []) ∙ or_from (has_mark_of number base) (has_mark_of number (Removed file.job.number ∷ [])) (only number parts.1 unnamed) (or_from (file.job.number == number) false parts.0 refl)
 
       later_numbers : HaveNumbers later
       later_numbers other has = numbers other (inr has)
 
-      by_named : (named : Bool) → is_named file.job.number all ≡ named → list_any (λ one. one == file.job.number) before ≡ false
-          → IsSound (base ++ map removal (filter (is_unnamed all) (first_files (file.job.number ∷ before) later)))
-          → (IsSound (base ++ Removed file.job.number ∷ []) → IsSound ((base ++ Removed file.job.number ∷ []) ++ map removal (filter (is_unnamed all) (first_files (file.job.number ∷ before) later))))
-          → IsSound (base ++ map removal (cond (not named) (file ∷ filter (is_unnamed all) (first_files (file.job.number ∷ before) later)) (filter (is_unnamed all) (first_files (file.job.number ∷ before) later))))
+      by_named : (named : Bool) → has_mark_of file.job.number all ≡ named → list_any (λ one. one == file.job.number) before ≡ false
+          → IsSound (base ++ map removal_mark (filter (is_unnamed all) (first_files (file.job.number ∷ before) later)))
+          → (IsSound (base ++ Removed file.job.number ∷ []) → IsSound ((base ++ Removed file.job.number ∷ []) ++ map removal_mark (filter (is_unnamed all) (first_files (file.job.number ∷ before) later))))
+          → IsSound (base ++ map removal_mark (cond (not named) (file ∷ filter (is_unnamed all) (first_files (file.job.number ∷ before) later)) (filter (is_unnamed all) (first_files (file.job.number ∷ before) later))))
       by_named true is new passed taken = passed
       by_named false is new passed taken =
-          subst IsSound (append_assoc base (Removed file.job.number ∷ []) (map removal (filter (is_unnamed all) (first_files (file.job.number ∷ before) later))))
+          subst IsSound (append_assoc base (Removed file.job.number ∷ []) (map removal_mark (filter (is_unnamed all) (first_files (file.job.number ∷ before) later))))
           (taken (sound_more base (Removed file.job.number) sound (ap not (only file.job.number new is)) (numbers file (inl refl))))
 
       by_seen : (seen : Bool) → list_any (λ one. one == file.job.number) before ≡ seen
-          → IsSound (base ++ map removal (filter (is_unnamed all) (first_files before later)))
-          → IsSound (base ++ map removal (filter (is_unnamed all) (first_files (file.job.number ∷ before) later)))
-          → (IsSound (base ++ Removed file.job.number ∷ []) → IsSound ((base ++ Removed file.job.number ∷ []) ++ map removal (filter (is_unnamed all) (first_files (file.job.number ∷ before) later))))
-          → IsSound (base ++ map removal (filter (is_unnamed all) (if seen then first_files before later else file ∷ first_files (file.job.number ∷ before) later)))
+          → IsSound (base ++ map removal_mark (filter (is_unnamed all) (first_files before later)))
+          → IsSound (base ++ map removal_mark (filter (is_unnamed all) (first_files (file.job.number ∷ before) later)))
+          → (IsSound (base ++ Removed file.job.number ∷ []) → IsSound ((base ++ Removed file.job.number ∷ []) ++ map removal_mark (filter (is_unnamed all) (first_files (file.job.number ∷ before) later))))
+          → IsSound (base ++ map removal_mark (filter (is_unnamed all) (if seen then first_files before later else file ∷ first_files (file.job.number ∷ before) later)))
       by_seen true is same passed taken = same
-      by_seen false is same passed taken = by_named (is_named file.job.number all) refl is passed taken
+      by_seen false is same passed taken = by_named (has_mark_of file.job.number all) refl is passed taken
 
 -- a name has a number that can be written
 in_range_number : (new_form : Bool) (queue : ℕ) (number minute : Option ℕ) (job : NamedJob) → job_in_range new_form queue number minute ≡ Some job → nat_le 1 job.number ≡ true
@@ -207,13 +207,13 @@ with_sound marks files lost sound = by_lost lost where
 
   only : NamesOnly marks [] (marks ++ filter_map (given_up marks (files_taken marks files)) marks)
   only number new unnamed =
-      list_any-append (names number) marks (filter_map (given_up marks (files_taken marks files)) marks)
-      ∙ or_from (is_named number marks) (is_named number (filter_map (given_up marks (files_taken marks files)) marks)) unnamed (none_given_up marks (files_taken marks files) number marks unnamed)
+      list_any-append (is_mark_of number) marks (filter_map (given_up marks (files_taken marks files)) marks)
+      ∙ or_from (has_mark_of number marks) (has_mark_of number (filter_map (given_up marks (files_taken marks files)) marks)) unnamed (none_given_up marks (files_taken marks files) number marks unnamed)
 
   by_lost : (is : Bool) → IsSound (marks ++ (filter_map (given_up marks (files_taken marks files)) marks ++ taken_back marks (files_taken marks files) is))
   by_lost false = subst (λ list. IsSound (marks ++ list)) (sym (append-nil (filter_map (given_up marks (files_taken marks files)) marks))) interrupted
   by_lost true =
-      subst IsSound (append_assoc marks (filter_map (given_up marks (files_taken marks files)) marks) (map removal (filter (is_unnamed marks) (files_taken marks files))))
+      subst IsSound (append_assoc marks (filter_map (given_up marks (files_taken marks files)) marks) (map removal_mark (filter (is_unnamed marks) (files_taken marks files))))
       (removed_sound marks [] (filter has_header (job_files marks files)) (marks ++ filter_map (given_up marks (files_taken marks files)) marks) interrupted only (have_numbers marks files))
 
 pub saved_sound : (last : Result ℕ Damage) (journal : Option (List ℕ)) (files : List (List ℕ × List ℕ)) → are_sound (saved_marks last journal files) ≡ true

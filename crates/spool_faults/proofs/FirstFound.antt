@@ -15,7 +15,7 @@ use Rattle.spool_faults.specs.declared.first_files.FirstFile.{FirstFile}
 use Rattle.spool_faults.specs.declared.first_files.FirstFiles.{FirstFiles}
 use Rattle.spool_faults.specs.declared.found_file.FoundFile.{FoundFile}
 use Rattle.spool_faults.specs.Faults.{first_files, has_header}
-use Rattle.spool_faults.specs.inside.Finding.{AreFirst, bare, file_first, file_found, files_found, prefix_of}
+use Rattle.spool_faults.specs.inside.Finding.{AreFirstFiles, bare, file_first, file_found, files_found, prefix_of}
 use Rattle.spool_shows.proofs.CutFiles.{cut, files_cut}
 use Rattle.spool_faults.proofs.CutFiles.{queue_cut, queue_in}
 use Rattle.spool_faults.proofs.JobFaults.{found_take, headed, queues_known, queues_more, queues_same, unheaded}
@@ -66,14 +66,14 @@ queue_there None = refl
 queue_there (Some file) = refl
 
 -- one file more that has no header
-pub first_same : (files : List JobFile) (one : JobFile) (firsts : FirstFiles) → true ≡ is_some (header_fault_in one.bytes (header_in one.bytes)) → AreFirst files firsts → AreFirst (files ++ filter has_header (one ∷ [])) firsts
+pub first_same : (files : List JobFile) (one : JobFile) (firsts : FirstFiles) → true ≡ is_some (header_fault_in one.bytes (header_in one.bytes)) → AreFirstFiles files firsts → AreFirstFiles (files ++ filter has_header (one ∷ [])) firsts
 first_same files one firsts fault are = record {
   queues = queues_same files one firsts.queues fault are.queues;
   files_are = are.files_are ∙ ap (λ list. map bare (first_files [] list)) (sym (unheaded files one fault));
 }
 
 -- one whose number has a file
-pub first_known : (files : List JobFile) (one : JobFile) (firsts : FirstFiles) → false ≡ is_some (header_fault_in one.bytes (header_in one.bytes)) → true ≡ is_some (get nat_cmp firsts.queues one.job.number) → AreFirst files firsts → AreFirst (files ++ filter has_header (one ∷ [])) firsts
+pub first_known : (files : List JobFile) (one : JobFile) (firsts : FirstFiles) → false ≡ is_some (header_fault_in one.bytes (header_in one.bytes)) → true ≡ is_some (get nat_cmp firsts.queues one.job.number) → AreFirstFiles files firsts → AreFirstFiles (files ++ filter has_header (one ∷ [])) firsts
 first_known files one firsts fault known are =
     let seen : is_some (file_of one.job.number files) ≡ true = sym (queue_there (file_of one.job.number files)) ∙ ap is_some (sym (are.queues one.job.number)) ∙ sym known in
     record {
@@ -86,7 +86,7 @@ first_known files one firsts fault known are =
 
 -- one whose number has none yet
 pub first_new : (files : List JobFile) (one : JobFile) (first : FirstFile) (old new : FirstFiles) → false ≡ is_some (header_fault_in one.bytes (header_in one.bytes)) → false ≡ is_some (get nat_cmp old.queues one.job.number) → Updates nat_cmp old.queues new.queues one.job.number (Some one.job.queue)
-    → file_first first ≡ bare one → new.files.items ≡ old.files.items ++ first ∷ [] → AreFirst files old → AreFirst (files ++ filter has_header (one ∷ [])) new
+    → file_first first ≡ bare one → new.files.items ≡ old.files.items ++ first ∷ [] → AreFirstFiles files old → AreFirstFiles (files ++ filter has_header (one ∷ [])) new
 first_new files one first old new fault unknown updates is more are =
     let fresh : is_some (file_of one.job.number files) ≡ false = sym (queue_there (file_of one.job.number files)) ∙ ap is_some (sym (are.queues one.job.number)) ∙ sym unknown in
     record {
@@ -101,16 +101,16 @@ first_new files one first old new fault unknown updates is more are =
           ∙ ap (λ list. map bare (first_files [] list)) (sym (headed files one fault));
     }
 
-pub first_at : (files : List FoundFile) (place : ℕ) (one : FoundFile) (firsts : FirstFiles) → place < length files → one ≡ get_or files place one → AreFirst (filter has_header (files_found (take place files)) ++ filter has_header (file_found one ∷ [])) firsts → AreFirst (filter has_header (files_found (take (place + 1) files))) firsts
+pub first_at : (files : List FoundFile) (place : ℕ) (one : FoundFile) (firsts : FirstFiles) → place < length files → one ≡ get_or files place one → AreFirstFiles (filter has_header (files_found (take place files)) ++ filter has_header (file_found one ∷ [])) firsts → AreFirstFiles (filter has_header (files_found (take (place + 1) files))) firsts
 first_at files place one firsts inside is are =
-    subst (λ list. AreFirst list firsts)
+    subst (λ list. AreFirstFiles list firsts)
     (ap (λ (f : FoundFile). filter has_header (files_found (take place files)) ++ filter has_header (file_found f ∷ [])) is
     ∙ sym (filter-append has_header (files_found (take place files)) (file_found (get_or files place one) ∷ []))
     ∙ ap (filter has_header) (sym (found_take files place one inside)))
     are
 
-pub first_end : (files : List FoundFile) (place : ℕ) (firsts : FirstFiles) → length files ≤ place → AreFirst (filter has_header (files_found (take place files))) firsts → AreFirst (filter has_header (files_found files)) firsts
-first_end files place firsts past are = subst (λ list. AreFirst (filter has_header (files_found list)) firsts) (take_all place files past) are
+pub first_end : (files : List FoundFile) (place : ℕ) (firsts : FirstFiles) → length files ≤ place → AreFirstFiles (filter has_header (files_found (take place files))) firsts → AreFirstFiles (filter has_header (files_found files)) firsts
+first_end files place firsts past are = subst (λ list. AreFirstFiles (filter has_header (files_found list)) firsts) (take_all place files past) are
 
 -- the first bytes of files tell which are the first ones
 bare_cut : (before : List ℕ) (files : List JobFile) → map bare (first_files before (filter has_header (map cut files))) ≡ map bare (first_files before (filter has_header files))
@@ -131,7 +131,7 @@ bare_cut before (file ∷ later) =
       by_test false rest other = rest
 
 -- so the files that are taken of those found are those that are taken
-pub taken_first : (marks : List Mark) (files : List (List ℕ × List ℕ)) (found : List JobFile) (firsts : FirstFiles) → found ≡ job_files marks (map prefix_of files) → AreFirst (filter has_header found) firsts → AreFirst (filter has_header (job_files marks files)) firsts
+pub taken_first : (marks : List Mark) (files : List (List ℕ × List ℕ)) (found : List JobFile) (firsts : FirstFiles) → found ≡ job_files marks (map prefix_of files) → AreFirstFiles (filter has_header found) firsts → AreFirstFiles (filter has_header (job_files marks files)) firsts
 taken_first marks files found firsts is are =
     let cuts : found ≡ map cut (job_files marks files) = is ∙ files_cut marks files in
     record {

@@ -23,7 +23,7 @@ use Rattle.spool_shows.specs.JobFiles.{JobFile, counts, counts_as, file_named, h
 use Rattle.spool_shows.proofs.Membership.{Has}
 use Rattle.spool_shows.proofs.EntryLists.{entry_is_file}
 use Rattle.spool_shows.proofs.ShownEntries.{some_same}
-use Rattle.spool_faults.specs.inside.Finding.{AreDecided, IsCounted, job_of_name, prefix_of}
+use Rattle.spool_faults.specs.inside.Finding.{AreDecidedNumbers, IsCountedName, job_of_name, prefix_of}
 
 -- The place of a header's fault.
 
@@ -50,10 +50,10 @@ no_fault_read bytes has = ap (header_fault_in bytes) ((header_in-some bytes has.
 
 -- Which files count.
 
-pub counted_some : (marks : List Mark) (decided : BTreeSet ℕ) (name : List ℕ) (job : JobName) → AreDecided marks decided → job_named name ≡ Some (job_of_name job) → false ≡ contains nat_cmp decided job.number → IsCounted marks name (Some job)
+pub counted_some : (marks : List Mark) (decided : BTreeSet ℕ) (name : List ℕ) (job : JobName) → AreDecidedNumbers marks decided → job_named name ≡ Some (job_of_name job) → false ≡ contains nat_cmp decided job.number → IsCountedName marks name (Some job)
 counted_some marks decided name job are named is = (ap (counts_as marks) named ∙ ap not (sym (is ∙ are job.number)), named)
 
-pub counted_none : (marks : List Mark) (decided : BTreeSet ℕ) (name : List ℕ) (job : JobName) → AreDecided marks decided → job_named name ≡ Some (job_of_name job) → true ≡ contains nat_cmp decided job.number → counts marks name ≡ false
+pub counted_none : (marks : List Mark) (decided : BTreeSet ℕ) (name : List ℕ) (job : JobName) → AreDecidedNumbers marks decided → job_named name ≡ Some (job_of_name job) → true ≡ contains nat_cmp decided job.number → counts marks name ≡ false
 counted_none marks decided name job are named is = ap (counts_as marks) named ∙ ap not (sym (is ∙ are job.number))
 
 -- a name that spells no job
@@ -81,12 +81,12 @@ decided_pass number marks place other old new inside before is =
       last_of true = refl
       last_of false = refl
 
-pub decided_all : (marks : List Mark) (place : ℕ) (decided : BTreeSet ℕ) → length marks ≤ place → AreDecided (take place marks) decided → AreDecided marks decided
-decided_all marks place decided past are = subst (λ list. AreDecided list decided) (take_all place marks past) are
+pub decided_all : (marks : List Mark) (place : ℕ) (decided : BTreeSet ℕ) → length marks ≤ place → AreDecidedNumbers (take place marks) decided → AreDecidedNumbers marks decided
+decided_all marks place decided past are = subst (λ list. AreDecidedNumbers list decided) (take_all place marks past) are
 
 -- One file more.
 
-pub counted_found : (marks : List Mark) (name bytes prefix : List ℕ) (job : JobName) (old new : List JobFile) → IsCounted marks name (Some job) → new ≡ old ++ record { name = name; job = job_of_name job; bytes = prefix } ∷ [] → prefix ≡ bytes → new ≡ old ++ job_files marks ((name, bytes) ∷ [])
+pub counted_found : (marks : List Mark) (name bytes prefix : List ℕ) (job : JobName) (old new : List JobFile) → IsCountedName marks name (Some job) → new ≡ old ++ record { name = name; job = job_of_name job; bytes = prefix } ∷ [] → prefix ≡ bytes → new ≡ old ++ job_files marks ((name, bytes) ∷ [])
 counted_found marks name bytes prefix job old new counted more same =
     more ∙ ap (λ (b : List ℕ). old ++ record { name = name; job = job_of_name job; bytes = b } ∷ []) same
     ∙ ap (λ list. old ++ list) (sym (

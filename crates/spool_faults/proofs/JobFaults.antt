@@ -26,7 +26,7 @@ use Rattle.start_journal.specs.Marks.{is_decided}
 use Rattle.start_journal.specs.Taken.{journal_faults, marks_of, marks_taken, taken_of}
 use Rattle.spool_faults.specs.declared.found_file.FoundFile.{FoundFile}
 use Rattle.spool_faults.specs.Faults.{bound_by, faults_after, faults_of, files_faults, files_taken, has_header, jobs_faults, sequence_faults, starts_faults}
-use Rattle.spool_faults.specs.inside.Finding.{AreDecided, AreQueues, HasNumbers, file_found, files_found, numbers_from, prefix_of}
+use Rattle.spool_faults.specs.inside.Finding.{AreDecidedNumbers, AreQueues, HasNumbers, file_found, files_found, numbers_from, prefix_of}
 use Rattle.spool_shows.proofs.CutFiles.{cut, files_cut}
 use Rattle.spool_faults.proofs.CutFiles.{faults_cut, queue_in, queues_cut}
 
@@ -183,8 +183,8 @@ starts_end all files marks place start new past is = is ∙ ap (λ list. start +
 -- All of it.
 
 -- the faults of files and starts, from what was found
-pub jobs_noted : (bound : ℕ) (taken : List TakenMark) (files : List (List ℕ × List ℕ)) (found : List JobFile) (decided : BTreeSet ℕ) (queues : BTreeMap ℕ ℕ) (old middle new : List Damage) → found ≡ job_files (marks_of taken) (map prefix_of files) → AreQueues (filter has_header found) queues → AreDecided (marks_of taken) decided → middle ≡ old ++ files_faults bound [] found
-    → ((all : List Mark) (of : List JobFile) → AreDecided all decided → AreQueues of queues → new ≡ middle ++ starts_faults all of taken) → new ≡ old ++ jobs_faults bound (marks_of taken) taken files
+pub jobs_noted : (bound : ℕ) (taken : List TakenMark) (files : List (List ℕ × List ℕ)) (found : List JobFile) (decided : BTreeSet ℕ) (queues : BTreeMap ℕ ℕ) (old middle new : List Damage) → found ≡ job_files (marks_of taken) (map prefix_of files) → AreQueues (filter has_header found) queues → AreDecidedNumbers (marks_of taken) decided → middle ≡ old ++ files_faults bound [] found
+    → ((all : List Mark) (of : List JobFile) → AreDecidedNumbers all decided → AreQueues of queues → new ≡ middle ++ starts_faults all of taken) → new ≡ old ++ jobs_faults bound (marks_of taken) taken files
 jobs_noted bound taken files found decided queues old middle new is are decides noted starts =
     let marks : List Mark = marks_of taken in
     let cuts : found ≡ map cut (job_files marks files) = is ∙ files_cut marks files in

@@ -10,7 +10,7 @@ use Rattle.start_journal.specs.declared.mark.Mark.TheVariants.{Removed, Started,
 use Rattle.start_journal.specs.declared.take_marks.TakenMark.{TakenMark}
 use Rattle.start_journal.specs.Journals.{JournalRead, all_slots, are_drawn, go_on, is_drawn, is_legal_after, journal_file, journal_in, nothing_read, one_slot, open_slot, whole_journal, with_free, with_mark}
 use Rattle.start_journal.specs.SlotBytes.{mark_in, right_prefix}
-use Rattle.start_journal.specs.Taken.{faults_in, free_after, journal_faults, legal_mark, marks_of, marks_taken, offset_of, place_of, read_past, rest_fault, slot_faults, slots_of, taken_at, taken_from, taken_of, with_taken}
+use Rattle.start_journal.specs.Taken.{faults_in, free_after, journal_faults, legal_mark, marks_of, marks_taken, offset_of, place_of_fault, read_past, rest_fault, slot_faults, slots_of, taken_at, taken_from, taken_of, with_taken}
 use Rattle.start_journal.proofs.ByteLemmas.{spells}
 use Rattle.start_journal.proofs.ReadLemmas.{all_read, none_yet}
 use Rattle.spool_faults.specs.Laws.{unless_faulty}
@@ -90,15 +90,15 @@ past_is bound read more slot (marked mark gate found free legal drawn is) =
 slots_first : (bound offset : ℕ) (read : JournalRead) (slots : List (List ℕ)) → all_slots bound offset read slots ≡ first_or (past_all read slots) (slot_faults bound offset read slots)
 slots_first bound offset read [] = refl
 slots_first bound offset read (slot ∷ later) = by_one (one_slot bound read slot) refl (λ more. slots_first bound (offset + 32) more later) where
-  by_one : (one : Result JournalRead ℕ) → one_slot bound read slot ≡ one → ((more : JournalRead) → all_slots bound (offset + 32) more later ≡ first_or (past_all more later) (slot_faults bound (offset + 32) more later)) → all_slots bound offset read (slot ∷ later) ≡ first_or (past_all (read_past read slot) later) (offset_of offset (place_of (one_slot bound read slot)) ++ slot_faults bound (offset + 32) (read_past read slot) later)
+  by_one : (one : Result JournalRead ℕ) → one_slot bound read slot ≡ one → ((more : JournalRead) → all_slots bound (offset + 32) more later ≡ first_or (past_all more later) (slot_faults bound (offset + 32) more later)) → all_slots bound offset read (slot ∷ later) ≡ first_or (past_all (read_past read slot) later) (offset_of offset (place_of_fault (one_slot bound read slot)) ++ slot_faults bound (offset + 32) (read_past read slot) later)
   by_one (Ok more) is rest =
       ap (go_on offset (λ next. all_slots bound (offset + 32) next later)) is
       ∙ rest more
       ∙ ap (λ next. first_or (past_all next later) (slot_faults bound (offset + 32) next later)) (sym (past_is bound read more slot (slot_read bound read more slot is)))
-      ∙ ap (λ one. first_or (past_all (read_past read slot) later) (offset_of offset (place_of one) ++ slot_faults bound (offset + 32) (read_past read slot) later)) (sym is)
+      ∙ ap (λ one. first_or (past_all (read_past read slot) later) (offset_of offset (place_of_fault one) ++ slot_faults bound (offset + 32) (read_past read slot) later)) (sym is)
   by_one (Err place) is rest =
       ap (go_on offset (λ next. all_slots bound (offset + 32) next later)) is
-      ∙ ap (λ one. first_or (past_all (read_past read slot) later) (offset_of offset (place_of one) ++ slot_faults bound (offset + 32) (read_past read slot) later)) (sym is)
+      ∙ ap (λ one. first_or (past_all (read_past read slot) later) (offset_of offset (place_of_fault one) ++ slot_faults bound (offset + 32) (read_past read slot) later)) (sym is)
 
 -- what is read of a journal, past its faults
 abbrev pub read_of : Option (List ℕ) → JournalRead
@@ -132,7 +132,7 @@ read_marks None = refl
 read_marks (Some bytes) = past_marks nothing_read 0 (slots_of bytes)
 
 -- slots without a fault
-no_fault_here : (offset : ℕ) (one : Result JournalRead ℕ) (later : List ℕ) → offset_of offset (place_of one) ++ later ≡ [] → ((more : JournalRead) × (one ≡ Ok more)) × (later ≡ [])
+no_fault_here : (offset : ℕ) (one : Result JournalRead ℕ) (later : List ℕ) → offset_of offset (place_of_fault one) ++ later ≡ [] → ((more : JournalRead) × (one ≡ Ok more)) × (later ≡ [])
 no_fault_here offset (Ok more) later none = ((more, refl), none)
 no_fault_here offset (Err place) later none = let impossible : (offset + place) ∷ later ≡ [] = none in cc
 
@@ -210,7 +210,7 @@ slots_wider : (small large offset : ℕ) (read : JournalRead) (slots : List (Lis
 slots_wider small large offset read [] less none = refl
 slots_wider small large offset read (slot ∷ later) less none =
     let rest : Rest small offset read slot later = rest_of small offset read slot later none in
-    ap (λ one. offset_of offset (place_of one) ++ slot_faults large (offset + 32) (read_past read slot) later) (read_wider small large read rest.more slot less rest.reads)
+    ap (λ one. offset_of offset (place_of_fault one) ++ slot_faults large (offset + 32) (read_past read slot) later) (read_wider small large read rest.more slot less rest.reads)
     ∙ ap (λ next. slot_faults large (offset + 32) next later) rest.past
     ∙ slots_wider small large (offset + 32) rest.more later less rest.none
 

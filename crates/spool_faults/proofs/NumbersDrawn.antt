@@ -15,7 +15,7 @@ use Rattle.spool_shows.proofs.SoundTables.{few_of}
 use Rattle.start_journal.specs.declared.mark.Mark.{Mark}
 use Rattle.start_journal.specs.declared.mark.Mark.TheVariants.{Removed, Started, Ended, Interrupted, Forgotten, Batch}
 use Rattle.start_journal.specs.Journals.{are_drawn, is_drawn}
-use Rattle.start_journal.specs.Marks.{decides, is_decided, number_of}
+use Rattle.start_journal.specs.Marks.{decides, is_decided, number_of_mark}
 use Rattle.spool_faults.specs.Faults.{files_faults}
 use Rattle.spool_faults.specs.Salvaged.{greatest, name_numbers}
 
@@ -31,15 +31,15 @@ greatest_same least number later is = ap (λ b. greatest (if b then number else 
 not_above : (last number : ℕ) → nat_le number last ≡ true → nat_lt last number ≡ false
 not_above last number is = grind (arith, nat_tests)
 
-pub marks_small : (last : ℕ) (marks : List Mark) → are_drawn last marks ≡ true → greatest last (filter_map number_of marks) ≡ last
+pub marks_small : (last : ℕ) (marks : List Mark) → are_drawn last marks ≡ true → greatest last (filter_map number_of_mark marks) ≡ last
 marks_small last [] drawn = refl
 marks_small last (mark ∷ later) drawn = by_mark mark (and_parts (is_drawn last mark) _ drawn).0 (marks_small last later (and_parts (is_drawn last mark) _ drawn).1) where
-  by_mark : (mark : Mark) → is_drawn last mark ≡ true → greatest last (filter_map number_of later) ≡ last → greatest last (cons_option (number_of mark) (filter_map number_of later)) ≡ last
-  by_mark (Removed number) is rest = greatest_same last number (filter_map number_of later) (not_above last number is) ∙ rest
-  by_mark (Started number queue second) is rest = greatest_same last number (filter_map number_of later) (not_above last number is) ∙ rest
-  by_mark (Ended number ending) is rest = greatest_same last number (filter_map number_of later) (not_above last number is) ∙ rest
-  by_mark (Interrupted number) is rest = greatest_same last number (filter_map number_of later) (not_above last number is) ∙ rest
-  by_mark (Forgotten number) is rest = greatest_same last number (filter_map number_of later) (not_above last number is) ∙ rest
+  by_mark : (mark : Mark) → is_drawn last mark ≡ true → greatest last (filter_map number_of_mark later) ≡ last → greatest last (cons_option (number_of_mark mark) (filter_map number_of_mark later)) ≡ last
+  by_mark (Removed number) is rest = greatest_same last number (filter_map number_of_mark later) (not_above last number is) ∙ rest
+  by_mark (Started number queue second) is rest = greatest_same last number (filter_map number_of_mark later) (not_above last number is) ∙ rest
+  by_mark (Ended number ending) is rest = greatest_same last number (filter_map number_of_mark later) (not_above last number is) ∙ rest
+  by_mark (Interrupted number) is rest = greatest_same last number (filter_map number_of_mark later) (not_above last number is) ∙ rest
+  by_mark (Forgotten number) is rest = greatest_same last number (filter_map number_of_mark later) (not_above last number is) ∙ rest
   by_mark (Batch second) is rest = rest
 
 -- a number that is decided was drawn

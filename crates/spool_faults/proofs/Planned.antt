@@ -18,15 +18,15 @@ use Rattle.start_journal.specs.declared.mark.Mark.{Mark}
 use Rattle.start_journal.specs.declared.mark.Mark.TheVariants.{Started, Interrupted}
 use Rattle.start_journal.specs.declared.take_marks.TakenMark.{TakenMark}
 use Rattle.start_journal.specs.Journals.{AreWritable, SpellsJournal, are_legal_after, journal_file}
-use Rattle.start_journal.specs.Marks.{number_of}
+use Rattle.start_journal.specs.Marks.{number_of_mark}
 use Rattle.start_journal.specs.Taken.{journal_faults, marks_of, marks_taken, taken_of}
 use Rattle.start_journal.proofs.ReadLemmas.{all_writable}
 use Rattle.spool_faults.specs.declared.first_files.FirstFiles.{FirstFiles}
 use Rattle.spool_faults.specs.declared.look.Look.{Look}
 use Rattle.spool_faults.specs.Faults.{bound_by, faults_of, first_files, has_header, jobs_faults, sequence_faults}
-use Rattle.spool_faults.specs.Plan.{IsPlanOf, name_of}
-use Rattle.spool_faults.specs.Salvaged.{given_up, greatest, is_faulty, is_left, is_orphan, is_unnamed, last_told, loses_marks, marks_of_salvage, marks_with, number_named, removal}
-use Rattle.spool_faults.specs.inside.Finding.{AreFirst, AreQueues}
+use Rattle.spool_faults.specs.Plan.{IsPlanOf, name_of_file}
+use Rattle.spool_faults.specs.Salvaged.{given_up, greatest, is_faulty, is_left, is_orphan, is_unnamed, last_told, loses_marks, marks_of_salvage, marks_with, number_named, removal_mark}
+use Rattle.spool_faults.specs.inside.Finding.{AreFirstFiles, AreQueues}
 use Rattle.spool_faults.specs.inside.Looking.{IsLook}
 use Rattle.spool_faults.proofs.CutFiles.{first_of, queue_in}
 use Rattle.spool_faults.proofs.FilesFirst.{no_orphan}
@@ -48,7 +48,7 @@ marks_writable journal taken marks is also =
     subst AreWritable (sym (also ∙ ap marks_of is)) (all_writable (marks_taken journal) (and_parts (are_legal_after [] (marks_taken journal)) _ (taken_sound journal)).1)
 
 -- the queues of the first files are theirs among the first files alone
-pub queues_taken : (files : List JobFile) (firsts : FirstFiles) → AreFirst files firsts → AreQueues (first_files [] files) firsts.queues
+pub queues_taken : (files : List JobFile) (firsts : FirstFiles) → AreFirstFiles files firsts → AreQueues (first_files [] files) firsts.queues
 queues_taken files firsts are = λ number. are.queues number ∙ ap queue_in (sym (first_of number [] files refl))
 
 -- a start is given up, if it has a fault
@@ -84,12 +84,12 @@ saved_plain marks taken false empty first saved none one is whole =
     ∙ ap (λ list. marks ++ list) (sym (append-nil (filter_map (given_up marks taken) marks)))
 saved_plain marks taken true empty first saved none one is whole = let impossible : false ≡ true = whole in cc
 
-pub saved_lost : (marks : List Mark) (taken : List JobFile) (lost : Bool) (empty first second saved backs : List Mark) → empty ≡ [] → first ≡ empty ++ marks → second ≡ first ++ filter_map (given_up marks taken) marks → true ≡ lost → saved ≡ second ++ backs → backs ≡ map removal (filter (is_unnamed marks) taken) → saved ≡ marks_with marks taken lost
+pub saved_lost : (marks : List Mark) (taken : List JobFile) (lost : Bool) (empty first second saved backs : List Mark) → empty ≡ [] → first ≡ empty ++ marks → second ≡ first ++ filter_map (given_up marks taken) marks → true ≡ lost → saved ≡ second ++ backs → backs ≡ map removal_mark (filter (is_unnamed marks) taken) → saved ≡ marks_with marks taken lost
 saved_lost marks taken false empty first second saved backs none one two some is are = let impossible : true ≡ false = some in cc
 saved_lost marks taken true empty first second saved backs none one two some is are =
     is ∙ ap (λ list. second ++ list) are
-    ∙ ap (λ list. list ++ map removal (filter (is_unnamed marks) taken)) (two ∙ ap (λ list. list ++ filter_map (given_up marks taken) marks) (one ∙ ap (λ list. list ++ marks) none))
-    ∙ append_assoc marks (filter_map (given_up marks taken) marks) (map removal (filter (is_unnamed marks) taken))
+    ∙ ap (λ list. list ++ map removal_mark (filter (is_unnamed marks) taken)) (two ∙ ap (λ list. list ++ filter_map (given_up marks taken) marks) (one ∙ ap (λ list. list ++ marks) none))
+    ∙ append_assoc marks (filter_map (given_up marks taken) marks) (map removal_mark (filter (is_unnamed marks) taken))
 
 module _ (files : Files) (look : Look) (is : IsLook files look) where
   -- the journal, and the files that are taken by some marks
@@ -136,19 +136,19 @@ module _ (files : Files) (look : Look) (is : IsLook files look) where
       ∙ no_orphans
 
   pub planned : (saved : List Mark) (names : List (List ℕ)) (text sequence : List ℕ) (last : ℕ) → saved ≡ marks_with look.marks.items (taken_by look.marks.items) (loses_marks look.number look.journal (taken_by look.marks.items))
-      → names ≡ map name_of (filter (is_left saved) (taken_by look.marks.items)) → SpellsJournal text saved 256
-      → last ≡ greatest (greatest (last_told look.number) (filter_map number_of look.marks.items)) (filter_map number_named look.names.items) → SpellsIn true sequence last → IsPlanOf files names text sequence
+      → names ≡ map name_of_file (filter (is_left saved) (taken_by look.marks.items)) → SpellsJournal text saved 256
+      → last ≡ greatest (greatest (last_told look.number) (filter_map number_of_mark look.marks.items)) (filter_map number_named look.names.items) → SpellsIn true sequence last → IsPlanOf files names text sequence
   planned saved names text sequence last so named spelled number spells = record {
     names_are =
-        named ∙ ap (λ marks. map name_of (filter (is_left saved) (taken_by marks))) of_marks
-        ∙ ap (λ marks. map name_of (filter (is_left marks) (taken_by (marks_taken journal)))) (saved_is saved so);
+        named ∙ ap (λ marks. map name_of_file (filter (is_left saved) (taken_by marks))) of_marks
+        ∙ ap (λ marks. map name_of_file (filter (is_left marks) (taken_by (marks_taken journal)))) (saved_is saved so);
     journal_is = subst (λ marks. SpellsJournal text marks 256) (saved_is saved so) spelled;
     sequence_is =
         subst (SpellsIn true sequence)
         (number
-        ∙ ap (λ told. greatest (greatest (last_told told) (filter_map number_of look.marks.items)) (filter_map number_named look.names.items)) of_number
-        ∙ ap (λ marks. greatest (greatest (last_told (last_in (find name_cmp sequence_file (entries files)))) (filter_map number_of marks)) (filter_map number_named look.names.items)) of_marks
-        ∙ ap (λ list. greatest (greatest (last_told (last_in (find name_cmp sequence_file (entries files)))) (filter_map number_of (marks_taken journal))) (filter_map number_named list)) is.names
-        ∙ ap (greatest (greatest (last_told (last_in (find name_cmp sequence_file (entries files)))) (filter_map number_of (marks_taken journal)))) (sym (given_made (λ (e : List ℕ × List ℕ). e.0) number_named (entries files))))
+        ∙ ap (λ told. greatest (greatest (last_told told) (filter_map number_of_mark look.marks.items)) (filter_map number_named look.names.items)) of_number
+        ∙ ap (λ marks. greatest (greatest (last_told (last_in (find name_cmp sequence_file (entries files)))) (filter_map number_of_mark marks)) (filter_map number_named look.names.items)) of_marks
+        ∙ ap (λ list. greatest (greatest (last_told (last_in (find name_cmp sequence_file (entries files)))) (filter_map number_of_mark (marks_taken journal))) (filter_map number_named list)) is.names
+        ∙ ap (greatest (greatest (last_told (last_in (find name_cmp sequence_file (entries files)))) (filter_map number_of_mark (marks_taken journal)))) (sym (given_made (λ (e : List ℕ × List ℕ). e.0) number_named (entries files))))
         spells;
   }

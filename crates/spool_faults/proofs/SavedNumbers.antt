@@ -12,10 +12,10 @@ use Rattle.spool_shows.proofs.Membership.{Has, filtered_has, given_has, has_eith
 use Rattle.start_journal.specs.declared.mark.Mark.{Mark}
 use Rattle.start_journal.specs.declared.mark.Mark.TheVariants.{Removed, Started, Ended, Interrupted, Forgotten, Batch}
 use Rattle.start_journal.specs.Journals.{are_drawn, is_drawn}
-use Rattle.start_journal.specs.Marks.{number_of}
+use Rattle.start_journal.specs.Marks.{number_of_mark}
 use Rattle.start_journal.specs.Taken.{marks_taken}
 use Rattle.spool_faults.specs.Faults.{files_taken, first_files, has_header}
-use Rattle.spool_faults.specs.Salvaged.{given_up, greatest, is_unnamed, last_told, loses_marks, name_numbers, number_named, removal, saved_last, saved_marks, taken_back}
+use Rattle.spool_faults.specs.Salvaged.{given_up, greatest, is_unnamed, last_told, loses_marks, name_numbers, number_named, removal_mark, saved_last, saved_marks, taken_back}
 use Rattle.spool_faults.proofs.AddedMarks.{IsGivenUp, is_given_up}
 
 -- the greatest is at least the first number, and each of the others
@@ -46,7 +46,7 @@ greatest_has least number (first ∷ later) (inr has) = greatest_has (if nat_lt 
 at_most : (number last : ℕ) → number ≤ last → nat_le number last ≡ true
 at_most number last less = grind (arith, nat_tests)
 
-drawn_at_most : (last : ℕ) (mark : Mark) → ((number : ℕ) → number_of mark ≡ Some number → number ≤ last) → is_drawn last mark ≡ true
+drawn_at_most : (last : ℕ) (mark : Mark) → ((number : ℕ) → number_of_mark mark ≡ Some number → number ≤ last) → is_drawn last mark ≡ true
 drawn_at_most last (Removed number) few = at_most number last (few number refl)
 drawn_at_most last (Started number queue second) few = at_most number last (few number refl)
 drawn_at_most last (Ended number ending) few = at_most number last (few number refl)
@@ -82,10 +82,10 @@ module _ (last : Result ℕ Damage) (journal : Option (List ℕ)) (files : List 
       (has_given (λ (e : List ℕ × List ℕ). number_named e.0) files entry.0 file.job.number stands.0 (ap (option_map (λ (job : NamedJob). job.number)) says.2))
 
   -- and that of a mark that is taken is one of those marks
-  taken_at_most : (mark : Mark) (number : ℕ) → Has (marks_taken journal) mark → number_of mark ≡ Some number → number ≤ saved_last last journal files
+  taken_at_most : (mark : Mark) (number : ℕ) → Has (marks_taken journal) mark → number_of_mark mark ≡ Some number → number ≤ saved_last last journal files
   taken_at_most mark number has names =
-      let among : number ≤ greatest (last_told last) (filter_map number_of (marks_taken journal)) = greatest_has (last_told last) number (filter_map number_of (marks_taken journal)) (has_given number_of (marks_taken journal) mark number has names) in
-      let more : greatest (last_told last) (filter_map number_of (marks_taken journal)) ≤ saved_last last journal files = greatest_least (greatest (last_told last) (filter_map number_of (marks_taken journal))) (name_numbers files) in
+      let among : number ≤ greatest (last_told last) (filter_map number_of_mark (marks_taken journal)) = greatest_has (last_told last) number (filter_map number_of_mark (marks_taken journal)) (has_given number_of_mark (marks_taken journal) mark number has names) in
+      let more : greatest (last_told last) (filter_map number_of_mark (marks_taken journal)) ≤ saved_last last journal files = greatest_least (greatest (last_told last) (filter_map number_of_mark (marks_taken journal))) (name_numbers files) in
       omega arith
 
   -- a mark that gives up a start names the number of that start
@@ -94,13 +94,13 @@ module _ (last : Result ℕ Damage) (journal : Option (List ℕ)) (files : List 
       let from : (start : Mark) × Has (marks_taken journal) start × (given_up (marks_taken journal) (files_taken (marks_taken journal) files) start ≡ Some mark) = given_has (given_up (marks_taken journal) (files_taken (marks_taken journal) files)) (marks_taken journal) mark has in
       let is : IsGivenUp (marks_taken journal) from.0 mark = is_given_up (marks_taken journal) (files_taken (marks_taken journal) files) from.0 mark from.2 in
       ap (is_drawn (saved_last last journal files)) is.gives
-      ∙ at_most is.number (saved_last last journal files) (taken_at_most from.0 is.number from.1 (ap number_of is.started))
+      ∙ at_most is.number (saved_last last journal files) (taken_at_most from.0 is.number from.1 (ap number_of_mark is.started))
 
   -- one that takes a job back that of its file
   taken_back_at_most : (mark : Mark) (lost : Bool) → Has (taken_back (marks_taken journal) (files_taken (marks_taken journal) files) lost) mark → is_drawn (saved_last last journal files) mark ≡ true
   taken_back_at_most mark false has = absurd has
   taken_back_at_most mark true has =
-      let from : (file : JobFile) × Has (filter (is_unnamed (marks_taken journal)) (files_taken (marks_taken journal) files)) file × (removal file ≡ mark) = made_has removal (filter (is_unnamed (marks_taken journal)) (files_taken (marks_taken journal) files)) mark has in
+      let from : (file : JobFile) × Has (filter (is_unnamed (marks_taken journal)) (files_taken (marks_taken journal) files)) file × (removal_mark file ≡ mark) = made_has removal_mark (filter (is_unnamed (marks_taken journal)) (files_taken (marks_taken journal) files)) mark has in
       let stands : Has (files_taken (marks_taken journal) files) from.0 = (filtered_has (is_unnamed (marks_taken journal)) (files_taken (marks_taken journal) files) from.0 from.1).0 in
       ap (is_drawn (saved_last last journal files)) (sym from.2)
       ∙ at_most from.0.job.number (saved_last last journal files) (file_at_most (marks_taken journal) from.0 (taken_has (marks_taken journal) files from.0 stands).0)

@@ -6,7 +6,7 @@ use Rattle.std.specs.Option.{option_or}
 use Rattle.std.proofs.lemmas.Bool.{eqb-true}
 use Rattle.std.proofs.lemmas.List.Folds.{list_any-append}
 use Rattle.host_calls.specs.declared.damage.Damage.{Damage}
-use Rattle.spool_shows.specs.ByName.{IsWhole}
+use Rattle.spool_shows.specs.ByName.{IsWholeFile}
 use Rattle.spool_shows.specs.JobFiles.{JobFile, file_of, job_files}
 use Rattle.spool_shows.specs.Shown.{damage_of_jobs, mark_damage, start_damage, starts_damage}
 use Rattle.spool_shows.proofs.Membership.{Has, any_passes, filtered_has, given_has, has_either, has_given, has_left, has_right, made_has}
@@ -17,7 +17,7 @@ use Rattle.start_journal.specs.declared.mark.Mark.TheVariants.{Removed, Started,
 use Rattle.start_journal.specs.Marks.{decides, is_decided}
 use Rattle.start_journal.specs.Taken.{marks_taken}
 use Rattle.spool_faults.specs.Faults.{files_taken, first_files, has_header}
-use Rattle.spool_faults.specs.Salvaged.{given_up, is_left, is_unnamed, loses_marks, removal, saved_files, saved_last, saved_marks, taken_back}
+use Rattle.spool_faults.specs.Salvaged.{given_up, is_left, is_unnamed, loses_marks, removal_mark, saved_files, saved_last, saved_marks, taken_back}
 use Rattle.spool_faults.proofs.AddedMarks.{IsGivenUp, is_given_up}
 use Rattle.spool_faults.proofs.FilesFirst.{start_elsewhere}
 use Rattle.spool_faults.proofs.SavedNumbers.{file_at_most}
@@ -27,14 +27,14 @@ abbrev HasAll : List ℕ → List ℕ → Type 0
 HasAll before seen = (number : ℕ) → list_any (λ one. one == number) before ≡ false → list_any (λ one. one == number) seen ≡ false
 
 -- whole files, the first of each number, have no fault, and so have those of them that pass a test
-first_fine : (last : ℕ) (test : JobFile → Bool) (before seen : List ℕ) (files : List JobFile) → ((file : JobFile) → Has files file → IsWhole last file) → HasAll before seen → AreFine last seen (filter test (first_files before files))
+first_fine : (last : ℕ) (test : JobFile → Bool) (before seen : List ℕ) (files : List JobFile) → ((file : JobFile) → Has files file → IsWholeFile last file) → HasAll before seen → AreFine last seen (filter test (first_files before files))
 first_fine last test before seen [] whole all = tt
 first_fine last test before seen (file ∷ later) whole all =
     by_before (list_any (λ number. number == file.job.number) before) refl
     (first_fine last test before seen later later_whole all)
     (first_fine last test (file.job.number ∷ before) (file.job.number ∷ seen) later later_whole both_more)
     (first_fine last test (file.job.number ∷ before) seen later later_whole one_more) where
-      later_whole : (other : JobFile) → Has later other → IsWhole last other
+      later_whole : (other : JobFile) → Has later other → IsWholeFile last other
       later_whole other has = whole other (inr has)
 
       by_or : (same old new : Bool) → (old ≡ false → new ≡ false) → (same || old) ≡ false → (same || new) ≡ false
@@ -94,7 +94,7 @@ module _ (last : Result ℕ Damage) (journal : Option (List ℕ)) (files : List 
   not_taken_back : (lost : Bool) (number queue : ℕ) (second : ℤ) → Has (taken_back (marks_taken journal) taken lost) (Started number queue second) → ⊥
   not_taken_back false number queue second has = has
   not_taken_back true number queue second has =
-      let from : (file : JobFile) × Has (filter (is_unnamed (marks_taken journal)) taken) file × (removal file ≡ Started number queue second) = made_has removal (filter (is_unnamed (marks_taken journal)) taken) (Started number queue second) has in
+      let from : (file : JobFile) × Has (filter (is_unnamed (marks_taken journal)) taken) file × (removal_mark file ≡ Started number queue second) = made_has removal_mark (filter (is_unnamed (marks_taken journal)) taken) (Started number queue second) has in
       let impossible : Removed from.0.job.number ≡ Started number queue second = from.2 in
       cc
 
@@ -148,7 +148,7 @@ module _ (last : Result ℕ Damage) (journal : Option (List ℕ)) (files : List 
   mark_whole at (Batch second) has = refl
 
   -- each file that is saved is whole
-  file_whole : (file : JobFile) → Has (filter has_header (job_files (marks_taken journal) files)) file → IsWhole (saved_last last journal files) file
+  file_whole : (file : JobFile) → Has (filter has_header (job_files (marks_taken journal) files)) file → IsWholeFile (saved_last last journal files) file
   file_whole file has =
       let stands : Has (job_files (marks_taken journal) files) file × (has_header file ≡ true) = filtered_has has_header (job_files (marks_taken journal) files) file has in
       record { drawn = file_at_most last journal files (marks_taken journal) file stands.0; header = stands.1 }

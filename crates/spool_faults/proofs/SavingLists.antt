@@ -8,13 +8,13 @@ use Rattle.std.proofs.lemmas.List.Elements.{filter_map-append}
 use Rattle.std.proofs.lemmas.List.Folds.{list_any-append}
 use Rattle.spool_shows.specs.JobFiles.{JobFile}
 use Rattle.start_journal.specs.declared.mark.Mark.{Mark}
-use Rattle.start_journal.specs.Marks.{is_decided, is_named, names}
+use Rattle.start_journal.specs.Marks.{is_decided, has_mark_of, is_mark_of}
 use Rattle.spool_faults.specs.declared.first_files.FirstFiles.{FirstFiles}
 use Rattle.spool_faults.specs.Faults.{first_files}
-use Rattle.spool_faults.specs.Plan.{name_of}
-use Rattle.spool_faults.specs.Salvaged.{greatest, is_left, is_unnamed, removal}
-use Rattle.spool_faults.specs.inside.Finding.{AreDecided, AreFirst, bare, file_first}
-use Rattle.spool_faults.specs.inside.Saving.{AreNamed, name_unless, removal_unless}
+use Rattle.spool_faults.specs.Plan.{name_of_file}
+use Rattle.spool_faults.specs.Salvaged.{greatest, is_left, is_unnamed, removal_mark}
+use Rattle.spool_faults.specs.inside.Finding.{AreDecidedNumbers, AreFirstFiles, bare, file_first}
+use Rattle.spool_faults.specs.inside.Saving.{AreNamedNumbers, name_unless, removal_unless}
 
 -- What a function gives.
 
@@ -48,37 +48,37 @@ unless_test {Y} test make (file ∷ later) = by_test (test file) (unless_test te
   by_test false rest = ap (λ list. make file ∷ list) rest
 
 -- the marks that take jobs back, and the names that are left
-pub taken_back_are : (marks : List Mark) (named : BTreeSet ℕ) (files : List JobFile) (firsts : FirstFiles) → AreNamed marks named → AreFirst files firsts → filter_map (λ file. removal_unless named (file_first file)) firsts.files.items ≡ map removal (filter (is_unnamed marks) (first_files [] files))
+pub taken_back_are : (marks : List Mark) (named : BTreeSet ℕ) (files : List JobFile) (firsts : FirstFiles) → AreNamedNumbers marks named → AreFirstFiles files firsts → filter_map (λ file. removal_unless named (file_first file)) firsts.files.items ≡ map removal_mark (filter (is_unnamed marks) (first_files [] files))
 taken_back_are marks named files firsts are first =
     given_made file_first (removal_unless named) firsts.files.items
     ∙ ap (filter_map (removal_unless named)) first.files_are
     ∙ sym (given_made bare (removal_unless named) (first_files [] files))
-    ∙ (λ i. filter_map (λ (file : JobFile). if are file.job.number i then None else Some (removal file)) (first_files [] files))
-    ∙ unless_test (λ (file : JobFile). is_named file.job.number marks) removal (first_files [] files)
+    ∙ (λ i. filter_map (λ (file : JobFile). if are file.job.number i then None else Some (removal_mark file)) (first_files [] files))
+    ∙ unless_test (λ (file : JobFile). has_mark_of file.job.number marks) removal_mark (first_files [] files)
 
-pub names_left_are : (marks : List Mark) (decided : BTreeSet ℕ) (files : List JobFile) (firsts : FirstFiles) → AreDecided marks decided → AreFirst files firsts → filter_map (λ file. name_unless decided (file_first file)) firsts.files.items ≡ map name_of (filter (is_left marks) (first_files [] files))
+pub names_left_are : (marks : List Mark) (decided : BTreeSet ℕ) (files : List JobFile) (firsts : FirstFiles) → AreDecidedNumbers marks decided → AreFirstFiles files firsts → filter_map (λ file. name_unless decided (file_first file)) firsts.files.items ≡ map name_of_file (filter (is_left marks) (first_files [] files))
 names_left_are marks decided files firsts are first =
     given_made file_first (name_unless decided) firsts.files.items
     ∙ ap (filter_map (name_unless decided)) first.files_are
     ∙ sym (given_made bare (name_unless decided) (first_files [] files))
     ∙ (λ i. filter_map (λ (file : JobFile). if are file.job.number i then None else Some file.name) (first_files [] files))
-    ∙ unless_test (λ (file : JobFile). is_decided file.job.number marks) name_of (first_files [] files)
+    ∙ unless_test (λ (file : JobFile). is_decided file.job.number marks) name_of_file (first_files [] files)
 
 -- The numbers that marks name.
 
-pub named_pass : (number : ℕ) (marks : List Mark) (place : ℕ) (other : Mark) (old new : Bool) → place < length marks → old ≡ is_named number (take place marks) → new ≡ (old || names number (get_or marks place other)) → new ≡ is_named number (take (place + 1) marks)
+pub named_pass : (number : ℕ) (marks : List Mark) (place : ℕ) (other : Mark) (old new : Bool) → place < length marks → old ≡ has_mark_of number (take place marks) → new ≡ (old || is_mark_of number (get_or marks place other)) → new ≡ has_mark_of number (take (place + 1) marks)
 named_pass number marks place other old new inside before is =
     let one : Mark = get_or marks place other in
-    is ∙ ap (λ b. b || names number one) before
-    ∙ ap (λ b. is_named number (take place marks) || b) (last_of (names number one))
-    ∙ sym (list_any-append (names number) (take place marks) (one ∷ []))
-    ∙ ap (is_named number) (sym (take_more marks place other inside)) where
+    is ∙ ap (λ b. b || is_mark_of number one) before
+    ∙ ap (λ b. has_mark_of number (take place marks) || b) (last_of (is_mark_of number one))
+    ∙ sym (list_any-append (is_mark_of number) (take place marks) (one ∷ []))
+    ∙ ap (has_mark_of number) (sym (take_more marks place other inside)) where
       last_of : (b : Bool) → b ≡ (b || false)
       last_of true = refl
       last_of false = refl
 
-pub named_all : (marks : List Mark) (place : ℕ) (named : BTreeSet ℕ) → length marks ≤ place → AreNamed (take place marks) named → AreNamed marks named
-named_all marks place named past are = subst (λ list. AreNamed list named) (take_all place marks past) are
+pub named_all : (marks : List Mark) (place : ℕ) (named : BTreeSet ℕ) → length marks ≤ place → AreNamedNumbers (take place marks) named → AreNamedNumbers marks named
+named_all marks place named past are = subst (λ list. AreNamedNumbers list named) (take_all place marks past) are
 
 -- The greatest number.
 

@@ -22,17 +22,17 @@ use Rattle.spool_shows.proofs.StartLemmas.{number_passes}
 use Rattle.start_journal.specs.declared.mark.Mark.{Mark}
 use Rattle.start_journal.specs.declared.mark.Mark.TheVariants.{Removed, Started, Ended, Interrupted, Forgotten, Batch}
 use Rattle.start_journal.specs.Journals.{journal_file}
-use Rattle.start_journal.specs.Marks.{decides, is_decided, is_forgotten, is_named, is_started, started_at, starts}
+use Rattle.start_journal.specs.Marks.{decides, is_decided, is_forgotten, has_mark_of, has_start_of, started_at, is_start_of}
 use Rattle.start_journal.specs.Taken.{marks_taken}
 use Rattle.start_journal.proofs.LifecycleLemmas.{started_has_second}
 use Rattle.spool_faults.specs.Faults.{files_taken}
 use Rattle.spool_faults.specs.Laws.{LostMarksLeaveNoJobPending, StartsAreNotPending}
-use Rattle.spool_faults.specs.Salvaged.{files_of_salvage, given_up, is_left, is_unnamed, loses_marks_of, marks_of_salvage, removal, salvaged, taken_back}
+use Rattle.spool_faults.specs.Salvaged.{files_of_salvage, given_up, is_left, is_unnamed, loses_marks_of, marks_of_salvage, removal_mark, salvaged, taken_back}
 
 -- a number that a mark starts was started at some second
 started_some : (marks : List Mark) (number queue : ℕ) (second : ℤ) → Has marks (Started number queue second) → ¬ (started_at number marks ≡ None)
 started_some marks number queue second has none =
-    let started : is_started number marks ≡ true = any_passes (starts number) marks (Started number queue second) has (number_passes number number refl) in
+    let started : has_start_of number marks ≡ true = any_passes (is_start_of number) marks (Started number queue second) has (number_passes number number refl) in
     let impossible : true ≡ false = sym started ∙ started_has_second number marks ∙ ap is_some none in
     cc
 
@@ -96,10 +96,10 @@ starts_are_not_pending files number queue second contains pending =
     started_some (marks_of_salvage files) number queue second started (saved_waiting files number pending).unstarted
 
 -- the job of a file that no mark names is taken back, where a mark may be lost
-removed_back : (marks : List Mark) (files : List JobFile) (lost : Bool) (file : JobFile) → lost ≡ true → Has files file → is_named file.job.number marks ≡ false → Has (taken_back marks files lost) (Removed file.job.number)
+removed_back : (marks : List Mark) (files : List JobFile) (lost : Bool) (file : JobFile) → lost ≡ true → Has files file → has_mark_of file.job.number marks ≡ false → Has (taken_back marks files lost) (Removed file.job.number)
 removed_back marks files false file is has unnamed = let impossible : false ≡ true = is in cc
 removed_back marks files true file is has unnamed =
-    has_made removal (filter (is_unnamed marks) files) file (has_filtered (is_unnamed marks) files file has (ap not unnamed))
+    has_made removal_mark (filter (is_unnamed marks) files) file (has_filtered (is_unnamed marks) files file has (ap not unnamed))
 
 pub lost_marks_leave_no_job_pending : LostMarksLeaveNoJobPending
 lost_marks_leave_no_job_pending files number lost unnamed pending =
@@ -107,8 +107,8 @@ lost_marks_leave_no_job_pending files number lost unnamed pending =
     let taken : List JobFile = files_taken marks (entries files) in
     let waits : IsWaiting (marks_of_salvage files) (files_of_salvage files) number = saved_waiting files number pending in
     let left : Has taken waits.file × (is_left (marks_of_salvage files) waits.file ≡ true) = filtered_has (is_left (marks_of_salvage files)) taken waits.file waits.has in
-    let new : is_named waits.file.job.number marks ≡ false =
-    ap (λ n. is_named n marks) waits.of ∙ ap (λ content. is_named number (marks_taken content)) (sym (get-entries files journal_file)) ∙ unnamed in
+    let new : has_mark_of waits.file.job.number marks ≡ false =
+    ap (λ n. has_mark_of n marks) waits.of ∙ ap (λ content. has_mark_of number (marks_taken content)) (sym (get-entries files journal_file)) ∙ unnamed in
     let removed : Has (marks_of_salvage files) (Removed waits.file.job.number) =
     has_right marks _ (Removed waits.file.job.number)
     (has_right (filter_map (given_up marks taken) marks) (taken_back marks taken (loses_marks_of files)) (Removed waits.file.job.number)

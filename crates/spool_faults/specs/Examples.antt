@@ -32,8 +32,8 @@ abbrev pub undrawn : List File
 undrawn = sequence (codes "00001\n") ∷ first_job ∷ second_old_form ∷ []
 
 -- the same, and a journal with a rest
-abbrev pub with_rest : List File
-with_rest = journal points ∷ undrawn
+abbrev pub journal_with_rest : List File
+journal_with_rest = journal points ∷ undrawn
 
 -- a start without a file
 abbrev pub without_file : List File
@@ -74,7 +74,7 @@ both_forms = sequence (codes "00000001\n") ∷ first_job_new_form ∷ first_job 
 -- all faults of small folders
 pub record SmallFoldersHaveFaults : Type 0 where
   pub undrawn_job : all_faults undrawn ≡ damaged (codes "a0000201b968a0") 0 (Some 35) ∷ []
-  pub rest : all_faults with_rest ≡ damaged journal_file 32 (Some 46) ∷ damaged (codes "a0000201b968a0") 0 (Some 35) ∷ []
+  pub rest : all_faults journal_with_rest ≡ damaged journal_file 32 (Some 46) ∷ damaged (codes "a0000201b968a0") 0 (Some 35) ∷ []
   pub no_file : all_faults without_file ≡ damaged journal_file 0 (Some 43) ∷ []
   pub another_queue : all_faults in_another_queue ≡ damaged journal_file 10 (Some 97) ∷ []
   pub twice : all_faults started_twice ≡ damaged journal_file 32 (Some 43) ∷ []
@@ -91,7 +91,7 @@ with_two first second = table_of 2 (from_entries ((1, first) ∷ (2, second) ∷
 -- what is saved of them
 pub record SmallFoldersAreSalvaged : Type 0 where
   pub undrawn_job : all_saved undrawn ≡ with_two (live Pending) (live Pending)
-  pub rest : all_saved with_rest ≡ with_two (Done Removed) (Done Removed)
+  pub rest : all_saved journal_with_rest ≡ with_two (Done Removed) (Done Removed)
   pub no_file : all_saved without_file ≡ with_first (Done Interrupted)
   pub another_queue : all_saved in_another_queue ≡ with_first (Done Interrupted)
   pub twice : all_saved started_twice ≡ with_first (live (Running (pos 1735689600)))

@@ -10,7 +10,7 @@ use Rattle.spool_model.specs.JobTable.{IsPending, JobTable}
 use Rattle.spool_shows.specs.Shown.{Shows, shown_by}
 use Rattle.start_journal.specs.declared.mark.Mark.TheVariants.{Started}
 use Rattle.start_journal.specs.Journals.{are_sound, journal_file}
-use Rattle.start_journal.specs.Marks.{is_named}
+use Rattle.start_journal.specs.Marks.{has_mark_of}
 use Rattle.start_journal.specs.Taken.{marks_taken}
 
 -- the value, or the first fault
@@ -30,7 +30,8 @@ StartsAreNotPending = (files : Files) (number queue : ℕ) (second : ℤ) →
 -- where a mark may be lost, no job that no mark names is pending in the table that is saved: it may have run
 abbrev pub LostMarksLeaveNoJobPending : Type 0
 LostMarksLeaveNoJobPending = (files : Files) (number : ℕ) →
-    loses_marks_of files ≡ true → is_named number (marks_taken (map.get files journal_file)) ≡ false → ¬ (IsPending (salvaged files) number)
+    loses_marks_of files ≡ true → has_mark_of number (marks_taken (map.get files journal_file)) ≡ false
+    → ¬ (IsPending (salvaged files) number)
 
 -- The folder has no fault exactly where it shows a table, and that table is then the one that is saved.
 pub record IsSavedWhole (files : Files) : Type 0 where

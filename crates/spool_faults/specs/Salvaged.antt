@@ -16,7 +16,7 @@ use Rattle.spool_shows.specs.Shown.{mark_damage, table_shown}
 use Rattle.start_journal.specs.declared.mark.Mark.{Mark}
 use Rattle.start_journal.specs.declared.mark.Mark.TheVariants.{Removed, Started, Ended, Interrupted, Forgotten, Batch}
 use Rattle.start_journal.specs.Journals.{journal_file}
-use Rattle.start_journal.specs.Marks.{is_decided, is_named, number_of}
+use Rattle.start_journal.specs.Marks.{is_decided, has_mark_of, number_of_mark}
 use Rattle.start_journal.specs.Taken.{journal_faults, marks_taken}
 
 -- a start is given up that is not decided, and whose number has no file that is taken, or one of another queue
@@ -31,11 +31,11 @@ given_up marks files (Batch second) = None
 
 -- no mark names the number of the file
 abbrev pub is_unnamed : List Mark → JobFile → Bool
-is_unnamed marks file = not (is_named file.job.number marks)
+is_unnamed marks file = not (has_mark_of file.job.number marks)
 
 -- the mark that takes a job back
-abbrev pub removal : JobFile → Mark
-removal file = Removed file.job.number
+abbrev pub removal_mark : JobFile → Mark
+removal_mark file = Removed file.job.number
 
 -- there is a fault
 abbrev pub is_faulty : List Damage → Bool
@@ -63,7 +63,7 @@ loses_marks last journal files =
 -- Where a mark may be lost, a job that no mark names is taken back, since it may have run.
 abbrev pub taken_back : List Mark → List JobFile → Bool → List Mark
 taken_back marks files false = []
-taken_back marks files true = map removal (filter (is_unnamed marks) files)
+taken_back marks files true = map removal_mark (filter (is_unnamed marks) files)
 
 -- the marks that are taken, and those that are added to them
 abbrev pub marks_with : List Mark → List JobFile → Bool → List Mark
@@ -99,7 +99,7 @@ name_numbers files = filter_map (λ (file : List ℕ × List ℕ). number_named 
 -- the number that counts as drawn last: the greatest of the sequence file, the marks that are taken and the names
 abbrev pub saved_last : Result ℕ Damage → Option (List ℕ) → List (List ℕ × List ℕ) → ℕ
 saved_last last journal files =
-    greatest (greatest (last_told last) (filter_map number_of (marks_taken journal))) (name_numbers files)
+    greatest (greatest (last_told last) (filter_map number_of_mark (marks_taken journal))) (name_numbers files)
 
 -- the table that is saved
 abbrev pub saved_after : Result ℕ Damage → Option (List ℕ) → List (List ℕ × List ℕ) → JobTable

@@ -7,7 +7,7 @@ ghost use Rattle.host_calls.specs.Session.{CallsInside, IsInside};
 ghost use Rattle.host_calls.specs.World.{reading};
 ghost use Rattle.job_name.specs.JobName.{job_named};
 ghost use Rattle.job_script.specs.declared.headers.TheConstants.{MAX_HEADER};
-ghost use Rattle.spool_faults.specs.inside.Finding.{AreDecided, IsCounted, file_found, files_found, job_of_name, prefix_of};
+ghost use Rattle.spool_faults.specs.inside.Finding.{AreDecidedNumbers, IsCountedName, file_found, files_found, job_of_name, prefix_of};
 ghost use Rattle.spool_shows.specs.JobFiles.{job_files};
 ghost use Rattle.start_journal.specs.declared.mark.Mark.{Mark};
 ghost use Rattle.start_journal.specs.Marks.{decides};
@@ -22,16 +22,16 @@ use std::collections::BTreeSet;
 
 // The numbers that the marks decide.
 pub(crate) fn decided(alloc: Global, marks: &[Mark]) -> Result<BTreeSet<u32>, AllocError>
-    ensures { IfOk result (AreDecided marks.now) }
+    ensures { IfOk result (AreDecidedNumbers marks.now) }
 {
     let mut decided = BTreeSet::new(alloc);
     for mark in marks {
-        decide(&mut decided, *mark)?;
+        note_decided(&mut decided, *mark)?;
     }
     Ok(decided)
 }
 
-fn decide(decided: &mut BTreeSet<u32>, mark: Mark) -> Result<(), AllocError>
+fn note_decided(decided: &mut BTreeSet<u32>, mark: Mark) -> Result<(), AllocError>
     ensures { OnOk result ((number : ℕ) → contains nat_cmp decided.new number
         ≡ (contains nat_cmp decided.old number || decides number mark)) }
 {
@@ -55,7 +55,7 @@ pub(crate) fn find_files<H: Host>(
     requires listed { IsTrue H.tells → names.now ≡ finite.keys (reading (H.world host.old)) }
     ensures inside { CallsInside HostFault.Failed (H.session host.old) (H.session host.new) result }
     ensures looks { IsTrue H.tells → H.world host.new ≡ H.world host.old }
-    ensures found { IsTrue H.tells → (marks : List Mark) → AreDecided marks decided.now
+    ensures found { IsTrue H.tells → (marks : List Mark) → AreDecidedNumbers marks decided.now
         → IfOk result (λ found. files_found found.items
         ≡ job_files marks (map prefix_of (finite.entries (reading (H.world host.old))))) }
 {
@@ -78,22 +78,22 @@ fn find_file<H: Host>(
     requires held { IsTrue H.tells → IsSome (finite.get (reading (H.world host.old)) name) }
     ensures inside { CallsInside HostFault.Failed (H.session host.old) (H.session host.new) result }
     ensures looks { IsTrue H.tells → H.world host.new ≡ H.world host.old }
-    ensures found { IsTrue H.tells → (marks : List Mark) (bytes : List ℕ) → AreDecided marks decided.now
+    ensures found { IsTrue H.tells → (marks : List Mark) (bytes : List ℕ) → AreDecidedNumbers marks decided.now
         → finite.get (reading (H.world host.old)) name ≡ Some bytes
         → OnOk result (files_found found.new.items
         ≡ files_found found.old.items ++ job_files marks ((name, take MAX_HEADER bytes) ∷ [])) }
 {
-    match counted(decided, name) {
+    match counted_job(decided, name) {
         Some(job) => {
             let prefix = Bytes::from(host.read(alloc, &name, 0, MAX_HEADER)?);
-            keep(found, FoundFile { name, job, prefix })?;
+            keep_file(found, FoundFile { name, job, prefix })?;
         }
         None => {}
     }
     Ok(())
 }
 
-fn keep(found: &mut Vec<FoundFile>, one: FoundFile) -> Result<(), AllocError>
+fn keep_file(found: &mut Vec<FoundFile>, one: FoundFile) -> Result<(), AllocError>
     ensures { OnOk result (files_found found.new.items ≡ files_found found.old.items ++ file_found one ∷ []) }
 {
     found.push(one)?;
@@ -101,8 +101,8 @@ fn keep(found: &mut Vec<FoundFile>, one: FoundFile) -> Result<(), AllocError>
 }
 
 // The job of the name, if it is that of one whose number is not decided.
-fn counted(decided: &BTreeSet<u32>, name: Name) -> Option<JobName>
-    ensures { (marks : List Mark) → AreDecided marks decided.now → IsCounted marks name result }
+fn counted_job(decided: &BTreeSet<u32>, name: Name) -> Option<JobName>
+    ensures { (marks : List Mark) → AreDecidedNumbers marks decided.now → IsCountedName marks name result }
 {
     match JobName::read(name.as_bytes()) {
         Some(job) => undecided(decided, job),
@@ -111,8 +111,8 @@ fn counted(decided: &BTreeSet<u32>, name: Name) -> Option<JobName>
 }
 
 fn undecided(decided: &BTreeSet<u32>, job: JobName) -> Option<JobName>
-    ensures { (marks : List Mark) (name : List ℕ) → AreDecided marks decided.now
-        → job_named name ≡ Some (job_of_name job) → IsCounted marks name result }
+    ensures { (marks : List Mark) (name : List ℕ) → AreDecidedNumbers marks decided.now
+        → job_named name ≡ Some (job_of_name job) → IsCountedName marks name result }
 {
     if decided.contains(&job.number) {
         None

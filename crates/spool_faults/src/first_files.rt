@@ -2,7 +2,7 @@
 ghost use Rattle.std.specs.Prelude.{◌++◌, [], ◌∷◌, List, IfOk, OnOk};
 ghost use Rattle.std.specs.List.{filter};
 ghost use Rattle.spool_faults.specs.Faults.{has_header};
-ghost use Rattle.spool_faults.specs.inside.Finding.{AreFirst, file_found, files_found};
+ghost use Rattle.spool_faults.specs.inside.Finding.{AreFirstFiles, file_found, files_found};
 ghost use Rattle.spool_shows.specs.JobFiles.{JobFile};
 
 use crate::found_file::FoundFile;
@@ -29,21 +29,21 @@ pub(crate) struct FirstFiles {
 
 // Of each number the first file that begins with a header.
 pub(crate) fn first_files(alloc: Global, files: &[FoundFile]) -> Result<FirstFiles, AllocError>
-    ensures { IfOk result (AreFirst (filter has_header (files_found files.now))) }
+    ensures { IfOk result (AreFirstFiles (filter has_header (files_found files.now))) }
 {
     let mut firsts = FirstFiles {
         queues: BTreeMap::new(alloc),
         files: Vec::new(alloc),
     };
     for file in files {
-        add(&mut firsts, file)?;
+        add_first(&mut firsts, file)?;
     }
     Ok(firsts)
 }
 
-fn add(firsts: &mut FirstFiles, file: &FoundFile) -> Result<(), AllocError>
-    ensures { OnOk result ((files : List JobFile) → AreFirst files firsts.old
-        → AreFirst (files ++ filter has_header (file_found file.now ∷ [])) firsts.new) }
+fn add_first(firsts: &mut FirstFiles, file: &FoundFile) -> Result<(), AllocError>
+    ensures { OnOk result ((files : List JobFile) → AreFirstFiles files firsts.old
+        → AreFirstFiles (files ++ filter has_header (file_found file.now ∷ [])) firsts.new) }
 {
     let number = file.job.number;
     if file.header_place().is_some() || firsts.queues.contains_key(&number) {

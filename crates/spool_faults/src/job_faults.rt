@@ -4,11 +4,11 @@ ghost use Rattle.std.specs.BTreeMap as tree;
 ghost use Rattle.std.specs.BTreeSet.{contains};
 ghost use Rattle.std.specs.Ordering.{nat_cmp};
 ghost use Rattle.spool_faults.specs.Faults.{files_faults, starts_faults};
-ghost use Rattle.spool_faults.specs.inside.Finding.{AreDecided, AreQueues, HasNumbers, files_found};
+ghost use Rattle.spool_faults.specs.inside.Finding.{AreDecidedNumbers, AreQueues, HasNumbers, files_found};
 ghost use Rattle.spool_shows.specs.JobFiles.{JobFile};
 ghost use Rattle.spool_shows.specs.Shown.{mark_damage, start_damage};
 ghost use Rattle.start_journal.specs.declared.mark.Mark.{Mark};
-ghost use Rattle.start_journal.specs.Taken.{IsNear};
+ghost use Rattle.start_journal.specs.Taken.{IsSlotWithinFile};
 
 use crate::found_file::FoundFile;
 use host_calls::Damage;
@@ -27,13 +27,13 @@ pub(crate) fn files_faults(
 {
     let mut before = BTreeSet::new(alloc);
     for file in files {
-        note(faults, file.fault(bound, &before))?;
-        add(&mut before, file.job.number)?;
+        push_fault(faults, file.fault(bound, &before))?;
+        add_number(&mut before, file.job.number)?;
     }
     Ok(())
 }
 
-fn note(faults: &mut Vec<Damage>, fault: Option<Damage>) -> Result<(), AllocError>
+fn push_fault(faults: &mut Vec<Damage>, fault: Option<Damage>) -> Result<(), AllocError>
     ensures { OnOk result (faults.new.items ≡ faults.old.items ++ option_to_list fault) }
 {
     if let Some(damage) = fault {
@@ -42,7 +42,7 @@ fn note(faults: &mut Vec<Damage>, fault: Option<Damage>) -> Result<(), AllocErro
     Ok(())
 }
 
-fn add(before: &mut BTreeSet<u32>, number: u32) -> Result<(), AllocError>
+fn add_number(before: &mut BTreeSet<u32>, number: u32) -> Result<(), AllocError>
     ensures { OnOk result ((other : ℕ) → contains nat_cmp before.new other
         ≡ (number == other || contains nat_cmp before.old other)) }
 {
@@ -57,24 +57,24 @@ pub(crate) fn starts_faults(
     queues: &BTreeMap<u32, u8>,
     faults: &mut Vec<Damage>,
 ) -> Result<(), AllocError>
-    requires { All IsNear marks.now }
-    ensures { OnOk result ((all : List Mark) (files : List JobFile) → AreDecided all decided.now
+    requires { All IsSlotWithinFile marks.now }
+    ensures { OnOk result ((all : List Mark) (files : List JobFile) → AreDecidedNumbers all decided.now
         → AreQueues files queues.now
         → faults.new.items ≡ faults.old.items ++ starts_faults all files marks.now) }
 {
     for one in marks {
-        note(faults, start_fault(*one, decided, queues))?;
+        push_fault(faults, start_damage(*one, decided, queues))?;
     }
     Ok(())
 }
 
-pub(crate) fn start_fault(
+pub(crate) fn start_damage(
     one: TakenMark,
     decided: &BTreeSet<u32>,
     queues: &BTreeMap<u32, u8>,
 ) -> Option<Damage>
-    requires { IsNear one }
-    ensures { (all : List Mark) (files : List JobFile) → AreDecided all decided.now → AreQueues files queues.now
+    requires { IsSlotWithinFile one }
+    ensures { (all : List Mark) (files : List JobFile) → AreDecidedNumbers all decided.now → AreQueues files queues.now
         → result ≡ mark_damage all files one.place one.mark }
 {
     match one.mark {
@@ -82,7 +82,7 @@ pub(crate) fn start_fault(
             if decided.contains(&number) {
                 return None;
             }
-            queue_fault(one.place, queue, queue_of(queues, number))
+            queue_fault(one.place, queue, queue_of_number(queues, number))
         }
         Mark::Removed(_)
         | Mark::Ended { .. }
@@ -92,7 +92,7 @@ pub(crate) fn start_fault(
     }
 }
 
-fn queue_of(queues: &BTreeMap<u32, u8>, number: u32) -> Option<u8>
+fn queue_of_number(queues: &BTreeMap<u32, u8>, number: u32) -> Option<u8>
     ensures { result ≡ tree.get nat_cmp queues.now number }
 {
     queues.get(&number).copied()

@@ -3,7 +3,7 @@ ghost use Rattle.spool_faults.specs.Examples.{SmallFoldersAreSalvaged, SmallFold
 ghost use Rattle.spool_faults.specs.Laws.{DamageIsTheFirstFault, FaultlessFoldersAreSavedWhole, LostMarksLeaveNoJobPending, SalvagedMarksAreSound, SalvagesAreSavedAlike, SalvagesHaveNoFault, SalvagesShowWhatIsTaken, StartsAreNotPending, TakenMarksAreSound};
 
 /// The faults of small folders and what is saved of them, computed.
-pub fn small_folders()
+pub fn small_folder_faults()
     ensures faults { SmallFoldersHaveFaults }
     ensures salvaged { SmallFoldersAreSalvaged }
 {}

@@ -3,7 +3,7 @@
 //! Its definitions are what a reader believes, and not what runs. In the order in which to read them:
 //! 1. `Faults`: all faults of a folder, in the order in which recovery looks for the first of them
 //! 2. `Salvaged`: the marks and files that are taken of a folder with faults, and the table that they make
-//! 3. `Plan` and `Salvages`: what is to be written for them, and a folder that has it
+//! 3. `SalvagePlan` and `Salvages`: what is to be written for them, and a folder that has it
 //! 4. `Examples`: small folders, their faults and what is saved of them
 //! 5. `Listed`: what listing the faults leaves
 //! 6. `Laws`: the first fault is the damage that recovery answers, a folder without one is saved whole, where a mark may be
@@ -27,8 +27,9 @@ mod survey;
 pub use fault_list::FaultList;
 pub use laws::{
     damage_is_the_first_fault, lost_marks_leave_no_job_pending, salvaged_marks_are_sound,
-    salvages_show_what_is_taken, small_folders, starts_are_not_pending, taken_marks_are_sound,
+    salvages_show_what_is_taken, small_folder_faults, starts_are_not_pending,
+    taken_marks_are_sound,
 };
 pub use list_faults::faults;
-pub use plan::Plan;
-pub use survey::{Survey, take_survey};
+pub use plan::SalvagePlan;
+pub use survey::{Diagnosis, diagnose};

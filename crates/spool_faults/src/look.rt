@@ -7,17 +7,17 @@ ghost use Rattle.host_calls.specs.Session.{CallsInside, IsInside};
 ghost use Rattle.host_calls.specs.World.{reading};
 ghost use Rattle.sequence_file.specs.LastNumber.{last_in};
 ghost use Rattle.spool_faults.specs.Faults.{bound_by, faults_of, has_header, jobs_faults, sequence_faults};
-ghost use Rattle.spool_faults.specs.inside.Finding.{AreDecided, AreFirst};
+ghost use Rattle.spool_faults.specs.inside.Finding.{AreDecidedNumbers, AreFirstFiles};
 ghost use Rattle.spool_faults.specs.inside.Looking.{IsLook};
 ghost use Rattle.spool_shows.specs.JobFiles.{job_files};
 ghost use Rattle.start_journal.specs.Journals.{AreWritable, journal_file};
-ghost use Rattle.start_journal.specs.Taken.{IsNear, journal_faults, marks_of, taken_of};
+ghost use Rattle.start_journal.specs.Taken.{IsSlotWithinFile, journal_faults, marks_of, taken_of};
 
 use crate::find_files::{decided, find_files};
 use crate::first_files::{FirstFiles, first_files};
 use crate::job_faults::{files_faults, starts_faults};
 use host_calls::{Bytes, Damage, Host, HostFault, Name};
-use sequence_file::{read, sequence_name};
+use sequence_file::{read_sequence, sequence_name};
 use spool_model::LAST_NUMBER;
 use start_journal::{Mark, Taken, TakenMark, journal_name, take};
 use std::alloc::{AllocError, Global};
@@ -57,7 +57,7 @@ pub(crate) fn take_look<H: Host>(
     let names = host.names(alloc)?;
     let sequence = content_among(alloc, host, names.as_slice(), &sequence_name())?;
     let journal = content_among(alloc, host, names.as_slice(), &journal_name())?;
-    let number = number_in(&sequence);
+    let number = sequence_number(&sequence);
     note_sequence(faults, &number)?;
     let taken = take_journal(alloc, &journal, bound_of(&number), faults)?;
     let marks = marks_alone(alloc, taken.as_slice())?;
@@ -102,12 +102,12 @@ fn content_among<H: Host>(
 }
 
 // The last number that the sequence file gives by its content, or its damage.
-fn number_in(content: &Option<Bytes>) -> Result<u32, Damage>
+fn sequence_number(content: &Option<Bytes>) -> Result<u32, Damage>
     ensures { result ≡ last_in content.now }
 {
     match content {
         None => Ok(0),
-        Some(bytes) => read(bytes.as_slice()),
+        Some(bytes) => read_sequence(bytes.as_slice()),
     }
 }
 
@@ -137,7 +137,7 @@ fn take_journal(
     faults: &mut Vec<Damage>,
 ) -> Result<Vec<TakenMark>, AllocError>
     ensures marks { IfOk result (λ marks. marks.items ≡ taken_of journal.now) }
-    ensures near { IfOk result (λ marks. All IsNear marks.items) }
+    ensures near { IfOk result (λ marks. All IsSlotWithinFile marks.items) }
     ensures faults { OnOk result (faults.new.items ≡ faults.old.items ++ journal_faults bound journal.now) }
 {
     match journal {
@@ -153,7 +153,7 @@ fn take_bytes(
     faults: &mut Vec<Damage>,
 ) -> Result<Vec<TakenMark>, AllocError>
     ensures marks { IfOk result (λ marks. marks.items ≡ taken_of (Some bytes.now)) }
-    ensures near { IfOk result (λ marks. All IsNear marks.items) }
+    ensures near { IfOk result (λ marks. All IsSlotWithinFile marks.items) }
     ensures faults { OnOk result (faults.new.items ≡ faults.old.items ++ journal_faults bound (Some bytes.now)) }
 {
     let Taken {
@@ -197,13 +197,13 @@ fn note_jobs<H: Host>(
 ) -> Result<FirstFiles, HostFault>
     requires inside { IsInside (H.session host.old) }
     requires listed { IsTrue H.tells → names.now ≡ finite.keys (reading (H.world host.old)) }
-    requires near { All IsNear marks.now }
-    requires decided { AreDecided (marks_of marks.now) decided.now }
+    requires near { All IsSlotWithinFile marks.now }
+    requires decided { AreDecidedNumbers (marks_of marks.now) decided.now }
     ensures inside { CallsInside HostFault.Failed (H.session host.old) (H.session host.new) result }
     ensures looks { IsTrue H.tells → H.world host.new ≡ H.world host.old }
     ensures faults { IsTrue H.tells → OnOk result (faults.new.items ≡ faults.old.items
         ++ jobs_faults bound (marks_of marks.now) marks.now (finite.entries (reading (H.world host.old)))) }
-    ensures firsts { IsTrue H.tells → IfOk result (AreFirst
+    ensures firsts { IsTrue H.tells → IfOk result (AreFirstFiles
         (filter has_header (job_files (marks_of marks.now) (finite.entries (reading (H.world host.old)))))) }
 {
     let found = find_files(alloc, host, names, decided)?;

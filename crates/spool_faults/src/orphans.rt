@@ -2,7 +2,7 @@
 ghost use Rattle.std.specs.Prelude.{◌≡◌, List};
 ghost use Rattle.std.specs.List.{list_any};
 ghost use Rattle.spool_faults.specs.Salvaged.{is_orphan};
-ghost use Rattle.spool_faults.specs.inside.Finding.{AreDecided, AreQueues};
+ghost use Rattle.spool_faults.specs.inside.Finding.{AreDecidedNumbers, AreQueues};
 ghost use Rattle.spool_shows.specs.JobFiles.{JobFile};
 ghost use Rattle.start_journal.specs.declared.mark.Mark.{Mark};
 
@@ -16,7 +16,7 @@ pub(crate) fn has_orphan(
     decided: &BTreeSet<u32>,
     queues: &BTreeMap<u32, u8>,
 ) -> bool
-    ensures { (all : List Mark) (files : List JobFile) → AreDecided all decided.now → AreQueues files queues.now
+    ensures { (all : List Mark) (files : List JobFile) → AreDecidedNumbers all decided.now → AreQueues files queues.now
         → result ≡ list_any (is_orphan last all files) marks.now }
 {
     marks
@@ -25,7 +25,7 @@ pub(crate) fn has_orphan(
 }
 
 fn is_orphan(last: u32, mark: Mark, decided: &BTreeSet<u32>, queues: &BTreeMap<u32, u8>) -> bool
-    ensures { (all : List Mark) (files : List JobFile) → AreDecided all decided.now → AreQueues files queues.now
+    ensures { (all : List Mark) (files : List JobFile) → AreDecidedNumbers all decided.now → AreQueues files queues.now
         → result ≡ is_orphan last all files mark }
 {
     match mark {

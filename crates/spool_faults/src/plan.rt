@@ -12,7 +12,7 @@ ghost use Rattle.spool_faults.specs.inside.Looking.{IsLook};
 ghost use Rattle.spool_faults.specs.inside.Saving.{name_unless};
 ghost use Rattle.spool_model.specs.declared.number.TheConstants.{LAST_NUMBER};
 ghost use Rattle.start_journal.specs.Journals.{AreWritable};
-ghost use Rattle.start_journal.specs.Marks.{number_of};
+ghost use Rattle.start_journal.specs.Marks.{number_of_mark};
 ghost use Rattle.start_journal.specs.Taken.{journal_faults};
 
 use crate::find_files::decided;
@@ -22,7 +22,7 @@ use crate::orphans::has_orphan;
 use crate::saved_marks::saved_marks;
 use host_calls::{Bytes, Damage, Name};
 use job_name::JobName;
-use sequence_file::text_of;
+use sequence_file::sequence_file_text;
 use spool_model::LAST_NUMBER;
 use start_journal::{Mark, journal_text, take};
 use std::alloc::{AllocError, Global};
@@ -34,14 +34,18 @@ const FREE_SLOTS: u64 = 256;
 /// What is to be written for what is saved of a folder: the names of the files that are copied, the journal, and the
 /// sequence file.
 #[derive(Drop)]
-pub struct Plan {
+pub struct SalvagePlan {
     pub names: Vec<Name>,
     pub journal: Vec<u8>,
     pub sequence: Vec<u8>,
 }
 
 // The plan, by one look at the folder, which has these faults.
-pub(crate) fn plan_of(alloc: Global, look: &Look, faults: &[Damage]) -> Result<Plan, AllocError>
+pub(crate) fn plan_of(
+    alloc: Global,
+    look: &Look,
+    faults: &[Damage],
+) -> Result<SalvagePlan, AllocError>
     requires { AreWritable look.now.marks.items }
     ensures { (files : Files) → IsLook files look.now → faults.now ≡ faults_of files
         → IfOk result (λ plan. IsPlanOf files plan.names.items plan.journal.items plan.sequence.items) }
@@ -59,7 +63,7 @@ pub(crate) fn plan_of(alloc: Global, look: &Look, faults: &[Damage]) -> Result<P
     let journal = journal_text(alloc, marks.as_slice(), FREE_SLOTS)?;
     let last = saved_last(&look.number, look.marks.as_slice(), look.names.as_slice());
     let sequence = sequence_text(alloc, last)?;
-    Ok(Plan {
+    Ok(SalvagePlan {
         names,
         journal,
         sequence,
@@ -126,7 +130,7 @@ fn leave(names: &mut Vec<Name>, file: FirstFile, decided: &BTreeSet<u32>) -> Res
 
 // The number that counts as drawn last.
 fn saved_last(number: &Result<u32, Damage>, marks: &[Mark], names: &[Name]) -> u32
-    ensures { result ≡ greatest (greatest (last_told number.now) (filter_map number_of marks.now))
+    ensures { result ≡ greatest (greatest (last_told number.now) (filter_map number_of_mark marks.now))
         (filter_map number_named names.now) }
 {
     greatest_name(greatest_mark(last_told(number), marks), names)
@@ -142,7 +146,7 @@ fn last_told(number: &Result<u32, Damage>) -> u32
 }
 
 fn greatest_mark(least: u32, marks: &[Mark]) -> u32
-    ensures { result ≡ greatest least (filter_map number_of marks.now) }
+    ensures { result ≡ greatest least (filter_map number_of_mark marks.now) }
 {
     let mut last = least;
     for mark in marks {
@@ -183,6 +187,6 @@ fn sequence_text(alloc: Global, last: u32) -> Result<Vec<u8>, AllocError>
     ensures { IfOk result (λ text. SpellsIn true text.items last) }
 {
     let mut text = Vec::new(alloc);
-    text.extend_from_slice(&text_of(last))?;
+    text.extend_from_slice(&sequence_file_text(last))?;
     Ok(text)
 }

@@ -5,16 +5,16 @@ ghost use Rattle.std.specs.List.{filter_map};
 ghost use Rattle.std.specs.Ordering.{nat_cmp};
 ghost use Rattle.spool_faults.specs.Faults.{first_files};
 ghost use Rattle.spool_faults.specs.Salvaged.{given_up, marks_with};
-ghost use Rattle.spool_faults.specs.inside.Finding.{AreDecided, AreFirst, AreQueues, file_first};
-ghost use Rattle.spool_faults.specs.inside.Saving.{AreNamed, removal_unless};
+ghost use Rattle.spool_faults.specs.inside.Finding.{AreDecidedNumbers, AreFirstFiles, AreQueues, file_first};
+ghost use Rattle.spool_faults.specs.inside.Saving.{AreNamedNumbers, removal_unless};
 ghost use Rattle.spool_shows.specs.JobFiles.{JobFile};
 ghost use Rattle.start_journal.specs.declared.mark.Mark.{Mark};
 ghost use Rattle.start_journal.specs.Journals.{AreWritable};
-ghost use Rattle.start_journal.specs.Marks.{names};
+ghost use Rattle.start_journal.specs.Marks.{is_mark_of};
 ghost use Rattle.start_journal.specs.Slots.{IsWritable};
 
 use crate::first_files::{FirstFile, FirstFiles};
-use crate::job_faults::start_fault;
+use crate::job_faults::start_damage;
 use start_journal::{Mark, TakenMark};
 use std::alloc::{AllocError, Global};
 use std::collections::{BTreeMap, BTreeSet};
@@ -29,15 +29,15 @@ pub(crate) fn saved_marks(
     lost: bool,
 ) -> Result<Vec<Mark>, AllocError>
     ensures writable { AreWritable marks.now → IfOk result (λ saved. AreWritable saved.items) }
-    ensures saved { (files : List JobFile) → AreDecided marks.now decided.now
-        → AreFirst files firsts.now → IfOk result (λ saved. saved.items ≡ marks_with marks.now (first_files [] files) lost) }
+    ensures saved { (files : List JobFile) → AreDecidedNumbers marks.now decided.now
+        → AreFirstFiles files firsts.now → IfOk result (λ saved. saved.items ≡ marks_with marks.now (first_files [] files) lost) }
 {
     let mut saved = Vec::new(alloc);
     saved.extend_from_slice(marks)?;
     give_up(marks, decided, &firsts.queues, &mut saved)?;
     if lost {
-        let named = named(alloc, marks)?;
-        take_back(firsts.files.as_slice(), &named, &mut saved)?;
+        let named = named_numbers(alloc, marks)?;
+        remove_unnamed(firsts.files.as_slice(), &named, &mut saved)?;
     }
     Ok(saved)
 }
@@ -51,12 +51,12 @@ fn give_up(
 ) -> Result<(), AllocError>
     ensures writable { OnOk result (AreWritable marks.now → AreWritable saved.old.items
         → AreWritable saved.new.items) }
-    ensures saved { OnOk result ((all : List Mark) (files : List JobFile) → AreDecided all decided.now
+    ensures saved { OnOk result ((all : List Mark) (files : List JobFile) → AreDecidedNumbers all decided.now
         → AreQueues files queues.now
         → saved.new.items ≡ saved.old.items ++ filter_map (given_up all files) marks.now) }
 {
     for mark in marks {
-        keep(saved, given_up(*mark, decided, queues))?;
+        keep_mark(saved, given_up(*mark, decided, queues))?;
     }
     Ok(())
 }
@@ -64,12 +64,12 @@ fn give_up(
 // The end of the start, if it is given up.
 fn given_up(mark: Mark, decided: &BTreeSet<u32>, queues: &BTreeMap<u32, u8>) -> Option<Mark>
     ensures writable { IsWritable mark → IfSome result IsWritable }
-    ensures given { (all : List Mark) (files : List JobFile) → AreDecided all decided.now
+    ensures given { (all : List Mark) (files : List JobFile) → AreDecidedNumbers all decided.now
         → AreQueues files queues.now → result ≡ given_up all files mark }
 {
     match mark {
         Mark::Started { number, .. } => {
-            match start_fault(TakenMark { place: 0, mark }, decided, queues) {
+            match start_damage(TakenMark { place: 0, mark }, decided, queues) {
                 Some(_) => Some(Mark::Interrupted(number)),
                 None => None,
             }
@@ -83,7 +83,7 @@ fn given_up(mark: Mark, decided: &BTreeSet<u32>, queues: &BTreeMap<u32, u8>) -> 
 }
 
 // Takes back each job that no mark names.
-fn take_back(
+fn remove_unnamed(
     files: &[FirstFile],
     named: &BTreeSet<u32>,
     saved: &mut Vec<Mark>,
@@ -93,7 +93,7 @@ fn take_back(
         ≡ saved.old.items ++ filter_map (λ file. removal_unless named.now (file_first file)) files.now) }
 {
     for file in files {
-        keep(saved, taken_back(*file, named))?;
+        keep_mark(saved, taken_back(*file, named))?;
     }
     Ok(())
 }
@@ -111,7 +111,7 @@ fn taken_back(file: FirstFile, named: &BTreeSet<u32>) -> Option<Mark>
 }
 
 // Puts the mark to those before it, if there is one.
-fn keep(saved: &mut Vec<Mark>, mark: Option<Mark>) -> Result<(), AllocError>
+fn keep_mark(saved: &mut Vec<Mark>, mark: Option<Mark>) -> Result<(), AllocError>
     ensures writable { OnOk result (IfSome mark IsWritable → AreWritable saved.old.items
         → AreWritable saved.new.items) }
     ensures saved { OnOk result (saved.new.items ≡ saved.old.items ++ option_to_list mark) }
@@ -123,19 +123,19 @@ fn keep(saved: &mut Vec<Mark>, mark: Option<Mark>) -> Result<(), AllocError>
 }
 
 // The numbers that the marks name.
-fn named(alloc: Global, marks: &[Mark]) -> Result<BTreeSet<u32>, AllocError>
-    ensures { IfOk result (AreNamed marks.now) }
+fn named_numbers(alloc: Global, marks: &[Mark]) -> Result<BTreeSet<u32>, AllocError>
+    ensures { IfOk result (AreNamedNumbers marks.now) }
 {
     let mut named = BTreeSet::new(alloc);
     for mark in marks {
-        name(&mut named, *mark)?;
+        add_named(&mut named, *mark)?;
     }
     Ok(named)
 }
 
-fn name(named: &mut BTreeSet<u32>, mark: Mark) -> Result<(), AllocError>
+fn add_named(named: &mut BTreeSet<u32>, mark: Mark) -> Result<(), AllocError>
     ensures { OnOk result ((number : ℕ) → contains nat_cmp named.new number
-        ≡ (contains nat_cmp named.old number || names number mark)) }
+        ≡ (contains nat_cmp named.old number || is_mark_of number mark)) }
 {
     match mark {
         Mark::Removed(number)

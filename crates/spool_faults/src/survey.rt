@@ -8,20 +8,20 @@ ghost use Rattle.spool_faults.specs.Plan.{IsPlanOf};
 
 use crate::FaultList;
 use crate::look::take_look;
-use crate::plan::{Plan, plan_of};
+use crate::plan::{SalvagePlan, plan_of};
 use host_calls::{Host, HostFault};
 use std::alloc::Global;
 
 /// The faults of a folder, and what is to be written for what is saved of it.
 #[derive(Drop)]
-pub struct Survey {
+pub struct Diagnosis {
     pub faults: FaultList,
-    pub plan: Plan,
+    pub plan: SalvagePlan,
 }
 
 /// The faults of the folder, which is settled first, and what is to be written for what is saved of it. Nothing is
 /// changed.
-pub fn take_survey<H: Host>(alloc: Global, host: &mut H) -> Result<Survey, HostFault>
+pub fn diagnose<H: Host>(alloc: Global, host: &mut H) -> Result<Diagnosis, HostFault>
     requires { IsInside (H.session host.old) }
     ensures inside { CallsInside HostFault.Failed (H.session host.old) (H.session host.new) result }
     ensures leaves { IsTrue H.tells → LeavesFolder (H.world host.old) (H.world host.new) }
@@ -33,7 +33,7 @@ pub fn take_survey<H: Host>(alloc: Global, host: &mut H) -> Result<Survey, HostF
     let mut faults = Vec::new(alloc);
     let look = take_look(alloc, host, &mut faults)?;
     let plan = plan_of(alloc, &look, faults.as_slice())?;
-    Ok(Survey {
+    Ok(Diagnosis {
         faults: FaultList { faults },
         plan,
     })

@@ -13,12 +13,12 @@ step_of (Interrupted number) = Interrupt number
 step_of (Forgotten number) = Forget number
 
 -- the steps of the job table, in order
-abbrev pub steps_of : List TurnStep → List Step
-steps_of steps = map step_of steps
+abbrev pub steps_of_turn : List TurnStep → List Step
+steps_of_turn steps = map step_of steps
 
 -- the number of the job that the step is of
-abbrev pub number_of : TurnStep → ℕ
-number_of (HandedOver number second) = number
-number_of (Ended number ending) = number
-number_of (Interrupted number) = number
-number_of (Forgotten number) = number
+abbrev pub number_of_step : TurnStep → ℕ
+number_of_step (HandedOver number second) = number
+number_of_step (Ended number ending) = number
+number_of_step (Interrupted number) = number
+number_of_step (Forgotten number) = number

@@ -20,11 +20,11 @@ pub record IsUserName (bytes : List ℕ) : Type 0 where
   pub no_dash : slice_index bytes 0 ≢ 45
 
 -- the bytes and zeros up to 32
-abbrev pub padded : List ℕ → List ℕ
-padded bytes = bytes ++ replicate (32 - length bytes) 0
+abbrev pub padded_user : List ℕ → List ℕ
+padded_user bytes = bytes ++ replicate (32 - length bytes) 0
 
 -- the first of the 32 bytes are a user's name, and the others are zeros
-pub record IsPadded (bytes : List ℕ) (count : ℕ) : Type 0 where
+pub record IsPaddedUser (bytes : List ℕ) (count : ℕ) : Type 0 where
   pub name : IsUserName (take count bytes)
   pub counted : length (take count bytes) ≡ count
-  pub zeros : bytes ≡ padded (take count bytes)
+  pub zeros : bytes ≡ padded_user (take count bytes)

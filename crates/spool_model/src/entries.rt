@@ -12,11 +12,11 @@ use std::marker::Model;
 
 /// A map from the numbers of jobs to entries. A contract sees it as a finite map.
 #[derive(Drop)]
-pub struct Entries {
+pub struct JobEntries {
     map: BTreeMap<u32, Entry>,
 }
 
-impl Model for Entries {
+impl Model for JobEntries {
     ghost use Rattle.std.specs.FinMap.{from_entries};
     ghost use Rattle.spool_model.specs.JobTable.{JobEntries};
     ghost use Rattle.spool_model.specs.Codes.{entries_code};
@@ -28,12 +28,12 @@ impl Model for Entries {
     ghost view = { λ entries. from_entries entries.map.entries };
 }
 
-impl Entries {
+impl JobEntries {
     /// No entries. It takes no memory yet.
-    pub fn new(alloc: Global) -> Entries
+    pub fn new(alloc: Global) -> JobEntries
         ensures { result ≡ finite.empty }
     {
-        Entries {
+        JobEntries {
             map: BTreeMap::new(alloc),
         }
     }

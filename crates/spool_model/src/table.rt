@@ -4,7 +4,7 @@ ghost use Rattle.std.specs.Option.{option_copied};
 ghost use Rattle.spool_model.specs.JobTable.{new_table, entry_at, IsPending, IsRunning, IsDone, IsDrawn};
 ghost use Rattle.spool_model.specs.Steps.{IsFree, IsLegal, after_step, is_batch_entry, last_batch_after};
 
-use crate::entries::Entries;
+use crate::entries::JobEntries;
 use crate::{Entry, Fate, Job, LAST_NUMBER, State, Step, is_batch};
 use std::alloc::{AllocError, Global};
 use std::marker::Model;
@@ -16,7 +16,7 @@ use std::marker::Model;
 #[derive(Drop)]
 pub struct Table {
     last: u32,
-    entries: Entries,
+    entries: JobEntries,
     last_batch: Option<i64>,
 }
 
@@ -40,7 +40,7 @@ impl Table {
     {
         Table {
             last: 0,
-            entries: Entries::new(alloc),
+            entries: JobEntries::new(alloc),
             last_batch: None,
         }
     }

@@ -1,6 +1,6 @@
 //! A step that a turn of the daemon made.
 ghost use Rattle.std.specs.Prelude.{◌≡◌};
-ghost use Rattle.spool_model.specs.StepsOf.{number_of, step_of};
+ghost use Rattle.spool_model.specs.StepsOf.{number_of_step, step_of};
 
 use crate::Step;
 use host_calls::Ending;
@@ -33,7 +33,7 @@ impl TurnStep {
 
     /// The number of the job that the step is of.
     pub fn number(&self) -> u32
-        ensures { result ≡ number_of self.now }
+        ensures { result ≡ number_of_step self.now }
     {
         match self {
             TurnStep::HandedOver(number, _) => *number,

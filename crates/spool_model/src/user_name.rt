@@ -24,15 +24,15 @@ pub struct UserName {
 impl Model for UserName {
     ghost use Rattle.std.specs.Prelude.{List, ℕ, take, length};
     ghost use Rattle.std.proofs.Common.{sym};
-    ghost use Rattle.spool_model.specs.Users.{padded, IsPadded};
+    ghost use Rattle.spool_model.specs.Users.{padded_user, IsPaddedUser};
 
     ghost Value = { List ℕ };
 
     ghost view = { λ name. take name.count name.bytes };
 
-    ghost invariant = { λ name. IsPadded name.bytes name.count };
+    ghost invariant = { λ name. IsPaddedUser name.bytes name.count };
 
-    ghost inverse = { λ bytes. record { bytes = padded bytes; count = length bytes } };
+    ghost inverse = { λ bytes. record { bytes = padded_user bytes; count = length bytes } };
 
     ghost inverse_ok = { λ name holds i. record { bytes = sym holds.zeros i; count = holds.counted i } };
 }
@@ -73,10 +73,10 @@ fn is_user_name(bytes: &[u8]) -> bool
 fn has_user_bytes(bytes: &[u8]) -> bool
     ensures { result ≡ are_user_bytes bytes.now }
 {
-    bytes.iter().all(|byte| can_stand(*byte))
+    bytes.iter().all(|byte| is_user_byte(*byte))
 }
 
-fn can_stand(byte: u8) -> bool
+fn is_user_byte(byte: u8) -> bool
     ensures { result ≡ is_user_byte byte }
 {
     let is_mark = byte == b'.' || byte == b'_' || byte == b'-' || byte == b'$';

@@ -10,7 +10,7 @@ use Rattle.job_name.specs.declared.job.JobName.{JobName}
 use Rattle.job_name.specs.JobName.{NamedJob, SpellsJobName, job_named}
 use Rattle.job_name.proofs.NamedJobs.{name_given, name_spelled}
 use Rattle.sequence_file.specs.Sequence.{sequence_file}
-use Rattle.spool_salvage.specs.inside.Copying.{EachHas, IsBare, IsCertain, IsCopyName}
+use Rattle.spool_salvage.specs.inside.Copying.{EachHasFile, IsBare, HasOneImage, IsCopyName}
 use Rattle.spool_salvage.specs.Salvaging.{is_of_spool, is_spool}
 use Rattle.spool_shows.proofs.EntryLists.{file_is_entry}
 use Rattle.spool_shows.proofs.Membership.{any_passes, has_made}
@@ -64,7 +64,7 @@ bare_none files bare name of = by_held (finite.get files name) refl where
       let impossible : true ≡ false = sym any ∙ bare in
       cc
 
-pub bare_each : (folder : Folder) → IsBare folder → (name : List ℕ) → is_of_spool name ≡ true → EachHas name None folder
+pub bare_each : (folder : Folder) → IsBare folder → (name : List ℕ) → is_of_spool name ≡ true → EachHasFile name None folder
 bare_each folder is name of = λ image at. ap (λ (files : Files). finite.get files name) (is.certain image at) ∙ bare_none (reading_of folder) is.bare name of
 
 pub bare_temp : (folder : Folder) → IsBare folder → IsInNoImage folder temporary_file
@@ -92,7 +92,7 @@ unnamed_by name bytes test same is false_is job =
 
 -- Folders that are settled.
 
-pub certain_of : (old new : Folder) → IsSettled old new → IsCertain new
+pub certain_of : (old new : Folder) → IsSettled old new → HasOneImage new
 certain_of old new done = λ image is.
     settled_image old image (subst (λ (folder : Folder). IsImage folder image) done is)
     ∙ sym (ap reading_of done ∙ reading_of-settled old)

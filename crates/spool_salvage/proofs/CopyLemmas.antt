@@ -12,7 +12,7 @@ use Rattle.std.proofs.lemmas.Slice.Eq.{bytes_eq-Decides}
 use Rattle.host_calls.specs.Folder.{Files, Folder, IsImage}
 use Rattle.host_calls.specs.World.{World}
 use Rattle.job_name.specs.JobName.{NamedJob, job_named}
-use Rattle.spool_salvage.specs.inside.Copying.{AreJobNames, EachHas, EachHasCopies, IsCopied, IsCopyName, copied}
+use Rattle.spool_salvage.specs.inside.Copying.{AreJobNames, EachHasFile, EachHasCopies, IsCopied, IsCopyName, copied}
 use Rattle.spool_shows.proofs.NameLemmas.{job_name_differs, temporary_no_job}
 use Rattle.whole_file.specs.Others.{ChangesFiles, IsEither, LeavesOthers}
 use Rattle.whole_file.specs.Temporary.{temporary_file}
@@ -36,7 +36,7 @@ alone_on first second start middle image narrower before left =
     }
 
 -- a name that is left alone has in each image what it had in each
-pub kept_each : (may_change : List ℕ → Type 0) (old new : World) (name : List ℕ) (held : Option (List ℕ)) → ¬ (may_change name) → ChangesFiles (LeavesOthers may_change old.now.folder) old new → EachHas name held old.now.folder → EachHas name held new.now.folder
+pub kept_each : (may_change : List ℕ → Type 0) (old new : World) (name : List ℕ) (held : Option (List ℕ)) → ¬ (may_change name) → ChangesFiles (LeavesOthers may_change old.now.folder) old new → EachHasFile name held old.now.folder → EachHasFile name held new.now.folder
 kept_each may_change old new name held other changes each = λ image is.
     let left : LeavesOthers may_change old.now.folder image = alone_end may_change old new changes image is in
     left.others name other ∙ each left.from left.was
@@ -85,7 +85,7 @@ copied_other name one names files differ =
     ap (λ b. if b then map.get files name else None) (any_more name one names ∙ or_false (list_any (λ other. bytes_eq other name) names) (bytes_eq one name) (false_from_ne_true _ (λ same. differ ((bytes_eq-Decides one name).0 same))))
 
 -- one copy more
-pub one_copy : (files : Files) (names : List (List ℕ)) (name : List ℕ) (old new : World) → EachHasCopies files names old.now.folder → ChangesFiles (LeavesOthers (IsCopied name) old.now.folder) old new → EachHas name (map.get files name) new.now.folder → EachHasCopies files (names ++ name ∷ []) new.now.folder
+pub one_copy : (files : Files) (names : List (List ℕ)) (name : List ℕ) (old new : World) → EachHasCopies files names old.now.folder → ChangesFiles (LeavesOthers (IsCopied name) old.now.folder) old new → EachHasFile name (map.get files name) new.now.folder → EachHasCopies files (names ++ name ∷ []) new.now.folder
 one_copy files names name old new before changes holds = λ image is other job named. by_name image is other job named (one_or_other other name) where
   by_name : (image : Files) → IsImage new.now.folder image → (other : List ℕ) (job : NamedJob) → job_named other ≡ Some job → (other ≡ name) ⊎ (¬ (other ≡ name)) → map.get image other ≡ copied (names ++ name ∷ []) files other
   by_name image is other job named (inl same) =
@@ -110,7 +110,7 @@ pub named_at : (names : List (List ℕ)) (place : ℕ) (name : List ℕ) → pla
 named_at names place name inside at are = subst (λ (n : List ℕ). IsSome (job_named n)) (sym at) (All-get_or (λ (n : List ℕ). IsSome (job_named n)) names place name inside are)
 
 -- the copy of the file of that name
-pub copied_at : (files here : Files) (names : List (List ℕ)) (place : ℕ) (name : List ℕ) (old new : World) → here ≡ files → place < length names → name ≡ get_or names place name → EachHasCopies files (take place names) old.now.folder → ChangesFiles (LeavesOthers (IsCopied name) old.now.folder) old new → EachHas name (map.get here name) new.now.folder → EachHasCopies files (take (place + 1) names) new.now.folder
+pub copied_at : (files here : Files) (names : List (List ℕ)) (place : ℕ) (name : List ℕ) (old new : World) → here ≡ files → place < length names → name ≡ get_or names place name → EachHasCopies files (take place names) old.now.folder → ChangesFiles (LeavesOthers (IsCopied name) old.now.folder) old new → EachHasFile name (map.get here name) new.now.folder → EachHasCopies files (take (place + 1) names) new.now.folder
 copied_at files here names place name old new same inside at before changes holds =
     more_copies files names place name new.now.folder inside at
-    (one_copy files (take place names) name old new before changes (subst (λ (fs : Files). EachHas name (map.get fs name) new.now.folder) same holds))
+    (one_copy files (take place names) name old new before changes (subst (λ (fs : Files). EachHasFile name (map.get fs name) new.now.folder) same holds))

@@ -2,7 +2,7 @@
 use Rattle.std.proofs.Common.{◌≡◌, arith, refl, sym, ◌∙◌}
 use Rattle.std.specs.Prelude.{Result, Ok, Err, IfErr, IsErrAnd}
 use Rattle.host_calls.specs.Session.{CallsInside, IsInside, Session}
-use Rattle.spool_salvage.specs.Faults.{IsOfSource, IsOfTarget}
+use Rattle.spool_salvage.specs.Faults.{IsOfSource, IsTargetFault}
 use Rattle.spool_salvage.specs.declared.fault.SalvageFault.{SalvageFault}
 use Rattle.spool_salvage.specs.declared.fault.SalvageFault.TheVariants.{FromFailed, ToFailed, NotEmpty, Memory}
 
@@ -16,12 +16,12 @@ source_not_empty FromFailed of = λ is. cc
 source_not_empty Memory of = λ is. cc
 source_not_empty _ of = absurd of
 
-pub target_not_source : (fault : SalvageFault) → IsOfTarget fault → ¬ (fault ≡ FromFailed)
+pub target_not_source : (fault : SalvageFault) → IsTargetFault fault → ¬ (fault ≡ FromFailed)
 target_not_source ToFailed of = λ is. cc
 target_not_source Memory of = λ is. cc
 target_not_source _ of = absurd of
 
-pub target_not_empty : (fault : SalvageFault) → IsOfTarget fault → ¬ (fault ≡ NotEmpty)
+pub target_not_empty : (fault : SalvageFault) → IsTargetFault fault → ¬ (fault ≡ NotEmpty)
 target_not_empty ToFailed of = λ is. cc
 target_not_empty Memory of = λ is. cc
 target_not_empty _ of = absurd of

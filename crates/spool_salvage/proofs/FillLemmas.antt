@@ -10,7 +10,7 @@ use Rattle.sequence_file.specs.Sequence.{sequence_file}
 use Rattle.spool_faults.specs.Listed.{LeavesFolder}
 use Rattle.spool_faults.specs.Plan.{IsPlanOf}
 use Rattle.spool_faults.specs.Salvaged.{salvaged}
-use Rattle.spool_salvage.specs.inside.Copying.{EachHas, EachHasCopies, IsBare, IsCertain, IsCopyName}
+use Rattle.spool_salvage.specs.inside.Copying.{EachHasFile, EachHasCopies, IsBare, HasOneImage, IsCopyName}
 use Rattle.spool_salvage.specs.Salvaging.{EachShowsSalvaged, HasSalvage, IsSalvaging, is_of_spool, is_spool}
 use Rattle.spool_salvage.specs.declared.fault.SalvageFault.{SalvageFault}
 use Rattle.spool_shows.specs.Laws.{ShowsNoEntry}
@@ -55,7 +55,7 @@ salvaging_then files may_change Q start middle new of alone shows before after =
     before after
 
 -- what is left alone and had no sequence file has none, and shows no entry
-no_entry_left : (may_change : List ℕ → Type 0) (folder : Folder) (image : Files) → ¬ (may_change sequence_file) → EachHas sequence_file None folder → LeavesOthers may_change folder image → ShowsNoEntry image
+no_entry_left : (may_change : List ℕ → Type 0) (folder : Folder) (image : Files) → ¬ (may_change sequence_file) → EachHasFile sequence_file None folder → LeavesOthers may_change folder image → ShowsNoEntry image
 no_entry_left may_change folder image other none left =
     folders_without_sequence_show_no_entry image (left.others sequence_file other ∙ none left.from left.was)
 
@@ -95,8 +95,8 @@ journal_leaves files target bytes start new is bare changes =
     (subst (λ (n : List ℕ). ChangesFiles (IsPlacing temporary_file n bytes start.now.folder) start new) is changes))
 
 pub record HasJournal (bytes : List ℕ) (folder : Folder) : Type 0 where
-  pub no_sequence : EachHas sequence_file None folder
-  pub journal : EachHas journal_file (Some bytes) folder
+  pub no_sequence : EachHasFile sequence_file None folder
+  pub journal : EachHasFile journal_file (Some bytes) folder
 
 journal_stands : (bytes : List ℕ) (start new : World) → IsBare start.now.folder → HasPut journal_file bytes start new → HasJournal bytes new.now.folder
 journal_stands bytes start new bare put = record {
@@ -218,6 +218,6 @@ salvaged_since (Ok value) files old middle new leaves has = record {
 salvaged_since (Err fault) files old middle new leaves has = tt
 
 -- a folder that is settled and has no file of a spool
-pub bare_by : {T : Type 0} (result : Result T SalvageFault) (settled new : World) → new ≡ settled → IsCertain settled.now.folder → OnOk result (is_spool (reading settled) ≡ false) → OnOk result (IsBare new.now.folder)
+pub bare_by : {T : Type 0} (result : Result T SalvageFault) (settled new : World) → new ≡ settled → HasOneImage settled.now.folder → OnOk result (is_spool (reading settled) ≡ false) → OnOk result (IsBare new.now.folder)
 bare_by (Ok value) settled new same certain empty = subst (λ (world : World). IsBare world.now.folder) (sym same) (record { certain = certain; bare = empty })
 bare_by (Err fault) settled new same certain empty = tt

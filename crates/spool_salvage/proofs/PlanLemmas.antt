@@ -16,7 +16,7 @@ use Rattle.sequence_file.specs.LastNumber.{last_in}
 use Rattle.sequence_file.specs.Sequence.{sequence_file}
 use Rattle.sequence_file.proofs.LastNumbers.{last_given}
 use Rattle.spool_faults.specs.Faults.{files_taken, first_files, has_header}
-use Rattle.spool_faults.specs.Plan.{IsPlanOf, spare_slots, name_of}
+use Rattle.spool_faults.specs.Plan.{IsPlanOf, spare_slots, name_of_file}
 use Rattle.spool_faults.specs.Salvaged.{files_of_salvage, is_left, last_of_salvage, marks_of_salvage, salvaged}
 use Rattle.spool_faults.specs.Salvages.{IsSalvageOf, named_bytes}
 use Rattle.spool_faults.proofs.AddedMarks.{saved_sound}
@@ -58,10 +58,10 @@ has_at [] place file inside = absurd (omega arith)
 has_at (first ∷ later) zero file inside = inl refl
 has_at (first ∷ later) (suc place) file inside = inr (has_at later place file (omega arith))
 
-all_held : (files : Files) (list : List JobFile) → ((file : JobFile) → Has list file → finite.get files file.name ≡ Some file.bytes) → AreHeld (map name_of list) files
+all_held : (files : Files) (list : List JobFile) → ((file : JobFile) → Has list file → finite.get files file.name ≡ Some file.bytes) → AreHeld (map name_of_file list) files
 all_held files [] held = λ place name inside. absurd (omega arith)
 all_held files (first ∷ later) held =
-    All-map (λ (name : List ℕ). IsSome (finite.get files name)) name_of (first ∷ later)
+    All-map (λ (name : List ℕ). IsSome (finite.get files name)) name_of_file (first ∷ later)
     (All-from_get_or (λ (file : JobFile). IsSome (finite.get files file.name)) (first ∷ later) first
     (λ place inside. subst IsSome (sym (held (get_or (first ∷ later) place first) (has_at (first ∷ later) place first inside))) refl))
 
@@ -70,10 +70,10 @@ plan_held files names journal sequence plan =
     subst (λ (list : List (List ℕ)). AreHeld list files) (sym plan.names_are) (all_held files (files_of_salvage files) (saved_held files))
 
 -- and of jobs
-all_named : (files : Files) (list : List JobFile) → ((file : JobFile) → Has list file → job_named file.name ≡ Some file.job) → AreJobNames (map name_of list)
+all_named : (files : Files) (list : List JobFile) → ((file : JobFile) → Has list file → job_named file.name ≡ Some file.job) → AreJobNames (map name_of_file list)
 all_named files [] named = λ place name inside. absurd (omega arith)
 all_named files (first ∷ later) named =
-    All-map (λ (name : List ℕ). IsSome (job_named name)) name_of (first ∷ later)
+    All-map (λ (name : List ℕ). IsSome (job_named name)) name_of_file (first ∷ later)
     (All-from_get_or (λ (file : JobFile). IsSome (job_named file.name)) (first ∷ later) first
     (λ place inside. subst IsSome (sym (named (get_or (first ∷ later) place first) (has_at (first ∷ later) place first inside))) refl))
 
@@ -94,13 +94,13 @@ same_name : (one name : List ℕ) → bytes_eq one name ≡ true → one ≡ nam
 same_name one name is = (bytes_eq-Decides one name).0 is
 
 abbrev any_of : Files → List ℕ → List JobFile → Bool → Option (List ℕ)
-any_of files name later b = if b || list_any (λ other. bytes_eq other name) (map name_of later) then finite.get files name else None
+any_of files name later b = if b || list_any (λ other. bytes_eq other name) (map name_of_file later) then finite.get files name else None
 
 found_by : (files : Files) (name : List ℕ) (file : JobFile) (later : List JobFile) (rest : Option (List ℕ)) (b : Bool) → bytes_eq file.name name ≡ b → finite.get files file.name ≡ Some file.bytes → any_of files name later false ≡ rest → any_of files name later b ≡ (if b then Some file.bytes else rest)
 found_by files name file later rest true is held tail = ap (finite.get files) (sym (same_name file.name name is)) ∙ held
 found_by files name file later rest false is held tail = tail
 
-found_copy : (files : Files) (list : List JobFile) → ((file : JobFile) → Has list file → finite.get files file.name ≡ Some file.bytes) → (name : List ℕ) → copied (map name_of list) files name ≡ find name_cmp name (map named_bytes list)
+found_copy : (files : Files) (list : List JobFile) → ((file : JobFile) → Has list file → finite.get files file.name ≡ Some file.bytes) → (name : List ℕ) → copied (map name_of_file list) files name ≡ find name_cmp name (map named_bytes list)
 found_copy files [] held name = refl
 found_copy files (file ∷ later) held name =
     let rest : Option (List ℕ) = find name_cmp name (map named_bytes later) in

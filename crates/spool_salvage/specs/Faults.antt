@@ -21,7 +21,7 @@ IsOfSource Memory = Unit {0}
 IsOfSource _ = ⊥
 
 -- a fault that a call on the new folder may have
-abbrev pub IsOfTarget : SalvageFault → Type 0
-IsOfTarget ToFailed = Unit {0}
-IsOfTarget Memory = Unit {0}
-IsOfTarget _ = ⊥
+abbrev pub IsTargetFault : SalvageFault → Type 0
+IsTargetFault ToFailed = Unit {0}
+IsTargetFault Memory = Unit {0}
+IsTargetFault _ = ⊥

@@ -25,7 +25,7 @@ abbrev pub is_spool : Files → Bool
 is_spool files = list_any is_of_spool (map.keys files)
 
 -- The folder is a spool, and it was left as it is.
-pub record IsRefused (old new : World) : Type 0 where
+pub record IsTargetRefused (old new : World) : Type 0 where
   pub spool : is_spool (reading old) ≡ true
   pub leaves : LeavesFolder old new
 

@@ -5,13 +5,13 @@ ghost use Rattle.host_calls.specs.Folder.{IsInNoImage};
 ghost use Rattle.host_calls.specs.Session.{CallsInside, IsInside};
 ghost use Rattle.host_calls.specs.World.{reading};
 ghost use Rattle.job_name.specs.JobName.{job_named};
-ghost use Rattle.spool_salvage.specs.inside.Copying.{AreHeld, AreJobNames, EachHas, EachHasCopies, IsCopied, IsCopyName};
+ghost use Rattle.spool_salvage.specs.inside.Copying.{AreHeld, AreJobNames, EachHasFile, EachHasCopies, IsCopied, IsCopyName};
 ghost use Rattle.whole_file.specs.Others.{ChangesFiles, IsEither, LeavesOthers};
 ghost use Rattle.whole_file.specs.Temporary.{temporary_file};
 
 use crate::SalvageFault;
 use crate::source::bytes_of;
-use crate::target::{is_of_job, put};
+use crate::target::{is_of_job, place_whole};
 use host_calls::{Host, Name};
 use std::alloc::Global;
 
@@ -63,7 +63,7 @@ fn copy_job<H: Host, G: Host>(
     ensures files { IsTrue G.tells → ChangesFiles (LeavesOthers (IsCopied name.now) (G.world to.old).now.folder)
         (G.world to.old) (G.world to.new) }
     ensures copied { IsTrue H.tells → IsTrue G.tells → IsSome (job_named name.now) → OnOk result
-        (EachHas name.now (map.get (reading (H.world from.old)) name.now) (G.world to.new).now.folder) }
+        (EachHasFile name.now (map.get (reading (H.world from.old)) name.now) (G.world to.new).now.folder) }
 {
     if !is_of_job(name.as_bytes()) {
         return Ok(());
@@ -92,8 +92,8 @@ fn copy<H: Host, G: Host>(
         → ChangesFiles (LeavesOthers (IsEither temporary_file name.now) (G.world to.old).now.folder)
         (G.world to.old) (G.world to.new) }
     ensures copied { IsTrue H.tells → IsTrue G.tells → OnOk result
-        (EachHas name.now (map.get (reading (H.world from.old)) name.now) (G.world to.new).now.folder) }
+        (EachHasFile name.now (map.get (reading (H.world from.old)) name.now) (G.world to.new).now.folder) }
 {
     let bytes = bytes_of(alloc, from, name)?;
-    put(alloc, to, name, bytes.as_slice())
+    place_whole(alloc, to, name, bytes.as_slice())
 }

@@ -4,25 +4,25 @@ ghost use Rattle.host_calls.specs.Session.{CallsInside, IsInside};
 ghost use Rattle.host_calls.specs.World.{reading};
 ghost use Rattle.spool_faults.specs.Plan.{IsPlanOf};
 ghost use Rattle.spool_salvage.specs.inside.Copying.{IsBare};
-ghost use Rattle.spool_salvage.specs.Salvaging.{HasSalvage, IsRefused, IsSalvaging, is_spool};
+ghost use Rattle.spool_salvage.specs.Salvaging.{HasSalvage, IsTargetRefused, IsSalvaging, is_spool};
 ghost use Rattle.whole_file.specs.Others.{ChangesFiles};
 
 use crate::SalvageFault;
 use crate::copying::copy_all;
-use crate::target::{open, put};
+use crate::target::{open_target, place_whole};
 use host_calls::{Host, Name};
 use sequence_file::sequence_name;
-use spool_faults::Plan;
+use spool_faults::SalvagePlan;
 use start_journal::journal_name;
 use std::alloc::Global;
 
 /// Writes what is saved of the one folder into the other by a plan: the journal, a copy of each named file that is
 /// a job's, and the sequence file last. The other folder is settled first, and refused where it has files of a spool.
-pub fn fill<H: Host, G: Host>(
+pub fn fill_target<H: Host, G: Host>(
     alloc: Global,
     from: &mut H,
     to: &mut G,
-    plan: &Plan,
+    plan: &SalvagePlan,
 ) -> Result<(), SalvageFault>
     requires inside_from { IsInside (H.session from.old) }
     requires inside_to { IsInside (G.session to.old) }
@@ -32,7 +32,7 @@ pub fn fill<H: Host, G: Host>(
     ensures to { CallsInside SalvageFault.ToFailed (G.session to.old) (G.session to.new) result }
     ensures looks { IsTrue H.tells → H.world from.new ≡ H.world from.old }
     ensures refused { IsTrue G.tells → result ≡ Err SalvageFault.NotEmpty
-        → IsRefused (G.world to.old) (G.world to.new) }
+        → IsTargetRefused (G.world to.old) (G.world to.new) }
     ensures empty { IsTrue G.tells → OnOk result (is_spool (reading (G.world to.old)) ≡ false) }
     ensures files { IsTrue H.tells → IsTrue G.tells
         → ChangesFiles (IsSalvaging (reading (H.world from.old)) (G.world to.old).now.folder)
@@ -40,8 +40,8 @@ pub fn fill<H: Host, G: Host>(
     ensures salvaged { IsTrue H.tells → IsTrue G.tells
         → OnOk result (HasSalvage (reading (H.world from.old)) (G.world to.old).now.folder (G.world to.new).now.folder) }
 {
-    open(alloc, to)?;
-    write(
+    open_target(alloc, to)?;
+    write_target(
         alloc,
         from,
         to,
@@ -51,7 +51,7 @@ pub fn fill<H: Host, G: Host>(
     )
 }
 
-fn write<H: Host, G: Host>(
+fn write_target<H: Host, G: Host>(
     alloc: Global,
     from: &mut H,
     to: &mut G,
@@ -73,8 +73,8 @@ fn write<H: Host, G: Host>(
     ensures salvaged { IsTrue H.tells → IsTrue G.tells
         → OnOk result (HasSalvage (reading (H.world from.old)) (G.world to.old).now.folder (G.world to.new).now.folder) }
 {
-    put(alloc, to, &journal_name(), journal)?;
+    place_whole(alloc, to, &journal_name(), journal)?;
     copy_all(alloc, from, to, names)?;
     // Without a sequence file the folder shows no job, so nothing of it counts until all of it stands.
-    put(alloc, to, &sequence_name(), sequence)
+    place_whole(alloc, to, &sequence_name(), sequence)
 }

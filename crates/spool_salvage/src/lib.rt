@@ -12,5 +12,5 @@ mod source;
 mod target;
 
 pub use fault::SalvageFault;
-pub use filling::fill;
+pub use filling::fill_target;
 pub use salvaging::salvage;

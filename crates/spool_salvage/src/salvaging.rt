@@ -3,11 +3,11 @@ ghost use Rattle.std.specs.Prelude.{◌≡◌, false, Err, IsTrue, OnOk};
 ghost use Rattle.host_calls.specs.Session.{CallsInside, IsInside};
 ghost use Rattle.host_calls.specs.World.{reading};
 ghost use Rattle.spool_faults.specs.Listed.{LeavesFolder};
-ghost use Rattle.spool_salvage.specs.Salvaging.{HasSalvage, IsRefused, IsSalvaging, is_spool};
+ghost use Rattle.spool_salvage.specs.Salvaging.{HasSalvage, IsTargetRefused, IsSalvaging, is_spool};
 ghost use Rattle.whole_file.specs.Others.{ChangesFiles};
 
 use crate::SalvageFault;
-use crate::filling::fill;
+use crate::filling::fill_target;
 use crate::source::survey_of;
 use host_calls::Host;
 use std::alloc::Global;
@@ -25,7 +25,7 @@ pub fn salvage<H: Host, G: Host>(
     ensures to { CallsInside SalvageFault.ToFailed (G.session to.old) (G.session to.new) result }
     ensures leaves { IsTrue H.tells → LeavesFolder (H.world from.old) (H.world from.new) }
     ensures refused { IsTrue G.tells → result ≡ Err SalvageFault.NotEmpty
-        → IsRefused (G.world to.old) (G.world to.new) }
+        → IsTargetRefused (G.world to.old) (G.world to.new) }
     ensures empty { IsTrue G.tells → OnOk result (is_spool (reading (G.world to.old)) ≡ false) }
     ensures files { IsTrue H.tells → IsTrue G.tells
         → ChangesFiles (IsSalvaging (reading (H.world from.old)) (G.world to.old).now.folder)
@@ -34,5 +34,5 @@ pub fn salvage<H: Host, G: Host>(
         → OnOk result (HasSalvage (reading (H.world from.old)) (G.world to.old).now.folder (G.world to.new).now.folder) }
 {
     let survey = survey_of(alloc, from)?;
-    fill(alloc, from, to, &survey.plan)
+    fill_target(alloc, from, to, &survey.plan)
 }

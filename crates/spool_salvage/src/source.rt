@@ -10,12 +10,12 @@ ghost use Rattle.spool_salvage.specs.Faults.{IsOfSource};
 use crate::SalvageFault;
 use crate::fault::of_source;
 use host_calls::{Bytes, Host, Name};
-use spool_faults::{Survey, take_survey};
+use spool_faults::{Diagnosis, diagnose};
 use std::alloc::Global;
 use whole_file::whole;
 
 // What is found in the folder, which is settled first.
-pub(crate) fn survey_of<H: Host>(alloc: Global, from: &mut H) -> Result<Survey, SalvageFault>
+pub(crate) fn survey_of<H: Host>(alloc: Global, from: &mut H) -> Result<Diagnosis, SalvageFault>
     requires { IsInside (H.session from.old) }
     ensures inside { CallsInside SalvageFault.FromFailed (H.session from.old) (H.session from.new) result }
     ensures of { IfErr result IsOfSource }
@@ -23,7 +23,7 @@ pub(crate) fn survey_of<H: Host>(alloc: Global, from: &mut H) -> Result<Survey, 
     ensures plan { IsTrue H.tells → IfOk result (λ survey. IsPlanOf (reading (H.world from.old))
         survey.plan.names.items survey.plan.journal.items survey.plan.sequence.items) }
 {
-    match take_survey(alloc, from) {
+    match diagnose(alloc, from) {
         Ok(survey) => Ok(survey),
         Err(fault) => Err(of_source(fault)),
     }

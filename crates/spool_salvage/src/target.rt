@@ -6,8 +6,8 @@ ghost use Rattle.host_calls.specs.Session.{CallsInside, IsInside};
 ghost use Rattle.host_calls.specs.World.{reading};
 ghost use Rattle.job_name.specs.JobName.{job_named};
 ghost use Rattle.spool_faults.specs.Listed.{LeavesFolder};
-ghost use Rattle.spool_salvage.specs.inside.Copying.{IsBare, IsCertain};
-ghost use Rattle.spool_salvage.specs.Faults.{IsOfTarget};
+ghost use Rattle.spool_salvage.specs.inside.Copying.{IsBare, HasOneImage};
+ghost use Rattle.spool_salvage.specs.Faults.{IsTargetFault};
 ghost use Rattle.spool_salvage.specs.Salvaging.{is_of_spool, is_spool};
 ghost use Rattle.whole_file.specs.Others.{ChangesFiles};
 ghost use Rattle.whole_file.specs.Placing.{IsPlaced, IsPlacing};
@@ -21,7 +21,7 @@ use std::alloc::Global;
 use whole_file::{place, temporary_name};
 
 // Settles the folder, and refuses one that has files of a spool.
-pub(crate) fn open<G: Host>(alloc: Global, to: &mut G) -> Result<(), SalvageFault>
+pub(crate) fn open_target<G: Host>(alloc: Global, to: &mut G) -> Result<(), SalvageFault>
     requires { IsInside (G.session to.old) }
     ensures inside { CallsInside SalvageFault.ToFailed (G.session to.old) (G.session to.new) result }
     ensures not_source { result ≢ Err SalvageFault.FromFailed }
@@ -36,9 +36,9 @@ pub(crate) fn open<G: Host>(alloc: Global, to: &mut G) -> Result<(), SalvageFaul
 fn settle<G: Host>(alloc: Global, to: &mut G) -> Result<(), SalvageFault>
     requires { IsInside (G.session to.old) }
     ensures inside { CallsInside SalvageFault.ToFailed (G.session to.old) (G.session to.new) result }
-    ensures of { IfErr result IsOfTarget }
+    ensures of { IfErr result IsTargetFault }
     ensures leaves { IsTrue G.tells → LeavesFolder (G.world to.old) (G.world to.new) }
-    ensures settled { IsTrue G.tells → OnOk result (IsCertain (G.world to.new).now.folder) }
+    ensures settled { IsTrue G.tells → OnOk result (HasOneImage (G.world to.new).now.folder) }
 {
     match to.settle(alloc) {
         Ok(()) => Ok(()),
@@ -87,7 +87,7 @@ pub(crate) fn is_of_job(name: &[u8]) -> bool
 }
 
 // Gives the target these bytes, so that a crash leaves it as it was or whole.
-pub(crate) fn put<G: Host>(
+pub(crate) fn place_whole<G: Host>(
     alloc: Global,
     to: &mut G,
     target: &Name,
@@ -97,7 +97,7 @@ pub(crate) fn put<G: Host>(
     requires differ { temporary_file ≢ target.now }
     requires no_temp { IsTrue G.tells → IsInNoImage (G.world to.old).now.folder temporary_file }
     ensures inside { CallsInside SalvageFault.ToFailed (G.session to.old) (G.session to.new) result }
-    ensures of { IfErr result IsOfTarget }
+    ensures of { IfErr result IsTargetFault }
     ensures files { IsTrue G.tells
         → ChangesFiles (IsPlacing temporary_file target.now bytes.now (G.world to.old).now.folder)
         (G.world to.old) (G.world to.new) }

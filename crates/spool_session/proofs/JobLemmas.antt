@@ -4,12 +4,12 @@ use Rattle.std.proofs.Math.Seq.{drop-cons}
 use Rattle.std.specs.Prelude.{Option, Some, None, is_some, true}
 use Rattle.spool_model.specs.JobTable.{JobTable}
 use Rattle.listing_text.specs.declared.refusal.Refusal.{Refusal}
-use Rattle.command_rules.specs.Verdict.{jobs_check, row_at, row_check}
+use Rattle.command_rules.specs.Verdict.{jobs_check, live_row, row_check}
 
 module _ (user : List ℕ) (removing : Bool) (table : JobTable) where
   -- the check of a number
   abbrev pub check_at : ℕ → Option Refusal
-  check_at number = row_check user removing number (row_at table number)
+  check_at number = row_check user removing number (live_row table number)
 
   -- a number that is not refused leaves the decision to those after it
   go_on : (number : ℕ) (later : List ℕ) → check_at number ≡ None → jobs_check user removing table (number ∷ later) ≡ jobs_check user removing table later

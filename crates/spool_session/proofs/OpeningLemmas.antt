@@ -13,10 +13,10 @@ use Rattle.host_calls.specs.declared.fault.HostFault.{HostFault}
 use Rattle.host_calls.specs.declared.fault.HostFault.TheVariants as host
 use Rattle.host_calls.specs.declared.store_fault.StoreFault.{StoreFault}
 use Rattle.host_calls.specs.declared.store_fault.StoreFault.TheVariants as store
-use Rattle.host_calls.specs.StoreFaults.{IsOfReading}
+use Rattle.host_calls.specs.StoreFaults.{IsReadingFault}
 use Rattle.spool_store.specs.Recovering.{IsRecovered, Recovered}
 use Rattle.cause_output.specs.Causes.{cause_of, cause_of_host}
-use Rattle.command_rules.specs.Sessions.{AreListsIn, IsNotOpened, IsOpened, faults, lists_lack_memory, is_damaged, lacks_memory, lists_fault}
+use Rattle.command_rules.specs.Sessions.{AreListsIn, IsNotOpened, IsStoreOpened, faults, lists_lack_memory, is_damaged, lacks_memory, lists_fault}
 
 -- a list could not be read
 pub lists_unread : (tells : Bool) (user : List ℕ) (old new : World) (fault : HostFault) → (tells ≡ true → new ≡ old) →
@@ -32,7 +32,7 @@ module _ (tells : Bool) (user : List ℕ) (allow deny : Option (List ℕ)) (old 
   changed known = subst (λ (from : World). ChangesFiles (ShowsAsBefore from.now.folder) from new) (looks known) (changes known)
 
   -- no store was recovered
-  pub unrecovered : (fault : StoreFault) → IsOfReading fault → (tells ≡ true → Recovered middle.now.folder new.now.folder (Err fault)) →
+  pub unrecovered : (fault : StoreFault) → IsReadingFault fault → (tells ≡ true → Recovered middle.now.folder new.now.folder (Err fault)) →
       (tells ≡ true → IfDamaged {T = Kept} store.Damaged (λ damage. reading new ≡ reading middle) (Err fault)) →
       IsNotOpened tells user old new (cause_of fault)
   unrecovered store.FileFault of_reading recovered untouched = faults allow deny permits lists (λ known. recoveries_begin_nothing old new (changed known))
@@ -49,7 +49,7 @@ module _ (tells : Bool) (user : List ℕ) (allow deny : Option (List ℕ)) (old 
 pub store_opened : (tells : Bool) (user : List ℕ) (allow deny : Option (List ℕ)) (old middle new : World) (kept : Kept) →
     may_use user allow deny ≡ true → (tells ≡ true → middle ≡ old) → (tells ≡ true → AreListsIn (reading old) allow deny) →
     (tells ≡ true → ChangesFiles (ShowsAsBefore middle.now.folder) middle new) →
-    (tells ≡ true → IsRecovered middle.now.folder new.now.folder kept) → IsOpened tells user old new kept
+    (tells ≡ true → IsRecovered middle.now.folder new.now.folder kept) → IsStoreOpened tells user old new kept
 store_opened true user allow deny old middle new kept permits looks lists changes recovered =
     let is : IsRecovered old.now.folder new.now.folder kept =
     subst (λ (from : World). IsRecovered from.now.folder new.now.folder kept) (looks refl) (recovered refl) in

@@ -7,12 +7,12 @@ use Rattle.host_calls.specs.declared.fault.EnterFault.{EnterFault}
 use Rattle.host_calls.specs.declared.fault.EnterFault.TheVariants.{Failed, Memory as NoMemory, Taken}
 use Rattle.host_calls.specs.declared.host.Host.{Ghosts}
 use Rattle.host_session.proofs.SessionLemmas.{counts_on}
-use Rattle.host_session.specs.Work.{Calls, IsDoneInside, IsUndone}
+use Rattle.host_session.specs.Work.{Calls, IsDoneInside, IsWorkUndone}
 use Rattle.listing_text.specs.declared.cause.Cause.{Cause}
 use Rattle.listing_text.specs.declared.cause.Cause.TheVariants.{Done, Refused, FileFault, InputFault, OutputFault, Busy, Memory, Damaged, StillRunning, Faulty}
 use Rattle.cause_output.specs.Causes.{cause_in, cause_of_entry, error_of}
 use Rattle.cause_output.specs.declared.command_error.CommandError.{CommandError}
-use Rattle.command_rules.specs.Checks.{check_of, place_of}
+use Rattle.command_rules.specs.Checks.{check_of, place_of_check}
 use Rattle.command_rules.specs.Ends.{StopsBeforeLock}
 use Rattle.host_calls.proofs.WorldLemmas.{goes_on_then}
 use Rattle.spool_session.specs.Sessions.{ComesOfSession, HasRisenIn, IsOfSession, IsWork, StaysQuiet, WorksInside}
@@ -36,7 +36,7 @@ is_late : (place : ℕ) → nat_lt 11 place ≡ true → nat_lt place 11 ≡ tru
 is_late place late early = grind (arith, nat_tests)
 
 never_before_lock_by : (cause : Cause) → IsOfSession cause → StopsBeforeLock cause → ⊥
-never_before_lock_by (Refused refusal) comes stops = is_late (place_of (check_of refusal)) comes stops
+never_before_lock_by (Refused refusal) comes stops = is_late (place_of_check (check_of refusal)) comes stops
 never_before_lock_by FileFault comes stops = stops
 never_before_lock_by OutputFault comes stops = stops
 never_before_lock_by Memory comes stops = stops
@@ -80,10 +80,10 @@ module _ {H F T : Type 0} (g : Ghosts H) (calls : Calls H F (Result T CommandErr
   }
 
 module _ {H F : Type 0} (g : Ghosts H) (work left : F) (old new : H) where
-  pub quiet_undone : (fault : EnterFault) → IsUndone g work left old new fault → StaysQuiet g old new
+  pub quiet_undone : (fault : EnterFault) → IsWorkUndone g work left old new fault → StaysQuiet g old new
   quiet_undone fault undone = record { left = undone.refused.left; goes_on = undone.refused.quiet.goes_on }
 
-  pub risen_undone : (fault : EnterFault) → IsUndone g work left old new fault → HasRisenIn g old new (cause_of_entry fault)
+  pub risen_undone : (fault : EnterFault) → IsWorkUndone g work left old new fault → HasRisenIn g old new (cause_of_entry fault)
   risen_undone Taken undone = record { file_fault = λ is. (cc); busy = λ is. undone.refused.taken refl; before_lock = λ stops. absurd stops }
   risen_undone Failed undone = record { file_fault = λ is. undone.refused.failed refl; busy = λ is. (cc); before_lock = λ stops. absurd stops }
   risen_undone NoMemory undone = record { file_fault = λ is. (cc); busy = λ is. (cc); before_lock = λ stops. absurd stops }

@@ -6,12 +6,12 @@ use Rattle.host_calls.specs.Causes.{Rose}
 use Rattle.host_calls.specs.declared.fault.EnterFault.{EnterFault}
 use Rattle.host_calls.specs.declared.host.Host.{Ghosts}
 use Rattle.host_calls.specs.Session.{CallsInside, IsInside, IsLeft}
-use Rattle.host_calls.specs.World.{GoesOn}
-use Rattle.host_session.specs.Work.{Calls, IsDoneInside, IsUndone}
+use Rattle.host_calls.specs.World.{TimePasses}
+use Rattle.host_session.specs.Work.{Calls, IsDoneInside, IsWorkUndone}
 use Rattle.listing_text.specs.declared.cause.Cause.{Cause}
 use Rattle.listing_text.specs.declared.cause.Cause.TheVariants.{Refused, FileFault, OutputFault, Busy, Memory, Damaged}
 use Rattle.cause_output.specs.Causes.{cause_of_entry, error_of}
-use Rattle.command_rules.specs.Checks.{check_of, is_before, of_lock}
+use Rattle.command_rules.specs.Checks.{check_of, is_earlier_check, of_lock}
 use Rattle.command_rules.specs.Ends.{StopsBeforeLock}
 use Rattle.cause_output.specs.declared.command_error.CommandError.{CommandError}
 
@@ -20,7 +20,7 @@ abbrev pub IsOfSession : Cause → Type 0
 IsOfSession FileFault = Unit {0}
 IsOfSession OutputFault = Unit {0}
 IsOfSession Memory = Unit {0}
-IsOfSession (Refused refusal) = is_before of_lock (check_of refusal) ≡ true
+IsOfSession (Refused refusal) = is_earlier_check of_lock (check_of refusal) ≡ true
 IsOfSession (Damaged damage) = Unit {0}
 IsOfSession _ = ⊥
 
@@ -37,7 +37,7 @@ MayWorkInside {H} g calls work = (at : MutBor H) → IsInside (g.session at.now)
 pub record WorksInside {H T : Type 0} (g : Ghosts H) (old new : H) (result : Result T CommandError) : Type 0 where
   pub inside : CallsInside (error_of FileFault) (g.session old) (g.session new) result
   pub comes : IfErr result ComesOfSession
-  pub goes_on : g.tells ≡ true → GoesOn (g.world old) (g.world new)
+  pub goes_on : g.tells ≡ true → TimePasses (g.world old) (g.world new)
 
 -- each call of it within a session is such work
 abbrev pub IsWork : {H F T : Type 0} → Ghosts H → Calls H F (Result T CommandError) → F → Type 0
@@ -48,7 +48,7 @@ IsWork {H} {F} {T} g calls work =
 -- no session is on, no child was started, and nothing was handed over
 pub record StaysQuiet {H : Type 0} (g : Ghosts H) (old new : H) : Type 0 where
   pub left : IsLeft (g.session old) (g.session new)
-  pub goes_on : g.tells ≡ true → GoesOn (g.world old) (g.world new)
+  pub goes_on : g.tells ≡ true → TimePasses (g.world old) (g.world new)
 
 -- A fault of a file, or a lock that was taken, comes only where its count rose. What stops before the lock leaves the
 -- session as it was.
@@ -61,9 +61,10 @@ pub record HasRisenIn {H : Type 0} (g : Ghosts H) (old new : H) (cause : Cause) 
 pub record IsUnentered {H F T : Type 0} (g : Ghosts H) (work left : F) (old new : H) (result : Result T CommandError) : Type 0 where
   pub fault : EnterFault
   pub is : result ≡ Err (error_of (cause_of_entry fault))
-  pub undone : IsUndone g work left old new fault
+  pub undone : IsWorkUndone g work left old new fault
 
 -- how the session ends: it could not begin, or the work was done in it
-abbrev pub EndsSession : {H F T : Type 0} → Ghosts H → Calls H F (Result T CommandError) → F → F → H → H → Result T CommandError → Type 0
-EndsSession g calls work left old new result =
+abbrev pub EndsCommandSession : {H F T : Type 0} → Ghosts H → Calls H F (Result T CommandError) → F → F → H → H → Result T CommandError
+    → Type 0
+EndsCommandSession g calls work left old new result =
     IsUnentered g work left old new result ⊎ IsDoneInside g calls work left old new result

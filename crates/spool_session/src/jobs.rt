@@ -2,7 +2,7 @@
 ghost use Rattle.std.specs.Prelude.{◌≡◌};
 ghost use Rattle.spool_model.specs.Lists.{is_running};
 ghost use Rattle.listing_text.specs.Listing.{may_see};
-ghost use Rattle.command_rules.specs.Verdict.{jobs_check, row_at, row_check};
+ghost use Rattle.command_rules.specs.Verdict.{jobs_check, live_row, row_check};
 
 use listing_text::Refusal;
 use spool_model::{Row, State, UserName};
@@ -28,7 +28,7 @@ pub fn refusal_of_jobs(
 }
 
 fn refusal_of_job(store: &Store, user: &UserName, removing: bool, number: u32) -> Option<Refusal>
-    ensures { result ≡ row_check user.now removing number (row_at store.now.table number) }
+    ensures { result ≡ row_check user.now removing number (live_row store.now.table number) }
 {
     match store.row(number) {
         None => Some(Refusal::NoSuchJob(number)),
@@ -42,7 +42,7 @@ fn refusal_of_row(row: &Row, user: &UserName, removing: bool, number: u32) -> Op
     if !is_seen_by(row, user) {
         return Some(Refusal::NotYours(number));
     }
-    if removing && runs(row) {
+    if removing && is_running_row(row) {
         return Some(Refusal::RunningJob(number));
     }
     None
@@ -55,7 +55,7 @@ pub fn is_seen_by(row: &Row, user: &UserName) -> bool
     user.as_bytes() == b"root".as_slice() || row.user.as_bytes() == user.as_bytes()
 }
 
-fn runs(row: &Row) -> bool
+fn is_running_row(row: &Row) -> bool
     ensures { result ≡ is_running row.now.state }
 {
     matches!(row.state, State::Running(_))

@@ -4,9 +4,9 @@
 
 mod jobs;
 mod lists;
-mod open_store;
+mod opening;
 mod session;
 
 pub use jobs::{is_seen_by, refusal_of_jobs};
-pub use open_store::open;
-pub use session::in_session;
+pub use opening::open_store;
+pub use session::in_command_session;

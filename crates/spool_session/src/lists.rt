@@ -35,10 +35,10 @@ pub(crate) fn read_lists<H: Host>(alloc: Global, host: &mut H) -> Result<Lists, 
 pub(crate) fn are_permitting(lists: &Lists, user: &UserName) -> bool
     ensures { result ≡ may_use user.now lists.now.allow lists.now.deny }
 {
-    permits(user, text_of(&lists.allow), text_of(&lists.deny))
+    permits(user, list_text(&lists.allow), list_text(&lists.deny))
 }
 
-fn text_of(list: &Option<Bytes>) -> Option<&[u8]>
+fn list_text(list: &Option<Bytes>) -> Option<&[u8]>
     ensures { option_copied result ≡ list.now }
 {
     match list {

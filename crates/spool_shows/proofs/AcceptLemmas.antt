@@ -18,7 +18,7 @@ use Rattle.start_journal.specs.declared.mark.Mark.{Mark}
 use Rattle.start_journal.specs.Journals.{are_drawn, journal_file, journal_in}
 use Rattle.start_journal.specs.Marks.{is_decided}
 use Rattle.whole_file.proofs.OthersLemmas.{one_or_other}
-use Rattle.spool_shows.specs.ByName.{AreSound, HasFile, IsJobFile, IsWhole, ShowsByName, ShowsDone, ShowsEntry, ShowsLive}
+use Rattle.spool_shows.specs.ByName.{AreSound, HasFile, IsJobFile, IsWholeFile, ShowsByName, ShowsDone, ShowsEntry, ShowsLive}
 use Rattle.spool_shows.specs.JobFiles.{JobFile}
 use Rattle.job_name.specs.JobName.{NamedJob, job_named}
 use Rattle.spool_shows.specs.Laws.{HasAccepted}
@@ -93,14 +93,14 @@ module _ (last : ℕ) (marks : List Mark) (name : List ℕ) (job : Job) (before 
     back file number_is (inl was) = was
     back file number_is (inr new) = absurd (differs (sym number_is ∙ ap (λ (other : JobFile). other.job.number) new))
 
-  placed_whole : IsWhole (last + 1) (placed_file name (last + 1) job)
+  placed_whole : IsWholeFile (last + 1) (placed_file name (last + 1) job)
   placed_whole = record { drawn = omega arith; header = more.header }
 
   -- each file is whole
-  each_whole : (file : JobFile) → IsJobFile marks after file → IsWhole (last + 1) file
+  each_whole : (file : JobFile) → IsJobFile marks after file → IsWholeFile (last + 1) file
   each_whole file is = elim (was_there file is) [
     | inl was ↦ whole_more last (last + 1) file (omega arith) (more.sound.each file was)
-    | inr new ↦ subst (IsWhole (last + 1)) (sym new) placed_whole
+    | inr new ↦ subst (IsWholeFile (last + 1)) (sym new) placed_whole
   ]
 
   -- files of one number are one

@@ -13,7 +13,7 @@ use Rattle.spool_model.specs.JobTable.{JobEntries, JobEntry, JobTable, table_of}
 use Rattle.start_journal.specs.declared.mark.Mark.{Mark}
 use Rattle.start_journal.specs.declared.mark.Mark.TheVariants.{Started}
 use Rattle.start_journal.specs.Journals.{JournalRead, journal_file, journal_in}
-use Rattle.start_journal.specs.Marks.{AreLegal, is_decided}
+use Rattle.start_journal.specs.Marks.{AreLegalMarks, is_decided}
 use Rattle.spool_shows.specs.ByName.{AreSound, ShowsByName, ShowsDone, ShowsEntry, ShowsLive}
 use Rattle.spool_shows.specs.JobFiles.{JobFile, files_damage}
 use Rattle.sequence_file.specs.LastNumber.{last_in}
@@ -106,7 +106,7 @@ by_name_of files table is =
     }
 
 -- a number has one entry
-done_once : (marks : List Mark) (number : ℕ) (one other : Option JobEntry) → AreLegal marks → ShowsDone marks number one → ShowsDone marks number other → one ≡ other
+done_once : (marks : List Mark) (number : ℕ) (one other : Option JobEntry) → AreLegalMarks marks → ShowsDone marks number one → ShowsDone marks number other → one ≡ other
 done_once marks number None None legal is same = refl
 done_once marks number None (Some entry) legal is same =
     let impossible : true ≡ false = sym is ∙ (done_decides marks same.0 number entry same.2).1 in
@@ -130,7 +130,7 @@ live_once last marks files number (Some one) (Some other) sound is same =
     let pairs : ◌≡◌ {A = ℕ × JobEntry} (number, one) (number, other) = sym is.2 ∙ ap (live_entry marks) files_are ∙ same.2 in
     ap (λ (pair : ℕ × JobEntry). Some pair.1) pairs
 
-entry_once : (last : ℕ) (marks : List Mark) (files : Files) (number : ℕ) (one other : Option JobEntry) → AreLegal marks → AreSound last marks files → ShowsEntry marks files number one → ShowsEntry marks files number other → one ≡ other
+entry_once : (last : ℕ) (marks : List Mark) (files : Files) (number : ℕ) (one other : Option JobEntry) → AreLegalMarks marks → AreSound last marks files → ShowsEntry marks files number one → ShowsEntry marks files number other → one ≡ other
 entry_once last marks files number one other legal sound is same = by_test (is_decided number marks) is same where
   by_test : (b : Bool) → MatchBool b (ShowsDone marks number one) (ShowsLive marks files number one) → MatchBool b (ShowsDone marks number other) (ShowsLive marks files number other) → one ≡ other
   by_test true first second = done_once marks number one other legal first second
@@ -139,7 +139,7 @@ entry_once last marks files number one other legal sound is same = by_test (is_d
 reads_of : (files : Files) (table : JobTable) → ShowsByName files table → Reads files table
 reads_of files table is =
     let marks : List Mark = is.read.marks in
-    let legal : AreLegal marks = journal_legal table.last (map.get files journal_file) is.read (journal_read files table is) in
+    let legal : AreLegalMarks marks = journal_legal table.last (map.get files journal_file) is.read (journal_read files table is) in
     let same : table.entries ≡ from_entries (entries_shown marks (files_that_count marks files)) = same_map nat_cmp_total nat_cmp-IsAntisymmetric _ _
     (λ number. entry_once table.last marks files number _ _ legal is.sound (is.entries number) (shows_found marks files number) ∙ sym (entry_of_list marks files number)) in
     record {

@@ -11,7 +11,7 @@ use Rattle.start_journal.specs.declared.mark.Mark.{Mark}
 use Rattle.start_journal.specs.declared.mark.Mark.TheVariants.{Started}
 use Rattle.start_journal.specs.Journals.{journal_file, journal_in}
 use Rattle.start_journal.specs.Laws.{KeepsWhatCounts}
-use Rattle.start_journal.specs.Marks.{AreLegal, decides, is_decided, is_forgotten, is_named, kept_marks, names}
+use Rattle.start_journal.specs.Marks.{AreLegalMarks, decides, is_decided, is_forgotten, has_mark_of, kept_marks, is_mark_of}
 use Rattle.start_journal.proofs.MarkLemmas.{decides_names, kept_marks_keep_what_counts}
 use Rattle.spool_shows.specs.ByName.{AreSound, HasFile, IsJobFile, ShowsByName, ShowsDone, ShowsEntry, ShowsLive}
 use Rattle.spool_shows.specs.JobFiles.{JobFile}
@@ -26,29 +26,29 @@ use Rattle.spool_shows.proofs.ShownStates.{entry_moves, sound_moves}
 
 -- A number that no mark names.
 
-silent_undecided : (number : ℕ) (mark : Mark) → names number mark ≡ false → decides number mark ≡ false
+silent_undecided : (number : ℕ) (mark : Mark) → is_mark_of number mark ≡ false → decides number mark ≡ false
 silent_undecided number mark other = by_test (decides number mark) refl where
   by_test : (passes : Bool) → decides number mark ≡ passes → decides number mark ≡ false
   by_test true is = let impossible : false ≡ true = sym other ∙ decides_names number mark is in cc
   by_test false is = is
 
-undecided : (number : ℕ) (marks : List Mark) → is_named number marks ≡ false → is_decided number marks ≡ false
+undecided : (number : ℕ) (marks : List Mark) → has_mark_of number marks ≡ false → is_decided number marks ≡ false
 undecided number [] unnamed = refl
 undecided number (mark ∷ later) unnamed =
-    let parts : (names number mark ≡ false) × (is_named number later ≡ false) = neither (names number mark) (is_named number later) unnamed in
+    let parts : (is_mark_of number mark ≡ false) × (has_mark_of number later ≡ false) = neither (is_mark_of number mark) (has_mark_of number later) unnamed in
     ap (λ b. b || is_decided number later) (silent_undecided number mark parts.0) ∙ undecided number later parts.1
 
 -- the mark does not name the number
 abbrev IsSilent : ℕ → Mark → Type 0
-IsSilent number mark = names number mark ≡ false
+IsSilent number mark = is_mark_of number mark ≡ false
 
-all_silent : (number : ℕ) (marks : List Mark) → is_named number marks ≡ false → All (IsSilent number) marks
+all_silent : (number : ℕ) (marks : List Mark) → has_mark_of number marks ≡ false → All (IsSilent number) marks
 all_silent number [] unnamed = All-nil (IsSilent number)
 all_silent number (mark ∷ later) unnamed =
-    let parts : (names number mark ≡ false) × (is_named number later ≡ false) = neither (names number mark) (is_named number later) unnamed in
+    let parts : (is_mark_of number mark ≡ false) × (has_mark_of number later ≡ false) = neither (is_mark_of number mark) (has_mark_of number later) unnamed in
     All-cons (IsSilent number) mark later parts.0 (all_silent number later parts.1)
 
-not_contained : (number : ℕ) (marks : List Mark) (mark : Mark) → is_named number marks ≡ false → names number mark ≡ true → ¬ (Contains marks mark)
+not_contained : (number : ℕ) (marks : List Mark) (mark : Mark) → has_mark_of number marks ≡ false → is_mark_of number mark ≡ true → ¬ (Contains marks mark)
 not_contained number marks mark unnamed named there =
     let impossible : true ≡ false = sym named ∙ All-contains (IsSilent number) marks mark (all_silent number marks unnamed) there in
     cc
@@ -56,7 +56,7 @@ not_contained number marks mark unnamed named there =
 -- What is known of the marks and of the folders.
 
 record IsCompacted (marks : List Mark) (before after : Files) : Type 0 where
-  legal : AreLegal marks
+  legal : AreLegalMarks marks
   keeps : KeepsWhatCounts marks
   none : HasNoForgotten marks before
   same : SameJobs before after
@@ -70,7 +70,7 @@ no_file marks before after number compacted forgotten = λ file is number_is.
     cc
 
 -- a forgotten number has no entry
-no_entry : (marks : List Mark) (files : Files) (number : ℕ) (entry : Option JobEntry) → AreLegal marks → is_forgotten number marks ≡ true → ShowsEntry marks files number entry → entry ≡ None
+no_entry : (marks : List Mark) (files : Files) (number : ℕ) (entry : Option JobEntry) → AreLegalMarks marks → is_forgotten number marks ≡ true → ShowsEntry marks files number entry → entry ≡ None
 no_entry marks files number entry legal forgotten shows =
     none_done entry (subst (λ b. MatchBool b (ShowsDone marks number entry) (ShowsLive marks files number entry)) (forgotten_was_decided number [] marks legal forgotten) shows) where
       none_done : (one : Option JobEntry) → ShowsDone marks number one → one ≡ None
@@ -103,7 +103,7 @@ sound_kept last marks before after compacted sound = sound_moves last marks (kep
 
   started : (number queue : ℕ) (second : ℤ) → Contains (kept_marks marks) (Started number queue second) → is_decided number (kept_marks marks) ≡ false → HasFile marks before number queue
   started number queue second there undecided = by_test (is_forgotten number marks) refl where
-    named : names number (Started number queue second) ≡ true
+    named : is_mark_of number (Started number queue second) ≡ true
     named = passes_same number number refl
 
     by_test : (forgotten : Bool) → is_forgotten number marks ≡ forgotten → HasFile marks before number queue
@@ -117,7 +117,7 @@ pub compacted_by_name : (before after : Files) (table : JobTable) → ShowsByNam
 compacted_by_name before after table shows had =
     let marks : List Mark = shows.read.marks in
     let same_marks : marks ≡ had.marks = had_same before table had.marks shows had.had in
-    let legal : AreLegal marks = marks_legal before table shows in
+    let legal : AreLegalMarks marks = marks_legal before table shows in
     let keeps : KeepsWhatCounts marks = kept_marks_keep_what_counts marks legal in
     let compacted : IsCompacted marks before after = record {
       legal = legal;

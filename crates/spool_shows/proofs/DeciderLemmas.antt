@@ -6,7 +6,7 @@ use Rattle.start_journal.specs.declared.mark.Mark.{Mark}
 use Rattle.start_journal.specs.declared.mark.Mark.TheVariants.{Removed, Started, Ended, Interrupted, Forgotten, Batch}
 use Rattle.start_journal.specs.declared.stage.Stage.{Stage}
 use Rattle.start_journal.specs.declared.stage.Stage.TheVariants.{Fresh, Closed, Gone}
-use Rattle.start_journal.specs.Marks.{AreLegal, decides, marks_of, names}
+use Rattle.start_journal.specs.Marks.{AreLegalMarks, decides, marks_of, is_mark_of}
 use Rattle.start_journal.specs.Stages.{GoThrough, allows, stage_after}
 use Rattle.start_journal.proofs.LifeLemmas.{numbers_live_once}
 use Rattle.start_journal.proofs.MarkLemmas.{decides_names}
@@ -69,10 +69,10 @@ one_decider number stage (first ∷ later) one other through (inr has) (inr has_
     one_decider number (stage_after stage first) later one other through.1 has has_other is is_other
 
 among_its_marks : (number : ℕ) (marks : List Mark) (mark : Mark) → Has marks mark → decides number mark ≡ true → Has (marks_of number marks) mark
-among_its_marks number marks mark has is = has_filtered (names number) marks mark has (decides_names number mark is)
+among_its_marks number marks mark has is = has_filtered (is_mark_of number) marks mark has (decides_names number mark is)
 
 -- so marks that leave an entry of the number leave one
-pub one_done_entry : (marks : List Mark) (number : ℕ) (one other : JobEntry) → AreLegal marks → (mark mark_other : Mark) → Has marks mark → Has marks mark_other → done_entry marks mark ≡ Some (number, one) → done_entry marks mark_other ≡ Some (number, other) → one ≡ other
+pub one_done_entry : (marks : List Mark) (number : ℕ) (one other : JobEntry) → AreLegalMarks marks → (mark mark_other : Mark) → Has marks mark → Has marks mark_other → done_entry marks mark ≡ Some (number, one) → done_entry marks mark_other ≡ Some (number, other) → one ≡ other
 one_done_entry marks number one other legal mark mark_other has has_other is is_other =
     let decided : decides number mark ≡ true = (done_decides marks mark number one is).0 in
     let decided_other : decides number mark_other ≡ true = (done_decides marks mark_other number other is_other).0 in

@@ -14,8 +14,8 @@ use Rattle.job_script.specs.HeaderIn.{header_in, header_place}
 use Rattle.job_script.proofs.HeaderInLemmas.{header_in-none, header_place-fault}
 use Rattle.start_journal.specs.declared.mark.Mark.{Mark}
 use Rattle.start_journal.proofs.MarkLemmas.{or_true}
-use Rattle.spool_shows.specs.ByName.{IsJobFile, IsWhole}
-use Rattle.spool_shows.specs.FirstDamage.{IsBefore, IsDamagedAt, IsFileDamage, IsSecond, IsUndamaged, no_header, not_drawn, second}
+use Rattle.spool_shows.specs.ByName.{IsJobFile, IsWholeFile}
+use Rattle.spool_shows.specs.FirstDamage.{IsEarlierName, IsDamagedAt, IsFileDamage, IsSecond, IsUndamaged, no_header, not_drawn, second}
 use Rattle.spool_shows.specs.JobFiles.{JobFile, damage_of, file_place, files_damage, header_fault_in}
 use Rattle.spool_shows.proofs.FileLemmas.{counted_is_file, file_is_counted, files_that_count, one_file}
 use Rattle.spool_shows.proofs.FileOrder.{AreInOrder, compare, files_in_order, have_one_name, is_before, is_after, not_before_itself, not_both_before}
@@ -61,7 +61,7 @@ record AreLeft (marks : List Mark) (files : Files) (seen rest : List JobFile) : 
   has : (file : JobFile) → IsJobFile marks files file → Has seen file ⊎ Has rest file
   seen_is : (file : JobFile) → Has seen file → IsJobFile marks files file
   rest_is : (file : JobFile) → Has rest file → IsJobFile marks files file
-  before : (one other : JobFile) → Has seen one → Has rest other → IsBefore one other
+  before : (one other : JobFile) → Has seen one → Has rest other → IsEarlierName one other
   order : AreInOrder (λ (file : JobFile). file.name) rest
 
 all_left : (marks : List Mark) (files : Files) → AreLeft marks files [] (files_that_count marks files)
@@ -86,7 +86,7 @@ module _ (last : ℕ) (marks : List Mark) (files : Files) (seen : List JobFile) 
     ];
     rest_is = λ other has. left.rest_is other (inr has);
     before = λ one other has after. elim has [
-      | inl here ↦ subst (λ (of : JobFile). IsBefore of other) here (left.order.0 other after)
+      | inl here ↦ subst (λ (of : JobFile). IsEarlierName of other) here (left.order.0 other after)
       | inr before ↦ left.before one other before (inr after)
     ];
     order = left.order.1;
@@ -96,11 +96,11 @@ module _ (last : ℕ) (marks : List Mark) (files : Files) (seen : List JobFile) 
   is_file = left.rest_is file (inl refl)
 
   -- a file before this one was looked at
-  was_seen : (other : JobFile) → IsJobFile marks files other → IsBefore other file → Has seen other
+  was_seen : (other : JobFile) → IsJobFile marks files other → IsEarlierName other file → Has seen other
   was_seen other is before = elim (left.has other is) [
     | inl has ↦ has
     | inr rest ↦ elim rest [
-      | inl here ↦ absurd (not_before_itself file (subst (λ (of : JobFile). IsBefore of file) (sym here) before))
+      | inl here ↦ absurd (not_before_itself file (subst (λ (of : JobFile). IsEarlierName of file) (sym here) before))
       | inr after ↦ absurd (not_both_before file other (left.order.0 other after) before)
     ]
   ]
@@ -134,7 +134,7 @@ module _ (last : ℕ) (marks : List Mark) (files : Files) (seen : List JobFile) 
   -- a file without a place of damage has none
   undamaged : file_place last (numbers_of seen) file ≡ None → IsUndamaged last marks files file
   undamaged none =
-      let both : IsWhole last file × (list_any (λ number. number == file.job.number) (numbers_of seen) ≡ false) = no_fault last (numbers_of seen) file none in
+      let both : IsWholeFile last file × (list_any (λ number. number == file.job.number) (numbers_of seen) ≡ false) = no_fault last (numbers_of seen) file none in
       record { whole = both.0; only = not_second both.1 }
 
   no_place_of : IsUndamaged last marks files file → file_place last (numbers_of seen) file ≡ None

@@ -13,7 +13,7 @@ use Rattle.std.proofs.lemmas.Map.Lookups.{exact_bytes}
 use Rattle.host_calls.specs.Folder.{Files, name_cmp}
 use Rattle.job_name.specs.JobName.{job_named}
 use Rattle.start_journal.specs.declared.mark.Mark.{Mark}
-use Rattle.spool_shows.specs.FirstDamage.{IsBefore}
+use Rattle.spool_shows.specs.FirstDamage.{IsEarlierName}
 use Rattle.spool_shows.specs.JobFiles.{JobFile, counts, job_file}
 use Rattle.spool_shows.proofs.EntryLists.{below, left, right}
 use Rattle.spool_shows.proofs.FileLemmas.{file_says, files_that_count}
@@ -57,20 +57,20 @@ files_in_order marks files =
     (order_sorted (entries files) (entries_sorted files)))
 
 -- no file stands before itself, and of two not each before the other
-pub not_before_itself : (file : JobFile) → ¬ (IsBefore file file)
+pub not_before_itself : (file : JobFile) → ¬ (IsEarlierName file file)
 not_before_itself file before =
     let impossible : Less ≡ Equal = sym before ∙ tied_itself nat_list_cmp_total file.name in
     cc
 
-pub not_both_before : (one other : JobFile) → IsBefore one other → ¬ (IsBefore other one)
+pub not_both_before : (one other : JobFile) → IsEarlierName one other → ¬ (IsEarlierName other one)
 not_both_before one other before after =
     let impossible : Less ≡ Greater = sym after ∙ nat_list_cmp_total.antisymm other.name one.name ∙ ap ordering_reverse before in
     cc
 
 -- of two files one is before the other, or they have one name
 pub data AreCompared (one other : JobFile) : Type 0 where
-  is_before : IsBefore one other → AreCompared one other
-  is_after : IsBefore other one → AreCompared one other
+  is_before : IsEarlierName one other → AreCompared one other
+  is_after : IsEarlierName other one → AreCompared one other
   have_one_name : one.name ≡ other.name → AreCompared one other
 
 pub compare : (one other : JobFile) → AreCompared one other

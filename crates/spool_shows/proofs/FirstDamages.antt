@@ -7,7 +7,7 @@ use Rattle.std.specs.Option.{option_or}
 use Rattle.host_calls.specs.declared.damage.Damage.{Damage}
 use Rattle.host_calls.specs.Folder.{Files}
 use Rattle.sequence_file.specs.LastNumber.{last_in}
-use Rattle.sequence_file.specs.Sequence.{Gives, sequence_file}
+use Rattle.sequence_file.specs.Sequence.{GivesNumber, sequence_file}
 use Rattle.sequence_file.proofs.LastNumbers.{last_given, last_numbers_are_damaged, last_spelled}
 use Rattle.spool_model.specs.JobTable.{JobTable}
 use Rattle.start_journal.specs.declared.mark.Mark.{Mark}
@@ -35,7 +35,7 @@ by_jobs files damage last marks read (Some one) found is =
     let same : one ≡ damage = cc in
     by_files files damage last marks read (files_damage last [] (files_that_count marks files)) refl (found ∙ ap Some same)
 
-by_journal : (files : Files) (damage : Damage) (last : ℕ) → Gives (map.get files sequence_file) last → (found : Result JournalRead Damage) → journal_in last (map.get files journal_file) ≡ found → shown_after_journal last found (entries files) ≡ Err damage → IsFirstDamage files damage
+by_journal : (files : Files) (damage : Damage) (last : ℕ) → GivesNumber (map.get files sequence_file) last → (found : Result JournalRead Damage) → journal_in last (map.get files journal_file) ≡ found → shown_after_journal last found (entries files) ≡ Err damage → IsFirstDamage files damage
 by_journal files damage last gives (Err one) found is =
     let same : one ≡ damage = cc in
     of_journal last gives ((journals_are_damaged last (map.get files journal_file) damage).0 (found ∙ ap Err same))
@@ -62,7 +62,7 @@ computed_first files damage is = by_last files damage (last_in (map.get files se
 
 -- The first damage is computed.
 
-after_last : (files : Files) (last : ℕ) → Gives (map.get files sequence_file) last → shown_by files ≡ shown_after_journal last (journal_in last (map.get files journal_file)) (entries files)
+after_last : (files : Files) (last : ℕ) → GivesNumber (map.get files sequence_file) last → shown_by files ≡ shown_after_journal last (journal_in last (map.get files journal_file)) (entries files)
 after_last files last gives =
     shown_is files ∙ ap (λ found. shown_after_last found (entries files)) (last_given (map.get files sequence_file) last gives)
     ∙ ap (λ content. shown_after_journal last (journal_in last content) (entries files)) (sym (get-entries files journal_file))

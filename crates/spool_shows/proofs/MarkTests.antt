@@ -8,7 +8,7 @@ use Rattle.std.proofs.lemmas.List.Elements.{All-cons, All-contains, All-contains
 use Rattle.std.proofs.lemmas.Map.Views.{any-filter_same}
 use Rattle.start_journal.specs.declared.mark.Mark.{Mark}
 use Rattle.start_journal.specs.declared.mark.Mark.TheVariants.{Removed, Started, Ended, Interrupted, Forgotten, Batch}
-use Rattle.start_journal.specs.Marks.{AreLegal, batch_second, decides, first_of_two, forgets, is_decided, is_forgotten, last_batch, marks_of, names, start_second, started_at}
+use Rattle.start_journal.specs.Marks.{AreLegalMarks, batch_second, decides, first_of_two, is_forgetting, is_decided, is_forgotten, last_batch, marks_of, is_mark_of, start_second, started_at}
 use Rattle.start_journal.proofs.LifeLemmas.{any_more}
 use Rattle.start_journal.proofs.MarkLemmas.{decides_names, forgets_names, forgotten_was_decided}
 
@@ -42,18 +42,18 @@ batch_more (first ∷ before) mark =
     ∙ first_assoc (batch_second mark) (last_batch before) (batch_second first)
 
 -- a mark of another number adds nothing
-pub marks_of_other : (number : ℕ) (before : List Mark) (mark : Mark) → names number mark ≡ false → marks_of number (before ++ mark ∷ []) ≡ marks_of number before
+pub marks_of_other : (number : ℕ) (before : List Mark) (mark : Mark) → is_mark_of number mark ≡ false → marks_of number (before ++ mark ∷ []) ≡ marks_of number before
 marks_of_other number before mark other =
-    filter-append (names number) before (mark ∷ [])
+    filter-append (is_mark_of number) before (mark ∷ [])
     ∙ ap (λ b. marks_of number before ++ cond b (mark ∷ []) []) other
     ∙ append-nil (marks_of number before)
 
 -- The marks of the number.
 
-test_of_its_marks : (number : ℕ) (test : Mark → Bool) → ((mark : Mark) → test mark ≡ true → names number mark ≡ true) → (marks : List Mark) → list_any test (marks_of number marks) ≡ list_any test marks
-test_of_its_marks number test of_number marks = any-filter_same test (names number) true of_number marks
+test_of_its_marks : (number : ℕ) (test : Mark → Bool) → ((mark : Mark) → test mark ≡ true → is_mark_of number mark ≡ true) → (marks : List Mark) → list_any test (marks_of number marks) ≡ list_any test marks
+test_of_its_marks number test of_number marks = any-filter_same test (is_mark_of number) true of_number marks
 
-start_of_other : (number : ℕ) (mark : Mark) → names number mark ≡ false → start_second number mark ≡ None
+start_of_other : (number : ℕ) (mark : Mark) → is_mark_of number mark ≡ false → start_second number mark ≡ None
 start_of_other number (Started other queue second) differs = ap (λ b. cond b (Some second) None) differs
 start_of_other number (Removed other) differs = refl
 start_of_other number (Ended other ending) differs = refl
@@ -63,8 +63,8 @@ start_of_other number (Batch second) differs = refl
 
 start_of_its_marks : (number : ℕ) (marks : List Mark) → started_at number (marks_of number marks) ≡ started_at number marks
 start_of_its_marks number [] = refl
-start_of_its_marks number (mark ∷ later) = by_name (names number mark) refl (start_of_its_marks number later) where
-  by_name : (named : Bool) → names number mark ≡ named → started_at number (marks_of number later) ≡ started_at number later → started_at number (marks_of number (mark ∷ later)) ≡ started_at number (mark ∷ later)
+start_of_its_marks number (mark ∷ later) = by_name (is_mark_of number mark) refl (start_of_its_marks number later) where
+  by_name : (named : Bool) → is_mark_of number mark ≡ named → started_at number (marks_of number later) ≡ started_at number later → started_at number (marks_of number (mark ∷ later)) ≡ started_at number (mark ∷ later)
   by_name true named rest = rw named (ap (option_or (start_second number mark)) rest)
   by_name false other rest = rw other (rest ∙ sym (ap (λ first. option_or first (started_at number later)) (start_of_other number mark other)))
 
@@ -92,26 +92,26 @@ pub record TellSame (number : ℕ) (one other : List Mark) : Type 0 where
   pub decided : is_decided number other ≡ is_decided number one
   pub forgotten : is_forgotten number other ≡ is_forgotten number one
   pub started : started_at number other ≡ started_at number one
-  pub contained : (mark : Mark) → names number mark ≡ true → Contains one mark → Contains other mark
+  pub contained : (mark : Mark) → is_mark_of number mark ≡ true → Contains one mark → Contains other mark
 
 -- then they tell the same of it
 pub tell_same : (number : ℕ) (one other : List Mark) → marks_of number other ≡ marks_of number one → TellSame number one other
 tell_same number one other same = record {
   decided = same_test (decides number) (decides_names number);
-  forgotten = same_test (forgets number) (forgets_names number);
+  forgotten = same_test (is_forgetting number) (forgets_names number);
   started = sym (start_of_its_marks number other) ∙ ap (started_at number) same ∙ start_of_its_marks number one;
-  contained = λ mark named there. from_its (subst (λ list. Contains list mark) (sym same) (All-contains (IsInIfPassing (names number) (marks_of number one)) one mark (contains_filtered (names number) one) there named));
+  contained = λ mark named there. from_its (subst (λ list. Contains list mark) (sym same) (All-contains (IsInIfPassing (is_mark_of number) (marks_of number one)) one mark (contains_filtered (is_mark_of number) one) there named));
 } where
-  same_test : (test : Mark → Bool) → ((mark : Mark) → test mark ≡ true → names number mark ≡ true) → list_any test other ≡ list_any test one
+  same_test : (test : Mark → Bool) → ((mark : Mark) → test mark ≡ true → is_mark_of number mark ≡ true) → list_any test other ≡ list_any test one
   same_test test of_number = sym (test_of_its_marks number test of_number other) ∙ ap (list_any test) same ∙ test_of_its_marks number test of_number one
 
   from_its : {mark : Mark} → Contains (marks_of number other) mark → Contains other mark
-  from_its {mark} there = All-contains (Contains other) (marks_of number other) mark (All-filter (names number) (Contains other) other (All-contains_itself other)) there
+  from_its {mark} there = All-contains (Contains other) (marks_of number other) mark (All-filter (is_mark_of number) (Contains other) other (All-contains_itself other)) there
 
 -- Legal marks.
 
 -- a number that is not decided is not forgotten
-pub not_forgotten : (marks : List Mark) (number : ℕ) → AreLegal marks → is_decided number marks ≡ false → is_forgotten number marks ≡ false
+pub not_forgotten : (marks : List Mark) (number : ℕ) → AreLegalMarks marks → is_decided number marks ≡ false → is_forgotten number marks ≡ false
 not_forgotten marks number legal undecided = by_test (is_forgotten number marks) refl where
   by_test : (forgotten : Bool) → is_forgotten number marks ≡ forgotten → is_forgotten number marks ≡ false
   by_test true is = let impossible : false ≡ true = sym undecided ∙ forgotten_was_decided number [] marks legal is in cc

@@ -13,7 +13,7 @@ use Rattle.start_journal.specs.Journals.{journal_file}
 use Rattle.start_journal.specs.Marks.{is_decided}
 use Rattle.whole_file.specs.Others.{IsEither}
 use Rattle.whole_file.proofs.OthersLemmas.{neither}
-use Rattle.spool_shows.specs.ByName.{AreSound, HasFile, IsJobFile, IsWhole, ShowsDone, ShowsEntry, ShowsLive}
+use Rattle.spool_shows.specs.ByName.{AreSound, HasFile, IsJobFile, IsWholeFile, ShowsDone, ShowsEntry, ShowsLive}
 use Rattle.spool_shows.specs.JobFiles.{JobFile}
 use Rattle.job_name.specs.JobName.{NamedJob, job_named}
 
@@ -94,7 +94,7 @@ has_file_kept marks before after number queue keep has = record {
 }
 
 -- a file that is whole stays so under a greater last number
-pub whole_more : (last more : ℕ) (file : JobFile) → last ≤ more → IsWhole last file → IsWhole more file
+pub whole_more : (last more : ℕ) (file : JobFile) → last ≤ more → IsWholeFile last file → IsWholeFile more file
 whole_more last more file least whole = record { drawn = (let drawn : file.job.number ≤ last = whole.drawn in omega arith); header = whole.header }
 
 -- files that are sound stay so where folders agree on the names of jobs

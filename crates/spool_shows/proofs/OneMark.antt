@@ -14,7 +14,7 @@ use Rattle.spool_model.specs.JobTable.{JobEntries, JobTable, entry_at, table_of}
 use Rattle.start_journal.specs.declared.mark.Mark.{Mark}
 use Rattle.start_journal.specs.declared.mark.Mark.TheVariants.{Started}
 use Rattle.start_journal.specs.Journals.{JournalRead, journal_file, journal_in}
-use Rattle.start_journal.specs.Marks.{AreLegal, batch_second, decides, first_of_two, forgets, is_decided, is_forgotten, names}
+use Rattle.start_journal.specs.Marks.{AreLegalMarks, batch_second, decides, first_of_two, is_forgetting, is_decided, is_forgotten, is_mark_of}
 use Rattle.whole_file.specs.Others.{IsEither}
 use Rattle.spool_shows.specs.ByName.{AreSound, HasFile, IsJobFile, ShowsByName, ShowsEntry}
 use Rattle.spool_shows.specs.JobFiles.{JobFile}
@@ -42,7 +42,7 @@ had_same files table marks shows had =
     ap (λ (read : JournalRead). read.marks) read_is
 
 -- those marks are legal
-pub marks_legal : (files : Files) (table : JobTable) (shows : ShowsByName files table) → AreLegal shows.read.marks
+pub marks_legal : (files : Files) (table : JobTable) (shows : ShowsByName files table) → AreLegalMarks shows.read.marks
 marks_legal files table shows = journal_legal table.last (map.get files journal_file) shows.read (journal_read files table shows)
 
 -- the sequence file is neither the journal nor a file that is being made
@@ -57,7 +57,7 @@ last_moves before after last others is = ap last_in (others sequence_file sequen
 -- what a step does to the table and to the folder, where its mark names this number alone
 pub record IsStepOf (before after : Files) (table : JobTable) (entries : JobEntries) (last_batch : Option ℤ) (added : Mark) (number : ℕ) (marks : List Mark) : Type 0 where
   pub batch : last_batch ≡ first_of_two (batch_second added) table.last_batch
-  pub silent : (other : ℕ) → ¬ (other ≡ number) → names other added ≡ false
+  pub silent : (other : ℕ) → ¬ (other ≡ number) → is_mark_of other added ≡ false
   pub kept : (other : ℕ) → ¬ (other ≡ number) → map.get entries other ≡ entry_at table other
   pub here : ShowsEntry (marks ++ added ∷ []) after number (map.get entries number)
   pub starts : (other queue : ℕ) (second : ℤ) → added ≡ Started other queue second → HasFile marks before other queue
@@ -97,7 +97,7 @@ step_shown before after table entries last_batch added number shows marked step 
     }
 
 -- a mark that decides a number leaves its entry
-pub decided_shown : (marks : List Mark) (files : Files) (added : Mark) (number : ℕ) (fate : Fate) → decides number added ≡ true → forgets number added ≡ false → is_forgotten number marks ≡ false → ((list : List Mark) → is_forgotten number list ≡ false → done_entry list added ≡ Some (number, Done fate)) → ShowsEntry (marks ++ added ∷ []) files number (Some (Done fate))
+pub decided_shown : (marks : List Mark) (files : Files) (added : Mark) (number : ℕ) (fate : Fate) → decides number added ≡ true → is_forgetting number added ≡ false → is_forgotten number marks ≡ false → ((list : List Mark) → is_forgotten number list ≡ false → done_entry list added ≡ Some (number, Done fate)) → ShowsEntry (marks ++ added ∷ []) files number (Some (Done fate))
 decided_shown marks files added number fate decides_it forgets_not remembered leaves =
     shows_done (marks ++ added ∷ []) files number (Some (Done fate)) (any_with (decides number) marks added decides_it)
-    (added, Contains-push marks added, leaves (marks ++ added ∷ []) (any_without (forgets number) marks added forgets_not ∙ remembered))
+    (added, Contains-push marks added, leaves (marks ++ added ∷ []) (any_without (is_forgetting number) marks added forgets_not ∙ remembered))

@@ -3,7 +3,7 @@ use Rattle.std.proofs.Common.{◌≡◌, ℕ, Bool, true, false, List, Option, S
 use Rattle.std.specs.Prelude.{IsSome, Result, Ok, Err}
 use Rattle.host_calls.specs.declared.damage.Damage.{Damage}
 use Rattle.job_script.specs.HeaderIn.{header_in}
-use Rattle.sequence_file.specs.Sequence.{Gives}
+use Rattle.sequence_file.specs.Sequence.{GivesNumber}
 use Rattle.spool_model.specs.JobTable.{IsDrawn, JobEntry, JobTable, entry_at}
 use Rattle.spool_shows.specs.ByName.{ShowsByName, ShowsEntry}
 use Rattle.spool_shows.specs.Laws.{FoldersWithoutSequenceShowNoEntry, HasItsHeader, ShownJobsHaveHeaders, ShowsNoEntry}
@@ -39,5 +39,5 @@ folders_without_sequence_show_no_entry files absent = by_shown (shown_by files) 
   by_shown (Err damage) is = inl (damage, is)
   by_shown (Ok table) is =
       let shows : ShowsByName files table = (folders_are_shown_by_name files table).by_name is in
-      let none : table.last ≡ 0 = subst (λ content. Gives content table.last) absent shows.last in
+      let none : table.last ≡ 0 = subst (λ content. GivesNumber content table.last) absent shows.last in
       inr (table, is, no_entry table none (shown_tables_are_sound files table is).each)

@@ -5,7 +5,7 @@ use Rattle.std.specs.List.{list_any}
 use Rattle.std.specs.Option.{option_or}
 use Rattle.std.proofs.lemmas.Bool.Decides.{nat_tests}
 use Rattle.job_script.specs.HeaderIn.{header_in}
-use Rattle.spool_shows.specs.ByName.{IsWhole}
+use Rattle.spool_shows.specs.ByName.{IsWholeFile}
 use Rattle.spool_shows.specs.JobFiles.{JobFile, damage_of, file_place, files_damage, header_fault_in}
 use Rattle.spool_shows.proofs.EntryLists.{AreApart}
 use Rattle.spool_shows.proofs.MarkTests.{neither}
@@ -15,7 +15,7 @@ use Rattle.spool_shows.proofs.Membership.{Has}
 abbrev pub AreFine : ℕ → List ℕ → List JobFile → Type 0
 AreFine last before [] = Unit {0}
 AreFine last before (file ∷ later) =
-    IsWhole last file × (list_any (λ number. number == file.job.number) before ≡ false) × AreFine last (file.job.number ∷ before) later
+    IsWholeFile last file × (list_any (λ number. number == file.job.number) before ≡ false) × AreFine last (file.job.number ∷ before) later
 
 -- where neither is there
 pub neither_first : {X : Type 0} → (one other : Option X) → option_or one other ≡ None → (one ≡ None) × (other ≡ None)
@@ -35,16 +35,16 @@ no_header_fault bytes None is = let impossible : false ≡ true = is in cc
 no_header_fault bytes (Some header) is = refl
 
 -- a file without a place of damage is whole and has a new number
-pub no_fault : (last : ℕ) (before : List ℕ) (file : JobFile) → file_place last before file ≡ None → IsWhole last file × (list_any (λ number. number == file.job.number) before ≡ false)
+pub no_fault : (last : ℕ) (before : List ℕ) (file : JobFile) → file_place last before file ≡ None → IsWholeFile last file × (list_any (λ number. number == file.job.number) before ≡ false)
 no_fault last before file is = by_test (nat_lt last file.job.number || list_any (λ number. number == file.job.number) before) refl is where
-  by_test : (b : Bool) → (nat_lt last file.job.number || list_any (λ number. number == file.job.number) before) ≡ b → (if b then Some 0 else header_fault_in file.bytes (header_in file.bytes)) ≡ None → IsWhole last file × (list_any (λ number. number == file.job.number) before ≡ false)
+  by_test : (b : Bool) → (nat_lt last file.job.number || list_any (λ number. number == file.job.number) before) ≡ b → (if b then Some 0 else header_fault_in file.bytes (header_in file.bytes)) ≡ None → IsWholeFile last file × (list_any (λ number. number == file.job.number) before ≡ false)
   by_test true test none = let impossible : ◌≡◌ {A = Option ℕ} (Some 0) None = none in cc
   by_test false test none =
       let both : (nat_lt last file.job.number ≡ false) × (list_any (λ number. number == file.job.number) before ≡ false) = neither _ _ test in
       let late : nat_lt last file.job.number ≡ false = both.0 in
       (record { drawn = grind (arith, nat_tests); header = header_there file.bytes (header_in file.bytes) none }, both.1)
 
-pub fault_free : (last : ℕ) (before : List ℕ) (file : JobFile) → IsWhole last file → list_any (λ number. number == file.job.number) before ≡ false → file_place last before file ≡ None
+pub fault_free : (last : ℕ) (before : List ℕ) (file : JobFile) → IsWholeFile last file → list_any (λ number. number == file.job.number) before ≡ false → file_place last before file ≡ None
 fault_free last before file whole new =
     let drawn : file.job.number ≤ last = whole.drawn in
     let test : nat_lt last file.job.number ≡ false = grind (arith, nat_tests) in
@@ -54,7 +54,7 @@ pub no_damage_is_fine : (last : ℕ) (before : List ℕ) (files : List JobFile) 
 no_damage_is_fine last before [] is = tt
 no_damage_is_fine last before (file ∷ later) is =
     let both : (damage_of file (file_place last before file) ≡ None) × (files_damage last (file.job.number ∷ before) later ≡ None) = neither_first _ _ is in
-    let here : IsWhole last file × (list_any (λ number. number == file.job.number) before ≡ false) = no_fault last before file (no_place file _ both.0) in
+    let here : IsWholeFile last file × (list_any (λ number. number == file.job.number) before ≡ false) = no_fault last before file (no_place file _ both.0) in
     (here.0, here.1, no_damage_is_fine last (file.job.number ∷ before) later both.1)
 
 pub fine_is_no_damage : (last : ℕ) (before : List ℕ) (files : List JobFile) → AreFine last before files → files_damage last before files ≡ None
@@ -63,9 +63,9 @@ fine_is_no_damage last before (file ∷ later) fine =
     rw (fault_free last before file fine.0 fine.1) (fine_is_no_damage last (file.job.number ∷ before) later fine.2)
 
 -- each file is whole
-pub fine_is_whole : (last : ℕ) (before : List ℕ) (files : List JobFile) (file : JobFile) → AreFine last before files → Has files file → IsWhole last file
+pub fine_is_whole : (last : ℕ) (before : List ℕ) (files : List JobFile) (file : JobFile) → AreFine last before files → Has files file → IsWholeFile last file
 fine_is_whole last before [] file fine has = absurd has
-fine_is_whole last before (first ∷ later) file fine (inl same) = subst (IsWhole last) same fine.0
+fine_is_whole last before (first ∷ later) file fine (inl same) = subst (IsWholeFile last) same fine.0
 fine_is_whole last before (first ∷ later) file fine (inr has) = fine_is_whole last (first.job.number ∷ before) later file fine.2 has
 
 -- no file has a number from before
@@ -91,7 +91,7 @@ fine_once last before (file ∷ later) first second fine (inr one) (inl two) sam
 fine_once last before (file ∷ later) first second fine (inr one) (inr two) same = fine_once last (file.job.number ∷ before) later first second fine.2 one two same
 
 -- files that are whole, with names apart and one name a number, are fine after numbers that none of them has
-pub whole_is_fine : (last : ℕ) (before : List ℕ) (files : List JobFile) → ((file : JobFile) → Has files file → IsWhole last file) → ((first second : JobFile) → Has files first → Has files second → first.job.number ≡ second.job.number → first.name ≡ second.name) → AreApart (λ (file : JobFile). file.name) files → ((file : JobFile) → Has files file → list_any (λ number. number == file.job.number) before ≡ false) → AreFine last before files
+pub whole_is_fine : (last : ℕ) (before : List ℕ) (files : List JobFile) → ((file : JobFile) → Has files file → IsWholeFile last file) → ((first second : JobFile) → Has files first → Has files second → first.job.number ≡ second.job.number → first.name ≡ second.name) → AreApart (λ (file : JobFile). file.name) files → ((file : JobFile) → Has files file → list_any (λ number. number == file.job.number) before ≡ false) → AreFine last before files
 whole_is_fine last before [] whole once apart fresh = tt
 whole_is_fine last before (file ∷ later) whole once apart fresh = (
   whole file (inl refl),

@@ -8,14 +8,14 @@ use Rattle.std.proofs.lemmas.List.{length-take-le}
 use Rattle.std.proofs.lemmas.Bool.Decides.{nat_tests}
 use Rattle.host_calls.specs.Folder.{Files}
 use Rattle.job_name.proofs.NamedJobs.{name_spelled}
-use Rattle.sequence_file.specs.Sequence.{Gives, SpellsIn, sequence_file}
+use Rattle.sequence_file.specs.Sequence.{GivesNumber, SpellsIn, sequence_file}
 use Rattle.spool_model.specs.declared.number.TheConstants.{LAST_NUMBER}
 use Rattle.spool_model.specs.Numbers.{number_digits}
 use Rattle.spool_model.specs.JobTable.{JobEntry, JobTable, entry_at}
 use Rattle.start_journal.specs.declared.mark.Mark.{Mark}
 use Rattle.start_journal.specs.declared.mark.Mark.TheVariants.{Removed, Started, Ended, Interrupted, Forgotten, Batch}
 use Rattle.start_journal.specs.Journals.{AreWritable, are_drawn, is_drawn, journal_file}
-use Rattle.start_journal.specs.Marks.{is_decided, names}
+use Rattle.start_journal.specs.Marks.{is_decided, is_mark_of}
 use Rattle.start_journal.specs.Slots.{IsWritable}
 use Rattle.start_journal.proofs.JournalReads.{journal_drawn, journal_writable}
 use Rattle.start_journal.proofs.MarkLemmas.{decides_names}
@@ -37,7 +37,7 @@ few_in new_form bytes number spelled =
     few_digits new_form number (subst (λ count. number < 16 ^ count) counted spelled.digits.fits)
 
 -- and so is the number that a content gives
-pub few_of : (content : Option (List ℕ)) (number : ℕ) → Gives content number → number ≤ LAST_NUMBER
+pub few_of : (content : Option (List ℕ)) (number : ℕ) → GivesNumber content number → number ≤ LAST_NUMBER
 few_of None number is = omega (arith, is)
 few_of (Some bytes) number spelled = few_in spelled.0 bytes number spelled.1
 
@@ -45,7 +45,7 @@ few_of (Some bytes) number spelled = few_in spelled.0 bytes number spelled.1
 in_range : (last number other : ℕ) → 1 ≤ other → nat_le other last ≡ true → (other == number) ≡ true → (1 ≤ number) × (number ≤ last)
 in_range last number other some drawn same = (grind (arith, nat_tests), grind (arith, nat_tests))
 
-named_drawn : (last number : ℕ) (mark : Mark) → IsWritable mark → is_drawn last mark ≡ true → names number mark ≡ true → (1 ≤ number) × (number ≤ last)
+named_drawn : (last number : ℕ) (mark : Mark) → IsWritable mark → is_drawn last mark ≡ true → is_mark_of number mark ≡ true → (1 ≤ number) × (number ≤ last)
 named_drawn last number (Removed other) writable drawn named = in_range last number other writable drawn named
 named_drawn last number (Started other queue second) writable drawn named = in_range last number other writable.drawn drawn named
 named_drawn last number (Ended other ending) writable drawn named = in_range last number other writable drawn named

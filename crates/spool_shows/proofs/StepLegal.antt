@@ -8,7 +8,7 @@ use Rattle.spool_model.specs.declared.step.Step.TheVariants.{Remove, Start, End,
 use Rattle.spool_model.specs.JobTable.{IsDone, IsPending, IsRunning, JobTable}
 use Rattle.spool_model.specs.Steps.{IsLegal}
 use Rattle.start_journal.specs.declared.mark.Mark.{Mark}
-use Rattle.start_journal.specs.Marks.{IsLegalAfter, decides, ends, is_decided, is_ended, is_forgotten, is_named, is_started, started_at}
+use Rattle.start_journal.specs.Marks.{IsLegalAfter, decides, is_end_of, is_decided, is_ended, is_forgotten, has_mark_of, has_start_of, started_at}
 use Rattle.start_journal.proofs.LifeLemmas.{ends_decides, named_by, none_narrower}
 use Rattle.start_journal.proofs.LifecycleLemmas.{started_has_second}
 use Rattle.spool_shows.specs.ByName.{ShowsByName}
@@ -20,28 +20,28 @@ use Rattle.spool_shows.proofs.StepMarks.{done_in, live_in}
 
 -- A number that is not decided, not forgotten and not started is named by no mark.
 
-pub unnamed : (number : ℕ) (marks : List Mark) → is_decided number marks ≡ false → is_forgotten number marks ≡ false → started_at number marks ≡ None → is_named number marks ≡ false
+pub unnamed : (number : ℕ) (marks : List Mark) → is_decided number marks ≡ false → is_forgotten number marks ≡ false → started_at number marks ≡ None → has_mark_of number marks ≡ false
 unnamed number marks undecided remembered none =
-    named_by number marks ∙ ap (λ b. b || (is_decided number marks || is_started number marks)) remembered ∙ ap (λ b. b || is_started number marks) undecided
+    named_by number marks ∙ ap (λ b. b || (is_decided number marks || has_start_of number marks)) remembered ∙ ap (λ b. b || has_start_of number marks) undecided
     ∙ started_has_second number marks ∙ ap is_some none
 
 -- A number with a second of its start is started.
 
-pub is_started_since : (number : ℕ) (marks : List Mark) (second : ℤ) → started_at number marks ≡ Some second → is_started number marks ≡ true
+pub is_started_since : (number : ℕ) (marks : List Mark) (second : ℤ) → started_at number marks ≡ Some second → has_start_of number marks ≡ true
 is_started_since number marks second since = started_has_second number marks ∙ ap is_some since
 
 -- The marks of the five steps.
 
-pending_unnamed : (files : Files) (table : JobTable) (number : ℕ) (shows : ShowsByName files table) → IsPending table number → is_named number shows.read.marks ≡ false
+pending_unnamed : (files : Files) (table : JobTable) (number : ℕ) (shows : ShowsByName files table) → IsPending table number → has_mark_of number shows.read.marks ≡ false
 pending_unnamed files table number shows (job, is) =
     let live : IsLiveBy shows.read.marks files number job Pending = live_in files table number job Pending shows is in
     unnamed number shows.read.marks live.undecided (not_forgotten shows.read.marks number (marks_legal files table shows) live.undecided) (not_started (started_at number shows.read.marks) live.state_is)
 
-running_started : (files : Files) (table : JobTable) (number : ℕ) (shows : ShowsByName files table) → IsRunning table number → (is_started number shows.read.marks ≡ true) × (is_ended number shows.read.marks ≡ false)
+running_started : (files : Files) (table : JobTable) (number : ℕ) (shows : ShowsByName files table) → IsRunning table number → (has_start_of number shows.read.marks ≡ true) × (is_ended number shows.read.marks ≡ false)
 running_started files table number shows (job, second, is) =
     let live : IsLiveBy shows.read.marks files number job (Running second) = live_in files table number job (Running second) shows is in (
       is_started_since number shows.read.marks second (started_then (started_at number shows.read.marks) second live.state_is),
-      none_narrower (ends number) (decides number) shows.read.marks (ends_decides number) live.undecided,
+      none_narrower (is_end_of number) (decides number) shows.read.marks (ends_decides number) live.undecided,
     )
 
 done_decided : (files : Files) (table : JobTable) (number : ℕ) (shows : ShowsByName files table) → IsDone table number → (is_decided number shows.read.marks ≡ true) × (is_forgotten number shows.read.marks ≡ false)

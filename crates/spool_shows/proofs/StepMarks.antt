@@ -17,7 +17,7 @@ use Rattle.spool_model.specs.Steps.{IsLegal, after_step, is_batch_entry, with_st
 use Rattle.spool_model.proofs.TableLemmas.{get-put_other, get-put_same, get-taken_other, get-taken_same}
 use Rattle.start_journal.specs.declared.mark.Mark.{Mark}
 use Rattle.start_journal.specs.declared.mark.Mark.TheVariants as mark
-use Rattle.start_journal.specs.Marks.{batch_second, decides, first_of_two, forgets, is_forgotten, names, start_second, started_at}
+use Rattle.start_journal.specs.Marks.{batch_second, decides, first_of_two, is_forgetting, is_forgotten, is_mark_of, start_second, started_at}
 use Rattle.spool_shows.specs.ByName.{HasFile, ShowsByName, ShowsEntry}
 use Rattle.spool_shows.specs.Deciding.{decision_mark}
 use Rattle.spool_shows.specs.JobFiles.{JobFile}
@@ -48,9 +48,9 @@ silent_other number other differ = fails_other number other (λ same. differ (sy
 -- the mark decides the number by this fate, and says nothing else
 record DecidesBy (number : ℕ) (fate : Fate) (added : Mark) : Type 0 where
   batch : batch_second added ≡ None
-  silent : (other : ℕ) → ¬ (other ≡ number) → names other added ≡ false
+  silent : (other : ℕ) → ¬ (other ≡ number) → is_mark_of other added ≡ false
   decides_it : decides number added ≡ true
-  forgets_not : forgets number added ≡ false
+  forgets_not : is_forgetting number added ≡ false
   leaves : (list : List Mark) → is_forgotten number list ≡ false → done_entry list added ≡ Some (number, Done fate)
   no_start : (other queue : ℕ) (second : ℤ) → ¬ (added ≡ mark.Started other queue second)
 
@@ -86,7 +86,7 @@ forget_shown before after table number shows (fate, is) marked =
       silent = silent_other number;
       kept = λ other differ. get-taken_other table.entries number other differ;
       here = subst (ShowsEntry (marks ++ added ∷ []) after number) (sym (get-taken_same table.entries number))
-          (shows_done (marks ++ added ∷ []) after number None (any_without (decides number) marks added refl ∙ done.decided) (any_with (forgets number) marks added (passes_same number number refl)));
+          (shows_done (marks ++ added ∷ []) after number None (any_without (decides number) marks added refl ∙ done.decided) (any_with (is_forgetting number) marks added (passes_same number number refl)));
       starts = λ other queue second same. cc;
     })
 

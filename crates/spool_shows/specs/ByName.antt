@@ -3,7 +3,7 @@ use Rattle.std.specs.Prelude.{◌≡◌, ◌≤◌, ℕ, ℤ, true, false, List,
 use Rattle.std.specs.FinMap as map
 use Rattle.host_calls.specs.Folder.{Files}
 use Rattle.job_script.specs.HeaderIn.{header_in}
-use Rattle.sequence_file.specs.Sequence.{Gives, sequence_file}
+use Rattle.sequence_file.specs.Sequence.{GivesNumber, sequence_file}
 use Rattle.spool_model.specs.JobTable.{JobEntry, JobTable, entry_at}
 use Rattle.start_journal.specs.declared.mark.Mark.{Mark}
 use Rattle.start_journal.specs.declared.mark.Mark.TheVariants.{Started}
@@ -21,7 +21,7 @@ pub record IsJobFile (marks : List Mark) (files : Files) (file : JobFile) : Type
   pub undecided : is_decided file.job.number marks ≡ false
 
 -- its number was drawn, and it begins with a header
-pub record IsWhole (last : ℕ) (file : JobFile) : Type 0 where
+pub record IsWholeFile (last : ℕ) (file : JobFile) : Type 0 where
   pub drawn : file.job.number ≤ last
   pub header : IsSome (header_in file.bytes)
 
@@ -35,7 +35,7 @@ pub record HasFile (marks : List Mark) (files : Files) (number queue : ℕ) : Ty
 -- Each file of a job is whole, no number has two of them, and each number that is started and not
 -- decided has one, in the queue of its start.
 pub record AreSound (last : ℕ) (marks : List Mark) (files : Files) : Type 0 where
-  pub each : (file : JobFile) → IsJobFile marks files file → IsWhole last file
+  pub each : (file : JobFile) → IsJobFile marks files file → IsWholeFile last file
   pub once : (first second : JobFile) → IsJobFile marks files first → IsJobFile marks files second →
       first.job.number ≡ second.job.number → first.name ≡ second.name
   pub started : (number queue : ℕ) (second : ℤ) → Contains marks (Started number queue second) →
@@ -59,7 +59,7 @@ ShowsEntry marks files number entry =
 -- The folder shows the table, by each of its names and numbers.
 pub record ShowsByName (files : Files) (table : JobTable) : Type 0 where
   pub read : JournalRead
-  pub last : Gives (map.get files sequence_file) table.last
+  pub last : GivesNumber (map.get files sequence_file) table.last
   pub journal : GivesJournal table.last (map.get files journal_file) read
   pub sound : AreSound table.last read.marks files
   pub batch : table.last_batch ≡ last_batch read.marks

@@ -7,38 +7,38 @@ use Rattle.host_calls.specs.declared.damage.Damage.{Damage}
 use Rattle.host_calls.specs.Damages.{damage_at}
 use Rattle.host_calls.specs.Folder.{Files, name_cmp}
 use Rattle.job_script.specs.Header.{IsHeaderFault}
-use Rattle.sequence_file.specs.Faults.{IsDamage}
-use Rattle.sequence_file.specs.Sequence.{Gives, sequence_file}
+use Rattle.sequence_file.specs.Faults.{IsSequenceDamage}
+use Rattle.sequence_file.specs.Sequence.{GivesNumber, sequence_file}
 use Rattle.start_journal.specs.declared.mark.Mark.{Mark}
 use Rattle.start_journal.specs.declared.mark.Mark.TheVariants.{Started}
 use Rattle.start_journal.specs.FirstFault.{GivesJournal, IsJournalDamage}
 use Rattle.start_journal.specs.Journals.{gate_damage, journal_file, queue_damage}
 use Rattle.start_journal.specs.Marks.{is_decided}
-use Rattle.spool_shows.specs.ByName.{HasFile, IsJobFile, IsWhole}
+use Rattle.spool_shows.specs.ByName.{HasFile, IsJobFile, IsWholeFile}
 use Rattle.spool_shows.specs.JobFiles.{JobFile}
 
 -- the sequence file and the journal have no damage: they read as this last number and these marks
 pub record ReadAs (files : Files) (last : ℕ) (marks : List Mark) : Type 0 where
-  pub sequence : Gives (map.get files sequence_file) last
+  pub sequence : GivesNumber (map.get files sequence_file) last
   pub free : ℕ
   pub journal : GivesJournal last (map.get files journal_file) (record { marks = marks; free = free })
 
 -- Files of jobs. The marks are those of the journal.
 
 -- the one file stands before the other, by their names
-abbrev pub IsBefore : JobFile → JobFile → Type 0
-IsBefore one other = name_cmp one.name other.name ≡ Less
+abbrev pub IsEarlierName : JobFile → JobFile → Type 0
+IsEarlierName one other = name_cmp one.name other.name ≡ Less
 
 -- a file before this one has its number
 pub record IsSecond (marks : List Mark) (files : Files) (file : JobFile) : Type 0 where
   pub first : JobFile
   pub is : IsJobFile marks files first
-  pub before : IsBefore first file
+  pub before : IsEarlierName first file
   pub same : first.job.number ≡ file.job.number
 
 -- the file has no damage
 pub record IsUndamaged (last : ℕ) (marks : List Mark) (files : Files) (file : JobFile) : Type 0 where
-  pub whole : IsWhole last file
+  pub whole : IsWholeFile last file
   pub only : ¬ IsSecond marks files file
 
 -- Where the file is damaged, and why.
@@ -55,7 +55,7 @@ pub data IsDamagedAt (last : ℕ) (marks : List Mark) (files : Files) (file : Jo
 pub record IsFileDamage (last : ℕ) (marks : List Mark) (files : Files) (damage : Damage) : Type 0 where
   pub file : JobFile
   pub is : IsJobFile marks files file
-  pub earlier : (other : JobFile) → IsJobFile marks files other → IsBefore other file → IsUndamaged last marks files other
+  pub earlier : (other : JobFile) → IsJobFile marks files other → IsEarlierName other file → IsUndamaged last marks files other
   pub place : ℕ
   pub damaged : IsDamagedAt last marks files file place
   pub damage_is : damage ≡ damage_at file.name file.bytes place
@@ -89,9 +89,9 @@ pub record IsStartDamage (marks : List Mark) (files : Files) (damage : Damage) :
 -- The first damage of the folder.
 pub data IsFirstDamage (files : Files) (damage : Damage) : Type 0 where
   -- of the sequence file
-  of_sequence : IsDamage (map.get files sequence_file) damage → IsFirstDamage files damage
+  of_sequence : IsSequenceDamage (map.get files sequence_file) damage → IsFirstDamage files damage
   -- of the journal, where the sequence file has none
-  of_journal : (last : ℕ) → Gives (map.get files sequence_file) last → IsJournalDamage last (map.get files journal_file) damage
+  of_journal : (last : ℕ) → GivesNumber (map.get files sequence_file) last → IsJournalDamage last (map.get files journal_file) damage
       → IsFirstDamage files damage
   -- of a job's file, where neither of them has one
   of_file : (last : ℕ) (marks : List Mark) → ReadAs files last marks → IsFileDamage last marks files damage

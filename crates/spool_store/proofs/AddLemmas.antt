@@ -10,14 +10,14 @@ use Rattle.spool_model.specs.declared.step.Step.{Step}
 use Rattle.spool_model.specs.JobTable.{JobTable}
 use Rattle.spool_model.specs.Steps.{after_step}
 use Rattle.start_journal.specs.declared.mark.Mark.{Mark}
-use Rattle.start_journal.specs.Changing.{Gives, IsChanged, IsChanging, added, compacted}
+use Rattle.start_journal.specs.Changing.{GivesReadJournal, IsChanged, IsChanging, added, compacted}
 use Rattle.start_journal.specs.Journals.{JournalRead, journal_file}
-use Rattle.start_journal.specs.Marks.{AreLegal, IsLegalAfter}
+use Rattle.start_journal.specs.Marks.{AreLegalMarks, IsLegalAfter}
 use Rattle.whole_file.specs.Others.{ChangesFiles, IsEither, LeavesOthers}
 use Rattle.step_runs.specs.Calls.{IsSteppingOn}
 use Rattle.step_runs.specs.Current.{IsCurrent, IsSpoolName}
 use Rattle.spool_shows.specs.Shown.{Shows}
-use Rattle.spool_store.specs.inside.Marking.{IsMarkOf, IsMarked, KeepsFiles, kept_with}
+use Rattle.spool_store.specs.inside.Marking.{IsMarkOf, IsMarkDurable, KeepsFiles, kept_with}
 use Rattle.spool_store.specs.Stepping.{needs_room, with_room}
 use Rattle.spool_store.proofs.KeptMarks.{legal_when_kept}
 use Rattle.whole_file.proofs.ChangesJoined.{changes_end, changes_join, changes_weaker}
@@ -26,7 +26,7 @@ use Rattle.spool_store.proofs.MarkingLemmas.{IsShownWith, added_shown, same_show
 use Rattle.spool_store.proofs.RoomLemmas.{changing_start, decided_still, sequence_still, shown_with}
 
 -- a mark that is legal after marks is so with room made, where a compaction may have kept what counts of them
-pub legal_still : (journal room : JournalRead) (mark : Mark) → AreLegal journal.marks → IsLegalAfter journal.marks mark → room ≡ with_room journal → IsLegalAfter room.marks mark
+pub legal_still : (journal room : JournalRead) (mark : Mark) → AreLegalMarks journal.marks → IsLegalAfter journal.marks mark → room ≡ with_room journal → IsLegalAfter room.marks mark
 legal_still journal room mark legal is room_is = subst (λ (read : JournalRead). IsLegalAfter read.marks mark) (sym room_is) (by_room (needs_room journal)) where
   by_room : (needs : Bool) → IsLegalAfter (if needs then compacted journal else journal).marks mark
   by_room true = legal_when_kept journal.marks mark legal is
@@ -57,7 +57,7 @@ module _ (old_form : List ℕ) (journal room : JournalRead) (table : JobTable) (
   shown_before image changing = shown_with old_form room middle table adding.current changing.alone.from changing.alone.was
 
   -- with the mark in its journal it shows the table after the step
-  shows_after : (image : Files) → IsChanging room (added room mark) middle image → Gives (finite.get image journal_file) (added room mark) → Shows image (after_step table step)
+  shows_after : (image : Files) → IsChanging room (added room mark) middle image → GivesReadJournal (finite.get image journal_file) (added room mark) → Shows image (after_step table step)
   shows_after image changing gives =
       added_shown room table step mark changing.alone.from image (shown_before image changing) adding.is_mark.legal adding.is_mark.adds gives changing.alone.others
 
@@ -82,12 +82,12 @@ module _ (old_form : List ℕ) (journal room : JournalRead) (table : JobTable) (
       (λ image changing. stepping image (leaves_through (IsEither temporary_file journal_file) start middle image journal_is_spool through changing.alone) changing)
 
   -- once the mark is added it stands
-  stands : IsChanged (added room mark) middle third.now.folder → IsMarked journal.marks (added room mark) third.now.folder (after_step table step)
+  stands : IsChanged (added room mark) middle third.now.folder → IsMarkDurable journal.marks (added room mark) third.now.folder (after_step table step)
   stands changed =
       let each : (image : Files) → IsImage third.now.folder image → IsChanging room (added room mark) middle image =
       changes_end _ second third adding.adds (changing_start room (added room mark) middle adding.current.journal) in
       record {
-        shows = λ image is. shows_after image (each image is) (subst (λ content. Gives content (added room mark)) (sym (changed.holds.same image is)) changed.holds.gives);
+        shows = λ image is. shows_after image (each image is) (subst (λ content. GivesReadJournal content (added room mark)) (sym (changed.holds.same image is)) changed.holds.gives);
         holds = changed.holds;
         sequence = λ image is. sequence_still room (added room mark) (kept_with old_form room table) table middle third.now.folder image adding.current changed.others (each image is);
         decided = decided_still journal.marks middle third.now.folder changed.others
@@ -95,6 +95,6 @@ module _ (old_form : List ℕ) (journal room : JournalRead) (table : JobTable) (
       }
 
   -- by the answer of the call
-  pub add_marked : (result : Result JournalRead HostFault) → IfOk result (λ new. new ≡ added room mark) → OnOk result (IsChanged (added room mark) middle third.now.folder) → IfOk result (λ new. IsMarked journal.marks new third.now.folder (after_step table step))
+  pub add_marked : (result : Result JournalRead HostFault) → IfOk result (λ new. new ≡ added room mark) → OnOk result (IsChanged (added room mark) middle third.now.folder) → IfOk result (λ new. IsMarkDurable journal.marks new third.now.folder (after_step table step))
   add_marked (Err fault) made changed = tt
-  add_marked (Ok new) made changed = subst (λ (read : JournalRead). IsMarked journal.marks read third.now.folder (after_step table step)) (sym made) (stands changed)
+  add_marked (Ok new) made changed = subst (λ (read : JournalRead). IsMarkDurable journal.marks read third.now.folder (after_step table step)) (sym made) (stands changed)

@@ -12,21 +12,21 @@ use Rattle.spool_shows.specs.Shown.{shown_by}
 use Rattle.spool_shows.proofs.NameLemmas.{differ_by}
 use Rattle.spool_shows.proofs.OtherLemmas.{other_files_count_for_nothing}
 use Rattle.start_journal.specs.declared.mark.Mark.{Mark}
-use Rattle.start_journal.specs.Changing.{Gives}
+use Rattle.start_journal.specs.Changing.{GivesReadJournal}
 use Rattle.start_journal.specs.Journals.{journal_file}
 use Rattle.whole_file.specs.Others.{IsEither, LeavesOthers}
 use Rattle.whole_file.specs.Temporary.{temporary_file}
 use Rattle.whole_file.proofs.ChangesJoined.{changes_end, clears_alone, left_alone}
 use Rattle.step_runs.specs.Current.{IsCurrent, IsSpoolName, Kept}
-use Rattle.spool_store.specs.Beside.{ClearingsBesideShowTheSame, IsBeside, PlacingsBesideShowTheSame, StoresStayCurrentAfterClearings, StoresStayCurrentAfterPlacings}
+use Rattle.spool_store.specs.Beside.{ClearingsBesideShowTheSame, IsNoSpoolName, PlacingsBesideShowTheSame, StoresStayCurrentAfterClearings, StoresStayCurrentAfterPlacings}
 
 -- none of the names that may change is one of the store's
 abbrev pub AreBeside : (List ℕ → Type 0) → Type 0
-AreBeside may_change = (name : List ℕ) → may_change name → IsBeside name
+AreBeside may_change = (name : List ℕ) → may_change name → IsNoSpoolName name
 
 -- a name that tests tell from each of the store's
 pub beside_by : (name : List ℕ) → bytes_eq name sequence_file ≡ false → bytes_eq name journal_file ≡ false → bytes_eq name temporary_file ≡ false
-    → is_some (job_named name) ≡ false → IsBeside name
+    → is_some (job_named name) ≡ false → IsNoSpoolName name
 beside_by name sequence journal temporary none (inl is) = differ_by name sequence_file sequence is
 beside_by name sequence journal temporary none (inr (inl is)) = differ_by name journal_file journal is
 beside_by name sequence journal temporary none (inr (inr (inl is))) = differ_by name temporary_file temporary is
@@ -72,7 +72,7 @@ module _ (may_change : List ℕ → Type 0) (beside : AreBeside may_change) wher
         certain = changed.certain;
         same = λ image is. from_start journal_file (inr (inl refl)) image is
             ∙ current.journal.same (changed.images image is).from (changed.images image is).was ∙ sym (reads_on journal_file (inr (inl refl)));
-        gives = subst (λ content. Gives content kept.journal) (sym (reads_on journal_file (inr (inl refl)))) current.journal.gives;
+        gives = subst (λ content. GivesReadJournal content kept.journal) (sym (reads_on journal_file (inr (inl refl)))) current.journal.gives;
         no_temp = λ image is. from_start temporary_file (inr (inr (inl refl))) image is
             ∙ current.journal.no_temp (changed.images image is).from (changed.images image is).was;
       };
@@ -88,7 +88,7 @@ module _ (may_change : List ℕ → Type 0) (beside : AreBeside may_change) wher
       named_spool name job named = inr (inr (inr (subst IsSome (sym named) refl)))
 
 -- two names
-pub two_beside : (temp target : List ℕ) → IsBeside temp → IsBeside target → AreBeside (IsEither temp target)
+pub two_beside : (temp target : List ℕ) → IsNoSpoolName temp → IsNoSpoolName target → AreBeside (IsEither temp target)
 two_beside temp target of_temp of_target name (inl is) spool = of_temp (subst IsSpoolName is spool)
 two_beside temp target of_temp of_target name (inr is) spool = of_target (subst IsSpoolName is spool)
 

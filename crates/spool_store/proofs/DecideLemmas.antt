@@ -14,7 +14,7 @@ use Rattle.start_journal.specs.declared.mark.Mark.{Mark}
 use Rattle.start_journal.specs.declared.mark.Mark.TheVariants.{Removed, Ended, Interrupted}
 use Rattle.start_journal.specs.Changing.{added, compacted}
 use Rattle.start_journal.specs.Journals.{JournalRead, journal_file}
-use Rattle.start_journal.specs.Marks.{AreLegal, decides, is_decided, kept_marks}
+use Rattle.start_journal.specs.Marks.{AreLegalMarks, decides, is_decided, kept_marks}
 use Rattle.start_journal.proofs.LifeLemmas.{any_more, any_with}
 use Rattle.std.proofs.lemmas.Bool.{eqb-true, or_cases}
 use Rattle.whole_file.specs.Clearing.{AreFiles}
@@ -29,7 +29,7 @@ use Rattle.spool_shows.proofs.StepLaws.{by_name}
 use Rattle.spool_shows.proofs.StepMarks.{live_in}
 use Rattle.step_runs.specs.Current.{HaveForms, is_new_form}
 use Rattle.spool_store.specs.inside.Marking.{HaveOneMore, IsDecisionOf, KeepsFiles}
-use Rattle.spool_store.specs.Scripts.{IsFileOf}
+use Rattle.spool_store.specs.Scripts.{IsLiveFileName}
 use Rattle.spool_store.specs.Stepping.{needs_room, with_room}
 use Rattle.spool_store.proofs.KeptMarks.{kept_decided}
 use Rattle.spool_store.proofs.MarkingLemmas.{IsShownWith, reads_as}
@@ -56,7 +56,7 @@ same_job : (one other : NamedJob) → one.queue ≡ other.queue → one.number �
 same_job one other queue number minute new_form = λ i. record { queue = queue i; number = number i; minute = minute i; new_form = new_form i }
 
 -- a live job has its file, in a folder that is shown by name
-file_by_name : (old_form : List ℕ) (files : Files) (table : JobTable) (number : ℕ) (name : List ℕ) (shows : ShowsByName files table) → HaveForms old_form table.last files → IsFileOf table old_form number name → IsItsFile shows.read.marks files number name
+file_by_name : (old_form : List ℕ) (files : Files) (table : JobTable) (number : ℕ) (name : List ℕ) (shows : ShowsByName files table) → HaveForms old_form table.last files → IsLiveFileName table old_form number name → IsItsFile shows.read.marks files number name
 file_by_name old_form files table number name shows forms of =
     let marks : List Mark = shows.read.marks in
     let live : IsLiveBy marks files number of.job of.state = live_in files table number of.job of.state shows of.lives in
@@ -77,7 +77,7 @@ file_by_name old_form files table number name shows forms of =
     }
 
 -- and in one that shows the table with the journal
-its_file : (old_form : List ℕ) (journal : JournalRead) (table : JobTable) (files : Files) (number : ℕ) (name : List ℕ) → IsShownWith journal table files → HaveForms old_form table.last files → IsFileOf table old_form number name → IsItsFile journal.marks files number name
+its_file : (old_form : List ℕ) (journal : JournalRead) (table : JobTable) (files : Files) (number : ℕ) (name : List ℕ) → IsShownWith journal table files → HaveForms old_form table.last files → IsLiveFileName table old_form number name → IsItsFile journal.marks files number name
 its_file old_form journal table files number name is forms of =
     subst (λ (read : JournalRead). IsItsFile read.marks files number name) (reads_as journal table files is)
     (file_by_name old_form files table number name (by_name files table is.shows) forms of)
@@ -131,7 +131,7 @@ decided_by_it before after mark number (inl more) is = ap (is_decided number) mo
 decided_by_it before after mark number (inr kept) is = ap (is_decided number) kept ∙ any_with (decides number) (kept_marks before) mark is
 
 -- what is decided with one more was decided before, or is decided by it
-pub decided_before_or_by_it : (before after : List Mark) (mark : Mark) (number : ℕ) → AreLegal before → HaveOneMore before mark after → is_decided number after ≡ true → (is_decided number before ≡ true) ⊎ (decides number mark ≡ true)
+pub decided_before_or_by_it : (before after : List Mark) (mark : Mark) (number : ℕ) → AreLegalMarks before → HaveOneMore before mark after → is_decided number after ≡ true → (is_decided number before ≡ true) ⊎ (decides number mark ≡ true)
 decided_before_or_by_it before after mark number legal (inl more) is =
     or_cases (is_decided number before) (decides number mark) (sym (any_more (decides number) before mark) ∙ sym (ap (is_decided number) more) ∙ is)
 decided_before_or_by_it before after mark number legal (inr kept) is =

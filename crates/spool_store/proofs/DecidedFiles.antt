@@ -12,9 +12,9 @@ use Rattle.spool_model.specs.declared.step.Step.{Step}
 use Rattle.spool_model.specs.JobTable.{JobTable}
 use Rattle.spool_model.specs.Steps.{after_step}
 use Rattle.start_journal.specs.declared.mark.Mark.{Mark}
-use Rattle.start_journal.specs.Changing.{Gives}
+use Rattle.start_journal.specs.Changing.{GivesReadJournal}
 use Rattle.start_journal.specs.Journals.{JournalRead, journal_file}
-use Rattle.start_journal.specs.Marks.{AreLegal, is_decided}
+use Rattle.start_journal.specs.Marks.{AreLegalMarks, is_decided}
 use Rattle.whole_file.specs.Clearing.{AreCleared}
 use Rattle.whole_file.specs.Others.{ChangesFiles, LeavesOthers}
 use Rattle.whole_file.proofs.OthersLemmas.{one_or_other}
@@ -28,7 +28,7 @@ use Rattle.spool_shows.proofs.NameLemmas.{job_name_apart, job_name_differs, jour
 use Rattle.spool_shows.proofs.OneMark.{had_same}
 use Rattle.spool_shows.proofs.OtherLemmas.{other_files_count_for_nothing}
 use Rattle.spool_shows.proofs.StepLaws.{by_name}
-use Rattle.spool_store.specs.inside.Marking.{HaveOneMore, IsDecisionOf, IsMarked, KeepsFiles, kept_by, kept_with}
+use Rattle.spool_store.specs.inside.Marking.{HaveOneMore, IsDecisionOf, IsMarkDurable, KeepsFiles, kept_by, kept_with}
 use Rattle.spool_store.proofs.DecideLemmas.{IsItsFile, apart_from, decided_before_or_by_it, decided_by_it, decided_file, is_the_one, one_decided, only_one, still_drawn}
 use Rattle.spool_store.proofs.MarkingLemmas.{IsShownWith, reads_as}
 use Rattle.whole_file.proofs.ChangesJoined.{changes_end, changes_join}
@@ -37,9 +37,9 @@ use Rattle.spool_store.proofs.MarkingCalls.{journal_is_spool, leaves_through, st
 -- The mark of a decision was added in a first run, and in a second one the job's file is removed.
 pub record IsDeciding (old_form : List ℕ) (journal new : JournalRead) (table : JobTable) (step : Step) (mark : Mark) (name : List ℕ) (first second third : World) : Type 0 where
   pub decision : IsDecisionOf old_form journal first.now.folder table step mark name
-  pub legal : AreLegal journal.marks
+  pub legal : AreLegalMarks journal.marks
   pub more : HaveOneMore journal.marks mark new.marks
-  pub marked : IsMarked journal.marks new second.now.folder (after_step table step)
+  pub marked : IsMarkDurable journal.marks new second.now.folder (after_step table step)
   pub keeps : KeepsFiles first.now.folder second.now.folder
   pub adds : ChangesFiles (IsSteppingOn table (step ∷ []) first.now.folder) first second
   pub clears : ChangesFiles (LeavesOthers (Contains (name ∷ [])) second.now.folder) second third
@@ -57,7 +57,7 @@ module _ (old_form : List ℕ) (journal new : JournalRead) (table : JobTable) (s
   middle = second.now.folder
 
   -- the mark stands in the middle
-  marked : IsMarked journal.marks new middle (after_step table step)
+  marked : IsMarkDurable journal.marks new middle (after_step table step)
   marked = deciding.marked
 
   -- and the job's file was there at the start
@@ -76,7 +76,7 @@ module _ (old_form : List ℕ) (journal new : JournalRead) (table : JobTable) (s
   shown_before : (image : Files) (alone : LeavesOthers (Contains (name ∷ [])) middle image) → IsShownWith new (after_step table step) alone.from
   shown_before image alone = record {
     shows = marked.shows alone.from alone.was;
-    gives = subst (λ content. Gives content new) (sym (marked.holds.same alone.from alone.was)) marked.holds.gives;
+    gives = subst (λ content. GivesReadJournal content new) (sym (marked.holds.same alone.from alone.was)) marked.holds.gives;
   }
 
   -- a file that counts there is not that of the decided job
@@ -165,7 +165,7 @@ module _ (old_form : List ℕ) (journal new : JournalRead) (table : JobTable) (s
           certain = cleared.certain;
           same = λ image is. (each image is).others journal_file no_journal
               ∙ marked.holds.same (each image is).from (each image is).was ∙ sym (cleared.others journal_file no_journal);
-          gives = subst (λ content. Gives content new) (sym (cleared.others journal_file no_journal)) marked.holds.gives;
+          gives = subst (λ content. GivesReadJournal content new) (sym (cleared.others journal_file no_journal)) marked.holds.gives;
           no_temp = λ image is. (each image is).others temporary_file (elsewhere temporary_file temporary_no_job)
               ∙ marked.holds.no_temp (each image is).from (each image is).was;
         };

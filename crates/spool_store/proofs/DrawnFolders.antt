@@ -4,7 +4,7 @@ use Rattle.std.specs.Prelude.{Ok, Some, IsSome}
 use Rattle.std.specs.FinMap as finite
 use Rattle.host_calls.specs.Folder.{Files, Folder, IsImage}
 use Rattle.job_script.specs.HeaderIn.{header_in}
-use Rattle.sequence_file.specs.Drawing.{EachGives, IsDrawing}
+use Rattle.sequence_file.specs.Drawing.{EachGivesNumber, IsDrawing}
 use Rattle.sequence_file.specs.Sequence.{sequence_file}
 use Rattle.whole_file.specs.Temporary.{temporary_file}
 use Rattle.spool_model.specs.declared.job.Job.{Job}
@@ -28,7 +28,7 @@ use Rattle.step_runs.specs.Current.{EachShows, IsSpoolName}
 use Rattle.spool_model.specs.Steps.{submission}
 
 -- where each image shows the table, each gives its last number
-pub each_gives : (folder : Folder) (table : JobTable) → EachShows folder table → EachGives table.last folder
+pub each_gives : (folder : Folder) (table : JobTable) → EachShows folder table → EachGivesNumber table.last folder
 each_gives folder table shows image is = (by_name image table (shows image is)).last
 
 -- the folder shows the same where the sequence file gives the same

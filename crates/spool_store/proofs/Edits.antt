@@ -9,7 +9,7 @@ use Rattle.std.specs.declared.cmp.Ordering.{Ordering}
 use Rattle.std.specs.declared.cmp.Ordering.TheVariants.{Less, Equal, Greater}
 use Rattle.std.proofs.lemmas.Map.Lookups.{exact_unsigned}
 use Rattle.spool_model.specs.JobTable.{JobEntry}
-use Rattle.spool_store.specs.Listed.{IsEdited, Rises}
+use Rattle.spool_store.specs.Listed.{IsEdited, AreSortedEntries}
 use Rattle.spool_shows.proofs.EntryLists.{key_has}
 use Rattle.spool_shows.proofs.Membership.{Has, none_some}
 
@@ -189,7 +189,7 @@ turned : {A : Type 0} (b : Bool) (x y : A) → cond (not b) x y ≡ cond b y x
 turned true x y = refl
 turned false x y = refl
 
-pub edited_put : (old new : List (ℕ × JobEntry)) (number : ℕ) (entry : JobEntry) → Rises old → new ≡ put nat_cmp number entry old → IsEdited old new number (Some entry)
+pub edited_put : (old new : List (ℕ × JobEntry)) (number : ℕ) (entry : JobEntry) → AreSortedEntries old → new ≡ put nat_cmp number entry old → IsEdited old new number (Some entry)
 edited_put old new number entry rise is = record {
   rise = test_to _ (subst (λ es. T (is_sorted nat_cmp es)) (sym is) (is_sorted-put nat_cmp nat_cmp_total number entry old (test_from _ rise)));
   finds = λ other.
@@ -197,7 +197,7 @@ edited_put old new number entry rise is = record {
       ∙ ap (λ b. cond b (Some entry) (find nat_cmp other old)) (unsigned_tied other number);
 }
 
-pub edited_taken : (old new : List (ℕ × JobEntry)) (number : ℕ) → Rises old → new ≡ where_key nat_cmp (λ q. not (eq_by_cmp nat_cmp number q)) old → IsEdited old new number None
+pub edited_taken : (old new : List (ℕ × JobEntry)) (number : ℕ) → AreSortedEntries old → new ≡ where_key nat_cmp (λ q. not (eq_by_cmp nat_cmp number q)) old → IsEdited old new number None
 edited_taken old new number rise is = record {
   rise = test_to _ (subst (λ es. T (is_sorted nat_cmp es)) (sym is) (is_sorted-where_key nat_cmp (λ q. not (eq_by_cmp nat_cmp number q)) old (test_from _ rise)));
   finds = λ other.

@@ -5,7 +5,7 @@ use Rattle.host_calls.specs.Folder.{Folder, reading_of}
 use Rattle.host_calls.specs.World.{bytes_from}
 use Rattle.host_calls.proofs.FolderLemmas.{reading_is_image}
 use Rattle.job_script.specs.declared.headers.JobHeader.{JobHeader}
-use Rattle.job_script.specs.Header.{BeginsWithHeader, HasHeader, Says}
+use Rattle.job_script.specs.Header.{BeginsWithHeader, HasHeader, HeaderSays}
 use Rattle.job_script.specs.HeaderIn.{header_in}
 use Rattle.job_script.proofs.HeaderInLemmas.{header_in-some, header_in-take}
 use Rattle.spool_model.specs.JobTable.{JobTable}
@@ -42,7 +42,7 @@ begins_as_job kept folder table number name bytes current holds read =
 
 -- so a header that is found is that of the job
 pub found_is_its : (table : JobTable) (number : ℕ) (bytes : List ℕ) (found : JobHeader) → (is : BeginsAsJob table number bytes) →
-    Says is.of.job.user is.mail found → IsHeaderOn table number found
+    HeaderSays is.of.job.user is.mail found → IsHeaderOn table number found
 found_is_its table number bytes found is says = record {
   job = is.of.job;
   state = is.of.state;

@@ -7,7 +7,7 @@ use Rattle.std.proofs.lemmas.Map.Views.{any-filter_same}
 use Rattle.start_journal.specs.declared.mark.Mark.{Mark}
 use Rattle.start_journal.specs.declared.mark.Mark.TheVariants.{Removed, Started, Ended, Interrupted, Forgotten, Batch}
 use Rattle.start_journal.specs.Journals.{JournalRead, are_drawn, are_sound, is_drawn}
-use Rattle.start_journal.specs.Marks.{AreLegal, IsLegalAfter, batch_mark, decides, ends, forgets, is_decided, is_ended, is_forgotten, is_kept, is_named, is_started, kept_marks, last_batch, marks_of, names, starts}
+use Rattle.start_journal.specs.Marks.{AreLegalMarks, IsLegalAfter, batch_mark, decides, is_end_of, is_forgetting, is_decided, is_ended, is_forgotten, is_kept, has_mark_of, has_start_of, kept_marks, last_batch, marks_of, is_mark_of, is_start_of}
 use Rattle.std.proofs.lemmas.Bool.{and_from, and_parts}
 use Rattle.start_journal.proofs.LifeLemmas.{ended_by, unnamed_none}
 use Rattle.start_journal.proofs.MarkLemmas.{decides_names, ends_names, forgets_names, forgotten_was_decided, kept_marks_keep_what_counts, starts_names}
@@ -42,55 +42,55 @@ abbrev pub IsNarrower : (Mark → Bool) → (Mark → Bool) → Type 0
 IsNarrower test wider = (mark : Mark) → test mark ≡ true → wider mark ≡ true
 
 -- lists with the same marks of the number pass alike
-same_test : (number : ℕ) (test : Mark → Bool) (one other : List Mark) → IsNarrower test (names number) → marks_of number other ≡ marks_of number one → list_any test other ≡ list_any test one
+same_test : (number : ℕ) (test : Mark → Bool) (one other : List Mark) → IsNarrower test (is_mark_of number) → marks_of number other ≡ marks_of number one → list_any test other ≡ list_any test one
 same_test number test one other of_number same =
-    sym (any-filter_same test (names number) true of_number other) ∙ ap (list_any test) same ∙ any-filter_same test (names number) true of_number one
+    sym (any-filter_same test (is_mark_of number) true of_number other) ∙ ap (list_any test) same ∙ any-filter_same test (is_mark_of number) true of_number one
 
 -- a compaction keeps each test of a number that is not forgotten
-pub test_kept : (marks : List Mark) (number : ℕ) (test : Mark → Bool) → AreLegal marks → IsNarrower test (names number) → is_forgotten number marks ≡ false → list_any test (kept_marks marks) ≡ list_any test marks
+pub test_kept : (marks : List Mark) (number : ℕ) (test : Mark → Bool) → AreLegalMarks marks → IsNarrower test (is_mark_of number) → is_forgotten number marks ≡ false → list_any test (kept_marks marks) ≡ list_any test marks
 test_kept marks number test legal of_number remembered =
     same_test number test marks (kept_marks marks) of_number ((kept_marks_keep_what_counts marks legal).same_marks number remembered)
 
 -- a number that no mark names is not named among the kept ones
-pub unnamed_kept : (marks : List Mark) (number : ℕ) → AreLegal marks → is_named number marks ≡ false → is_named number (kept_marks marks) ≡ false
+pub unnamed_kept : (marks : List Mark) (number : ℕ) → AreLegalMarks marks → has_mark_of number marks ≡ false → has_mark_of number (kept_marks marks) ≡ false
 unnamed_kept marks number legal unnamed =
-    test_kept marks number (names number) legal (λ mark named. named) (unnamed_none number marks unnamed).0 ∙ unnamed
+    test_kept marks number (is_mark_of number) legal (λ mark named. named) (unnamed_none number marks unnamed).0 ∙ unnamed
 
 -- what is decided among the kept marks was decided
-pub kept_decided : (marks : List Mark) (number : ℕ) → AreLegal marks → is_decided number (kept_marks marks) ≡ true → is_decided number marks ≡ true
+pub kept_decided : (marks : List Mark) (number : ℕ) → AreLegalMarks marks → is_decided number (kept_marks marks) ≡ true → is_decided number marks ≡ true
 kept_decided marks number legal decided = by_test (is_forgotten number marks) refl where
   by_test : (forgotten : Bool) → is_forgotten number marks ≡ forgotten → is_decided number marks ≡ true
   by_test true is = forgotten_was_decided number [] marks legal is
   by_test false is = sym (test_kept marks number (decides number) legal (decides_names number) is) ∙ decided
 
 -- a number that is started and not ended is not decided
-running_undecided : (number : ℕ) (marks : List Mark) → AreLegal marks → is_started number marks ≡ true → is_ended number marks ≡ false → is_decided number marks ≡ false
+running_undecided : (number : ℕ) (marks : List Mark) → AreLegalMarks marks → has_start_of number marks ≡ true → is_ended number marks ≡ false → is_decided number marks ≡ false
 running_undecided number marks legal started running = ap (λ b. b && is_decided number marks) (sym started) ∙ sym (ended_by number marks legal) ∙ running
 
 -- The marks of every journal.
 
 -- a journal whose marks are sound has legal ones
-pub sound_is_legal : (inside surveyed : JournalRead) → inside ≡ surveyed → are_sound inside.marks ≡ true → AreLegal surveyed.marks
-sound_is_legal inside surveyed is sound = subst (λ (read : JournalRead). AreLegal read.marks) is (sound_legal inside.marks sound)
+pub sound_is_legal : (inside surveyed : JournalRead) → inside ≡ surveyed → are_sound inside.marks ≡ true → AreLegalMarks surveyed.marks
+sound_is_legal inside surveyed is sound = subst (λ (read : JournalRead). AreLegalMarks read.marks) is (sound_legal inside.marks sound)
 
 -- What may follow.
 
 -- a number that runs keeps its start, and is not ended
-runs_kept : (marks : List Mark) (number : ℕ) → AreLegal marks → (is_started number marks ≡ true) × (is_ended number marks ≡ false) → (is_started number (kept_marks marks) ≡ true) × (is_ended number (kept_marks marks) ≡ false)
+runs_kept : (marks : List Mark) (number : ℕ) → AreLegalMarks marks → (has_start_of number marks ≡ true) × (is_ended number marks ≡ false) → (has_start_of number (kept_marks marks) ≡ true) × (is_ended number (kept_marks marks) ≡ false)
 runs_kept marks number legal (started, running) =
     let remembered : is_forgotten number marks ≡ false = not_forgotten marks number legal (running_undecided number marks legal started running) in (
-      test_kept marks number (starts number) legal (starts_names number) remembered ∙ started,
-      test_kept marks number (ends number) legal (ends_names number) remembered ∙ running,
+      test_kept marks number (is_start_of number) legal (starts_names number) remembered ∙ started,
+      test_kept marks number (is_end_of number) legal (ends_names number) remembered ∙ running,
     )
 
 -- a mark that is legal after marks is so after what a compaction keeps of them
-pub legal_when_kept : (marks : List Mark) (mark : Mark) → AreLegal marks → IsLegalAfter marks mark → IsLegalAfter (kept_marks marks) mark
+pub legal_when_kept : (marks : List Mark) (mark : Mark) → AreLegalMarks marks → IsLegalAfter marks mark → IsLegalAfter (kept_marks marks) mark
 legal_when_kept marks (Removed number) legal is = unnamed_kept marks number legal is
 legal_when_kept marks (Started number queue second) legal is = unnamed_kept marks number legal is
 legal_when_kept marks (Ended number ending) legal is = runs_kept marks number legal is
 legal_when_kept marks (Interrupted number) legal is = runs_kept marks number legal is
 legal_when_kept marks (Forgotten number) legal (decided, remembered) = (
   test_kept marks number (decides number) legal (decides_names number) remembered ∙ decided,
-  test_kept marks number (forgets number) legal (forgets_names number) remembered ∙ remembered,
+  test_kept marks number (is_forgetting number) legal (forgets_names number) remembered ∙ remembered,
 )
 legal_when_kept marks (Batch second) legal is = tt

@@ -28,7 +28,7 @@ use Rattle.start_journal.specs.Lifecycles.{TellLifecycles, decided_of, life_unde
 use Rattle.spool_store.specs.inside.JobRows.{AreRowsOf, IsInOrder, RowMap, row_of}
 use Rattle.spool_store.specs.Rows.{listed_table}
 use Rattle.spool_store.specs.inside.SurveyedJobs.{file_surveyed, files_surveyed}
-use Rattle.spool_store.specs.inside.Tables.{AreUndecided, IsDrawn, ListsDrawn, ListsTable, Rise}
+use Rattle.spool_store.specs.inside.Tables.{AreUndecided, IsDrawnBy, ListsDrawn, ListsTable, AreAscending}
 use Rattle.start_journal.proofs.LifecycleLemmas.{decided_has_fate}
 use Rattle.spool_store.proofs.TableLemmas.{decided_rise, entry_found, rows_rise, table_same}
 
@@ -84,10 +84,10 @@ all_pass test (first ∷ later) mark all (inr has) = all_pass test later mark (o
   other_holds false other is = cc
 all_pass test [] mark all has = absurd has
 
-up_to : (last other number : ℕ) → (other == number) ≡ true → nat_le other last ≡ true → 1 ≤ other → IsDrawn last number
+up_to : (last other number : ℕ) → (other == number) ≡ true → nat_le other last ≡ true → 1 ≤ other → IsDrawnBy last number
 up_to last other number same below some = let is : other ≡ number = eqb-true other number same in (omega arith, let le : other ≤ last = grind (arith, nat_tests) in omega arith)
 
-decider_drawn : (last number : ℕ) (mark : Mark) → decides number mark ≡ true → is_drawn last mark ≡ true → IsWritable mark → IsDrawn last number
+decider_drawn : (last number : ℕ) (mark : Mark) → decides number mark ≡ true → is_drawn last mark ≡ true → IsWritable mark → IsDrawnBy last number
 decider_drawn last number (Removed other) same drawn some = up_to last other number same drawn some
 decider_drawn last number (Ended other ending) same drawn some = up_to last other number same drawn some
 decider_drawn last number (Interrupted other) same drawn some = up_to last other number same drawn some
@@ -96,7 +96,7 @@ decider_drawn last number (Forgotten other) same drawn some = cc
 decider_drawn last number (Batch second) same drawn some = cc
 
 -- a decided number was drawn
-pub number_drawn : (last : ℕ) (marks : List Mark) (number : ℕ) → AreWritable marks → are_drawn last marks ≡ true → is_decided number marks ≡ true → IsDrawn last number
+pub number_drawn : (last : ℕ) (marks : List Mark) (number : ℕ) → AreWritable marks → are_drawn last marks ≡ true → is_decided number marks ≡ true → IsDrawnBy last number
 number_drawn last marks number writable drawn decided =
     let mark = one_passes (decides number) marks decided in
     decider_drawn last number mark.0 mark.2 (all_pass (is_drawn last) marks mark.0 drawn mark.1) (All-contains IsWritable marks mark.0 writable (contained marks mark.0 mark.1))
@@ -114,8 +114,8 @@ pub lists_table : (last : ℕ) (marks : List Mark) (files : List JobFile) (rows 
 lists_table last marks files rows lives row_list decided tells are ordered orders rows_is decided_is whole = record {
   whole = whole;
   table = ap (λ list. listed_table last list decided (last_batch marks)) rows_is ∙ ap (λ list. listed_table last (map (λ (e : ℕ × Row). e.1) rows) list (last_batch marks)) decided_is ∙ table_same last marks files rows lives tells are ordered orders;
-  rows_rise = subst (λ list. Rise (map (λ (row : Row). row.number) list)) (sym rows_is) (rows_rise marks files rows are ordered);
-  decided_rise = subst (λ list. Rise (map (λ (one : Decided). one.number) list)) (sym decided_is) (decided_rise lives.by_number orders);
+  rows_rise = subst (λ list. AreAscending (map (λ (row : Row). row.number) list)) (sym rows_is) (rows_rise marks files rows are ordered);
+  decided_rise = subst (λ list. AreAscending (map (λ (one : Decided). one.number) list)) (sym decided_is) (decided_rise lives.by_number orders);
 }
 
 -- and their numbers were drawn
@@ -124,7 +124,7 @@ pub lists_drawn : (last : ℕ) (marks : List Mark) (files : List JobFile) (rows 
 lists_drawn last marks files rows lives row_list decided tells are ordered orders rows_is decided_is whole undecided writable drawn named = record {
   rows_drawn = λ row has.
       let of = row_file marks files rows are ordered row (in_list row_list (map (λ (e : ℕ × Row). e.1) rows) row rows_is has) in
-      subst (IsDrawn last) of.2 (named of.0 of.1, (fine_is_whole last [] files of.0 (no_damage_is_fine last [] files whole) of.1).drawn);
+      subst (IsDrawnBy last) of.2 (named of.0 of.1, (fine_is_whole last [] files of.0 (no_damage_is_fine last [] files whole) of.1).drawn);
   decided_drawn = λ one has. number_drawn last marks one.number writable drawn (decided_is_decided marks lives tells orders one (in_list decided _ one decided_is has));
   apart = λ row one has also same.
       let of = row_file marks files rows are ordered row (in_list row_list (map (λ (e : ℕ × Row). e.1) rows) row rows_is has) in

@@ -15,7 +15,7 @@ use Rattle.spool_model.specs.declared.row.Row.{Row}
 use Rattle.spool_model.specs.JobTable.{JobEntry, JobState, JobTable, entry_at, table_of}
 use Rattle.spool_model.specs.Steps.{IsFree}
 use Rattle.spool_model.proofs.TableLemmas.{get-put, get-taken}
-use Rattle.spool_store.specs.Listed.{AreListed, IsEdited, ListsDecided, ListsLive, Rises, entry_in}
+use Rattle.spool_store.specs.Listed.{AreListed, IsEdited, ListsDecided, ListsLive, AreSortedEntries, entry_under}
 use Rattle.spool_store.specs.Rows.{decided_entry, listed_table, row_entry}
 use Rattle.spool_shows.proofs.EntryLists.{has_key, key_has}
 use Rattle.spool_shows.proofs.Membership.{Has, contained, has_contained, has_made, made_has, none_some}
@@ -26,37 +26,37 @@ abbrev pub or_else : Option JobEntry → Option JobEntry → Option JobEntry
 or_else (Some entry) other = Some entry
 or_else None other = other
 
-pub found_in_both : (live decided : List (ℕ × JobEntry)) (number : ℕ) → entry_in (live ++ decided) number ≡ or_else (entry_in live number) (entry_in decided number)
+pub found_in_both : (live decided : List (ℕ × JobEntry)) (number : ℕ) → entry_under (live ++ decided) number ≡ or_else (entry_under live number) (entry_under decided number)
 found_in_both [] decided number = refl
 found_in_both (e ∷ later) decided number = by_test (eq_by_cmp nat_cmp number e.0) (found_in_both later decided number) where
-  by_test : (b : Bool) → entry_in (later ++ decided) number ≡ or_else (entry_in later number) (entry_in decided number) → cond b (Some e.1) (entry_in (later ++ decided) number) ≡ or_else (cond b (Some e.1) (entry_in later number)) (entry_in decided number)
+  by_test : (b : Bool) → entry_under (later ++ decided) number ≡ or_else (entry_under later number) (entry_under decided number) → cond b (Some e.1) (entry_under (later ++ decided) number) ≡ or_else (cond b (Some e.1) (entry_under later number)) (entry_under decided number)
   by_test true rest = refl
   by_test false rest = rest
 
 -- a list in order that has nothing under a number, and still has nothing there
-pub unedited : (entries : List (ℕ × JobEntry)) (number : ℕ) → Rises entries → entry_in entries number ≡ None → IsEdited entries entries number None
+pub unedited : (entries : List (ℕ × JobEntry)) (number : ℕ) → AreSortedEntries entries → entry_under entries number ≡ None → IsEdited entries entries number None
 unedited entries number rise absent = record {
   rise = rise;
   finds = λ other. elim (eqb_tells other number) [
-    | inl same ↦ ap (entry_in entries) same.1 ∙ absent ∙ sym (ap (λ b. cond b None (entry_in entries other)) same.0)
-    | inr apart ↦ sym (ap (λ b. cond b None (entry_in entries other)) apart.0)
+    | inl same ↦ ap (entry_under entries) same.1 ∙ absent ∙ sym (ap (λ b. cond b None (entry_under entries other)) same.0)
+    | inr apart ↦ sym (ap (λ b. cond b None (entry_under entries other)) apart.0)
   ];
 }
 
 -- what an edited list has under the number, and under another
-here_is : (old new : List (ℕ × JobEntry)) (number other : ℕ) (put : Option JobEntry) → IsEdited old new number put → nat_eq other number ≡ true → entry_in new other ≡ put
-here_is old new number other put edit same = edit.finds other ∙ ap (λ b. cond b put (entry_in old other)) same
+here_is : (old new : List (ℕ × JobEntry)) (number other : ℕ) (put : Option JobEntry) → IsEdited old new number put → nat_eq other number ≡ true → entry_under new other ≡ put
+here_is old new number other put edit same = edit.finds other ∙ ap (λ b. cond b put (entry_under old other)) same
 
-others_are : (old new : List (ℕ × JobEntry)) (number other : ℕ) (put : Option JobEntry) → IsEdited old new number put → nat_eq other number ≡ false → entry_in new other ≡ entry_in old other
-others_are old new number other put edit apart = edit.finds other ∙ ap (λ b. cond b put (entry_in old other)) apart
+others_are : (old new : List (ℕ × JobEntry)) (number other : ℕ) (put : Option JobEntry) → IsEdited old new number put → nat_eq other number ≡ false → entry_under new other ≡ entry_under old other
+others_are old new number other put edit apart = edit.finds other ∙ ap (λ b. cond b put (entry_under old other)) apart
 
 -- both lists after one edit of each, of which at most one puts something there
 module _ (live decided new_live new_decided : List (ℕ × JobEntry)) (number : ℕ) (here there : Option JobEntry) (of_live : IsEdited live new_live number here) (of_decided : IsEdited decided new_decided number there) where
-  found_after : (other : ℕ) → entry_in (new_live ++ new_decided) other ≡ cond (nat_eq other number) (or_else here there) (entry_in (live ++ decided) other)
+  found_after : (other : ℕ) → entry_under (new_live ++ new_decided) other ≡ cond (nat_eq other number) (or_else here there) (entry_under (live ++ decided) other)
   found_after other =
       found_in_both new_live new_decided other ∙ (λ i. or_else (of_live.finds other i) (of_decided.finds other i))
       ∙ by_test (nat_eq other number) ∙ ap (λ held. cond (nat_eq other number) (or_else here there) held) (sym (found_in_both live decided other)) where
-        by_test : (b : Bool) → or_else (cond b here (entry_in live other)) (cond b there (entry_in decided other)) ≡ cond b (or_else here there) (or_else (entry_in live other) (entry_in decided other))
+        by_test : (b : Bool) → or_else (cond b here (entry_under live other)) (cond b there (entry_under decided other)) ≡ cond b (or_else here there) (or_else (entry_under live other) (entry_under decided other))
         by_test true = refl
         by_test false = refl
 
@@ -70,7 +70,7 @@ module _ (live decided new_live new_decided : List (ℕ × JobEntry)) (number : 
     ];
     drawn = λ other some. elim (eqb_tells other number) [
       | inl same ↦ subst (λ at. (1 ≤ at) × (at ≤ last)) (sym same.1) drawn
-      | inr apart ↦ listed.drawn other (subst IsSome (found_after other ∙ ap (λ b. cond b (or_else here there) (entry_in (live ++ decided) other)) apart.0) some)
+      | inr apart ↦ listed.drawn other (subst IsSome (found_after other ∙ ap (λ b. cond b (or_else here there) (entry_under (live ++ decided) other)) apart.0) some)
     ];
   }
 
@@ -100,61 +100,61 @@ pub no_entry : IsSome (let none : Option JobEntry = None in none) → ⊥
 no_entry some = let impossible : false ≡ true = some in cc
 
 -- no decided number is live, and no row is done
-live_not_done : (decided : List Decided) (number : ℕ) (job : Job) (state : JobState) → entry_in (map decided_entry decided) number ≡ Some (Live job state) → ⊥
+live_not_done : (decided : List Decided) (number : ℕ) (job : Job) (state : JobState) → entry_under (map decided_entry decided) number ≡ Some (Live job state) → ⊥
 live_not_done decided number job state found =
     let made : (done : Decided) × Has decided done × (decided_entry done ≡ (number, Live job state)) = made_has decided_entry decided (number, Live job state) (key_has nat_cmp exact_unsigned (map decided_entry decided) number (Live job state) found) in
     let impossible : Done made.0.fate ≡ Live job state = ap (λ (pair : ℕ × JobEntry). pair.1) made.2 in
     cc
 
-done_not_live : (rows : List Row) (number : ℕ) (fate : Fate) → entry_in (map row_entry rows) number ≡ Some (Done fate) → ⊥
+done_not_live : (rows : List Row) (number : ℕ) (fate : Fate) → entry_under (map row_entry rows) number ≡ Some (Done fate) → ⊥
 done_not_live rows number fate found =
     let made : (row : Row) × Has rows row × (row_entry row ≡ (number, Done fate)) = made_has row_entry rows (number, Done fate) (key_has nat_cmp exact_unsigned (map row_entry rows) number (Done fate) found) in
     let impossible : (row_entry made.0).1 ≡ Done fate = ap (λ (pair : ℕ × JobEntry). pair.1) made.2 in
     cc
 
 module _ (last : ℕ) (rows : List Row) (decided : List Decided) (last_batch : Option ℤ) (table : JobTable) (is : listed_table last rows decided last_batch ≡ table) where
-  pub in_table : (number : ℕ) → entry_at table number ≡ or_else (entry_in (map row_entry rows) number) (entry_in (map decided_entry decided) number)
+  pub in_table : (number : ℕ) → entry_at table number ≡ or_else (entry_under (map row_entry rows) number) (entry_under (map decided_entry decided) number)
   in_table number =
       sym (ap (λ at. entry_at at number) is) ∙ get-from_entries nat_cmp_total (map row_entry rows ++ map decided_entry decided) number
       ∙ found_in_both (map row_entry rows) (map decided_entry decided) number
 
-  pub in_listed : (number : ℕ) → entry_at table number ≡ entry_in (map row_entry rows ++ map decided_entry decided) number
+  pub in_listed : (number : ℕ) → entry_at table number ≡ entry_under (map row_entry rows ++ map decided_entry decided) number
   in_listed number = in_table number ∙ sym (found_in_both (map row_entry rows) (map decided_entry decided) number)
 
   pub is_drawn : AreListed last (map row_entry rows) (map decided_entry decided) → (number : ℕ) → IsSome (entry_at table number) → (1 ≤ number) × (number ≤ last)
   is_drawn listed number some = listed.drawn number (subst IsSome (in_listed number) some)
 
   -- a live job has a row
-  pub live_has_row : (number : ℕ) (job : Job) (state : JobState) → entry_at table number ≡ Some (Live job state) → entry_in (map row_entry rows) number ≡ Some (Live job state)
-  live_has_row number job state held = by_surveyed (entry_in (map row_entry rows) number) refl (sym (in_table number) ∙ held) where
-    by_surveyed : (found : Option JobEntry) → entry_in (map row_entry rows) number ≡ found → or_else found (entry_in (map decided_entry decided) number) ≡ Some (Live job state) → found ≡ Some (Live job state)
+  pub live_has_row : (number : ℕ) (job : Job) (state : JobState) → entry_at table number ≡ Some (Live job state) → entry_under (map row_entry rows) number ≡ Some (Live job state)
+  live_has_row number job state held = by_surveyed (entry_under (map row_entry rows) number) refl (sym (in_table number) ∙ held) where
+    by_surveyed : (found : Option JobEntry) → entry_under (map row_entry rows) number ≡ found → or_else found (entry_under (map decided_entry decided) number) ≡ Some (Live job state) → found ≡ Some (Live job state)
     by_surveyed None none later = absurd (live_not_done decided number job state later)
     by_surveyed (Some entry) some same = same
 
-  pub row_is_live : (number : ℕ) (entry : JobEntry) → entry_in (map row_entry rows) number ≡ Some entry → entry_at table number ≡ Some entry
-  row_is_live number entry found = in_table number ∙ ap (λ held. or_else held (entry_in (map decided_entry decided) number)) found
+  pub row_is_live : (number : ℕ) (entry : JobEntry) → entry_under (map row_entry rows) number ≡ Some entry → entry_at table number ≡ Some entry
+  row_is_live number entry found = in_table number ∙ ap (λ held. or_else held (entry_under (map decided_entry decided) number)) found
 
   -- a number that is done is a decided one, and has no row
-  pub done_is_decided : (number : ℕ) (fate : Fate) → entry_at table number ≡ Some (Done fate) → (entry_in (map row_entry rows) number ≡ None) × (entry_in (map decided_entry decided) number ≡ Some (Done fate))
-  done_is_decided number fate held = by_surveyed (entry_in (map row_entry rows) number) refl (sym (in_table number) ∙ held) where
-    by_surveyed : (found : Option JobEntry) → entry_in (map row_entry rows) number ≡ found → or_else found (entry_in (map decided_entry decided) number) ≡ Some (Done fate) → (found ≡ None) × (entry_in (map decided_entry decided) number ≡ Some (Done fate))
+  pub done_is_decided : (number : ℕ) (fate : Fate) → entry_at table number ≡ Some (Done fate) → (entry_under (map row_entry rows) number ≡ None) × (entry_under (map decided_entry decided) number ≡ Some (Done fate))
+  done_is_decided number fate held = by_surveyed (entry_under (map row_entry rows) number) refl (sym (in_table number) ∙ held) where
+    by_surveyed : (found : Option JobEntry) → entry_under (map row_entry rows) number ≡ found → or_else found (entry_under (map decided_entry decided) number) ≡ Some (Done fate) → (found ≡ None) × (entry_under (map decided_entry decided) number ≡ Some (Done fate))
     by_surveyed None none later = (refl, later)
     by_surveyed (Some entry) some same = absurd (done_not_live rows number fate (some ∙ same))
 
-  pub absent_in_both : (number : ℕ) → entry_at table number ≡ None → (entry_in (map row_entry rows) number ≡ None) × (entry_in (map decided_entry decided) number ≡ None)
-  absent_in_both number none = by_surveyed (entry_in (map row_entry rows) number) (sym (in_table number) ∙ none) where
-    by_surveyed : (found : Option JobEntry) → or_else found (entry_in (map decided_entry decided) number) ≡ None → (found ≡ None) × (entry_in (map decided_entry decided) number ≡ None)
+  pub absent_in_both : (number : ℕ) → entry_at table number ≡ None → (entry_under (map row_entry rows) number ≡ None) × (entry_under (map decided_entry decided) number ≡ None)
+  absent_in_both number none = by_surveyed (entry_under (map row_entry rows) number) (sym (in_table number) ∙ none) where
+    by_surveyed : (found : Option JobEntry) → or_else found (entry_under (map decided_entry decided) number) ≡ None → (found ≡ None) × (entry_under (map decided_entry decided) number ≡ None)
     by_surveyed None later = (refl, later)
     by_surveyed (Some entry) some = absurd (none_some entry (sym some))
 
-  pub decided_is_done : AreListed last (map row_entry rows) (map decided_entry decided) → (number : ℕ) (entry : JobEntry) → entry_in (map decided_entry decided) number ≡ Some entry → entry_at table number ≡ Some entry
-  decided_is_done listed number entry found = in_table number ∙ by_surveyed (entry_in (map row_entry rows) number) refl where
-    by_surveyed : (held : Option JobEntry) → entry_in (map row_entry rows) number ≡ held → or_else held (entry_in (map decided_entry decided) number) ≡ Some entry
+  pub decided_is_done : AreListed last (map row_entry rows) (map decided_entry decided) → (number : ℕ) (entry : JobEntry) → entry_under (map decided_entry decided) number ≡ Some entry → entry_at table number ≡ Some entry
+  decided_is_done listed number entry found = in_table number ∙ by_surveyed (entry_under (map row_entry rows) number) refl where
+    by_surveyed : (held : Option JobEntry) → entry_under (map row_entry rows) number ≡ held → or_else held (entry_under (map decided_entry decided) number) ≡ Some entry
     by_surveyed None none = found
     by_surveyed (Some other) some = absurd (none_some entry (sym (listed.apart number (subst IsSome (sym some) refl)) ∙ found))
 
   -- a live number is not among the decided ones
-  pub live_is_undecided : AreListed last (map row_entry rows) (map decided_entry decided) → (number : ℕ) (job : Job) (state : JobState) → entry_at table number ≡ Some (Live job state) → entry_in (map decided_entry decided) number ≡ None
+  pub live_is_undecided : AreListed last (map row_entry rows) (map decided_entry decided) → (number : ℕ) (job : Job) (state : JobState) → entry_at table number ≡ Some (Live job state) → entry_under (map decided_entry decided) number ≡ None
   live_is_undecided listed number job state held = listed.apart number (subst IsSome (sym (live_has_row number job state held)) refl)
 
   pub lists_live : AreListed last (map row_entry rows) (map decided_entry decided) → ListsLive table rows
@@ -176,14 +176,14 @@ module _ (last : ℕ) (rows : List Row) (decided : List Decided) (last_batch : O
   }
 
   -- the number that was drawn last is above those of all rows, where no job has it
-  pub above_rows : AreListed last (map row_entry rows) (map decided_entry decided) → (number : ℕ) → IsFree table number → (other : ℕ) → IsSome (entry_in (map row_entry rows) other) → other < number
+  pub above_rows : AreListed last (map row_entry rows) (map decided_entry decided) → (number : ℕ) → IsFree table number → (other : ℕ) → IsSome (entry_under (map row_entry rows) other) → other < number
   above_rows listed number free other some =
-      let among : other ≤ last = (listed.drawn other (subst IsSome (sym (found_in_both (map row_entry rows) (map decided_entry decided) other)) (still (entry_in (map row_entry rows) other) some))).1 in
+      let among : other ≤ last = (listed.drawn other (subst IsSome (sym (found_in_both (map row_entry rows) (map decided_entry decided) other)) (still (entry_under (map row_entry rows) other) some))).1 in
       let last_is : last ≡ table.last = ap (λ (at : JobTable). at.last) is in
       let number_is : number ≡ table.last = free.last in
-      let apart : other ≡ number → ⊥ = λ same. none_held (entry_in (map row_entry rows) number) (absent_in_both number free.absent).0 (subst (λ at. IsSome (entry_in (map row_entry rows) at)) same some) in
+      let apart : other ≡ number → ⊥ = λ same. none_held (entry_under (map row_entry rows) number) (absent_in_both number free.absent).0 (subst (λ at. IsSome (entry_under (map row_entry rows) at)) same some) in
       omega arith where
-        still : (held : Option JobEntry) → IsSome held → IsSome (or_else held (entry_in (map decided_entry decided) other))
+        still : (held : Option JobEntry) → IsSome held → IsSome (or_else held (entry_under (map decided_entry decided) other))
         still None some = let impossible : false ≡ true = some in cc
         still (Some entry) some = some
 

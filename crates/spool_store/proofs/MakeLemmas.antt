@@ -4,7 +4,7 @@ use Rattle.std.proofs.Math.Seq.{take-length, take-suc}
 use Rattle.std.proofs.lemmas.List.{drop_more, take-append-drop}
 use Rattle.std.specs.Prelude.{Result, Ok, Err}
 use Rattle.host_calls.specs.Session.{CallsInside, IsInside, Session, StaysInside}
-use Rattle.host_calls.specs.World.{GoesOn, World}
+use Rattle.host_calls.specs.World.{TimePasses, World}
 use Rattle.host_calls.proofs.WorldLemmas.{leaves_none, leaves_then, leaves_weaker}
 use Rattle.spool_model.specs.declared.step.Step.{Step}
 use Rattle.spool_model.specs.declared.step.Step.TheVariants.{Remove, End, Interrupt, Forget}
@@ -56,7 +56,7 @@ pub record HasMade (tells : Bool) (was now : Kept) (steps : List Step) (count : 
   pub table_is : now.table ≡ after_steps was.table (take count steps)
   pub legal : AreLegal now.table (drop count steps)
   pub changes : AreChanges (drop count steps)
-  pub goes_on : tells ≡ true → GoesOn old new
+  pub goes_on : tells ≡ true → TimePasses old new
   pub made : tells ≡ true → (table : JobTable) → IsCurrent was old.now.folder table → AreMade table (take count steps) [] [] now old new
 
 module _ {tells : Bool} {before : Session} {old : World} {was : Kept} {steps : List Step} (may : MayMakeSteps tells before old was steps) where
@@ -116,11 +116,11 @@ module _ {tells : Bool} {before : Session} {old : World} {was : Kept} {steps : L
     legal_on : (table : JobTable) → IsCurrent now middle.now.folder table → IsLegal table step
     legal_on table current = legal_when_kept now middle.now.folder table step current (subst (IsLegal now.table) (sym (plain step changes.0).0) legal.0)
 
-    goes_after : {between after : Session} {new : World} {result : Result Kept StoreFault} → MakesStep tells between after middle new now step result → tells ≡ true → GoesOn old new
+    goes_after : {between after : Session} {new : World} {result : Result Kept StoreFault} → MakesStep tells between after middle new now step result → tells ≡ true → TimePasses old new
     goes_after {between} {after} {new} makes known =
         let first : (table : JobTable) × IsCurrent was old.now.folder table = may.current known in
         let call = (makes.files known _ (has.made known first.0 first.1).current).files in
-        let so_far : GoesOn old middle = has.goes_on known in
+        let so_far : TimePasses old middle = has.goes_on known in
         record {
           asked = call.asked ∙ so_far.asked;
           handed = call.handed ∙ so_far.handed;

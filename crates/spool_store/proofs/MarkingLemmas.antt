@@ -16,9 +16,9 @@ use Rattle.spool_model.specs.JobTable.{JobState, JobTable, entry_at}
 use Rattle.spool_model.specs.Steps.{IsLegal, after_step}
 use Rattle.start_journal.specs.declared.mark.Mark.{Mark}
 use Rattle.start_journal.specs.declared.mark.Mark.TheVariants.{Removed, Started, Ended, Interrupted, Forgotten, Batch}
-use Rattle.start_journal.specs.Changing.{Gives, added, compacted}
+use Rattle.start_journal.specs.Changing.{GivesReadJournal, added, compacted}
 use Rattle.start_journal.specs.Journals.{JournalRead, are_drawn, is_drawn, journal_file, journal_in}
-use Rattle.start_journal.specs.Marks.{AreLegal, decides, is_decided}
+use Rattle.start_journal.specs.Marks.{AreLegalMarks, decides, is_decided}
 use Rattle.std.proofs.lemmas.Bool.{and_from, and_parts, or_cases}
 use Rattle.spool_shows.specs.ByName.{ShowsByName}
 use Rattle.spool_shows.specs.Laws.{AddsMark, AgreeElsewhere, HasMarks, HasNoForgotten}
@@ -69,7 +69,7 @@ more_drawn last marks mark drawn here =
 -- The journal of a folder that shows a table.
 
 -- what is read of a content is what it gives
-same_journal : (last : ℕ) (content : Option (List ℕ)) (read journal : JournalRead) → journal_in last content ≡ Ok read → Gives content journal → read ≡ journal
+same_journal : (last : ℕ) (content : Option (List ℕ)) (read journal : JournalRead) → journal_in last content ≡ Ok read → GivesReadJournal content journal → read ≡ journal
 same_journal last content read journal is gives =
     let rest : (least : ℕ) × ((more : ℕ) → least ≤ more → are_drawn more journal.marks ≡ true) = all_drawn_from journal.marks in
     let more : ℕ = last + rest.0 in
@@ -78,7 +78,7 @@ same_journal last content read journal is gives =
 -- the folder shows the table, and its journal gives this one
 pub record IsShownWith (journal : JournalRead) (table : JobTable) (files : Files) : Type 0 where
   pub shows : Shows files table
-  pub gives : Gives (map.get files journal_file) journal
+  pub gives : GivesReadJournal (map.get files journal_file) journal
 
 -- so what it shows by its names is told by the marks of that journal
 pub reads_as : (journal : JournalRead) (table : JobTable) (files : Files) (is : IsShownWith journal table files) → (by_name files table is.shows).read ≡ journal
@@ -94,10 +94,10 @@ drawn_there journal table files is =
     ∙ journal_drawn table.last (map.get files journal_file) shows.read (journal_read files table shows)
 
 -- they are legal
-pub legal_there : (journal : JournalRead) (table : JobTable) (files : Files) → IsShownWith journal table files → AreLegal journal.marks
+pub legal_there : (journal : JournalRead) (table : JobTable) (files : Files) → IsShownWith journal table files → AreLegalMarks journal.marks
 legal_there journal table files is =
     let shows : ShowsByName files table = by_name files table is.shows in
-    subst (λ (read : JournalRead). AreLegal read.marks) (reads_as journal table files is)
+    subst (λ (read : JournalRead). AreLegalMarks read.marks) (reads_as journal table files is)
     (journal_legal table.last (map.get files journal_file) shows.read (journal_read files table shows))
 
 -- and they are the folder's
@@ -158,7 +158,7 @@ step_drawn files table _ mark shows legal adds = absurd adds
 -- What a change of the journal shows, where all else is the same.
 
 -- the same marks once more
-pub same_shown : (journal : JournalRead) (table : JobTable) (before after : Files) → IsShownWith journal table before → Gives (map.get after journal_file) journal → AgreeElsewhere temporary_file journal_file before after → Shows after table
+pub same_shown : (journal : JournalRead) (table : JobTable) (before after : Files) → IsShownWith journal table before → GivesReadJournal (map.get after journal_file) journal → AgreeElsewhere temporary_file journal_file before after → Shows after table
 same_shown journal table before after is gives others = rewrites_are_shown before after table is.shows (record {
   marks = journal.marks;
   free = journal.free;
@@ -168,7 +168,7 @@ same_shown journal table before after is gives others = rewrites_are_shown befor
 })
 
 -- what a compaction keeps of them
-pub compacted_shown : (journal : JournalRead) (table : JobTable) (before after : Files) → IsShownWith journal table before → HasNoForgotten journal.marks before → Gives (map.get after journal_file) (compacted journal) → AgreeElsewhere temporary_file journal_file before after → Shows after table
+pub compacted_shown : (journal : JournalRead) (table : JobTable) (before after : Files) → IsShownWith journal table before → HasNoForgotten journal.marks before → GivesReadJournal (map.get after journal_file) (compacted journal) → AgreeElsewhere temporary_file journal_file before after → Shows after table
 compacted_shown journal table before after is none gives others = compactions_are_shown before after table is.shows (record {
   marks = journal.marks;
   free = 256;
@@ -179,7 +179,7 @@ compacted_shown journal table before after is none gives others = compactions_ar
 })
 
 -- one mark more
-pub added_shown : (journal : JournalRead) (table : JobTable) (step : Step) (mark : Mark) (before after : Files) → IsShownWith journal table before → IsLegal table step → AddsMark table step mark → Gives (map.get after journal_file) (added journal mark) → AgreeElsewhere temporary_file journal_file before after → Shows after (after_step table step)
+pub added_shown : (journal : JournalRead) (table : JobTable) (step : Step) (mark : Mark) (before after : Files) → IsShownWith journal table before → IsLegal table step → AddsMark table step mark → GivesReadJournal (map.get after journal_file) (added journal mark) → AgreeElsewhere temporary_file journal_file before after → Shows after (after_step table step)
 added_shown journal table step mark before after is legal adds gives others =
     let drawn : is_drawn table.last mark ≡ true = step_drawn before table step mark (by_name before table is.shows) legal adds in
     marks_are_shown before after table step mark is.shows legal adds (record {

@@ -10,7 +10,7 @@ use Rattle.spool_model.specs.JobTable.{JobEntry, JobTable, entry_at, is_batch_qu
 use Rattle.start_journal.specs.declared.mark.Mark.{Mark}
 use Rattle.start_journal.specs.declared.mark.Mark.TheVariants.{Removed, Started, Ended, Interrupted, Forgotten, Batch}
 use Rattle.start_journal.specs.Journals.{AreWritable, are_drawn}
-use Rattle.start_journal.specs.Marks.{AreLegal, batch_second, first_of_two, is_decided, is_forgotten, last_batch, start_second, started_at}
+use Rattle.start_journal.specs.Marks.{AreLegalMarks, batch_second, first_of_two, is_decided, is_forgotten, last_batch, start_second, started_at}
 use Rattle.start_journal.specs.Slots.{IsWritable}
 use Rattle.clock_range.specs.ClockRange.{IsClockSecond}
 use Rattle.std.proofs.lemmas.Bool.{and_from, eqb-true}
@@ -25,7 +25,7 @@ use Rattle.spool_store.specs.declared.surveyed_job.SurveyedJob.{SurveyedJob}
 use Rattle.start_journal.specs.Lifecycles.{fate_at, remembered_at}
 use Rattle.spool_store.specs.inside.SurveyedJobs.{file_surveyed, files_surveyed}
 use Rattle.spool_store.specs.Stored.{AreInOldForm, IsEntryBy, IsLiveBy, IsStateBy, IsStored, RunsSince}
-use Rattle.spool_store.specs.inside.Tables.{AreUndecided, IsDrawn, IsTableShown}
+use Rattle.spool_store.specs.inside.Tables.{AreUndecided, IsDrawnBy, IsTableShown}
 use Rattle.spool_store.proofs.PrefixLemmas.{at_shown}
 use Rattle.spool_store.proofs.ListLemmas.{number_drawn}
 use Rattle.start_journal.proofs.LifecycleLemmas.{decided_has_fate}
@@ -90,7 +90,7 @@ runs_since (Some second) in_range = in_range
 runs_since None in_range = tt
 
 -- the marks of a number that is not decided tell of its state
-state_by : (marks : List Mark) (number : ℕ) (since : Option ℤ) → started_at number marks ≡ since → AreLegal marks → is_decided number marks ≡ false → IsStateBy marks number (state_since since)
+state_by : (marks : List Mark) (number : ℕ) (since : Option ℤ) → started_at number marks ≡ since → AreLegalMarks marks → is_decided number marks ≡ false → IsStateBy marks number (state_since since)
 state_by marks number None is legal undecided = unnamed number marks undecided (not_forgotten marks number legal undecided) is
 state_by marks number (Some second) is legal undecided =
     and_from _ (not (is_decided number marks)) (is_started_since number marks second is) (ap not undecided)
@@ -107,7 +107,7 @@ remembered_is marks number fate is = by_test (is_forgotten number marks) refl is
 -- a survey has found these marks and these files, and no damage
 pub record HasSurveyed (last : ℕ) (marks : List Mark) (files : List JobFile) : Type 0 where
   pub few : last ≤ LAST_NUMBER
-  pub legal : AreLegal marks
+  pub legal : AreLegalMarks marks
   pub writable : AreWritable marks
   pub drawn : IsTrue (are_drawn last marks)
   pub undecided : AreUndecided marks files
@@ -145,11 +145,11 @@ module _ (last : ℕ) (marks : List Mark) (files : List JobFile) (surveyed : Has
   entry_by number None None is other = tt
 
   -- a number with an entry was drawn
-  number_in : (number : ℕ) (found : Option JobFile) (given : Option Fate) → file_of number files ≡ found → remembered_at number marks ≡ given → IsSome (entry_of marks found given) → IsDrawn last number
+  number_in : (number : ℕ) (found : Option JobFile) (given : Option Fate) → file_of number files ≡ found → remembered_at number marks ≡ given → IsSome (entry_of marks found given) → IsDrawnBy last number
   number_in number (Some file) given is other some =
       let there : Has files file × ((file.job.number == number) ≡ true) = found_has (λ (f : JobFile). f.job.number == number) files file is in
       let whole = (neither_first _ (starts_damage marks files 0 marks) surveyed.whole).0 in
-      subst (IsDrawn last) (eqb-true file.job.number number there.1)
+      subst (IsDrawnBy last) (eqb-true file.job.number number there.1)
       ((surveyed.named file there.0).drawn, (fine_is_whole last [] files file (no_damage_is_fine last [] files whole) there.0).drawn)
   number_in number None (Some fate) is other some = number_drawn last marks number surveyed.writable surveyed.drawn (remembered_is marks number fate other).0
   number_in number None None is other some = let impossible : false ≡ true = some in cc

@@ -22,7 +22,7 @@ use Rattle.spool_shows.proofs.ShownEntries.{passes_same}
 use Rattle.spool_shows.proofs.StepLaws.{by_name}
 use Rattle.step_runs.specs.Current.{HaveForms, is_new_form}
 use Rattle.spool_store.specs.declared.surveyed_job.SurveyedJob.{SurveyedJob}
-use Rattle.spool_store.specs.declared.survey.Survey.{Survey}
+use Rattle.spool_store.specs.declared.survey.RecoveryScan.{RecoveryScan}
 use Rattle.spool_store.specs.inside.SurveyedJobs.{file_surveyed, files_surveyed, old_form_numbers}
 use Rattle.spool_store.specs.inside.Survey.{IsSurvey, is_decided_job, is_left_over}
 use Rattle.spool_store.specs.Stored.{AreInOldForm}
@@ -88,7 +88,7 @@ held_there (Some bytes) there = (bytes, refl)
 held_there None there = let impossible : false ≡ true = there in cc
 
 -- What is left of a folder that was surveyed: the files that count, as they were.
-pub forms_found : (files : Files) (survey : Survey) (found : IsSurvey files survey) (left : Files) → ((name : List ℕ) → is_left_over survey.journal.marks name ≡ false → finite.get left name ≡ finite.get files name) → ((name : List ℕ) → is_left_over survey.journal.marks name ≡ true → finite.get left name ≡ None) → HaveForms survey.old_form.items found.table.last left
+pub forms_found : (files : Files) (survey : RecoveryScan) (found : IsSurvey files survey) (left : Files) → ((name : List ℕ) → is_left_over survey.journal.marks name ≡ false → finite.get left name ≡ finite.get files name) → ((name : List ℕ) → is_left_over survey.journal.marks name ≡ true → finite.get left name ≡ None) → HaveForms survey.old_form.items found.table.last left
 forms_found files survey found left stays gone = subst (λ list. HaveForms list found.table.last left) (sym found.old_form) (record {
   each = λ name job named there. by_left name job named there (is_left_over marks name) refl;
   drawn = λ number known.

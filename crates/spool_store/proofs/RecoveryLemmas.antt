@@ -12,7 +12,7 @@ use Rattle.host_calls.proofs.WorldLemmas.{at_end}
 use Rattle.sequence_file.specs.Sequence.{sequence_file}
 use Rattle.whole_file.specs.Temporary.{temporary_file}
 use Rattle.start_journal.specs.declared.mark.Mark.{Mark}
-use Rattle.start_journal.specs.Changing.{Gives}
+use Rattle.start_journal.specs.Changing.{GivesReadJournal}
 use Rattle.start_journal.specs.Journals.{journal_file}
 use Rattle.start_journal.proofs.GivesLemmas.{recalled_gives}
 use Rattle.whole_file.specs.Clearing.{AreCleared, AreFiles}
@@ -30,9 +30,9 @@ use Rattle.step_runs.specs.Calls.{ShowsAsBefore}
 use Rattle.step_runs.specs.Current.{HaveForms, IsCurrent, IsSpoolName, Kept}
 use Rattle.host_calls.specs.declared.store_fault.StoreFault.{StoreFault}
 use Rattle.host_calls.specs.declared.store_fault.StoreFault.TheVariants.{Damaged, FileFault, Memory}
-use Rattle.spool_store.specs.declared.survey.Survey.{Survey}
+use Rattle.spool_store.specs.declared.survey.RecoveryScan.{RecoveryScan}
 use Rattle.host_calls.specs.Damages.{IfDamaged}
-use Rattle.host_calls.specs.StoreFaults.{IsOfReading, fault_of}
+use Rattle.host_calls.specs.StoreFaults.{IsReadingFault, store_fault_of}
 use Rattle.spool_store.specs.inside.Survey.{IsSurvey, is_left_over}
 use Rattle.spool_store.specs.Recovering.{IsRecovered, Recovered, ShowsAsBeforeNewFormNames, ShowsTheSame}
 use Rattle.whole_file.proofs.ChangesJoined.{changes_join}
@@ -77,7 +77,7 @@ old_form_recovered old new kept recovered = λ table none shown.
 -- The survey of the settled folder.
 
 -- the folder was settled and surveyed, and no file has changed
-pub record HasSettled (old surveyed : World) (survey : Survey) : Type 0 where
+pub record HasSettled (old surveyed : World) (survey : RecoveryScan) : Type 0 where
   pub files : ChangesFiles (ShowsAsBefore old.now.folder) old surveyed
   pub settled : surveyed.now.folder ≡ settled old.now.folder
   pub found : IsSurvey (reading old) survey
@@ -87,7 +87,7 @@ settled_reading : (old new : World) → IsSettled old.now.folder new.now.folder 
 settled_reading old new done = ap reading_of done ∙ reading_of-settled old.now.folder
 
 -- a survey of a folder that was settled
-pub has_settled : {T : Type 0} (old settled surveyed : World) (value : T) (survey : Survey) → FileCall IsSettled IsSyncedInPart old settled (Ok value) → surveyed ≡ settled → IsSurvey (reading settled) survey → HasSettled old surveyed survey
+pub has_settled : {T : Type 0} (old settled surveyed : World) (value : T) (survey : RecoveryScan) → FileCall IsSettled IsSyncedInPart old settled (Ok value) → surveyed ≡ settled → IsSurvey (reading settled) survey → HasSettled old surveyed survey
 has_settled old settled surveyed value survey call same is = record {
   files = subst (ChangesFiles (ShowsAsBefore old.now.folder) old) (sym same) (settling old settled (Ok value) call);
   settled = ap (λ (world : World). world.now.folder) same ∙ call.outcome;
@@ -99,23 +99,23 @@ pub only_settled : {T : Type 0} (old settled surveyed : World) (result : Result 
 only_settled old settled surveyed result call same = subst (ChangesFiles (ShowsAsBefore old.now.folder) old) (sym same) (settling old settled result call)
 
 -- where the settling failed, nothing of what the reading shows has changed
-pub unsettled : {T : Type 0} (old settled : World) (call_result : Result T HostFault) (fault : HostFault) (result : Result Kept StoreFault) → FileCall IsSettled IsSyncedInPart old settled call_result → IsErrAnd result (λ one. one ≡ fault_of fault)
+pub unsettled : {T : Type 0} (old settled : World) (call_result : Result T HostFault) (fault : HostFault) (result : Result Kept StoreFault) → FileCall IsSettled IsSyncedInPart old settled call_result → IsErrAnd result (λ one. one ≡ store_fault_of fault)
     → Recovered old.now.folder settled.now.folder result
 unsettled old settled call_result fault (Ok kept) call is = absurd is
 unsettled old settled call_result fault (Err other) call is = subst (λ one. Recovered old.now.folder settled.now.folder (Err one)) (sym is) (by_fault fault) where
-  by_fault : (one : HostFault) → Recovered old.now.folder settled.now.folder (Err (fault_of one))
+  by_fault : (one : HostFault) → Recovered old.now.folder settled.now.folder (Err (store_fault_of one))
   by_fault host.Failed = settling_shows old settled call_result call
   by_fault host.Memory = settling_shows old settled call_result call
 
 -- and where it answers a damage, the reading shows it
-pub settled_damage : {T : Type 0} (old settled new : World) (value : T) (fault : StoreFault) (result : Result Kept StoreFault) → FileCall IsSettled IsSyncedInPart old settled (Ok value) → new ≡ settled → IsErrAnd result (λ one. one ≡ fault) → IsOfReading fault → IfDamaged {T = Survey} Damaged (λ damage. shown_by (reading settled) ≡ Err damage) (Err fault)
+pub settled_damage : {T : Type 0} (old settled new : World) (value : T) (fault : StoreFault) (result : Result Kept StoreFault) → FileCall IsSettled IsSyncedInPart old settled (Ok value) → new ≡ settled → IsErrAnd result (λ one. one ≡ fault) → IsReadingFault fault → IfDamaged {T = RecoveryScan} Damaged (λ damage. shown_by (reading settled) ≡ Err damage) (Err fault)
     → Recovered old.now.folder new.now.folder result
 settled_damage old settled new value fault (Ok kept) call same is of_reading damaged = absurd is
 settled_damage old settled new value fault (Err other) call same is of_reading damaged = subst (λ one. Recovered old.now.folder new.now.folder (Err one)) (sym is) (by_fault fault of_reading damaged) where
   shows_still : ShowsTheSame old.now.folder new.now.folder
   shows_still = ap (λ (world : World). shown_by (reading world)) same ∙ settling_shows old settled (Ok value) call
 
-  by_fault : (one : StoreFault) → IsOfReading one → IfDamaged {T = Survey} Damaged (λ damage. shown_by (reading settled) ≡ Err damage) (Err one) → Recovered old.now.folder new.now.folder (Err one)
+  by_fault : (one : StoreFault) → IsReadingFault one → IfDamaged {T = RecoveryScan} Damaged (λ damage. shown_by (reading settled) ≡ Err damage) (Err one) → Recovered old.now.folder new.now.folder (Err one)
   by_fault (Damaged damage) of shows = ap shown_by (sym (settled_reading old settled call.outcome)) ∙ shows damage refl
   by_fault Memory of shows = shows_still
   by_fault FileFault of shows = shows_still
@@ -131,7 +131,7 @@ settled_untouched old settled new value result call same = λ damage is. ap read
 none_among : (name : List ℕ) → Contains [] name → ⊥
 none_among name among = omega (arith, among.1)
 
-module _ (old surveyed : World) (survey : Survey) (at : HasSettled old surveyed survey) (names : List (List ℕ)) (same : names ≡ survey.leftover.items) where
+module _ (old surveyed : World) (survey : RecoveryScan) (at : HasSettled old surveyed survey) (names : List (List ℕ)) (same : names ≡ survey.leftover.items) where
   abbrev files : Files
   files = reading old
 
@@ -195,13 +195,13 @@ module _ (old surveyed : World) (survey : Survey) (at : HasSettled old surveyed 
       (λ one was. (record { from = one; was = was; others = λ name apart. refl }, refl)) image is).0
 
   -- so where the clearing failed, the reading shows what it showed
-  pub uncleared : (new : World) (fault : HostFault) (result : Result Kept StoreFault) → ChangesFiles IsLeft surveyed new → IsErrAnd result (λ one. one ≡ fault_of fault) → Recovered old.now.folder new.now.folder result
+  pub uncleared : (new : World) (fault : HostFault) (result : Result Kept StoreFault) → ChangesFiles IsLeft surveyed new → IsErrAnd result (λ one. one ≡ store_fault_of fault) → Recovered old.now.folder new.now.folder result
   uncleared new fault (Ok kept) changes is = absurd is
   uncleared new fault (Err other) changes is = subst (λ one. Recovered old.now.folder new.now.folder (Err one)) (sym is) (by_fault fault) where
     shows_still : ShowsTheSame old.now.folder new.now.folder
     shows_still = shows_same (reading new) (left_at_end new changes (reading new) (reading_is_image new.now.folder))
 
-    by_fault : (one : HostFault) → Recovered old.now.folder new.now.folder (Err (fault_of one))
+    by_fault : (one : HostFault) → Recovered old.now.folder new.now.folder (Err (store_fault_of one))
     by_fault host.Failed = shows_still
     by_fault host.Memory = shows_still
 
@@ -250,7 +250,7 @@ module _ (old surveyed : World) (survey : Survey) (at : HasSettled old surveyed 
       journal = record {
         certain = certain;
         same = same_in_each journal_file (journal_stays marks);
-        gives = subst (λ content. Gives content survey.journal) (sym (end_reads journal_file (journal_stays marks))) (recalled_gives at.found.table.last (finite.get files journal_file) survey.journal at.found.journal);
+        gives = subst (λ content. GivesReadJournal content survey.journal) (sym (end_reads journal_file (journal_stays marks))) (recalled_gives at.found.table.last (finite.get files journal_file) survey.journal at.found.journal);
         no_temp = gone temporary_file (temporary_left marks);
       };
       sequence = same_in_each sequence_file (sequence_stays marks);

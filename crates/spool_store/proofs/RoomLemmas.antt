@@ -10,9 +10,9 @@ use Rattle.sequence_file.specs.Sequence.{sequence_file}
 use Rattle.whole_file.specs.Temporary.{temporary_file}
 use Rattle.spool_model.specs.JobTable.{JobTable}
 use Rattle.start_journal.specs.declared.mark.Mark.{Mark}
-use Rattle.start_journal.specs.Changing.{Gives, HoldsJournal, IsChanged, IsChanging, compacted}
+use Rattle.start_journal.specs.Changing.{GivesReadJournal, HoldsJournal, IsChanged, IsChanging, compacted}
 use Rattle.start_journal.specs.Journals.{JournalRead, journal_file}
-use Rattle.start_journal.specs.Marks.{AreLegal, kept_marks}
+use Rattle.start_journal.specs.Marks.{AreLegalMarks, kept_marks}
 use Rattle.start_journal.proofs.MarkLemmas.{forgotten_was_decided}
 use Rattle.start_journal.proofs.OverwriteLemmas.{certain_names}
 use Rattle.whole_file.specs.Others.{ChangesFiles, IsEither, LeavesOthers}
@@ -76,7 +76,7 @@ absent_there folder image name certain is absent =
 pub shown_with : (old_form : List ℕ) (journal : JournalRead) (folder : Folder) (table : JobTable) → IsCurrent (kept_with old_form journal table) folder table → (image : Files) → IsImage folder image → IsShownWith journal table image
 shown_with old_form journal folder table current image is = record {
   shows = current.shows image is;
-  gives = subst (λ content. Gives content journal) (sym (current.journal.same image is)) current.journal.gives;
+  gives = subst (λ content. GivesReadJournal content journal) (sym (current.journal.same image is)) current.journal.gives;
 }
 
 -- While the journal changes.
@@ -85,7 +85,7 @@ shown_with old_form journal folder table current image is = record {
 pub changing_start : (before after : JournalRead) (middle : Folder) → HoldsJournal before middle → (image : Files) → IsImage middle image → IsChanging before after middle image
 changing_start before after middle holds image is = record {
   alone = record { from = image; was = is; others = λ name other. refl };
-  gives = inl (subst (λ content. Gives content before) (sym (holds.same image is)) holds.gives);
+  gives = inl (subst (λ content. GivesReadJournal content before) (sym (holds.same image is)) holds.gives);
 }
 
 -- the sequence file is that of the folder before it
@@ -133,7 +133,7 @@ module _ (old_form : List ℕ) (journal : JournalRead) (table : JobTable) (first
   shown_in = shown_with old_form journal middle table now_current
 
   -- whose marks are legal
-  legal : AreLegal journal.marks
+  legal : AreLegalMarks journal.marks
   legal = legal_there journal table (reading_of middle) (shown_in (reading_of middle) (reading_is_image middle))
 
   -- no image has a file of a forgotten number, since no change of names is pending

@@ -26,7 +26,7 @@ use Rattle.spool_shows.proofs.StepLaws.{by_name}
 use Rattle.spool_model.specs.Numbers.{number_digits}
 use Rattle.spool_store.specs.Stored.{AreInOldForm}
 use Rattle.spool_store.specs.Rows.{row_entry}
-use Rattle.spool_store.specs.Scripts.{HoldsScript, IsFileOf, IsScriptOf}
+use Rattle.spool_store.specs.Scripts.{HoldsScript, IsLiveFileName, IsScriptOf}
 
 -- a number has as many digits as the form of its name
 pub fits_form : (old_form : List ℕ) (number : ℕ) (new_form : Bool) → AreInOldForm old_form → number < 2 ^ 32 → new_form ≡ is_new_form old_form number → number < 16 ^ number_digits new_form
@@ -34,7 +34,7 @@ fits_form old_form number true old_form_are few form = omega (arith, few)
 fits_form old_form number false old_form_are few form = old_form_are number (sym form)
 
 -- the name that is spelled after a row is that of its file
-pub row_is_file : (table : JobTable) (old_form : List ℕ) (number : ℕ) (row : Row) (name : List ℕ) → entry_at table number ≡ Some (row_entry row).1 → SpellsJobName name row.queue number row.minute (is_new_form old_form number) → IsFileOf table old_form number name
+pub row_is_file : (table : JobTable) (old_form : List ℕ) (number : ℕ) (row : Row) (name : List ℕ) → entry_at table number ≡ Some (row_entry row).1 → SpellsJobName name row.queue number row.minute (is_new_form old_form number) → IsLiveFileName table old_form number name
 row_is_file table old_form number row name found spelled = record { job = _; state = row.state; lives = found; spelled = spelled }
 
 -- The file of a number is there, and it shows this entry.
@@ -79,7 +79,7 @@ same_name file name number job new_form named number_is new_form_is without_scri
     one_job_name name file.name given (name_given name job.queue number job.minute new_form spelled) (named ∙ ap Some job_is)
 
 -- where what is kept is current, the file of a live job holds its script
-pub file_holds : (kept : Kept) (folder : Folder) (table : JobTable) (number : ℕ) (name : List ℕ) → IsCurrent kept folder table → IsFileOf kept.table kept.old_form number name → HoldsScript table folder number name
+pub file_holds : (kept : Kept) (folder : Folder) (table : JobTable) (number : ℕ) (name : List ℕ) → IsCurrent kept folder table → IsLiveFileName kept.table kept.old_form number name → HoldsScript table folder number name
 file_holds kept folder table number name current is_file =
     let shows : ShowsByName (reading_of folder) table = by_name (reading_of folder) table (current.shows (reading_of folder) (reading_is_image folder)) in
     let whole : IsWholeOf (entry_at table number) is_file.job is_file.state =

@@ -19,7 +19,7 @@ use Rattle.spool_shows.specs.Shown.{damage_of_jobs, shown_after_journal, shown_a
 use Rattle.host_calls.specs.declared.store_fault.StoreFault.{StoreFault}
 use Rattle.host_calls.specs.declared.store_fault.StoreFault.TheVariants.{Damaged}
 use Rattle.spool_store.specs.declared.surveyed_files.SurveyedFiles.{SurveyedFiles}
-use Rattle.spool_store.specs.declared.survey.Survey.{Survey}
+use Rattle.spool_store.specs.declared.survey.RecoveryScan.{RecoveryScan}
 use Rattle.spool_store.specs.declared.surveyed_job.SurveyedJob.{SurveyedJob}
 use Rattle.host_calls.specs.Damages.{IfDamaged}
 use Rattle.host_calls.specs.StoreFaults.{IsFound}
@@ -87,7 +87,7 @@ module _ (files : Files) (last : ℕ) (journal : JournalRead) (surveyed_files : 
   pub jobs_damage : (damage : Damage) → damage_of_jobs last marks (files_surveyed slice) ≡ Some damage → shown_by files ≡ Err damage
   jobs_damage damage is = shown_of ∙ ap (table_or_damage last journal.marks (job_files journal.marks (entries files))) (sym damage_is ∙ is)
 
-  pub is_survey : (survey : Survey) → survey.journal ≡ journal → survey.old_form.items ≡ old_form_numbers (files_surveyed slice) → survey.leftover.items ≡ surveyed_files.leftover.items → IsTableShown last marks (files_surveyed slice) survey.jobs → IsSurvey files survey
+  pub is_survey : (survey : RecoveryScan) → survey.journal ≡ journal → survey.old_form.items ≡ old_form_numbers (files_surveyed slice) → survey.leftover.items ≡ surveyed_files.leftover.items → IsTableShown last marks (files_surveyed slice) survey.jobs → IsSurvey files survey
   is_survey survey journal_same old_form left shown = record {
     table = table_shown last journal.marks (job_files journal.marks (entries files));
     shows = shown_of ∙ ap (table_or_damage last journal.marks (job_files journal.marks (entries files))) (sym damage_is ∙ shown.0);

@@ -19,9 +19,9 @@ use Rattle.spool_shows.proofs.ShownEntries.{fails_other, some_same}
 use Rattle.spool_shows.proofs.StartLemmas.{number_passes}
 use Rattle.spool_model.specs.declared.entry.Entry.TheVariants.{Live, Done}
 use Rattle.spool_model.specs.JobTable.{JobEntry}
-use Rattle.spool_store.specs.Listed.{entry_in}
+use Rattle.spool_store.specs.Listed.{entry_under}
 use Rattle.spool_store.specs.Rows.{row_entry}
-use Rattle.spool_store.specs.inside.JobRows.{ListsRows, numbered, row_of}
+use Rattle.spool_store.specs.inside.JobRows.{ListsRows, rows_by_number, row_of}
 use Rattle.spool_store.proofs.TableLemmas.{find_rows, rows_keyed, unnumbered}
 
 -- what is kept of a number tells whether it is decided
@@ -40,10 +40,10 @@ abbrev file_entry : List Mark → Option JobFile → Option JobEntry
 file_entry marks found = option_map (λ (row : Row). (row_entry row).1) (option_map (row_of marks) found)
 
 -- rows tell the entries of their files
-pub rows_tell : (marks : List Mark) (files : List JobFile) (rows : List Row) (number : ℕ) → ListsRows marks files rows → entry_in (map row_entry rows) number ≡ file_entry marks (file_of number files)
+pub rows_tell : (marks : List Mark) (files : List JobFile) (rows : List Row) (number : ℕ) → ListsRows marks files rows → entry_under (map row_entry rows) number ≡ file_entry marks (file_of number files)
 rows_tell marks files rows number lists =
-    ap (λ list. entry_in (map row_entry list) number) (sym (unnumbered rows))
-    ∙ find_rows number (numbered rows) (rows_keyed marks files (numbered rows) lists.are lists.rise)
+    ap (λ list. entry_under (map row_entry list) number) (sym (unnumbered rows))
+    ∙ find_rows number (rows_by_number rows) (rows_keyed marks files (rows_by_number rows) lists.are lists.rise)
     ∙ ap (option_map (λ (row : Row). (row_entry row).1)) (lists.are number)
 
 abbrev queue_in : JobEntry → ℕ

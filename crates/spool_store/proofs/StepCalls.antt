@@ -17,7 +17,7 @@ use Rattle.start_journal.specs.declared.mark.Mark.{Mark}
 use Rattle.start_journal.specs.declared.mark.Mark.TheVariants.{Started}
 use Rattle.start_journal.specs.Changing.{added}
 use Rattle.start_journal.specs.Journals.{JournalRead}
-use Rattle.start_journal.specs.Marks.{AreLegal, decides}
+use Rattle.start_journal.specs.Marks.{AreLegalMarks, decides}
 use Rattle.whole_file.specs.Others.{ChangesFiles}
 use Rattle.step_runs.specs.WithoutScripts.{without_scripts, entry_without_script, job_without_script, step_without_script}
 use Rattle.step_runs.specs.Calls.{IsSteppingOn, StoreCall}
@@ -27,8 +27,8 @@ use Rattle.spool_shows.specs.Laws.{AddsMark}
 use Rattle.host_calls.specs.declared.store_fault.StoreFault.{StoreFault}
 use Rattle.host_calls.specs.declared.store_fault.StoreFault.TheVariants.{FileFault}
 use Rattle.host_calls.specs.StoreFaults.{IsOfStep}
-use Rattle.spool_store.specs.inside.Marking.{HaveOneMore, IsDecisionOf, IsMarkOf, IsMarked, KeepsFiles, kept_with}
-use Rattle.spool_store.specs.Scripts.{IsFileOf}
+use Rattle.spool_store.specs.inside.Marking.{HaveOneMore, IsDecisionOf, IsMarkOf, IsMarkDurable, KeepsFiles, kept_with}
+use Rattle.spool_store.specs.Scripts.{IsLiveFileName}
 use Rattle.spool_store.specs.Stepping.{HasItsMark, MakesStep, with_room}
 use Rattle.spool_store.specs.Stored.{IsStored}
 use Rattle.spool_store.proofs.DecideLemmas.{decided_before_or_by_it, one_more, still_drawn}
@@ -57,7 +57,7 @@ live_on table number job state is = by_entry (entry_at table number) refl where
       record { whole = whole; held = held ∙ ap (λ s. Some (Live whole s)) same_state; same = same_job }
 
 -- the file of a job of the table without scripts is that of the table's job
-file_on : (table : JobTable) (old_form : List ℕ) (number : ℕ) (name : List ℕ) → IsFileOf (without_scripts table) old_form number name → IsFileOf table old_form number name
+file_on : (table : JobTable) (old_form : List ℕ) (number : ℕ) (name : List ℕ) → IsLiveFileName (without_scripts table) old_form number name → IsLiveFileName table old_form number name
 file_on table old_form number name of =
     let live : IsLiveOn table number of.job of.state = live_on table number of.job of.state of.lives in
     record {
@@ -111,7 +111,7 @@ pub record IsDecidingStep (inside surveyed : Kept) (step : Step) (mark : Mark) (
   pub step_of : IsStepOf inside surveyed step mark
   pub number : ℕ
   pub decided : decides number mark ≡ true
-  pub file : IsFileOf surveyed.table surveyed.old_form number name
+  pub file : IsLiveFileName surveyed.table surveyed.old_form number name
 
 -- it is a decision on the table too
 pub decision_of_step : (inside surveyed : Kept) (folder : Folder) (table : JobTable) (step : Step) (mark : Mark) (name : List ℕ) → IsDecidingStep inside surveyed step mark name → IsCurrent surveyed folder table → IsDecisionOf inside.old_form inside.journal folder table step mark name
@@ -120,12 +120,12 @@ decision_of_step inside surveyed folder table step mark name of current = record
   number = of.number;
   decided = of.decided;
   file = file_on table inside.old_form of.number name
-      (subst (λ (kept : Kept). IsFileOf (without_scripts table) kept.old_form of.number name) (sym of.step_of.view)
-      (subst (λ t. IsFileOf t surveyed.old_form of.number name) current.without_scripts_is of.file));
+      (subst (λ (kept : Kept). IsLiveFileName (without_scripts table) kept.old_form of.number name) (sym of.step_of.view)
+      (subst (λ t. IsLiveFileName t surveyed.old_form of.number name) current.without_scripts_is of.file));
 }
 
 -- what is kept then is as it should be
-pub stored_step : (inside surveyed : Kept) (jobs : JobTable) (new : JournalRead) (step : Step) (mark : Mark) → IsStepOf inside surveyed step mark → IsStored inside → AreLegal inside.journal.marks → IsStartInRange step → new ≡ added (with_room inside.journal) mark → jobs ≡ after_step inside.table step → IsStored (record { table = jobs; journal = new; old_form = inside.old_form })
+pub stored_step : (inside surveyed : Kept) (jobs : JobTable) (new : JournalRead) (step : Step) (mark : Mark) → IsStepOf inside surveyed step mark → IsStored inside → AreLegalMarks inside.journal.marks → IsStartInRange step → new ≡ added (with_room inside.journal) mark → jobs ≡ after_step inside.table step → IsStored (record { table = jobs; journal = new; old_form = inside.old_form })
 stored_step inside surveyed jobs new step mark of is legal range made after =
     subst (λ table. IsStored (record { table = table; journal = new; old_form = inside.old_form })) (sym after)
     (stored_with inside new step mark is legal (legal_inside inside surveyed step of.view of.legal) of.adds range (one_more inside.journal new mark made))
@@ -171,7 +171,7 @@ module _ (inside surveyed : Kept) (jobs : JobTable) (new : JournalRead) (table :
   forms_on forms = record { each = forms.each; drawn = λ number is. still_drawn table step number (forms.drawn number is) }
 
   -- a mark that decides nothing leaves no file of a decided number
-  marked_current : AreLegal inside.journal.marks → HaveOneMore inside.journal.marks mark new.marks → ((number : ℕ) → decides number mark ≡ false) → IsMarked inside.journal.marks new after.now.folder (after_step table step) → KeepsFiles before.now.folder after.now.folder → IsCurrent (kept_with inside.old_form new (after_step table step)) after.now.folder (after_step table step)
+  marked_current : AreLegalMarks inside.journal.marks → HaveOneMore inside.journal.marks mark new.marks → ((number : ℕ) → decides number mark ≡ false) → IsMarkDurable inside.journal.marks new after.now.folder (after_step table step) → KeepsFiles before.now.folder after.now.folder → IsCurrent (kept_with inside.old_form new (after_step table step)) after.now.folder (after_step table step)
   marked_current legal more silent marked keeps = record {
     shows = marked.shows;
     without_scripts_is = refl;
@@ -186,7 +186,7 @@ module _ (inside surveyed : Kept) (jobs : JobTable) (new : JournalRead) (table :
   }
 
   -- so a call of such a mark is current after it too
-  pub marked_call : AreLegal inside.journal.marks → new ≡ added (with_room inside.journal) mark → ((number : ℕ) → decides number mark ≡ false) → ChangesFiles (IsSteppingOn table (step ∷ []) before.now.folder) before after → IsMarked inside.journal.marks new after.now.folder (after_step table step) → KeepsFiles before.now.folder after.now.folder → StoreCall {E = StoreFault} table (step ∷ []) before after (Ok (record { table = jobs; journal = new; old_form = inside.old_form }))
+  pub marked_call : AreLegalMarks inside.journal.marks → new ≡ added (with_room inside.journal) mark → ((number : ℕ) → decides number mark ≡ false) → ChangesFiles (IsSteppingOn table (step ∷ []) before.now.folder) before after → IsMarkDurable inside.journal.marks new after.now.folder (after_step table step) → KeepsFiles before.now.folder after.now.folder → StoreCall {E = StoreFault} table (step ∷ []) before after (Ok (record { table = jobs; journal = new; old_form = inside.old_form }))
   marked_call legal made silent files marked keeps = current_call (record {
     files = files;
     current = marked_current legal (one_more inside.journal new mark made) silent marked keeps;

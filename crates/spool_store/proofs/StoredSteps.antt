@@ -18,7 +18,7 @@ use Rattle.start_journal.specs.declared.mark.Mark.{Mark}
 use Rattle.start_journal.specs.declared.mark.Mark.TheVariants as mark
 use Rattle.start_journal.specs.Changing.{compacted}
 use Rattle.start_journal.specs.Journals.{JournalRead, are_drawn, is_drawn}
-use Rattle.start_journal.specs.Marks.{AreLegal, IsLegalAfter, decides, ends, forgets, is_decided, is_ended, is_started, kept_marks, names, starts}
+use Rattle.start_journal.specs.Marks.{AreLegalMarks, IsLegalAfter, decides, is_end_of, is_forgetting, is_decided, is_ended, has_start_of, kept_marks, is_mark_of, is_start_of}
 use Rattle.clock_range.specs.ClockRange.{IsClockSecond}
 use Rattle.std.proofs.lemmas.Bool.{and_from, and_parts, not-true}
 use Rattle.start_journal.proofs.LifeLemmas.{any_with, any_without, ends_decides, none_narrower}
@@ -43,7 +43,7 @@ kept_then kept table journal = record { table = table; journal = journal; old_fo
 -- The mark names the number of the step alone, and with it the marks tell of the number's new entry. All other
 -- entries stay, and the second of the last batch start is in the clock's range.
 record IsStepAt (table : JobTable) (marks : List Mark) (step : Step) (mark : Mark) (number : ℕ) : Type 0 where
-  silent : (other : ℕ) → ¬ (other ≡ number) → names other mark ≡ false
+  silent : (other : ℕ) → ¬ (other ≡ number) → is_mark_of other mark ≡ false
   kept : (other : ℕ) → ¬ (other ≡ number) → entry_at (after_step table step) other ≡ entry_at table other
   here : IsEntryBy (marks ++ mark ∷ []) number (entry_at (after_step table step) number)
   drawn : is_drawn table.last mark ≡ true
@@ -61,9 +61,9 @@ pub record DecidesBy (table : JobTable) (number : ℕ) (fate : Fate) (step : Ste
   pub adds : AddsMark table step mark
   pub without_scripts : step_without_script step ≡ step
   pub after : after_step table step ≡ table_of table.last (map.insert table.entries number (Done fate)) table.last_batch
-  pub named : (other : ℕ) → names other mark ≡ (number == other)
+  pub named : (other : ℕ) → is_mark_of other mark ≡ (number == other)
   pub decided : decides number mark ≡ true
-  pub not_forgets : forgets number mark ≡ false
+  pub not_forgets : is_forgetting number mark ≡ false
   pub drawn : is_drawn table.last mark ≡ nat_le number table.last
   pub in_range : IsStartInRange step
 
@@ -98,13 +98,13 @@ module _ (kept : Kept) (is : IsStored kept) where
 
   -- and none decides it
   live_undecided : (number : ℕ) (job : Job) (state : JobState) → entry_at table number ≡ Some (Live job state) → is_decided number marks ≡ false
-  live_undecided number job Pending held = none_narrower (decides number) (names number) marks (decides_names number) (state_by number job Pending held)
+  live_undecided number job Pending held = none_narrower (decides number) (is_mark_of number) marks (decides_names number) (state_by number job Pending held)
   live_undecided number job (Running second) held = not-true _ (and_parts _ _ (state_by number job (Running second) held)).1
 
   -- so the end of one that runs may follow
-  running_unended : (number : ℕ) (job : Job) (second : ℤ) → entry_at table number ≡ Some (Live job (Running second)) → (is_started number marks ≡ true) × (is_ended number marks ≡ false)
+  running_unended : (number : ℕ) (job : Job) (second : ℤ) → entry_at table number ≡ Some (Live job (Running second)) → (has_start_of number marks ≡ true) × (is_ended number marks ≡ false)
   running_unended number job second held =
-      ((and_parts _ _ (state_by number job (Running second) held)).0, none_narrower (ends number) (decides number) marks (ends_decides number) (live_undecided number job (Running second) held))
+      ((and_parts _ _ (state_by number job (Running second) held)).0, none_narrower (is_end_of number) (decides number) marks (ends_decides number) (live_undecided number job (Running second) held))
 
   -- and so may the mark of any decision
   pub decision_legal : (number : ℕ) (fate : Fate) → IsLegal table (decision number fate) → IsLegalAfter marks (decision_mark number fate)
@@ -127,7 +127,7 @@ module _ (kept : Kept) (is : IsStored kept) where
   }
 
   -- a step that decides a job
-  decided_at : AreLegal marks → (number : ℕ) (fate : Fate) → IsLegal table (decision number fate) → IsStepAt table marks (decision number fate) (decision_mark number fate) number
+  decided_at : AreLegalMarks marks → (number : ℕ) (fate : Fate) → IsLegal table (decision number fate) → IsStepAt table marks (decision number fate) (decision_mark number fate) number
   decided_at legal number fate may =
       let by : DecidesBy table number fate (decision number fate) (decision_mark number fate) = decides_by table number fate in
       let live : IsLive table number = by.lives may in
@@ -136,7 +136,7 @@ module _ (kept : Kept) (is : IsStored kept) where
         kept = λ other differ. ap (λ t. entry_at t other) by.after ∙ get-put_other table.entries number other (Done fate) differ;
         here = subst (IsEntryBy (marks ++ decision_mark number fate ∷ []) number) (sym (ap (λ t. entry_at t number) by.after ∙ get-put_same table.entries number (Done fate)))
             (and_from _ _ (any_with (decides number) marks (decision_mark number fate) by.decided)
-            (ap not (any_without (forgets number) marks (decision_mark number fate) by.not_forgets ∙ not_forgotten marks number legal (live_undecided number live.0 live.1 live.2))));
+            (ap not (any_without (is_forgetting number) marks (decision_mark number fate) by.not_forgets ∙ not_forgotten marks number legal (live_undecided number live.0 live.1 live.2))));
         drawn = by.drawn ∙ number_drawn number (Live live.0 live.1) live.2;
         last = ap (λ (t : JobTable). t.last) by.after;
         batch = subst (λ (t : JobTable). IfSome t.last_batch IsClockSecond) (sym by.after) is.batch;
@@ -165,7 +165,7 @@ module _ (kept : Kept) (is : IsStored kept) where
       let new : IsLiveBy (marks ++ added ∷ []) number job (Running second) = record {
         named = old.named;
         since = range;
-        state_by = and_from _ _ (any_with (starts number) marks added (passes_same number number refl)) (ap not undecided);
+        state_by = and_from _ _ (any_with (is_start_of number) marks added (passes_same number number refl)) (ap not undecided);
       } in
       record {
         silent = silent_other number;
@@ -185,7 +185,7 @@ module _ (kept : Kept) (is : IsStored kept) where
   StepsAtNumber step added = (number : ℕ) × IsStepAt table marks step added number
 
   -- each of the five steps that add a mark is so
-  step_at : (step : Step) (added : Mark) → AreLegal marks → IsLegal table step → AddsMark table step added → IsStartInRange step → StepsAtNumber step added
+  step_at : (step : Step) (added : Mark) → AreLegalMarks marks → IsLegal table step → AddsMark table step added → IsStartInRange step → StepsAtNumber step added
   step_at (Remove number) added legal may adds range =
       subst (StepsAtNumber (Remove number)) (sym adds) (number, decided_at legal number fate.Removed may)
   step_at (Start number second) added legal may (job, held, adds) range =
@@ -199,13 +199,13 @@ module _ (kept : Kept) (is : IsStored kept) where
   step_at _ added legal may adds range = absurd adds
 
   -- what is kept with one mark more is as it should be
-  stored_more : (new : JournalRead) (step : Step) (mark : Mark) → new.marks ≡ marks ++ mark ∷ [] → AreLegal marks → IsLegal table step → AddsMark table step mark → IsStartInRange step → IsStored (kept_then kept (after_step table step) new)
+  stored_more : (new : JournalRead) (step : Step) (mark : Mark) → new.marks ≡ marks ++ mark ∷ [] → AreLegalMarks marks → IsLegal table step → AddsMark table step mark → IsStartInRange step → IsStored (kept_then kept (after_step table step) new)
   stored_more new step mark more legal may adds range =
       let at : StepsAtNumber step mark = step_at step mark legal may adds range in
       stored_at new step mark at.0 more may at.1
 
   -- and so is what a compaction keeps
-  stored_kept : AreLegal marks → IsStored (kept_then kept table (compacted kept.journal))
+  stored_kept : AreLegalMarks marks → IsStored (kept_then kept table (compacted kept.journal))
   stored_kept legal = record {
     sound = is.sound;
     drawn = kept_drawn table.last marks is.drawn;
@@ -215,7 +215,7 @@ module _ (kept : Kept) (is : IsStored kept) where
   }
 
 -- so it is as it should be with one mark more, compacted before or not
-pub stored_with : (kept : Kept) (new : JournalRead) (step : Step) (mark : Mark) → IsStored kept → AreLegal kept.journal.marks → IsLegal kept.table step → AddsMark kept.table step mark → IsStartInRange step → HaveOneMore kept.journal.marks mark new.marks → IsStored (record { table = after_step kept.table step; journal = new; old_form = kept.old_form })
+pub stored_with : (kept : Kept) (new : JournalRead) (step : Step) (mark : Mark) → IsStored kept → AreLegalMarks kept.journal.marks → IsLegal kept.table step → AddsMark kept.table step mark → IsStartInRange step → HaveOneMore kept.journal.marks mark new.marks → IsStored (record { table = after_step kept.table step; journal = new; old_form = kept.old_form })
 stored_with kept new step mark is legal may adds range (inl more) = stored_more kept is new step mark more legal may adds range
 stored_with kept new step mark is legal may adds range (inr more) =
     stored_more (kept_then kept kept.table (compacted kept.journal)) (stored_kept kept is legal) new step mark more (kept_marks_are_legal kept.journal.marks legal) may adds range

@@ -24,7 +24,7 @@ use Rattle.step_runs.specs.Current.{IsCurrent, Kept}
 use Rattle.host_calls.specs.declared.store_fault.StoreFault.{StoreFault}
 use Rattle.spool_store.specs.Listed.{ListsLive}
 use Rattle.spool_store.specs.Stored.{IsStored}
-use Rattle.spool_store.specs.Submitting.{IsFull, IsNextNumber, IsNextOn, IsUsedUp, job_of_script, kept_of, with_job}
+use Rattle.spool_store.specs.Submitting.{IsFull, IsNextNumber, IsNextOn, IsUsedUp, job_of_script, kept_after_submission, with_job}
 use Rattle.spool_model.specs.Lists.{live_count}
 use Rattle.spool_store.proofs.CountLemmas.{rows_counted}
 use Rattle.spool_store.proofs.SurveyedJobLemmas.{user_read}
@@ -48,7 +48,7 @@ header_user script found header read is =
 
 -- What a call leaves, by the answer of the call that files the job.
 
-pub call_failed : (table : JobTable) (steps : List Step) (old new : World) (fault : HostFault) (result : Result (Kept × ℕ) StoreFault) → StoreCall table steps old new (Err fault) → IsErr result → StoreCall table steps old new (kept_of result)
+pub call_failed : (table : JobTable) (steps : List Step) (old new : World) (fault : HostFault) (result : Result (Kept × ℕ) StoreFault) → StoreCall table steps old new (Err fault) → IsErr result → StoreCall table steps old new (kept_after_submission result)
 call_failed table steps old new fault (Ok stored) call failed = let impossible : false ≡ true = failed in cc
 call_failed table steps old new fault (Err other) call failed = record { files = call.files; current = tt; others = tt }
 

@@ -9,8 +9,8 @@ use Rattle.host_calls.proofs.FolderLemmas.{reading_is_image}
 use Rattle.host_calls.specs.World.{World}
 use Rattle.job_name.specs.JobName.{SpellsJobName}
 use Rattle.job_script.specs.HeaderIn.{header_in}
-use Rattle.sequence_file.specs.Drawing.{IsDrawing, IsDrawn}
-use Rattle.sequence_file.specs.Sequence.{Gives as GivesNumber, sequence_file}
+use Rattle.sequence_file.specs.Drawing.{IsDrawing, IsNumberDrawn}
+use Rattle.sequence_file.specs.Sequence.{GivesNumber, sequence_file}
 use Rattle.whole_file.specs.Temporary.{temporary_file}
 use Rattle.spool_model.specs.declared.job.Job.{Job}
 use Rattle.spool_model.specs.JobTable.{JobTable}
@@ -28,7 +28,7 @@ use Rattle.spool_store.proofs.DrawnFolders.{IsAfterDraw, IsFileOfNext, drawing_s
 use Rattle.spool_store.proofs.SubmittedFolders.{IsSubmitted, keeps_others, submitted_current}
 
 -- each image after the draw is one of the start with the next number drawn
-drawn_images : (table : JobTable) (old middle : World) → EachShows old.now.folder table → ChangesFiles (IsDrawing table.last old.now.folder) old middle → IsDrawn (table.last + 1) old.now.folder middle.now.folder → (image : Files) → IsImage middle.now.folder image → IsAfterDraw table old.now.folder image
+drawn_images : (table : JobTable) (old middle : World) → EachShows old.now.folder table → ChangesFiles (IsDrawing table.last old.now.folder) old middle → IsNumberDrawn (table.last + 1) old.now.folder middle.now.folder → (image : Files) → IsImage middle.now.folder image → IsAfterDraw table old.now.folder image
 drawn_images table old middle shows changes drawn image is =
     let drawing : IsDrawing table.last old.now.folder image =
     changes_end (IsDrawing table.last old.now.folder) old middle changes
@@ -89,7 +89,7 @@ module _ (kept : Kept) (table : JobTable) (queue number minute : ℕ) (script : 
       }
 
   -- a placing after a draw
-  pub placing_done : (name : List ℕ) (middle new : World) (result : Result (Unit {0}) HostFault) → SpellsJobName name queue number minute true → IsSome (header_in script) → ChangesFiles (IsDrawing (number - 1) old.now.folder) old middle → IsDrawn (number - 1 + 1) old.now.folder middle.now.folder → ChangesFiles (IsPlacing temporary_file name script middle.now.folder) middle new → OnOk result (IsPlaced temporary_file name script middle.now.folder new.now.folder) → StoreCall table (submission table (job_of_script queue minute script)) old new (with_job_if kept (job_of_script queue minute script) result)
+  pub placing_done : (name : List ℕ) (middle new : World) (result : Result (Unit {0}) HostFault) → SpellsJobName name queue number minute true → IsSome (header_in script) → ChangesFiles (IsDrawing (number - 1) old.now.folder) old middle → IsNumberDrawn (number - 1 + 1) old.now.folder middle.now.folder → ChangesFiles (IsPlacing temporary_file name script middle.now.folder) middle new → OnOk result (IsPlaced temporary_file name script middle.now.folder new.now.folder) → StoreCall table (submission table (job_of_script queue minute script)) old new (with_job_if kept (job_of_script queue minute script) result)
   placing_done name middle new result spelled header draws drawn_at places placed = by_result result placed where
     job : Job
     job = job_of_script queue minute script
@@ -97,8 +97,8 @@ module _ (kept : Kept) (table : JobTable) (queue number minute : ℕ) (script : 
     file : IsFileOfNext table job name
     file = file_of_next name spelled header
 
-    drawn : IsDrawn (table.last + 1) old.now.folder middle.now.folder
-    drawn = subst (λ last. IsDrawn last old.now.folder middle.now.folder) next_is drawn_at
+    drawn : IsNumberDrawn (table.last + 1) old.now.folder middle.now.folder
+    drawn = subst (λ last. IsNumberDrawn last old.now.folder middle.now.folder) next_is drawn_at
 
     after : (image : Files) → IsImage middle.now.folder image → IsAfterDraw table old.now.folder image
     after = drawn_images table old middle next.current.shows (drawing_at middle draws) drawn

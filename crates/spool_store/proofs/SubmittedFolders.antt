@@ -4,14 +4,14 @@ use Rattle.std.specs.Prelude.{Some, None, IsSome}
 use Rattle.std.specs.FinMap as finite
 use Rattle.host_calls.specs.Folder.{Files, Folder, IsImage, reading_of}
 use Rattle.host_calls.proofs.FolderLemmas.{reading_is_image}
-use Rattle.sequence_file.specs.Drawing.{IsDrawn}
+use Rattle.sequence_file.specs.Drawing.{IsNumberDrawn}
 use Rattle.sequence_file.specs.Sequence.{sequence_file}
 use Rattle.whole_file.specs.Temporary.{temporary_file}
 use Rattle.spool_model.specs.declared.job.Job.{Job}
 use Rattle.spool_model.specs.declared.step.Step.TheVariants.{Draw, Accept}
 use Rattle.spool_model.specs.JobTable.{JobTable}
 use Rattle.spool_model.specs.Steps.{after_step, after_steps, submission}
-use Rattle.start_journal.specs.Changing.{Gives}
+use Rattle.start_journal.specs.Changing.{GivesReadJournal}
 use Rattle.start_journal.specs.Journals.{are_drawn, journal_file}
 use Rattle.start_journal.specs.Marks.{is_decided}
 use Rattle.whole_file.specs.Placing.{IsPlaced, IsPlacing}
@@ -40,7 +40,7 @@ without_scripts_submission table job =
 
 -- The folder once the number is drawn and the file placed.
 pub record IsSubmitted (table : JobTable) (job : Job) (name : List ℕ) (old middle new : Folder) : Type 0 where
-  pub drawn : IsDrawn (table.last + 1) old middle
+  pub drawn : IsNumberDrawn (table.last + 1) old middle
   pub placed : IsPlaced temporary_file name job.script middle new
   pub after : (image : Files) → IsImage middle image → IsAfterDraw table old image
   pub placing : (image : Files) → IsImage new image → IsPlacing temporary_file name job.script middle image
@@ -120,7 +120,7 @@ module _ (kept : Kept) (table : JobTable) (job : Job) (name : List ℕ) (file : 
     journal = record {
       certain = is.placed.certain;
       same = λ image of. journal_same image of ∙ sym (journal_same (reading_of new) (reading_is_image new));
-      gives = subst (λ content. Gives content kept.journal) (sym (journal_same (reading_of new) (reading_is_image new))) next.current.journal.gives;
+      gives = subst (λ content. GivesReadJournal content kept.journal) (sym (journal_same (reading_of new) (reading_is_image new))) next.current.journal.gives;
       no_temp = is.placed.no_temp;
     };
     sequence = λ image of. sequence_is image of ∙ sym (sequence_is (reading_of new) (reading_is_image new));

@@ -24,7 +24,7 @@ use Rattle.host_calls.specs.declared.store_fault.StoreFault.TheVariants.{Damaged
 use Rattle.spool_store.specs.declared.surveyed_job.SurveyedJob.{SurveyedJob}
 use Rattle.host_calls.specs.StoreFaults.{IsFound}
 use Rattle.spool_store.specs.inside.SurveyedJobs.{file_surveyed, files_surveyed}
-use Rattle.spool_store.specs.inside.JobRows.{AreRowsOf, IsSurveyedSoFar, IsPut, IsRowOrDamage, IsTaken, RowMap, numbers_after, row_at, row_of}
+use Rattle.spool_store.specs.inside.JobRows.{AreRowsOf, IsSurveyedSoFar, IsRowInserted, IsRowOrDamage, IsTaken, RowMap, surveyed_numbers, row_in_map, row_of}
 use Rattle.start_journal.proofs.LifecycleLemmas.{or_nothing}
 
 -- Keys.
@@ -56,7 +56,7 @@ find_last test (first ∷ before) last = by_test (test first) (find_last test be
   by_test true rest = refl
   by_test false rest = rest
 
-after_last : (before : List ℕ) (files : List JobFile) (file : JobFile) → numbers_after before (files ++ file ∷ []) ≡ file.job.number ∷ numbers_after before files
+after_last : (before : List ℕ) (files : List JobFile) (file : JobFile) → surveyed_numbers before (files ++ file ∷ []) ≡ file.job.number ∷ surveyed_numbers before files
 after_last before [] file = refl
 after_last before (first ∷ files) file = after_last (first.job.number ∷ before) files file
 
@@ -64,7 +64,7 @@ any_of_file : (same : Bool) (found : Option JobFile) (file : JobFile) (rest : Bo
 any_of_file true found file rest = or_true (is_some found)
 any_of_file false found file rest = refl
 
-any_after : (number : ℕ) (before : List ℕ) (files : List JobFile) → list_any (λ other. other == number) (numbers_after before files) ≡ (is_some (file_of number files) || list_any (λ other. other == number) before)
+any_after : (number : ℕ) (before : List ℕ) (files : List JobFile) → list_any (λ other. other == number) (surveyed_numbers before files) ≡ (is_some (file_of number files) || list_any (λ other. other == number) before)
 any_after number before [] = refl
 any_after number before (file ∷ files) =
     any_after number (file.job.number ∷ before) files
@@ -75,7 +75,7 @@ some_row marks None = refl
 some_row marks (Some file) = refl
 
 -- a number is that of one of the files where there is a row under it
-pub rows_have : (marks : List Mark) (files : List JobFile) (rows : RowMap) → AreRowsOf marks files rows → (number : ℕ) → IsTaken (numbers_after [] files) number (is_some (row_at rows number))
+pub rows_have : (marks : List Mark) (files : List JobFile) (rows : RowMap) → AreRowsOf marks files rows → (number : ℕ) → IsTaken (surveyed_numbers [] files) number (is_some (row_in_map rows number))
 rows_have marks files rows are number =
     ap is_some (are number) ∙ some_row marks (file_of number files)
     ∙ sym (any_after number [] files ∙ or_false (is_some (file_of number files)))
@@ -92,21 +92,21 @@ new_number last before file is = by_test (nat_lt last file.job.number || list_an
   by_test false fault none = (neither _ _ fault).1
 
 -- the row that is put stands under the number of its file
-rows_more : (marks : List Mark) (files : List JobFile) (file : JobFile) (rows new : RowMap) (row : Row) → AreRowsOf marks files rows → row ≡ row_of marks file → file_of file.job.number files ≡ None → IsPut rows new row → AreRowsOf marks (files ++ file ∷ []) new
+rows_more : (marks : List Mark) (files : List JobFile) (file : JobFile) (rows new : RowMap) (row : Row) → AreRowsOf marks files rows → row ≡ row_of marks file → file_of file.job.number files ≡ None → IsRowInserted rows new row → AreRowsOf marks (files ++ file ∷ []) new
 rows_more marks files file rows new row are is none updates number =
     by_test (is_at (nat_cmp row.number) number) refl ∙ ap (option_map (row_of marks)) (sym (find_last (λ (f : JobFile). f.job.number == number) files file)) where
       number_same : row.number ≡ file.job.number
       number_same = ap (λ (r : Row). r.number) is
 
-      by_test : (at : Bool) → is_at (nat_cmp row.number) number ≡ at → row_at new number ≡ option_map (row_of marks) (option_or (file_of number files) (cond (file.job.number == number) (Some file) None))
+      by_test : (at : Bool) → is_at (nat_cmp row.number) number ≡ at → row_in_map new number ≡ option_map (row_of marks) (option_or (file_of number files) (cond (file.job.number == number) (Some file) None))
       by_test true at =
           let same : file.job.number ≡ number = sym number_same ∙ key_is row.number number at in
-          updates number ∙ ap (λ b. cond b (Some row) (row_at rows number)) at ∙ ap Some is
+          updates number ∙ ap (λ b. cond b (Some row) (row_in_map rows number)) at ∙ ap Some is
           ∙ sym (ap (λ o. option_map (row_of marks) (option_or o (cond (file.job.number == number) (Some file) None))) (ap (λ n. file_of n files) (sym same) ∙ none)
           ∙ ap (λ b. option_map (row_of marks) (cond b (Some file) None)) (number_passes file.job.number number same))
       by_test false at =
           let differ : (file.job.number == number) ≡ false = ap (λ n. n == number) (sym number_same) ∙ key_differs row.number number at in
-          updates number ∙ ap (λ b. cond b (Some row) (row_at rows number)) at ∙ are number
+          updates number ∙ ap (λ b. cond b (Some row) (row_in_map rows number)) at ∙ are number
           ∙ sym (ap (λ b. option_map (row_of marks) (option_or (file_of number files) (cond b (Some file) None))) differ
           ∙ ap (option_map (row_of marks)) (or_nothing (file_of number files)))
 
@@ -114,12 +114,12 @@ rows_more marks files file rows new row are is none updates number =
 
 -- the damage of the others, with the next of them first
 next_damage : (last : ℕ) (marks : List Mark) (files : List JobFile) (place : ℕ) (rows : RowMap) (file : JobFile) → place < length files → get_or files place file ≡ file → IsSurveyedSoFar last marks files place rows
-    → files_damage last [] files ≡ option_or (damage_of file (file_place last (numbers_after [] (take place files)) file)) (files_damage last (file.job.number ∷ numbers_after [] (take place files)) (drop (place + 1) files))
+    → files_damage last [] files ≡ option_or (damage_of file (file_place last (surveyed_numbers [] (take place files)) file)) (files_damage last (file.job.number ∷ surveyed_numbers [] (take place files)) (drop (place + 1) files))
 next_damage last marks files place rows file inside at so_far =
-    so_far.damage ∙ ap (files_damage last (numbers_after [] (take place files))) (drop_more files place file inside ∙ ap (λ f. f ∷ drop (place + 1) files) at)
+    so_far.damage ∙ ap (files_damage last (surveyed_numbers [] (take place files))) (drop_more files place file inside ∙ ap (λ f. f ∷ drop (place + 1) files) at)
 
 pub so_far_more : (last : ℕ) (marks : List Mark) (files : List JobFile) (place : ℕ) (rows new : RowMap) (file : JobFile) (row : Row) → place < length files → get_or files place file ≡ file → IsSurveyedSoFar last marks files place rows
-    → IsRowOrDamage last (numbers_after [] (take place files)) marks file (Ok row) → IsPut rows new row → IsSurveyedSoFar last marks files (place + 1) new
+    → IsRowOrDamage last (surveyed_numbers [] (take place files)) marks file (Ok row) → IsRowInserted rows new row → IsSurveyedSoFar last marks files (place + 1) new
 so_far_more last marks files place rows new file row inside at so_far whole updates =
     let more : take (place + 1) files ≡ take place files ++ file ∷ [] = take_more files place file inside ∙ ap (λ f. take place files ++ f ∷ []) at in
     let none : file_of file.job.number (take place files) ≡ None =
@@ -127,21 +127,21 @@ so_far_more last marks files place rows new file row inside at so_far whole upda
     record {
       damage =
           next_damage last marks files place rows file inside at so_far
-          ∙ ap (λ p. option_or (damage_of file p) (files_damage last (file.job.number ∷ numbers_after [] (take place files)) (drop (place + 1) files))) whole.0
-          ∙ ap (λ numbers. files_damage last numbers (drop (place + 1) files)) (sym (ap (numbers_after []) more ∙ after_last [] (take place files) file));
+          ∙ ap (λ p. option_or (damage_of file p) (files_damage last (file.job.number ∷ surveyed_numbers [] (take place files)) (drop (place + 1) files))) whole.0
+          ∙ ap (λ numbers. files_damage last numbers (drop (place + 1) files)) (sym (ap (surveyed_numbers []) more ∙ after_last [] (take place files) file));
       rows_are = λ number. rows_more marks (take place files) file rows new row so_far.rows_are whole.1 none updates number ∙ ap (λ fs. option_map (row_of marks) (file_of number fs)) (sym more);
     }
 
 pub so_far_damage : (last : ℕ) (marks : List Mark) (files : List JobFile) (place : ℕ) (rows : RowMap) (file : JobFile) (damage : Damage) → place < length files → get_or files place file ≡ file → IsSurveyedSoFar last marks files place rows
-    → IsRowOrDamage last (numbers_after [] (take place files)) marks file (Err damage) → files_damage last [] files ≡ Some damage
+    → IsRowOrDamage last (surveyed_numbers [] (take place files)) marks file (Err damage) → files_damage last [] files ≡ Some damage
 so_far_damage last marks files place rows file damage inside at so_far fault =
     next_damage last marks files place rows file inside at so_far
-    ∙ ap (λ d. option_or d (files_damage last (file.job.number ∷ numbers_after [] (take place files)) (drop (place + 1) files))) fault
+    ∙ ap (λ d. option_or d (files_damage last (file.job.number ∷ surveyed_numbers [] (take place files)) (drop (place + 1) files))) fault
 
 -- all were surveyed
 pub so_far_all : (last : ℕ) (marks : List Mark) (files : List JobFile) (place : ℕ) (rows : RowMap) → length files ≤ place → IsSurveyedSoFar last marks files place rows → (files_damage last [] files ≡ None) × AreRowsOf marks files rows
 so_far_all last marks files place rows after so_far = (
-  so_far.damage ∙ ap (files_damage last (numbers_after [] (take place files))) (drop_all place files after),
+  so_far.damage ∙ ap (files_damage last (surveyed_numbers [] (take place files))) (drop_all place files after),
   λ number. so_far.rows_are number ∙ ap (λ fs. option_map (row_of marks) (file_of number fs)) (take_all place files after),
 )
 

@@ -30,8 +30,8 @@ use Rattle.step_runs.specs.WithoutScripts.{without_scripts, entries_without_scri
 use Rattle.start_journal.specs.declared.lifecycles.Lifecycle.{Lifecycle}
 use Rattle.start_journal.specs.declared.lifecycles.Lifecycles.{Lifecycles}
 use Rattle.start_journal.specs.Lifecycles.{TellLifecycles, decided_of, fate_at, life_under, remembered_at, remembered_fate, unknown}
-use Rattle.spool_store.specs.inside.Tables.{Rise}
-use Rattle.spool_store.specs.inside.JobRows.{AreRowsOf, IsInOrder, ListsRows, RowMap, numbered, row_of}
+use Rattle.spool_store.specs.inside.Tables.{AreAscending}
+use Rattle.spool_store.specs.inside.JobRows.{AreRowsOf, IsInOrder, ListsRows, RowMap, rows_by_number, row_of}
 use Rattle.spool_store.specs.Rows.{decided_entry, listed_entries, listed_table, row_entry}
 use Rattle.spool_store.proofs.SurveyLemmas.{equal_self, key_is}
 
@@ -166,18 +166,18 @@ rows_keyed marks files rows are ordered key row has =
     row_keyed marks files key row (file_of key files) refl (sym (are key) ∙ entry_found rows key row ordered has)
 
 -- rows, from under their numbers
-pub unnumbered : (rows : List Row) → map (λ (e : ℕ × Row). e.1) (numbered rows) ≡ rows
+pub unnumbered : (rows : List Row) → map (λ (e : ℕ × Row). e.1) (rows_by_number rows) ≡ rows
 unnumbered [] = refl
 unnumbered (row ∷ rows) = ap (λ list. row ∷ list) (unnumbered rows)
 
-renumbered : (rows : RowMap) → ((key : ℕ) (row : Row) → Has rows (key, row) → row.number ≡ key) → numbered (map (λ (e : ℕ × Row). e.1) rows) ≡ rows
+renumbered : (rows : RowMap) → ((key : ℕ) (row : Row) → Has rows (key, row) → row.number ≡ key) → rows_by_number (map (λ (e : ℕ × Row). e.1) rows) ≡ rows
 renumbered [] keyed = refl
 renumbered (entry ∷ rows) keyed = λ i. (keyed entry.0 entry.1 (inl refl) i, entry.1) ∷ renumbered rows (λ key row has. keyed key row (inr has)) i
 
 -- rows under their numbers, in order, are listed
 pub lists_rows : (marks : List Mark) (files : List JobFile) (rows : RowMap) (list : List Row) → AreRowsOf marks files rows → IsInOrder rows → list ≡ map (λ (e : ℕ × Row). e.1) rows → ListsRows marks files list
 lists_rows marks files rows list are rise is =
-    let same : numbered list ≡ rows = ap numbered is ∙ renumbered rows (rows_keyed marks files rows are rise) in
+    let same : rows_by_number list ≡ rows = ap rows_by_number is ∙ renumbered rows (rows_keyed marks files rows are rise) in
     record { are = subst (AreRowsOf marks files) (sym same) are; rise = subst IsInOrder (sym same) rise }
 
 -- The table.
@@ -244,7 +244,7 @@ numbers_are_keys (entry ∷ list) keyed =
     ap (λ n. n ∷ map (λ (row : Row). row.number) (map (λ (e : ℕ × Row). e.1) list)) (keyed entry.0 entry.1 (inl refl))
     ∙ ap (λ ns. entry.0 ∷ ns) (numbers_are_keys list (λ key row has. keyed key row (inr has)))
 
-pub rows_rise : (marks : List Mark) (files : List JobFile) (rows : RowMap) → AreRowsOf marks files rows → IsInOrder rows → Rise (map (λ (row : Row). row.number) (map (λ (e : ℕ × Row). e.1) rows))
+pub rows_rise : (marks : List Mark) (files : List JobFile) (rows : RowMap) → AreRowsOf marks files rows → IsInOrder rows → AreAscending (map (λ (row : Row). row.number) (map (λ (e : ℕ × Row). e.1) rows))
 rows_rise marks files rows are ordered = subst (IsStrictlySortedBy nat_cmp) (sym (numbers_are_keys rows (rows_keyed marks files rows are ordered))) ordered
 
 -- what holds of all keys holds of the decided numbers
@@ -256,11 +256,11 @@ kept_all P (entry ∷ list) all = by_fate (remembered_fate entry.1) (kept_all P 
   by_fate None rest = rest
   by_fate (Some f) rest = (all.0, rest)
 
-pub decided_rise : (list : List (ℕ × Lifecycle)) → IsStrictlySortedBy nat_cmp (map (λ (e : ℕ × Lifecycle). e.0) list) → Rise (map (λ (one : Decided). one.number) (filter_map decided_of list))
+pub decided_rise : (list : List (ℕ × Lifecycle)) → IsStrictlySortedBy nat_cmp (map (λ (e : ℕ × Lifecycle). e.0) list) → AreAscending (map (λ (one : Decided). one.number) (filter_map decided_of list))
 decided_rise [] sorted = rise_none
 decided_rise (entry ∷ list) sorted = by_fate (remembered_fate entry.1) (decided_rise list (sorted_tail nat_cmp _ _ sorted)) where
-  by_fate : (given : Option Fate) → Rise (map (λ (one : Decided). one.number) (filter_map decided_of list))
-      → Rise (map (λ (one : Decided). one.number) (cons_option (option_map (λ f. record { number = entry.0; fate = f }) given) (filter_map decided_of list)))
+  by_fate : (given : Option Fate) → AreAscending (map (λ (one : Decided). one.number) (filter_map decided_of list))
+      → AreAscending (map (λ (one : Decided). one.number) (cons_option (option_map (λ f. record { number = entry.0; fate = f }) given) (filter_map decided_of list)))
   by_fate None rest = rest
   by_fate (Some f) rest = rise_with entry.0 _ (kept_all (λ other. nat_cmp entry.0 other ≡ Less) list (sorted_head nat_cmp _ _ sorted)) rest
 

@@ -11,30 +11,30 @@ use Rattle.whole_file.specs.Placing.{IsPlaced, IsPlacing}
 use Rattle.step_runs.specs.Current.{IsCurrent, IsSpoolName, Kept}
 
 -- a file of this name is none of the store's
-abbrev pub IsBeside : List ℕ → Type 0
-IsBeside name = ¬ (IsSpoolName name)
+abbrev pub IsNoSpoolName : List ℕ → Type 0
+IsNoSpoolName name = ¬ (IsSpoolName name)
 
 -- a file beside the store's is placed: each image shows what the one of the start shows that it comes of
 abbrev pub PlacingsBesideShowTheSame : Type 0
-PlacingsBesideShowTheSame = (temp target bytes : List ℕ) (start : Folder) (image : Files) → IsBeside temp → IsBeside target →
+PlacingsBesideShowTheSame = (temp target bytes : List ℕ) (start : Folder) (image : Files) → IsNoSpoolName temp → IsNoSpoolName target →
     (is : IsPlacing temp target bytes start image) → shown_by image ≡ shown_by is.alone.from
 
 -- files beside the store's are removed: so it does
 abbrev pub ClearingsBesideShowTheSame : Type 0
 ClearingsBesideShowTheSame = (names : List (List ℕ)) (start : Folder) (image : Files) →
-    ((name : List ℕ) → Contains names name → IsBeside name) →
+    ((name : List ℕ) → Contains names name → IsNoSpoolName name) →
     (is : IsClearing names start image) → shown_by image ≡ shown_by is.alone.from
 
 -- a store that is current stays so where a file beside its own was placed
 abbrev pub StoresStayCurrentAfterPlacings : Type 0
 StoresStayCurrentAfterPlacings = (kept : Kept) (table : JobTable) (temp target bytes : List ℕ) (old new : World) →
-    IsBeside temp → IsBeside target → IsCurrent kept old.now.folder table →
+    IsNoSpoolName temp → IsNoSpoolName target → IsCurrent kept old.now.folder table →
     ChangesFiles (IsPlacing temp target bytes old.now.folder) old new →
     IsPlaced temp target bytes old.now.folder new.now.folder → IsCurrent kept new.now.folder table
 
 -- and where files beside its own were removed
 abbrev pub StoresStayCurrentAfterClearings : Type 0
 StoresStayCurrentAfterClearings = (kept : Kept) (table : JobTable) (names : List (List ℕ)) (old new : World) →
-    ((name : List ℕ) → Contains names name → IsBeside name) → IsCurrent kept old.now.folder table →
+    ((name : List ℕ) → Contains names name → IsNoSpoolName name) → IsCurrent kept old.now.folder table →
     ChangesFiles (IsClearing names old.now.folder) old new →
     AreCleared names old.now.folder new.now.folder → IsCurrent kept new.now.folder table

@@ -16,19 +16,19 @@ abbrev pub row_job : Row → Job
 row_job row = record { queue = row.queue; minute = row.minute; user = row.user; script = [] }
 
 -- the numbers of the entries strictly rise
-abbrev pub Rises : List (ℕ × JobEntry) → Type 0
-Rises entries = IsTrue (is_sorted nat_cmp entries)
+abbrev pub AreSortedEntries : List (ℕ × JobEntry) → Type 0
+AreSortedEntries entries = IsTrue (is_sorted nat_cmp entries)
 
 -- the first entry under the number, if there is one
-abbrev pub entry_in : List (ℕ × JobEntry) → ℕ → Option JobEntry
-entry_in entries number = find nat_cmp number entries
+abbrev pub entry_under : List (ℕ × JobEntry) → ℕ → Option JobEntry
+entry_under entries number = find nat_cmp number entries
 
 -- The entries of rows and those of decided numbers: each list in order, no number in both, and each number drawn.
 pub record AreListed (last : ℕ) (live decided : List (ℕ × JobEntry)) : Type 0 where
-  pub live_rise : Rises live
-  pub decided_rise : Rises decided
-  pub apart : (number : ℕ) → IsSome (entry_in live number) → entry_in decided number ≡ None
-  pub drawn : (number : ℕ) → IsSome (entry_in (live ++ decided) number) → (1 ≤ number) × (number ≤ last)
+  pub live_rise : AreSortedEntries live
+  pub decided_rise : AreSortedEntries decided
+  pub apart : (number : ℕ) → IsSome (entry_under live number) → entry_under decided number ≡ None
+  pub drawn : (number : ℕ) → IsSome (entry_under (live ++ decided) number) → (1 ≤ number) × (number ≤ last)
 
 -- a live job is under the number
 abbrev pub IsLive : JobTable → ℕ → Type 0
@@ -41,19 +41,19 @@ pub record IsRowOf (table : JobTable) (number : ℕ) (row : Row) : Type 0 where
 
 -- The rows are those of the table's live jobs, in order.
 pub record ListsLive (table : JobTable) (rows : List Row) : Type 0 where
-  pub rise : Rises (map row_entry rows)
+  pub rise : AreSortedEntries (map row_entry rows)
   pub each : (row : Row) → Contains rows row → entry_at table row.number ≡ Some (row_entry row).1
   pub all : (number : ℕ) (job : Job) (state : JobState) → entry_at table number ≡ Some (Live job state)
       → (row : Row) × Contains rows row × (row_entry row ≡ (number, Live job state))
 
 -- These are the table's decided numbers, in order.
 pub record ListsDecided (table : JobTable) (decided : List Decided) : Type 0 where
-  pub rise : Rises (map decided_entry decided)
+  pub rise : AreSortedEntries (map decided_entry decided)
   pub each : (done : Decided) → Contains decided done → entry_at table done.number ≡ Some (Done done.fate)
   pub all : (number : ℕ) (fate : Fate) → entry_at table number ≡ Some (Done fate)
       → (done : Decided) × Contains decided done × (decided_entry done ≡ (number, Done fate))
 
 -- The new list, in order, is the old one but for what it has under the number.
 pub record IsEdited (old new : List (ℕ × JobEntry)) (number : ℕ) (put : Option JobEntry) : Type 0 where
-  pub rise : Rises new
-  pub finds : (other : ℕ) → entry_in new other ≡ (if nat_eq other number then put else entry_in old other)
+  pub rise : AreSortedEntries new
+  pub finds : (other : ℕ) → entry_under new other ≡ (if nat_eq other number then put else entry_under old other)

@@ -1,7 +1,7 @@
 -- Calls of the store that make steps one after another (own): when they may be made, and what comes of it.
 use Rattle.std.specs.Prelude.{◌≡◌, ◌≤◌, [], ◌∷◌, ℕ, Bool, true, List, Result, Ok, Err, IfOk, IfErr, drop, length, take}
 use Rattle.host_calls.specs.Session.{CallsInside, IsInside, Session}
-use Rattle.host_calls.specs.World.{GoesOn, World}
+use Rattle.host_calls.specs.World.{TimePasses, World}
 use Rattle.spool_model.specs.declared.step.Step.{Step}
 use Rattle.spool_model.specs.declared.step.Step.TheVariants.{Remove, End, Interrupt, Forget}
 use Rattle.spool_model.specs.JobTable.{JobTable}
@@ -47,6 +47,6 @@ pub record MakesSteps (tells : Bool) (before after : Session) (old new : World) 
   pub begun : ℕ
   pub few : made ≤ length steps
   pub all : IfOk result (λ store. made ≡ length steps)
-  pub goes_on : tells ≡ true → GoesOn old new
+  pub goes_on : tells ≡ true → TimePasses old new
   pub files : tells ≡ true → (table : JobTable) → IsCurrent kept old.now.folder table →
       MakingEnds table steps made begun old new result

@@ -11,7 +11,7 @@ use Rattle.spool_model.specs.JobTable.{JobState, JobTable, entry_at}
 use Rattle.step_runs.specs.Current.{is_new_form}
 
 -- the name is that of the live job's file, in the form that is kept for its number
-pub record IsFileOf (table : JobTable) (old_form : List ℕ) (number : ℕ) (name : List ℕ) : Type 0 where
+pub record IsLiveFileName (table : JobTable) (old_form : List ℕ) (number : ℕ) (name : List ℕ) : Type 0 where
   pub job : Job
   pub state : JobState
   pub lives : entry_at table number ≡ Some (Live job state)

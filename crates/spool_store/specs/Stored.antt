@@ -9,7 +9,7 @@ use Rattle.spool_model.specs.declared.state.State.TheVariants.{Pending, Running}
 use Rattle.spool_model.specs.JobTable.{IsSound, JobEntry, entry_at}
 use Rattle.start_journal.specs.declared.mark.Mark.{Mark}
 use Rattle.start_journal.specs.Journals.{are_drawn}
-use Rattle.start_journal.specs.Marks.{is_named, is_open, is_remembered}
+use Rattle.start_journal.specs.Marks.{has_mark_of, is_open, is_remembered}
 use Rattle.clock_range.specs.ClockRange.{IsClockMinute, IsClockSecond}
 use Rattle.step_runs.specs.Current.{Kept, is_new_form}
 use Rattle.spool_model.specs.Numbers.{number_digits}
@@ -27,7 +27,7 @@ RunsSince (Running second) = IsClockSecond second
 -- the marks that tell of a live job in this state: none names one that is pending, and one that runs was
 -- started and not decided
 abbrev pub IsStateBy : List Mark → ℕ → State → Type 0
-IsStateBy marks number Pending = is_named number marks ≡ false
+IsStateBy marks number Pending = has_mark_of number marks ≡ false
 IsStateBy marks number (Running second) = is_open number marks ≡ true
 
 -- a live job can have a file, and the marks tell of its state

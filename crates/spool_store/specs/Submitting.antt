@@ -72,9 +72,9 @@ with_job_if kept job (Ok done) = Ok (with_job kept job)
 with_job_if kept job (Err fault) = Err fault
 
 -- what a store keeps after a submission, by its answer
-abbrev pub kept_of : Result (Kept × ℕ) StoreFault → Result Kept StoreFault
-kept_of (Ok stored) = Ok stored.0
-kept_of (Err fault) = Err fault
+abbrev pub kept_after_submission : Result (Kept × ℕ) StoreFault → Result Kept StoreFault
+kept_after_submission (Ok stored) = Ok stored.0
+kept_after_submission (Err fault) = Err fault
 
 -- The answer of a submission on a table: the queue is full exactly where it has no room, and the numbers are
 -- used up exactly where it has room and no number. No damage is answered.

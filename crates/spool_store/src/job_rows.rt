@@ -55,12 +55,12 @@ fn rising_rows(
         }
         let row = row_of(last, false, lives, file)?;
         above = row.number;
-        add(&mut rows, row)?;
+        add_row(&mut rows, row)?;
     }
     Ok(Some(rows))
 }
 
-fn add(rows: &mut Vec<Row>, row: Row) -> Result<(), AllocError>
+fn add_row(rows: &mut Vec<Row>, row: Row) -> Result<(), AllocError>
     ensures { OnOk result (rows.new.items ≡ rows.old.items ++ row ∷ []) }
 {
     rows.push(row)?;
@@ -105,7 +105,7 @@ fn rows_of_files(
     let mut rows = BTreeMap::new(alloc);
     for file in surveyed {
         let row = row_of(last, rows.contains_key(&file.job.number), lives, file)?;
-        put(&mut rows, row)?;
+        put_row(&mut rows, row)?;
     }
     Ok(rows)
 }
@@ -140,7 +140,7 @@ fn state_of(started: Option<i64>) -> State
     }
 }
 
-fn put(rows: &mut BTreeMap<u32, Row>, row: Row) -> Result<(), AllocError>
+fn put_row(rows: &mut BTreeMap<u32, Row>, row: Row) -> Result<(), AllocError>
     ensures { OnOk result (Updates nat_cmp rows.old rows.new row.number (Some row)) }
 {
     rows.insert(row.number, row)?;

@@ -35,7 +35,7 @@ impl Model for Jobs {
     ghost use Rattle.spool_model.specs.Codes.{table_code};
     ghost use Rattle.spool_model.specs.JobTable.{JobTable};
     ghost use Rattle.spool_store.specs.Rows.{listed_table};
-    ghost use Rattle.spool_store.specs.inside.Lined.{AreKept};
+    ghost use Rattle.spool_store.specs.inside.Lined.{AreRowsKept};
 
     ghost Value = { JobTable };
 
@@ -43,7 +43,7 @@ impl Model for Jobs {
 
     ghost view = { λ jobs. listed_table jobs.last jobs.rows.items jobs.decided.items jobs.last_batch };
 
-    ghost invariant = { λ jobs. AreKept jobs.last jobs.rows.items jobs.decided.items jobs.lines };
+    ghost invariant = { λ jobs. AreRowsKept jobs.last jobs.rows.items jobs.decided.items jobs.lines };
 }
 
 impl Jobs {

@@ -5,12 +5,12 @@ ghost use Rattle.spool_model.specs.declared.step.Step.{Step};
 ghost use Rattle.spool_model.specs.JobTable.{JobTable};
 ghost use Rattle.spool_model.specs.Steps.{after_step};
 ghost use Rattle.start_journal.specs.Changing.{added};
-ghost use Rattle.start_journal.specs.Marks.{AreLegal, IsLegalAfter};
+ghost use Rattle.start_journal.specs.Marks.{AreLegalMarks, IsLegalAfter};
 ghost use Rattle.start_journal.specs.Slots.{IsWritable};
 ghost use Rattle.whole_file.specs.Others.{ChangesFiles};
 ghost use Rattle.step_runs.specs.Calls.{IsSteppingOn, StoreCall};
 ghost use Rattle.step_runs.specs.Current.{IsCurrent};
-ghost use Rattle.spool_store.specs.inside.Marking.{IsDecisionOf, IsMarkOf, IsMarked, KeepsFiles, kept_by, kept_with};
+ghost use Rattle.spool_store.specs.inside.Marking.{IsDecisionOf, IsMarkOf, IsMarkDurable, KeepsFiles, kept_by, kept_with};
 ghost use Rattle.spool_store.specs.Stepping.{needs_room, with_room};
 
 use host_calls::{Host, HostFault, Name};
@@ -31,7 +31,7 @@ pub(crate) fn add_mark<H: Host>(
     requires current { IsTrue H.tells → (old_form : List ℕ) × (table : JobTable)
         × (step : Step) × IsMarkOf old_form journal (H.world host.old).now.folder table step mark }
     ensures inside { CallsInside HostFault.Failed (H.session host.old) (H.session host.new) result }
-    ensures legal { AreLegal journal.marks }
+    ensures legal { AreLegalMarks journal.marks }
     ensures journal { IfOk result (λ new. new ≡ added (with_room journal) mark) }
     ensures files { IsTrue H.tells → (old_form : List ℕ) (table : JobTable) (step : Step)
         → IsMarkOf old_form journal (H.world host.old).now.folder table step mark
@@ -39,11 +39,11 @@ pub(crate) fn add_mark<H: Host>(
         (H.world host.old) (H.world host.new) }
     ensures marked { IsTrue H.tells → (old_form : List ℕ) (table : JobTable) (step : Step)
         → IsMarkOf old_form journal (H.world host.old).now.folder table step mark
-        → IfOk result (λ new. IsMarked journal.marks new (H.world host.new).now.folder (after_step table step)) }
+        → IfOk result (λ new. IsMarkDurable journal.marks new (H.world host.new).now.folder (after_step table step)) }
     ensures others { IsTrue H.tells
         → OnOk result (KeepsFiles (H.world host.old).now.folder (H.world host.new).now.folder) }
 {
-    let journal = make_room(alloc, host, journal)?;
+    let journal = with_free_slot(alloc, host, journal)?;
     journal.add(alloc, host, mark)
 }
 
@@ -58,7 +58,11 @@ fn needs_room(alloc: Global, journal: &Journal) -> Result<bool, AllocError>
 }
 
 // A journal with a free slot, of which what counts is not less than half.
-fn make_room<H: Host>(alloc: Global, host: &mut H, journal: Journal) -> Result<Journal, HostFault>
+fn with_free_slot<H: Host>(
+    alloc: Global,
+    host: &mut H,
+    journal: Journal,
+) -> Result<Journal, HostFault>
     requires inside { IsInside (H.session host.old) }
     requires current { IsTrue H.tells → (old_form : List ℕ) × (table : JobTable)
         × IsCurrent (kept_with old_form journal table) (H.world host.old).now.folder table }
@@ -66,7 +70,7 @@ fn make_room<H: Host>(alloc: Global, host: &mut H, journal: Journal) -> Result<J
     ensures room { IfOk result (λ new. 1 ≤ new.free) }
     ensures journal { IfOk result (λ new. new ≡ with_room journal) }
     ensures untouched { needs_room journal ≡ false → host.new ≡ host.old }
-    ensures legal { AreLegal journal.marks }
+    ensures legal { AreLegalMarks journal.marks }
     ensures files { IsTrue H.tells → (old_form : List ℕ) (table : JobTable)
         → IsCurrent (kept_with old_form journal table) (H.world host.old).now.folder table
         → ChangesFiles (IsSteppingOn table [] (H.world host.old).now.folder) (H.world host.old) (H.world host.new) }
@@ -85,7 +89,7 @@ fn make_room<H: Host>(alloc: Global, host: &mut H, journal: Journal) -> Result<J
 }
 
 // Adds the mark that decides a job, and then removes the job's file.
-pub(crate) fn decide<H: Host>(
+pub(crate) fn decide_job<H: Host>(
     alloc: Global,
     host: &mut H,
     journal: Journal,
@@ -98,7 +102,7 @@ pub(crate) fn decide<H: Host>(
     requires current { IsTrue H.tells → (old_form : List ℕ) × (table : JobTable)
         × (step : Step) × IsDecisionOf old_form journal (H.world host.old).now.folder table step mark file.now }
     ensures inside { CallsInside HostFault.Failed (H.session host.old) (H.session host.new) result }
-    ensures legal { AreLegal journal.marks }
+    ensures legal { AreLegalMarks journal.marks }
     ensures journal { IfOk result (λ new. new ≡ added (with_room journal) mark) }
     ensures files { IsTrue H.tells → (old_form : List ℕ) (table : JobTable) (step : Step)
         → IsDecisionOf old_form journal (H.world host.old).now.folder table step mark file.now

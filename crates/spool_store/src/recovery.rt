@@ -5,10 +5,10 @@ ghost use Rattle.host_calls.specs.World.{reading};
 ghost use Rattle.whole_file.specs.Others.{ChangesFiles};
 ghost use Rattle.step_runs.specs.Calls.{ShowsAsBefore};
 ghost use Rattle.host_calls.specs.Damages.{IfDamaged};
-ghost use Rattle.host_calls.specs.StoreFaults.{IsOfReading};
+ghost use Rattle.host_calls.specs.StoreFaults.{IsReadingFault};
 ghost use Rattle.spool_store.specs.Recovering.{Recovered, ShowsAsBeforeNewFormNames};
 
-use crate::survey::{Survey, take_survey};
+use crate::survey::{RecoveryScan, scan_folder};
 use crate::{Store, StoreFault};
 use host_calls::Host;
 use std::alloc::Global;
@@ -20,7 +20,7 @@ impl Store {
     pub fn recover<H: Host>(alloc: Global, host: &mut H) -> Result<Store, StoreFault>
         requires { IsInside (H.session host.old) }
         ensures inside { CallsInside StoreFault.FileFault (H.session host.old) (H.session host.new) result }
-        ensures of_reading { IfErr result IsOfReading }
+        ensures of_reading { IfErr result IsReadingFault }
         ensures files { IsTrue H.tells
             → ChangesFiles (ShowsAsBefore (H.world host.old).now.folder) (H.world host.old) (H.world host.new) }
         ensures recovered { IsTrue H.tells
@@ -32,12 +32,12 @@ impl Store {
     {
         // What others left unsynced could still vanish: only after this is the reading all that a crash leaves.
         host.settle(alloc)?;
-        let Survey {
+        let RecoveryScan {
             jobs,
             journal,
             old_form,
             leftover,
-        } = take_survey(alloc, host)?;
+        } = scan_folder(alloc, host)?;
         clear(alloc, host, leftover.as_slice())?;
         Ok(Store {
             jobs,

@@ -5,7 +5,7 @@ ghost use Rattle.host_calls.specs.Session.{CallsInside, IsInside};
 ghost use Rattle.spool_model.specs.JobTable.{JobTable};
 ghost use Rattle.step_runs.specs.Current.{IsCurrent};
 ghost use Rattle.spool_store.specs.Listed.{IsLive};
-ghost use Rattle.spool_store.specs.Scripts.{HoldsScript, IsFileOf, IsHeaderOn, IsScriptOf};
+ghost use Rattle.spool_store.specs.Scripts.{HoldsScript, IsLiveFileName, IsHeaderOn, IsScriptOf};
 
 use crate::Store;
 use host_calls::{Bytes, Host, HostFault, Name};
@@ -16,7 +16,7 @@ use std::alloc::Global;
 impl Store {
     /// The name of the live job's file, which holds its script. None where no live job has the number.
     pub fn file(&self, number: u32) -> Option<Name>
-        ensures found { IfSome result (IsFileOf self.now.table self.now.old_form number) }
+        ensures found { IfSome result (IsLiveFileName self.now.table self.now.old_form number) }
         ensures absent { IfNone result (IsLive self.now.table number → ⊥) }
         ensures holds { (folder : Folder) (table : JobTable) → IsCurrent self.now folder table
             → IfSome result (HoldsScript table folder number) }

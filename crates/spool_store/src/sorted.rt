@@ -3,7 +3,7 @@ ghost use Rattle.std.specs.Prelude.{◌∷◌, [], ◌≡◌, ◌≤◌, ◌<◌
 ghost use Rattle.std.specs.List.Sorted.{IsPartitionPoint};
 ghost use Rattle.spool_model.specs.declared.entry.Entry.TheVariants.{Live, Done};
 ghost use Rattle.spool_model.specs.declared.state.State.TheVariants.{Running};
-ghost use Rattle.spool_store.specs.Listed.{IsEdited, Rises, entry_in, row_job};
+ghost use Rattle.spool_store.specs.Listed.{IsEdited, AreSortedEntries, entry_under, row_job};
 ghost use Rattle.spool_store.specs.Rows.{decided_entry, row_entry};
 ghost use Rattle.spool_store.specs.inside.Lined.{IsRowPut, running};
 
@@ -12,7 +12,7 @@ use std::alloc::AllocError;
 
 // How many rows have a smaller number: the place of the row of this number.
 pub(crate) fn row_place(rows: &[Row], number: u32) -> usize
-    requires { Rises (map row_entry rows.now) }
+    requires { AreSortedEntries (map row_entry rows.now) }
     ensures bound { result ≤ length rows.now }
     ensures place { IsPartitionPoint (λ row. row.number < number) (λ row. number ≤ row.number) rows.now result }
 {
@@ -21,9 +21,9 @@ pub(crate) fn row_place(rows: &[Row], number: u32) -> usize
 
 // The row of this number.
 pub(crate) fn row_of_number(rows: &[Row], number: u32) -> Option<&Row>
-    requires { Rises (map row_entry rows.now) }
-    ensures found { IfSome result (λ row. entry_in (map row_entry rows.now) number ≡ Some (row_entry row.now).1) }
-    ensures absent { IfNone result (entry_in (map row_entry rows.now) number ≡ None) }
+    requires { AreSortedEntries (map row_entry rows.now) }
+    ensures found { IfSome result (λ row. entry_under (map row_entry rows.now) number ≡ Some (row_entry row.now).1) }
+    ensures absent { IfNone result (entry_under (map row_entry rows.now) number ≡ None) }
 {
     let row = rows.get(row_place(rows, number))?;
     if row.number == number {
@@ -35,7 +35,7 @@ pub(crate) fn row_of_number(rows: &[Row], number: u32) -> Option<&Row>
 
 // How many decided numbers are smaller: the place of this number.
 pub(crate) fn decided_place(decided: &[Decided], number: u32) -> usize
-    requires { Rises (map decided_entry decided.now) }
+    requires { AreSortedEntries (map decided_entry decided.now) }
     ensures bound { result ≤ length decided.now }
     ensures place { IsPartitionPoint (λ done. done.number < number) (λ done. number ≤ done.number) decided.now result }
 {
@@ -44,8 +44,8 @@ pub(crate) fn decided_place(decided: &[Decided], number: u32) -> usize
 
 // Takes the row of this number out, and gives it.
 pub(crate) fn remove_row(rows: &mut Vec<Row>, number: u32) -> Row
-    requires order { Rises (map row_entry rows.old.items) }
-    requires present { IsSome (entry_in (map row_entry rows.old.items) number) }
+    requires order { AreSortedEntries (map row_entry rows.old.items) }
+    requires present { IsSome (entry_under (map row_entry rows.old.items) number) }
     ensures edited { IsEdited (map row_entry rows.old.items) (map row_entry rows.new.items) number None }
     ensures taken { IsRowPut rows.old.items result [] rows.new.items }
 {
@@ -55,9 +55,9 @@ pub(crate) fn remove_row(rows: &mut Vec<Row>, number: u32) -> Row
 
 // Brings the row of this number to running since this second, and gives it as it was.
 pub(crate) fn start_row(rows: &mut Vec<Row>, number: u32, second: i64) -> Row
-    requires order { Rises (map row_entry rows.old.items) }
-    requires present { IsSome (entry_in (map row_entry rows.old.items) number) }
-    ensures was { entry_in (map row_entry rows.old.items) number ≡ Some (row_entry result).1 }
+    requires order { AreSortedEntries (map row_entry rows.old.items) }
+    requires present { IsSome (entry_under (map row_entry rows.old.items) number) }
+    ensures was { entry_under (map row_entry rows.old.items) number ≡ Some (row_entry result).1 }
     ensures started { IsEdited (map row_entry rows.old.items) (map row_entry rows.new.items) number
         (Some (Live (row_job result) (Running second))) }
     ensures put { IsRowPut rows.old.items result (running result second ∷ []) rows.new.items }
@@ -73,8 +73,8 @@ pub(crate) fn start_row(rows: &mut Vec<Row>, number: u32, second: i64) -> Row
 
 // Puts a number that is not there among the decided ones.
 pub(crate) fn insert_decided(decided: &mut Vec<Decided>, done: Decided) -> Result<(), AllocError>
-    requires order { Rises (map decided_entry decided.old.items) }
-    requires absent { entry_in (map decided_entry decided.old.items) done.number ≡ None }
+    requires order { AreSortedEntries (map decided_entry decided.old.items) }
+    requires absent { entry_under (map decided_entry decided.old.items) done.number ≡ None }
     ensures ok { OnOk result (IsEdited (map decided_entry decided.old.items) (map decided_entry decided.new.items)
         done.number (Some (Done done.fate))) }
     ensures err { OnErr result (decided.new.items ≡ decided.old.items) }
@@ -86,8 +86,8 @@ pub(crate) fn insert_decided(decided: &mut Vec<Decided>, done: Decided) -> Resul
 
 // Takes this number out of the decided ones.
 pub(crate) fn remove_decided(decided: &mut Vec<Decided>, number: u32)
-    requires order { Rises (map decided_entry decided.old.items) }
-    requires present { IsSome (entry_in (map decided_entry decided.old.items) number) }
+    requires order { AreSortedEntries (map decided_entry decided.old.items) }
+    requires present { IsSome (entry_under (map decided_entry decided.old.items) number) }
     ensures { IsEdited (map decided_entry decided.old.items) (map decided_entry decided.new.items) number None }
 {
     let place = decided_place(decided, number);

@@ -5,7 +5,7 @@ ghost use Rattle.clock_range.specs.ClockRange.{IsClockSecond};
 ghost use Rattle.spool_shows.specs.Deciding.{decision, decision_mark};
 ghost use Rattle.spool_store.specs.Stepping.{MakesStep, MayStep};
 
-use crate::mark::{add_mark, decide};
+use crate::mark::{add_mark, decide_job};
 use crate::{Store, StoreFault};
 use host_calls::{Ending, Host};
 use spool_model::Fate;
@@ -112,7 +112,7 @@ impl Store {
         let file = self.file(number).unwrap();
         let mark = decision_mark(number, fate);
         self.jobs.decide(number, fate)?;
-        self.journal = decide(alloc, host, self.journal, mark, &file)?;
+        self.journal = decide_job(alloc, host, self.journal, mark, &file)?;
         Ok(self)
     }
 }

@@ -9,7 +9,7 @@ ghost use Rattle.spool_model.specs.Steps.{after_steps, submission};
 ghost use Rattle.step_runs.specs.WithoutScripts.{job_without_script};
 ghost use Rattle.step_runs.specs.Calls.{StoreCall};
 ghost use Rattle.step_runs.specs.Current.{IsCurrent, Kept};
-ghost use Rattle.spool_store.specs.Submitting.{HasNewFormFile, IsAnswerOn, IsNextNumber, IsNextOn, IsRefusal, job_of_script, kept_of, with_job_if};
+ghost use Rattle.spool_store.specs.Submitting.{HasNewFormFile, IsAnswerOn, IsNextNumber, IsNextOn, IsRefusal, job_of_script, kept_after_submission, with_job_if};
 
 use crate::{Store, StoreFault};
 use host_calls::{Host, HostFault};
@@ -45,7 +45,7 @@ impl Store {
             (submission self.table (job_without_script (job_of_script queue minute script.now)))) }
         ensures files { IsTrue H.tells → (table : JobTable) → IsCurrent self (H.world host.old).now.folder table
             → StoreCall table (submission table (job_of_script queue minute script.now))
-            (H.world host.old) (H.world host.new) (kept_of result) }
+            (H.world host.old) (H.world host.new) (kept_after_submission result) }
         ensures named { IsTrue H.tells → IfOk result (λ stored. HasNewFormFile (H.world host.new).now.folder
             queue minute script.now stored.1) }
     {

@@ -13,11 +13,11 @@ impl Store {
     {
         let decided = self.decided();
         let count = decided.len().saturating_sub(MAX_DONE);
-        numbers_of(alloc, &decided[..count])
+        numbers_of_decided(alloc, &decided[..count])
     }
 }
 
-fn numbers_of(alloc: Global, decided: &[Decided]) -> Result<Vec<u32>, AllocError>
+fn numbers_of_decided(alloc: Global, decided: &[Decided]) -> Result<Vec<u32>, AllocError>
     ensures { IfOk result (λ numbers. numbers.items ≡ map (λ done. done.number) decided.now) }
 {
     decided.iter().map(|done| done.number).collect(alloc)

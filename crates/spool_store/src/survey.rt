@@ -4,7 +4,7 @@ ghost use Rattle.host_calls.specs.Session.{CallsInside, IsInside};
 ghost use Rattle.host_calls.specs.World.{reading};
 ghost use Rattle.spool_shows.specs.Shown.{shown_by};
 ghost use Rattle.host_calls.specs.Damages.{IfDamaged};
-ghost use Rattle.host_calls.specs.StoreFaults.{IsOfReading};
+ghost use Rattle.host_calls.specs.StoreFaults.{IsReadingFault};
 ghost use Rattle.spool_store.specs.inside.Survey.{IsSurvey};
 ghost use Rattle.spool_store.specs.Stored.{IsStored};
 
@@ -19,7 +19,7 @@ use std::alloc::Global;
 
 // What is read of a folder that shows a table.
 #[derive(Drop)]
-pub(crate) struct Survey {
+pub(crate) struct RecoveryScan {
     pub(crate) jobs: Jobs,
     pub(crate) journal: Journal,
     /// The numbers of the files that count and have names in the old form.
@@ -29,10 +29,10 @@ pub(crate) struct Survey {
 }
 
 // The table that the folder shows, with its journal and the names of the files that count no more.
-pub(crate) fn take_survey<H: Host>(alloc: Global, host: &mut H) -> Result<Survey, StoreFault>
+pub(crate) fn scan_folder<H: Host>(alloc: Global, host: &mut H) -> Result<RecoveryScan, StoreFault>
     requires { IsInside (H.session host.old) }
     ensures inside { CallsInside StoreFault.FileFault (H.session host.old) (H.session host.new) result }
-    ensures of_reading { IfErr result IsOfReading }
+    ensures of_reading { IfErr result IsReadingFault }
     ensures looks { IsTrue H.tells → H.world host.new ≡ H.world host.old }
     ensures stored { IfOk result (λ survey. IsStored
         (record { table = survey.jobs; journal = survey.journal; old_form = survey.old_form.items })) }
@@ -45,7 +45,7 @@ pub(crate) fn take_survey<H: Host>(alloc: Global, host: &mut H) -> Result<Survey
     let SurveyedFiles { surveyed, leftover } = survey_files(alloc, host, &lives)?;
     let jobs = jobs_shown(alloc, number, journal.marks(), &lives, surveyed.as_slice())?;
     let old_form = old_form_numbers(alloc, surveyed.as_slice())?;
-    Ok(Survey {
+    Ok(RecoveryScan {
         jobs,
         journal,
         old_form,

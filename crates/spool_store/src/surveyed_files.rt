@@ -106,7 +106,7 @@ fn survey_file<H: Host>(
         → OnOk result (surveyed_files.new.leftover.items
         ≡ surveyed_files.old.leftover.items ++ (if is_left_over marks name then name ∷ [] else [])) }
 {
-    match kind_of(lives, name) {
+    match kind_of_name(lives, name) {
         Kind::Counts(job) => {
             let prefix = Bytes::from(host.read(alloc, &name, 0, MAX_HEADER)?);
             surveyed_files.add(SurveyedJob { name, job, prefix })?;
@@ -133,7 +133,7 @@ pub(crate) fn old_form_numbers(
     Ok(numbers)
 }
 
-fn kind_of(lives: &Lifecycles, name: Name) -> Kind
+fn kind_of_name(lives: &Lifecycles, name: Name) -> Kind
     ensures { (marks : List Mark) → TellLifecycles marks lives.now → IsKind marks name result }
 {
     match JobName::read(name.as_bytes()) {

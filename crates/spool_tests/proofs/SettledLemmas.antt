@@ -6,8 +6,8 @@ use Rattle.host_calls.specs.declared.fault.HostFault.{HostFault}
 use Rattle.host_calls.specs.Folder.{Files, Folder, IsImage, IsInNoImage, IsSettled, IsSyncedInPart, reading_of}
 use Rattle.host_calls.specs.World.{FileCall, World, reading}
 use Rattle.host_calls.proofs.FolderLemmas.{settled_image, reading_of-settled}
-use Rattle.sequence_file.specs.Drawing.{EachGives}
-use Rattle.sequence_file.specs.Sequence.{Gives, sequence_file}
+use Rattle.sequence_file.specs.Drawing.{EachGivesNumber}
+use Rattle.sequence_file.specs.Sequence.{GivesNumber, sequence_file}
 use Rattle.start_journal.specs.Changing.{HoldsJournal}
 use Rattle.start_journal.specs.Journals.{JournalRead, journal_file, journal_in}
 use Rattle.whole_file.specs.Temporary.{temporary_file}
@@ -28,9 +28,9 @@ absent old settled_world new name call same none = subst (λ world. IsInNoImage 
     (λ image is. ap (λ files. finite.get files name) (only_reading old settled_world call image is) ∙ sym none)
 
 -- the number that the sequence file reads as is that of every image
-pub each_gives : (old settled_world new : World) (number : ℕ) → FileCall IsSettled IsSyncedInPart old settled_world done_ok → new ≡ settled_world → Gives (finite.get (reading settled_world) sequence_file) number → EachGives number new.now.folder
-each_gives old settled_world new number call same gives = subst (λ world. EachGives number world.now.folder) (sym same)
-    (λ image is. subst (λ files. Gives (finite.get files sequence_file) number) (sym (only_reading old settled_world call image is)) gives)
+pub each_gives : (old settled_world new : World) (number : ℕ) → FileCall IsSettled IsSyncedInPart old settled_world done_ok → new ≡ settled_world → GivesNumber (finite.get (reading settled_world) sequence_file) number → EachGivesNumber number new.now.folder
+each_gives old settled_world new number call same gives = subst (λ world. EachGivesNumber number world.now.folder) (sym same)
+    (λ image is. subst (λ files. GivesNumber (finite.get files sequence_file) number) (sym (only_reading old settled_world call image is)) gives)
 
 -- the journal that was recalled is the one that the folder holds
 pub holds_journal : (old settled_world new : World) (last : ℕ) (journal : JournalRead) → FileCall IsSettled IsSyncedInPart old settled_world done_ok → new ≡ settled_world → None ≡ finite.get (reading settled_world) temporary_file → journal_in last (finite.get (reading settled_world) journal_file) ≡ Ok journal → HoldsJournal journal new.now.folder

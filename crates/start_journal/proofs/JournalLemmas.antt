@@ -10,7 +10,7 @@ use Rattle.start_journal.specs.declared.mark.Mark.TheVariants.{Removed, Started,
 use Rattle.start_journal.specs.JournalLaws.{JournalsReadBack}
 use Rattle.start_journal.specs.Journals.{journal_file, JournalRead, SpellMarks, all_slots, are_drawn, free_slot, go_on, is_drawn, is_legal_after, journal_in, nothing_read, one_slot, open_slot, whole_journal}
 use Rattle.host_calls.specs.Damages.{damage_at}
-use Rattle.start_journal.specs.Marks.{AreLegalAfter, IsLegalAfter, is_decided, is_ended, is_forgotten, is_named, is_started}
+use Rattle.start_journal.specs.Marks.{AreLegalMarksAfter, IsLegalAfter, is_decided, is_ended, is_forgotten, has_mark_of, has_start_of}
 use Rattle.start_journal.specs.SlotBytes.{mark_in, right_prefix}
 use Rattle.start_journal.specs.Slots.{SpellsMark}
 use Rattle.start_journal.proofs.ByteLemmas.{given}
@@ -21,10 +21,10 @@ not_so : (b : Bool) → b ≡ false → not b ≡ true
 not_so b is = ap not is
 
 pub legal_tested : (before : List Mark) (mark : Mark) → IsLegalAfter before mark → is_legal_after before mark ≡ true
-legal_tested before (Removed number) is = not_so (is_named number before) is
-legal_tested before (Started number queue second) is = not_so (is_named number before) is
-legal_tested before (Ended number ending) is = and_from (is_started number before) _ is.0 (not_so (is_ended number before) is.1)
-legal_tested before (Interrupted number) is = and_from (is_started number before) _ is.0 (not_so (is_ended number before) is.1)
+legal_tested before (Removed number) is = not_so (has_mark_of number before) is
+legal_tested before (Started number queue second) is = not_so (has_mark_of number before) is
+legal_tested before (Ended number ending) is = and_from (has_start_of number before) _ is.0 (not_so (is_ended number before) is.1)
+legal_tested before (Interrupted number) is = and_from (has_start_of number before) _ is.0 (not_so (is_ended number before) is.1)
 legal_tested before (Forgotten number) is = and_from (is_decided number before) _ is.0 (not_so (is_forgotten number before) is.1)
 legal_tested before (Batch second) is = refl
 
@@ -34,10 +34,10 @@ started_not_ended one other is =
     (tests.0, not-true other tests.1)
 
 pub legal_is : (before : List Mark) (mark : Mark) → is_legal_after before mark ≡ true → IsLegalAfter before mark
-legal_is before (Removed number) is = not-true (is_named number before) is
-legal_is before (Started number queue second) is = not-true (is_named number before) is
-legal_is before (Ended number ending) is = started_not_ended (is_started number before) (is_ended number before) is
-legal_is before (Interrupted number) is = started_not_ended (is_started number before) (is_ended number before) is
+legal_is before (Removed number) is = not-true (has_mark_of number before) is
+legal_is before (Started number queue second) is = not-true (has_mark_of number before) is
+legal_is before (Ended number ending) is = started_not_ended (has_start_of number before) (is_ended number before) is
+legal_is before (Interrupted number) is = started_not_ended (has_start_of number before) (is_ended number before) is
 legal_is before (Forgotten number) is = started_not_ended (is_decided number before) (is_forgotten number before) is
 legal_is before (Batch second) is = tt
 
@@ -52,7 +52,7 @@ spelled_slot last before slot mark spelled legal drawn =
     ∙ ap (λ b. if b then Ok more else Err 0) whole
 
 -- the slots of legal marks, and others after them
-marks_read : (last : ℕ) (before : List Mark) (slots : List (List ℕ)) (marks : List Mark) (tail : List (List ℕ)) (answer : Result JournalRead ℕ) → SpellMarks slots marks → AreLegalAfter before marks → are_drawn last marks ≡ true → ((offset : ℕ) → all_slots last offset (record { marks = before ++ marks; free = 0 }) tail ≡ answer) → (offset : ℕ) → all_slots last offset (record { marks = before; free = 0 }) (slots ++ tail) ≡ answer
+marks_read : (last : ℕ) (before : List Mark) (slots : List (List ℕ)) (marks : List Mark) (tail : List (List ℕ)) (answer : Result JournalRead ℕ) → SpellMarks slots marks → AreLegalMarksAfter before marks → are_drawn last marks ≡ true → ((offset : ℕ) → all_slots last offset (record { marks = before ++ marks; free = 0 }) tail ≡ answer) → (offset : ℕ) → all_slots last offset (record { marks = before; free = 0 }) (slots ++ tail) ≡ answer
 marks_read last before [] [] tail answer spelled legal drawn later offset =
     subst (λ list. all_slots last offset (record { marks = list; free = 0 }) tail ≡ answer) (append-nil before) (later offset)
 marks_read last before [] (mark ∷ marks) tail answer spelled legal drawn later offset = absurd spelled

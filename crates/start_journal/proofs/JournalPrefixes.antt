@@ -11,7 +11,7 @@ use Rattle.start_journal.specs.declared.mark.Mark.{Mark}
 use Rattle.start_journal.specs.declared.mark.Mark.TheVariants.{Removed, Started, Ended, Interrupted, Forgotten, Batch}
 use Rattle.start_journal.specs.FirstFault.{IsRightBefore, slot_at}
 use Rattle.start_journal.specs.Journals.{JournalRead, is_drawn, one_slot, open_slot, with_free}
-use Rattle.start_journal.specs.Marks.{AreLegal, AreLegalAfter, IsLegalAfter, is_named, names}
+use Rattle.start_journal.specs.Marks.{AreLegalMarks, AreLegalMarksAfter, IsLegalAfter, has_mark_of, is_mark_of}
 use Rattle.start_journal.specs.SlotBytes.{mark_in, right_prefix}
 use Rattle.start_journal.specs.Slots.{SpellsMark}
 use Rattle.start_journal.proofs.JournalLemmas.{legal_tested}
@@ -79,34 +79,34 @@ last_of (first ∷ mark ∷ later) (suc count) long =
     let rest : HasLast (mark ∷ later) count = last_of (mark ∷ later) count (omega arith) in
     record { prefix = first ∷ rest.prefix; mark = rest.mark; is = ap (λ l. first ∷ l) rest.is; long = omega (arith, rest.long) }
 
-legal_parts : (before prefix : List Mark) (mark : Mark) → AreLegalAfter before (prefix ++ mark ∷ []) → AreLegalAfter before prefix × IsLegalAfter (before ++ prefix) mark
+legal_parts : (before prefix : List Mark) (mark : Mark) → AreLegalMarksAfter before (prefix ++ mark ∷ []) → AreLegalMarksAfter before prefix × IsLegalAfter (before ++ prefix) mark
 legal_parts before [] mark legal = (tt, subst (λ list. IsLegalAfter list mark) (sym (append-nil before)) legal.0)
 legal_parts before (first ∷ later) mark legal =
-    let rest : AreLegalAfter (before ++ first ∷ []) later × IsLegalAfter ((before ++ first ∷ []) ++ later) mark = legal_parts (before ++ first ∷ []) later mark legal.1 in
+    let rest : AreLegalMarksAfter (before ++ first ∷ []) later × IsLegalAfter ((before ++ first ∷ []) ++ later) mark = legal_parts (before ++ first ∷ []) later mark legal.1 in
     ((legal.0, rest.0), subst (λ list. IsLegalAfter list mark) (append_assoc before (first ∷ []) later) rest.1)
 
-pub legal_more : (before prefix : List Mark) (mark : Mark) → AreLegalAfter before prefix → IsLegalAfter (before ++ prefix) mark → AreLegalAfter before (prefix ++ mark ∷ [])
+pub legal_more : (before prefix : List Mark) (mark : Mark) → AreLegalMarksAfter before prefix → IsLegalAfter (before ++ prefix) mark → AreLegalMarksAfter before (prefix ++ mark ∷ [])
 legal_more before [] mark legal more = (subst (λ list. IsLegalAfter list mark) (append-nil before) more, tt)
 legal_more before (first ∷ later) mark legal more =
     (legal.0, legal_more (before ++ first ∷ []) later mark legal.1 (subst (λ list. IsLegalAfter list mark) (sym (append_assoc before (first ∷ []) later)) more))
 
 -- a mark more names a number where it does
-pub named_more : (number : ℕ) (marks : List Mark) (mark : Mark) → is_named number (marks ++ mark ∷ []) ≡ true → (is_named number marks ≡ true) ⊎ (names number mark ≡ true)
-named_more number marks mark is = elim (or_cases _ _ (sym (list_any-append (names number) marks (mark ∷ [])) ∙ is)) [
+pub named_more : (number : ℕ) (marks : List Mark) (mark : Mark) → has_mark_of number (marks ++ mark ∷ []) ≡ true → (has_mark_of number marks ≡ true) ⊎ (is_mark_of number mark ≡ true)
+named_more number marks mark is = elim (or_cases _ _ (sym (list_any-append (is_mark_of number) marks (mark ∷ [])) ∙ is)) [
   | inl before ↦ inl before
   | inr here ↦ elim (or_cases _ _ here) [ inl one ↦ inr one | inr none ↦ (let impossible : false ≡ true = none in cc) ]
 ]
 
-named_before : (number : ℕ) (marks : List Mark) (mark : Mark) → is_named number marks ≡ true → is_named number (marks ++ mark ∷ []) ≡ true
-named_before number marks mark is = list_any-append (names number) marks (mark ∷ []) ∙ ap (λ b. b || (names number mark || false)) is
+named_before : (number : ℕ) (marks : List Mark) (mark : Mark) → has_mark_of number marks ≡ true → has_mark_of number (marks ++ mark ∷ []) ≡ true
+named_before number marks mark is = list_any-append (is_mark_of number) marks (mark ∷ []) ∙ ap (λ b. b || (is_mark_of number mark || false)) is
 
-named_last : (number : ℕ) (marks : List Mark) (mark : Mark) → names number mark ≡ true → is_named number (marks ++ mark ∷ []) ≡ true
+named_last : (number : ℕ) (marks : List Mark) (mark : Mark) → is_mark_of number mark ≡ true → has_mark_of number (marks ++ mark ∷ []) ≡ true
 named_last number marks mark is =
-    list_any-append (names number) marks (mark ∷ []) ∙ ap (λ b. is_named number marks || (b || false)) is ∙ or_true (is_named number marks)
+    list_any-append (is_mark_of number) marks (mark ∷ []) ∙ ap (λ b. has_mark_of number marks || (b || false)) is ∙ or_true (has_mark_of number marks)
 
 -- Numbers that were drawn.
 
-pub drawn_names : (last number : ℕ) (mark : Mark) → is_drawn last mark ≡ true → names number mark ≡ true → number ≤ last
+pub drawn_names : (last number : ℕ) (mark : Mark) → is_drawn last mark ≡ true → is_mark_of number mark ≡ true → number ≤ last
 drawn_names last number (Removed other) drawn named = grind (arith, nat_tests)
 drawn_names last number (Started other queue second) drawn named = grind (arith, nat_tests)
 drawn_names last number (Ended other ending) drawn named = grind (arith, nat_tests)
@@ -117,7 +117,7 @@ drawn_names last number (Batch second) drawn named = let impossible : false ≡ 
 -- a mark that names one that was not drawn
 pub record NamesUndrawn (last : ℕ) (mark : Mark) : Type 0 where
   pub number : ℕ
-  pub named : names number mark ≡ true
+  pub named : is_mark_of number mark ≡ true
   pub greater : last < number
 
 -- the number itself is named
@@ -132,7 +132,7 @@ undrawn_names last (Interrupted other) is = record { number = other; named = its
 undrawn_names last (Forgotten other) is = record { number = other; named = itself other; greater = grind (arith, nat_tests) }
 undrawn_names last (Batch second) is = let impossible : true ≡ false = is in cc
 
-pub drawn_all : (last : ℕ) (mark : Mark) → ((number : ℕ) → names number mark ≡ true → number ≤ last) → is_drawn last mark ≡ true
+pub drawn_all : (last : ℕ) (mark : Mark) → ((number : ℕ) → is_mark_of number mark ≡ true → number ≤ last) → is_drawn last mark ≡ true
 drawn_all last mark each = by_test (is_drawn last mark) refl where
   by_test : (drawn : Bool) → is_drawn last mark ≡ drawn → is_drawn last mark ≡ true
   by_test true is = is
@@ -193,10 +193,10 @@ read_after last bytes (suc place) marks right = elim (eq-or-lt_of_le right.few) 
   opened : ((prefix : List Mark) → AreRead last bytes place prefix) → length marks ≡ suc place → IsAfter last (chunks_of bytes) (suc place) (record { marks = marks; free = suc place - length marks })
   opened so_far full =
       let parts : HasLast marks place = last_of marks place full in
-      let all : AreLegal (parts.prefix ++ parts.mark ∷ []) = subst AreLegal parts.is right.legal in
-      let legal : AreLegal parts.prefix × IsLegalAfter parts.prefix parts.mark = legal_parts [] parts.prefix parts.mark all in
-      let drawn : (number : ℕ) → is_named number (parts.prefix ++ parts.mark ∷ []) ≡ true → number ≤ last =
-      subst (λ list. (number : ℕ) → is_named number list ≡ true → number ≤ last) parts.is right.drawn in
+      let all : AreLegalMarks (parts.prefix ++ parts.mark ∷ []) = subst AreLegalMarks parts.is right.legal in
+      let legal : AreLegalMarks parts.prefix × IsLegalAfter parts.prefix parts.mark = legal_parts [] parts.prefix parts.mark all in
+      let drawn : (number : ℕ) → has_mark_of number (parts.prefix ++ parts.mark ∷ []) ≡ true → number ≤ last =
+      subst (λ list. (number : ℕ) → has_mark_of number list ≡ true → number ≤ last) parts.is right.drawn in
       let spelled : (at : ℕ) (mark : Mark) → slice_get (parts.prefix ++ parts.mark ∷ []) at ≡ Some mark → SpellsMark (slot_at bytes at) mark =
       subst (λ list. (at : ℕ) (mark : Mark) → slice_get list at ≡ Some mark → SpellsMark (slot_at bytes at) mark) parts.is right.spelled in
       let long : length parts.prefix ≡ place = parts.long in

@@ -9,7 +9,7 @@ use Rattle.start_journal.specs.declared.mark.Mark.{Mark}
 use Rattle.start_journal.specs.declared.mark.Mark.TheVariants.{Removed, Started, Ended, Interrupted, Forgotten, Batch}
 use Rattle.start_journal.specs.Journals.{journal_file, AreWritable, JournalRead, all_slots, are_drawn, go_on, is_drawn, is_legal_after, journal_in, nothing_read, one_slot, open_slot, whole_journal, with_free, with_mark}
 use Rattle.host_calls.specs.Damages.{damage_at}
-use Rattle.start_journal.specs.Marks.{AreLegal}
+use Rattle.start_journal.specs.Marks.{AreLegalMarks}
 use Rattle.start_journal.specs.SlotBytes.{mark_in, right_prefix}
 use Rattle.std.proofs.lemmas.Bool.{and_from, and_parts}
 use Rattle.start_journal.proofs.ReadLemmas.{IsRead, all_read, all_writable, legal_list, none_yet}
@@ -102,7 +102,7 @@ read_in last (Some bytes) read is =
     all_read last 0 nothing_read read slots none_yet (whole_is bytes (all_slots last 0 nothing_read slots) read is)
 
 -- the marks that a journal gives are legal
-pub journal_legal : (last : ℕ) (content : Option (List ℕ)) (read : JournalRead) → journal_in last content ≡ Ok read → AreLegal read.marks
+pub journal_legal : (last : ℕ) (content : Option (List ℕ)) (read : JournalRead) → journal_in last content ≡ Ok read → AreLegalMarks read.marks
 journal_legal last content read is = legal_list [] read.marks (read_in last content read is).sound.legal
 
 -- and name only numbers that were drawn

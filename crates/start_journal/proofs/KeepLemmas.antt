@@ -8,7 +8,7 @@ use Rattle.spool_model.specs.JobTable.{is_batch_queue}
 use Rattle.start_journal.specs.declared.mark.Mark.{Mark}
 use Rattle.start_journal.specs.declared.mark.Mark.TheVariants.{Removed, Started, Ended, Interrupted, Forgotten, Batch}
 use Rattle.start_journal.specs.Journals.{are_sound}
-use Rattle.start_journal.specs.Marks.{batch_mark, batch_second, first_of_two, forgets, is_forgotten, is_kept, kept_marks, last_batch}
+use Rattle.start_journal.specs.Marks.{batch_mark, batch_second, first_of_two, is_forgetting, is_forgotten, is_kept, kept_marks, last_batch}
 use Rattle.start_journal.specs.SlotBytes.{can_write}
 use Rattle.clock_range.specs.ClockRange.{is_clock_second}
 use Rattle.std.proofs.lemmas.Bool.{and_from, and_parts}
@@ -40,10 +40,10 @@ pass_more marks place other found last answer inside here before is =
     ∙ ap (λ one. first_of_two one (last_batch (take place marks))) (sym here) ∙ ap (first_of_two found) (sym before))
 
 -- the forgotten numbers of a list and one mark more
-pub forgotten_pass : (number : ℕ) (marks : List Mark) (place : ℕ) (other : Mark) (old new : Bool) → place < length marks → old ≡ is_forgotten number (take place marks) → new ≡ (old || forgets number (get_or marks place other)) → new ≡ is_forgotten number (take (place + 1) marks)
+pub forgotten_pass : (number : ℕ) (marks : List Mark) (place : ℕ) (other : Mark) (old new : Bool) → place < length marks → old ≡ is_forgotten number (take place marks) → new ≡ (old || is_forgetting number (get_or marks place other)) → new ≡ is_forgotten number (take (place + 1) marks)
 forgotten_pass number marks place other old new inside before is =
-    is ∙ ap (λ b. b || forgets number (get_or marks place other)) before
-    ∙ sym (ap (is_forgotten number) (take_more marks place other inside) ∙ any_more (forgets number) (take place marks) (get_or marks place other))
+    is ∙ ap (λ b. b || is_forgetting number (get_or marks place other)) before
+    ∙ sym (ap (is_forgotten number) (take_more marks place other inside) ∙ any_more (is_forgetting number) (take place marks) (get_or marks place other))
 
 -- what is kept can be written
 all_filtered : (test keep : Mark → Bool) (marks : List Mark) → list_all test marks ≡ true → list_all test (filter keep marks) ≡ true

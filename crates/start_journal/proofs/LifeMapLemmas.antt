@@ -18,7 +18,7 @@ use Rattle.std.proofs.lemmas.Option.{slice_get_past, slice_get_read, unwrap_or-s
 use Rattle.start_journal.specs.declared.lifecycles.Lifecycle.{Lifecycle}
 use Rattle.start_journal.specs.Lifecycles.{decided_of, life_under, unknown}
 use Rattle.start_journal.specs.declared.life_map.LifeMap.TheInside.{Inside}
-use Rattle.start_journal.specs.inside.LifeMaps.{IsLifeMap, lives_of, numbered}
+use Rattle.start_journal.specs.inside.LifeMaps.{IsLifeMap, lives_of, lives_by_number}
 use Rattle.start_journal.specs.inside.Told.{told_at, told_in}
 use Rattle.spool_model.specs.declared.decided.Decided.{Decided}
 use Rattle.start_journal.proofs.LifecycleLemmas.{or_nothing}
@@ -48,19 +48,19 @@ found_in_two test (entry ∷ one) other = by_test (test entry.0) (found_in_two t
   by_test false rest = rest
 
 -- nothing below a row is found in it
-none_in_row : (number first : ℕ) (row : List Lifecycle) → number < first → lookup (is_at (nat_cmp number)) (numbered first row) ≡ None
+none_in_row : (number first : ℕ) (row : List Lifecycle) → number < first → lookup (is_at (nat_cmp number)) (lives_by_number first row) ≡ None
 none_in_row number first [] below = refl
 none_in_row number first (life ∷ later) below =
-    ap (λ b. cond b (Some life) (lookup (is_at (nat_cmp number)) (numbered (suc first) later))) (not_at_above number first below)
+    ap (λ b. cond b (Some life) (lookup (is_at (nat_cmp number)) (lives_by_number (suc first) later))) (not_at_above number first below)
     ∙ none_in_row number (suc first) later (omega (arith, below))
 
 -- a number of a row is found at its place
-found_in_row : (number first place : ℕ) (row : List Lifecycle) → number ≡ first + place → lookup (is_at (nat_cmp number)) (numbered first row) ≡ slice_get row place
+found_in_row : (number first place : ℕ) (row : List Lifecycle) → number ≡ first + place → lookup (is_at (nat_cmp number)) (lives_by_number first row) ≡ slice_get row place
 found_in_row number first place [] is = refl
 found_in_row number first zero (life ∷ later) is =
-    ap (λ b. cond b (Some life) (lookup (is_at (nat_cmp number)) (numbered (suc first) later))) (at_same number first (omega (arith, is)))
+    ap (λ b. cond b (Some life) (lookup (is_at (nat_cmp number)) (lives_by_number (suc first) later))) (at_same number first (omega (arith, is)))
 found_in_row number first (suc place) (life ∷ later) is =
-    ap (λ b. cond b (Some life) (lookup (is_at (nat_cmp number)) (numbered (suc first) later))) (not_at_below number first (omega (arith, is)))
+    ap (λ b. cond b (Some life) (lookup (is_at (nat_cmp number)) (lives_by_number (suc first) later))) (not_at_below number first (omega (arith, is)))
     ∙ found_in_row number (suc first) place later (omega (arith, is))
 
 -- nothing from a number on is found among those below it
@@ -73,18 +73,18 @@ none_among number first (entry ∷ later) from below =
 
 -- a number below the row is found in the map
 pub found_below : (number first : ℕ) (entries : List (ℕ × Lifecycle)) (row : List Lifecycle) → number < first
-    → lookup (is_at (nat_cmp number)) (entries ++ numbered first row) ≡ lookup (is_at (nat_cmp number)) entries
+    → lookup (is_at (nat_cmp number)) (entries ++ lives_by_number first row) ≡ lookup (is_at (nat_cmp number)) entries
 found_below number first entries row below =
-    found_in_two (is_at (nat_cmp number)) entries (numbered first row)
+    found_in_two (is_at (nat_cmp number)) entries (lives_by_number first row)
     ∙ ap (option_or (lookup (is_at (nat_cmp number)) entries)) (none_in_row number first row below)
     ∙ or_nothing (lookup (is_at (nat_cmp number)) entries)
 
 -- and another at its place in the row
 pub found_at : (number first place : ℕ) (entries : List (ℕ × Lifecycle)) (row : List Lifecycle) → All (λ key. key < first) (keys_of entries) → number ≡ first + place
-    → lookup (is_at (nat_cmp number)) (entries ++ numbered first row) ≡ slice_get row place
+    → lookup (is_at (nat_cmp number)) (entries ++ lives_by_number first row) ≡ slice_get row place
 found_at number first place entries row below is =
-    found_in_two (is_at (nat_cmp number)) entries (numbered first row)
-    ∙ ap (λ o. option_or o (lookup (is_at (nat_cmp number)) (numbered first row))) (none_among number first entries (omega (arith, is)) below)
+    found_in_two (is_at (nat_cmp number)) entries (lives_by_number first row)
+    ∙ ap (λ o. option_or o (lookup (is_at (nat_cmp number)) (lives_by_number first row))) (none_among number first entries (omega (arith, is)) below)
     ∙ found_in_row number first place row is
 
 -- Orders.
@@ -97,22 +97,22 @@ sorted_none : IsStrictlySortedBy nat_cmp []
 unfolding IsStrictlySortedBy
 sorted_none = tt
 
-row_above : (number first : ℕ) (row : List Lifecycle) → number < first → AllByRecursion (λ other. nat_cmp number other ≡ Less) (keys_of (numbered first row))
+row_above : (number first : ℕ) (row : List Lifecycle) → number < first → AllByRecursion (λ other. nat_cmp number other ≡ Less) (keys_of (lives_by_number first row))
 row_above number first [] below = tt
 row_above number first (life ∷ later) below = (less number first below, row_above number (suc first) later (omega (arith, below)))
 
-row_sorted : (first : ℕ) (row : List Lifecycle) → IsStrictlySortedBy nat_cmp (keys_of (numbered first row))
+row_sorted : (first : ℕ) (row : List Lifecycle) → IsStrictlySortedBy nat_cmp (keys_of (lives_by_number first row))
 row_sorted first [] = sorted_none
 row_sorted first (life ∷ later) = sorted_with first _ (row_above first (suc first) later (omega (arith))) (row_sorted (suc first) later)
 
 all_and_row : (number first : ℕ) (entries : List (ℕ × Lifecycle)) (row : List Lifecycle) → number < first → AllByRecursion (λ other. nat_cmp number other ≡ Less) (keys_of entries)
-    → AllByRecursion (λ other. nat_cmp number other ≡ Less) (keys_of (entries ++ numbered first row))
+    → AllByRecursion (λ other. nat_cmp number other ≡ Less) (keys_of (entries ++ lives_by_number first row))
 all_and_row number first [] row below all = row_above number first row below
 all_and_row number first (entry ∷ later) row below all = (all.0, all_and_row number first later row below all.1)
 
 -- the map and then the row are in the order of their numbers
 all_sorted : (first : ℕ) (entries : List (ℕ × Lifecycle)) (row : List Lifecycle) → All (λ key. key < first) (keys_of entries) → IsStrictlySortedBy nat_cmp (keys_of entries)
-    → IsStrictlySortedBy nat_cmp (keys_of (entries ++ numbered first row))
+    → IsStrictlySortedBy nat_cmp (keys_of (entries ++ lives_by_number first row))
 all_sorted first [] row below sorted = row_sorted first row
 all_sorted first (entry ∷ later) row below sorted =
     sorted_with entry.0 _ (all_and_row entry.0 first later row (All-head (λ key. key < first) entry.0 (keys_of later) below) (sorted_head nat_cmp _ _ sorted))
@@ -125,23 +125,23 @@ seen_sorted inside lives is map sorted =
 
 -- one life more of a row
 numbered_next : (first place : ℕ) (row : List Lifecycle) (other : Lifecycle) → place < length row
-    → numbered first (take (suc place) row) ≡ numbered first (take place row) ++ (first + place, get_or row place other) ∷ []
+    → lives_by_number first (take (suc place) row) ≡ lives_by_number first (take place row) ++ (first + place, get_or row place other) ∷ []
 numbered_next first place [] other inside = absurd (omega (arith, inside))
 numbered_next first zero (life ∷ later) other inside = ap (λ n. (n, life) ∷ []) (omega (arith))
 numbered_next first (suc place) (life ∷ later) other inside =
-    ap (λ (rest : List (ℕ × Lifecycle)). (first, life) ∷ rest) (numbered_next (suc first) place later other (omega (arith, inside)) ∙ ap (λ n. numbered (suc first) (take place later) ++ (n, get_or later place other) ∷ []) (omega (arith)))
+    ap (λ (rest : List (ℕ × Lifecycle)). (first, life) ∷ rest) (numbered_next (suc first) place later other (omega (arith, inside)) ∙ ap (λ n. lives_by_number (suc first) (take place later) ++ (n, get_or later place other) ∷ []) (omega (arith)))
 
 -- and so one number more, if its fate is remembered
 pub decided_next : (first place : ℕ) (entries : List (ℕ × Lifecycle)) (row : List Lifecycle) (other : Lifecycle) (old new : List Decided) → place < length row
-    → old ≡ filter_map decided_of (entries ++ numbered first (take place row)) → new ≡ old ++ filter_map decided_of ((first + place, get_or row place other) ∷ [])
-    → new ≡ filter_map decided_of (entries ++ numbered first (take (place + 1) row))
+    → old ≡ filter_map decided_of (entries ++ lives_by_number first (take place row)) → new ≡ old ++ filter_map decided_of ((first + place, get_or row place other) ∷ [])
+    → new ≡ filter_map decided_of (entries ++ lives_by_number first (take (place + 1) row))
 decided_next first place entries row other old new inside before is =
     let more : suc place ≡ place + 1 = omega (arith) in
     is ∙ ap (λ list. list ++ filter_map decided_of ((first + place, get_or row place other) ∷ [])) before
-    ∙ sym (filter_map-append decided_of (entries ++ numbered first (take place row)) ((first + place, get_or row place other) ∷ []))
-    ∙ ap (filter_map decided_of) (append_assoc entries (numbered first (take place row)) ((first + place, get_or row place other) ∷ []))
+    ∙ sym (filter_map-append decided_of (entries ++ lives_by_number first (take place row)) ((first + place, get_or row place other) ∷ []))
+    ∙ ap (filter_map decided_of) (append_assoc entries (lives_by_number first (take place row)) ((first + place, get_or row place other) ∷ []))
     ∙ ap (λ rest. filter_map decided_of (entries ++ rest)) (sym (numbered_next first place row other inside))
-    ∙ ap (λ n. filter_map decided_of (entries ++ numbered first (take n row))) more
+    ∙ ap (λ n. filter_map decided_of (entries ++ lives_by_number first (take n row))) more
 
 -- What is told.
 
@@ -175,7 +175,7 @@ told_of false life found = refl
 pub told_below : (number first : ℕ) (life : Lifecycle) (old new : List (ℕ × Lifecycle)) (row : List Lifecycle) → number < first
     → All (λ key. key < first) (keys_of old) → All (λ key. key < first) (keys_of new)
     → ((key : ℕ) → life_under new key ≡ cond (is_at (nat_cmp number) key) (Some life) (life_under old key))
-    → (other : ℕ) → told_in (new ++ numbered first row) other ≡ (if other == number then life else told_in (old ++ numbered first row) other)
+    → (other : ℕ) → told_in (new ++ lives_by_number first row) other ≡ (if other == number then life else told_in (old ++ lives_by_number first row) other)
 told_below number first life old new row below olds news puts other = elim (cases_lt other first) [
   | inl low ↦
       ap (λ o. unwrap_or o unknown) (found_below other first new row low ∙ puts other)
@@ -191,7 +191,7 @@ told_below number first life old new row below olds news puts other = elim (case
 pub told_in_row : (number first : ℕ) (life : Lifecycle) (entries : List (ℕ × Lifecycle)) (old new : List Lifecycle) → first ≤ number
     → All (λ key. key < first) (keys_of entries)
     → ((place : ℕ) → told_at new place ≡ (if place == number - first then life else told_at old place))
-    → (other : ℕ) → told_in (entries ++ numbered first new) other ≡ (if other == number then life else told_in (entries ++ numbered first old) other)
+    → (other : ℕ) → told_in (entries ++ lives_by_number first new) other ≡ (if other == number then life else told_in (entries ++ lives_by_number first old) other)
 told_in_row number first life entries old new from below puts other = elim (cases_lt other first) [
   | inl low ↦
       told_apart number other life _ _ (λ same. omega (arith, from, low, same))

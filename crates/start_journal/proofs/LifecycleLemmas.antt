@@ -8,7 +8,7 @@ use Rattle.start_journal.specs.declared.mark.Mark.{Mark}
 use Rattle.start_journal.specs.declared.mark.Mark.TheVariants.{Removed, Started, Ended, Interrupted, Forgotten, Batch}
 use Rattle.start_journal.specs.Journals.{is_legal_after}
 use Rattle.start_journal.specs.Lifecycles.{TellLifecycles, fate_at, fate_given, lifecycle_at, lifecycle_in, lifecycle_with, stage_of}
-use Rattle.start_journal.specs.Marks.{IsLegalAfter, decides, forgets, is_decided, is_forgotten, is_started, number_of, start_second, started_at, starts}
+use Rattle.start_journal.specs.Marks.{IsLegalAfter, decides, is_forgetting, is_decided, is_forgotten, has_start_of, number_of_mark, start_second, started_at, is_start_of}
 use Rattle.start_journal.specs.Stages.{allows, stage_by}
 use Rattle.start_journal.proofs.LifeLemmas.{allowed_legal, any_more, legal_longer, named_is}
 
@@ -40,7 +40,7 @@ same_life one other starts fates forgot = λ i. record { started = starts i; fat
 
 life_more : (number : ℕ) (before : List Mark) (mark : Mark) → lifecycle_at number (before ++ mark ∷ []) ≡ lifecycle_with number mark (lifecycle_at number before)
 life_more number before mark =
-    same_life _ _ (started_more number before mark) (fate_more number before mark) (any_more (forgets number) before mark)
+    same_life _ _ (started_more number before mark) (fate_more number before mark) (any_more (is_forgetting number) before mark)
 
 -- what is told with a legal mark more
 pub told_more : (marks more : List Mark) (old new : Lifecycles) (mark : Mark) → more ≡ marks ++ mark ∷ [] → ((number : ℕ) → lifecycle_in new number ≡ lifecycle_with number mark (lifecycle_in old number))
@@ -78,7 +78,7 @@ decided_has_fate number (mark ∷ later) =
     ap (λ b. b || is_decided number later) (decides_given number mark) ∙ ap (λ b. is_some (fate_given number mark) || b) (decided_has_fate number later)
     ∙ some_or (fate_given number mark) (fate_at number later)
 
-starts_given : (number : ℕ) (mark : Mark) → starts number mark ≡ is_some (start_second number mark)
+starts_given : (number : ℕ) (mark : Mark) → is_start_of number mark ≡ is_some (start_second number mark)
 starts_given number (Started other queue second) = some_if (other == number) second
 starts_given number (Removed other) = refl
 starts_given number (Ended other ending) = refl
@@ -87,14 +87,14 @@ starts_given number (Forgotten other) = refl
 starts_given number (Batch second) = refl
 
 -- and is started where it has the second of its start
-pub started_has_second : (number : ℕ) (marks : List Mark) → is_started number marks ≡ is_some (started_at number marks)
+pub started_has_second : (number : ℕ) (marks : List Mark) → has_start_of number marks ≡ is_some (started_at number marks)
 started_has_second number [] = refl
 started_has_second number (mark ∷ later) =
-    ap (λ b. b || is_started number later) (starts_given number mark) ∙ ap (λ b. is_some (start_second number mark) || b) (started_has_second number later)
+    ap (λ b. b || has_start_of number later) (starts_given number mark) ∙ ap (λ b. is_some (start_second number mark) || b) (started_has_second number later)
     ∙ some_or (start_second number mark) (started_at number later)
 
 -- what the life of a number allows is what is legal
-pub life_allows : (marks : List Mark) (lives : Lifecycles) (number : ℕ) (mark : Mark) → number_of mark ≡ Some number → TellLifecycles marks lives → allows (stage_of (lifecycle_in lives number)) mark ≡ is_legal_after marks mark
+pub life_allows : (marks : List Mark) (lives : Lifecycles) (number : ℕ) (mark : Mark) → number_of_mark mark ≡ Some number → TellLifecycles marks lives → allows (stage_of (lifecycle_in lives number)) mark ≡ is_legal_after marks mark
 life_allows marks lives number mark is tell =
     ap (λ (life : Lifecycle). allows (stage_of life) mark) (tell.1 number)
     ∙ ap (λ b. allows (stage_by (is_forgotten number marks) b (is_some (started_at number marks))) mark) (sym (decided_has_fate number marks))

@@ -11,7 +11,7 @@ use Rattle.whole_file.specs.Others.{ChangesFiles, IsEither, LeavesOthers}
 use Rattle.whole_file.specs.Temporary.{temporary_file}
 use Rattle.whole_file.proofs.ChangesJoined.{changes_on, changes_weaker}
 use Rattle.start_journal.specs.declared.mark.Mark.{Mark}
-use Rattle.start_journal.specs.Changing.{Gives, HoldsJournal, IsChanged, IsChanging, added}
+use Rattle.start_journal.specs.Changing.{GivesReadJournal, HoldsJournal, IsChanged, IsChanging, added}
 use Rattle.start_journal.specs.Journals.{JournalRead, journal_file}
 use Rattle.start_journal.specs.Marks.{IsLegalAfter}
 use Rattle.start_journal.specs.Slots.{SpellsMark}
@@ -30,14 +30,14 @@ through name start middle image before alone =
     record { from = first.from; was = first.was; others = λ other apart. alone.others other apart ∙ first.others other apart }
 
 module _ (name : List ℕ) (journal : JournalRead) (mark : Mark) (slot : List ℕ) (offset : ℕ) (start : Folder) (is_name : name ≡ journal_file) (free : 1 ≤ journal.free) (legal : IsLegalAfter journal.marks mark) (spelled : SpellsMark slot mark) (at : offset ≡ 32 * length journal.marks) (holds : HoldsJournal journal start) where
-  gives_there : Gives (map.get (reading_of start) name) journal
-  gives_there = subst (λ at_name. Gives (map.get (reading_of start) at_name) journal) (sym is_name) holds.gives
+  gives_there : GivesReadJournal (map.get (reading_of start) name) journal
+  gives_there = subst (λ at_name. GivesReadJournal (map.get (reading_of start) at_name) journal) (sym is_name) holds.gives
 
   held : HasBytes (map.get (reading_of start) name) journal
   held = has_bytes (map.get (reading_of start) name) journal free gives_there
 
-  gives : Gives (Some held.bytes) journal
-  gives = subst (λ content. Gives content journal) held.is gives_there
+  gives : GivesReadJournal (Some held.bytes) journal
+  gives = subst (λ content. GivesReadJournal content journal) held.is gives_there
 
   -- the slot after its gate, and its gate
   abbrev rest : List ℕ
@@ -64,7 +64,7 @@ module _ (name : List ℕ) (journal : JournalRead) (mark : Mark) (slot : List �
   half_changing : (image : Files) → IsOverwriting name (offset + 1) (length rest) start image → IsChanging journal (added journal mark) start image
   half_changing image over = record {
     alone = widened image over.alone;
-    gives = inl (subst (λ content. Gives content journal)
+    gives = inl (subst (λ content. GivesReadJournal content journal)
         (sym (ap (map.get image) (sym is_name) ∙ over.written ∙ ap (option_map (λ bytes. overwritten bytes (offset + 1) over.part)) held.is ∙ ap (λ n. Some (overwritten held.bytes (n + 1) over.part)) at))
         (half_gives journal mark slot held.bytes free legal spelled gives held.long over.part (over.as_long ∙ after_long)));
   }
@@ -90,14 +90,14 @@ module _ (name : List ℕ) (journal : JournalRead) (mark : Mark) (slot : List �
 
     -- with the gate open
     opened : (content : Option (List ℕ)) (part : List ℕ) → length part ≡ 1 → slice_index part 0 ≡ 43
-        → content ≡ option_map (λ bytes. overwritten bytes offset part) (map.get (reading_of middle) name) → Gives content (added journal mark)
+        → content ≡ option_map (λ bytes. overwritten bytes offset part) (map.get (reading_of middle) name) → GivesReadJournal content (added journal mark)
     opened content part one open_gate is =
-        subst (λ some. Gives some (added journal mark)) (sym (reads_whole content part is)) (open_gives journal mark slot held.bytes free legal spelled gives held.long part one open_gate)
+        subst (λ some. GivesReadJournal some (added journal mark)) (sym (reads_whole content part is)) (open_gives journal mark slot held.bytes free legal spelled gives held.long part one open_gate)
 
     closed : (content : Option (List ℕ)) (part : List ℕ) → length part ≡ 1 → ¬ (slice_index part 0 ≡ 43)
-        → content ≡ option_map (λ bytes. overwritten bytes offset part) (map.get (reading_of middle) name) → Gives content journal
+        → content ≡ option_map (λ bytes. overwritten bytes offset part) (map.get (reading_of middle) name) → GivesReadJournal content journal
     closed content part one closed_gate is =
-        subst (λ some. Gives some journal) (sym (reads_whole content part is))
+        subst (λ some. GivesReadJournal some journal) (sym (reads_whole content part is))
         (closed_gives journal mark slot held.bytes free legal spelled gives held.long rest after_long part one closed_gate)
 
     -- while the gate is written

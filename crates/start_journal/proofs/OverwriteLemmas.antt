@@ -10,7 +10,7 @@ use Rattle.host_calls.specs.World.{FileCall, IsWithinFile, World, reading}
 use Rattle.host_calls.proofs.FolderLemmas.{all_are_some, get-files_of}
 use Rattle.whole_file.specs.Others.{ChangesFiles}
 use Rattle.whole_file.proofs.OthersLemmas.{changes_none, changes_then, get-with_value_other, get-with_value_same, held_reads, one_or_other, reading_stands, reads_elsewhere, stands_elsewhere, with_body-other, with_body-same, with_value}
-use Rattle.start_journal.specs.inside.Overwriting.{IsCertain, IsOverwriting, IsOverwritten}
+use Rattle.start_journal.specs.inside.Overwriting.{IsDurableFile, IsOverwriting, IsOverwritten}
 use Rattle.start_journal.proofs.OverwrittenBodies.{IsOver, IsSteady, over_steady}
 use Rattle.start_journal.proofs.ByteRanges.{over_own}
 
@@ -26,7 +26,7 @@ reads_body : (folder : Folder) (name : List ℕ) (number : ℕ) → map.get (nam
 reads_body folder name number held = get-files_of folder.body (names_of folder) name ∙ ap (option_map (λ at. (folder.body at).bytes)) held
 
 -- a file that has the same bytes in every image has a steady body
-certain_steady : (folder : Folder) (name : List ℕ) (number : ℕ) → IsCertain name folder → map.get (names_of folder) name ≡ Some number → IsSteady (folder.body number)
+certain_steady : (folder : Folder) (name : List ℕ) (number : ℕ) → IsDurableFile name folder → map.get (names_of folder) name ≡ Some number → IsSteady (folder.body number)
 certain_steady folder name number certain held = λ bytes may.
     let image : Files = with_value (reading_of folder) name (Some bytes) in
     let at : map.get image name ≡ Some bytes = get-with_value_same (reading_of folder) name (Some bytes) in
@@ -42,7 +42,7 @@ certain_steady folder name number certain held = λ bytes may.
     cc
 
 -- what a crash leaves once the range is written
-module _ (name : List ℕ) (offset : ℕ) (bytes : List ℕ) (folder : Folder) (number : ℕ) (held : IsHeldAt (names_of folder) name number) (certain : IsCertain name folder) (within : offset + length bytes ≤ length (folder.body number).bytes) where
+module _ (name : List ℕ) (offset : ℕ) (bytes : List ℕ) (folder : Folder) (number : ℕ) (held : IsHeldAt (names_of folder) name number) (certain : IsDurableFile name folder) (within : offset + length bytes ≤ length (folder.body number).bytes) where
   abbrev bodies : ℕ → Body
   bodies = with_body folder.body number (written_body offset bytes (folder.body number))
 
@@ -143,7 +143,7 @@ range_inside : (folder : Folder) (name : List ℕ) (offset count number : ℕ) �
 range_inside folder name offset count number held within = subst (λ content. IsSomeAnd content (λ bytes. offset + count ≤ length bytes)) (reads_body folder name number held) within
 
 -- the folder once the range is written and the file is synced
-module _ (name : List ℕ) (offset : ℕ) (bytes : List ℕ) (old written new : Folder) (certain : IsCertain name old) (within : IsWithinFile (reading_of old) name offset (length bytes)) (writes : IsWritten name offset bytes old written) where
+module _ (name : List ℕ) (offset : ℕ) (bytes : List ℕ) (old written new : Folder) (certain : IsDurableFile name old) (within : IsWithinFile (reading_of old) name offset (length bytes)) (writes : IsWritten name offset bytes old written) where
   abbrev over_folder : Folder
   over_folder = with_changed writes.number (written_body offset bytes) old
 
@@ -207,7 +207,7 @@ module _ (name : List ℕ) (offset : ℕ) (bytes : List ℕ) (old written new : 
     }
 
 -- before any call the range has its own bytes
-overwriting_start : (name : List ℕ) (offset count : ℕ) (folder : Folder) → IsCertain name folder → IsWithinFile (reading_of folder) name offset count → (image : Files) → IsImage folder image → IsOverwriting name offset count folder image
+overwriting_start : (name : List ℕ) (offset count : ℕ) (folder : Folder) → IsDurableFile name folder → IsWithinFile (reading_of folder) name offset count → (image : Files) → IsImage folder image → IsOverwriting name offset count folder image
 overwriting_start name offset count folder certain within image is = by_content (map.get (reading_of folder) name) refl within where
   by_content : (content : Option (List ℕ)) → map.get (reading_of folder) name ≡ content → IsSomeAnd content (λ bytes. offset + count ≤ length bytes) → IsOverwriting name offset count folder image
   by_content None at inside = absurd inside
@@ -219,7 +219,7 @@ overwriting_start name offset count folder certain within image is = by_content 
   }
 
 -- the call that writes
-pub write_files : {T : Type 0} (name : List ℕ) (offset : ℕ) (bytes : List ℕ) (old new : World) (result : Result T HostFault) → IsCertain name old.now.folder → IsWithinFile (reading old) name offset (length bytes) → FileCall (IsWritten name offset bytes) (IsWrittenInPart name offset bytes) old new result → ChangesFiles (IsOverwriting name offset (length bytes) old.now.folder) old new
+pub write_files : {T : Type 0} (name : List ℕ) (offset : ℕ) (bytes : List ℕ) (old new : World) (result : Result T HostFault) → IsDurableFile name old.now.folder → IsWithinFile (reading old) name offset (length bytes) → FileCall (IsWritten name offset bytes) (IsWrittenInPart name offset bytes) old new result → ChangesFiles (IsOverwriting name offset (length bytes) old.now.folder) old new
 write_files name offset bytes old new result certain within call =
     changes_then (IsOverwriting name offset (length bytes) old.now.folder) _ _ old old new result (changes_none _ old) call (λ image within_call. elim within_call [
       | inl is ↦ overwriting_start name offset (length bytes) old.now.folder certain within image is
@@ -227,7 +227,7 @@ write_files name offset bytes old new result certain within call =
     ])
 
 -- the call that syncs, after it
-module _ {T : Type 0} (name : List ℕ) (offset : ℕ) (bytes : List ℕ) (old written new : World) (value : T) (result : Result T HostFault) (certain : IsCertain name old.now.folder) (within : IsWithinFile (reading old) name offset (length bytes)) (writes : FileCall (IsWritten name offset bytes) (IsWrittenInPart name offset bytes) old written (Ok value)) where
+module _ {T : Type 0} (name : List ℕ) (offset : ℕ) (bytes : List ℕ) (old written new : World) (value : T) (result : Result T HostFault) (certain : IsDurableFile name old.now.folder) (within : IsWithinFile (reading old) name offset (length bytes)) (writes : FileCall (IsWritten name offset bytes) (IsWrittenInPart name offset bytes) old written (Ok value)) where
   pub held_to_sync : IsSome (map.get (reading written) name)
   held_to_sync = written_held name offset bytes old.now.folder written.now.folder written.now.folder certain within writes.outcome
 

@@ -6,7 +6,7 @@ use Rattle.std.proofs.lemmas.Bool.Decides.{nat_tests}
 use Rattle.hex_digits.specs.Digits.{SpellsNumber}
 use Rattle.hex_digits.proofs.DigitLemmas.{power_of_two}
 use Rattle.start_journal.specs.SlotBytes.{is_number_prefix, is_second_prefix, may_stand, right_prefix, standing_from}
-use Rattle.hex_digits.specs.Values.{are_digits, are_zeros, value_of}
+use Rattle.hex_digits.specs.Values.{are_digits, are_zeros, value_of_digits}
 use Rattle.hex_digits.proofs.ValueLemmas.{digits_spell, spelled_digits, value_spelled}
 use Rattle.clock_range.specs.declared.range.TheConstants.{LAST_SECOND}
 
@@ -14,26 +14,26 @@ use Rattle.clock_range.specs.declared.range.TheConstants.{LAST_SECOND}
 not_digits : (bytes : List ℕ) → ((number : ℕ) → ¬ (SpellsNumber bytes number)) → are_digits bytes ≡ false
 not_digits bytes none = by_test (are_digits bytes) refl where
   by_test : (digits : Bool) → are_digits bytes ≡ digits → are_digits bytes ≡ false
-  by_test true digits = absurd (none (value_of bytes) (digits_spell bytes digits))
+  by_test true digits = absurd (none (value_of_digits bytes) (digits_spell bytes digits))
   by_test false digits = digits
 
 -- the first digits of a number of a job
 pub number_begun : (kind number : ℕ) (digits : List ℕ) → (kind ≡ 66 → ⊥) → SpellsNumber digits number → is_number_prefix kind digits ≡ (nat_lt (length digits) 8 || nat_le 1 number)
 number_begun kind number digits other spelled =
     let kinds : (kind == 66) ≡ false = grind (arith, nat_tests) in
-    ap (λ b. if b then are_zeros digits else (are_digits digits && (nat_lt (length digits) 8 || nat_le 1 (value_of digits)))) kinds
-    ∙ ap (λ b. b && (nat_lt (length digits) 8 || nat_le 1 (value_of digits))) (spelled_digits digits number spelled)
+    ap (λ b. if b then are_zeros digits else (are_digits digits && (nat_lt (length digits) 8 || nat_le 1 (value_of_digits digits)))) kinds
+    ∙ ap (λ b. b && (nat_lt (length digits) 8 || nat_le 1 (value_of_digits digits))) (spelled_digits digits number spelled)
     ∙ ap (λ n. nat_lt (length digits) 8 || nat_le 1 n) (value_spelled digits number spelled)
 
 pub no_number_begun : (kind : ℕ) (digits : List ℕ) → (kind ≡ 66 → ⊥) → ((number : ℕ) → ¬ (SpellsNumber digits number)) → false ≡ is_number_prefix kind digits
 no_number_begun kind digits other none =
     let kinds : (kind == 66) ≡ false = grind (arith, nat_tests) in
-    sym (ap (λ b. if b then are_zeros digits else (are_digits digits && (nat_lt (length digits) 8 || nat_le 1 (value_of digits)))) kinds
-    ∙ ap (λ b. b && (nat_lt (length digits) 8 || nat_le 1 (value_of digits))) (not_digits digits none))
+    sym (ap (λ b. if b then are_zeros digits else (are_digits digits && (nat_lt (length digits) 8 || nat_le 1 (value_of_digits digits)))) kinds
+    ∙ ap (λ b. b && (nat_lt (length digits) 8 || nat_le 1 (value_of_digits digits))) (not_digits digits none))
 
 -- the first digits of a second
 abbrev pub second_digits : List ℕ → Bool
-second_digits digits = are_digits digits && nat_le (value_of digits) (unsigned_abs LAST_SECOND / 16 ^ (16 - length digits))
+second_digits digits = are_digits digits && nat_le (value_of_digits digits) (unsigned_abs LAST_SECOND / 16 ^ (16 - length digits))
 
 has_second : (kind : ℕ) → ((kind ≡ 83 → ⊥) × (kind ≡ 66)) ⊎ (kind ≡ 83) → (kind == 83 || kind == 66) ≡ true
 has_second kind either = grind (arith, nat_tests)
@@ -44,13 +44,13 @@ second_kind kind digits either = ap (λ b. if b then second_digits digits else a
 pub second_begun : (kind prefix : ℕ) (digits : List ℕ) → ((kind ≡ 83 → ⊥) × (kind ≡ 66)) ⊎ (kind ≡ 83) → SpellsNumber digits prefix → nat_le prefix (unsigned_abs LAST_SECOND / 2 ^ (4 * (16 - length digits))) ≡ is_second_prefix kind digits
 second_begun kind prefix digits either spelled =
     sym (second_kind kind digits either
-    ∙ ap (λ b. b && nat_le (value_of digits) (unsigned_abs LAST_SECOND / 16 ^ (16 - length digits))) (spelled_digits digits prefix spelled)
+    ∙ ap (λ b. b && nat_le (value_of_digits digits) (unsigned_abs LAST_SECOND / 16 ^ (16 - length digits))) (spelled_digits digits prefix spelled)
     ∙ ap (λ n. nat_le n (unsigned_abs LAST_SECOND / 16 ^ (16 - length digits))) (value_spelled digits prefix spelled)
     ∙ ap (λ power. nat_le prefix (unsigned_abs LAST_SECOND / power)) (power_of_two (16 - length digits)))
 
 pub no_second_begun : (kind : ℕ) (digits : List ℕ) → ((kind ≡ 83 → ⊥) × (kind ≡ 66)) ⊎ (kind ≡ 83) → ((number : ℕ) → ¬ (SpellsNumber digits number)) → false ≡ is_second_prefix kind digits
 no_second_begun kind digits either none =
-    sym (second_kind kind digits either ∙ ap (λ b. b && nat_le (value_of digits) (unsigned_abs LAST_SECOND / 16 ^ (16 - length digits))) (not_digits digits none))
+    sym (second_kind kind digits either ∙ ap (λ b. b && nat_le (value_of_digits digits) (unsigned_abs LAST_SECOND / 16 ^ (16 - length digits))) (not_digits digits none))
 
 -- the first bytes may stand in their places, and the next one may not
 standing : (slot : List ℕ) (count place : ℕ) (later : List ℕ) → place ≤ count → count ≤ place + length later → ((at : ℕ) → at < count → may_stand slot at ≡ true) → (count < place + length later → may_stand slot count ≡ false) → standing_from slot place later ≡ count

@@ -8,7 +8,7 @@ use Rattle.host_calls.specs.declared.damage.Damage.{Damage}
 use Rattle.start_journal.specs.declared.mark.Mark.{Mark}
 use Rattle.start_journal.specs.Journals.{journal_file, AreWritable, JournalRead, all_slots, are_drawn, are_legal_after, are_sound, go_on, is_drawn, is_legal_after, journal_in, nothing_read, one_slot, open_slot, whole_journal, with_slot}
 use Rattle.host_calls.specs.Damages.{damage_at}
-use Rattle.start_journal.specs.Marks.{AreLegal, AreLegalAfter, IsLegalAfter}
+use Rattle.start_journal.specs.Marks.{AreLegalMarks, AreLegalMarksAfter, IsLegalAfter}
 use Rattle.start_journal.specs.SlotBytes.{can_write, mark_in, right_prefix}
 use Rattle.start_journal.specs.Slots.{IsWritable, SpellsMark}
 use Rattle.start_journal.proofs.ByteLemmas.{given, spells, writable_is, writable_tested}
@@ -77,17 +77,17 @@ sound_is marks is = let tests : (are_legal_after [] marks ≡ true) × (list_all
 pub sound_tested : (marks : List Mark) → IsSound marks → are_sound marks ≡ true
 sound_tested marks sound = and_from (are_legal_after [] marks) _ sound.legal sound.writable
 
-pub legal_list : (before later : List Mark) → are_legal_after before later ≡ true → AreLegalAfter before later
+pub legal_list : (before later : List Mark) → are_legal_after before later ≡ true → AreLegalMarksAfter before later
 legal_list before [] is = tt
 legal_list before (mark ∷ later) is =
     let tests : (is_legal_after before mark ≡ true) × (are_legal_after (before ++ mark ∷ []) later ≡ true) = and_parts _ _ is in
     (legal_is before mark tests.0, legal_list (before ++ mark ∷ []) later tests.1)
 
-pub legal_tests : (before later : List Mark) → AreLegalAfter before later → are_legal_after before later ≡ true
+pub legal_tests : (before later : List Mark) → AreLegalMarksAfter before later → are_legal_after before later ≡ true
 legal_tests before [] legal = refl
 legal_tests before (mark ∷ later) legal = and_from (is_legal_after before mark) _ (legal_tested before mark legal.0) (legal_tests (before ++ mark ∷ []) later legal.1)
 
-pub sound_legal : (marks : List Mark) → are_sound marks ≡ true → AreLegal marks
+pub sound_legal : (marks : List Mark) → are_sound marks ≡ true → AreLegalMarks marks
 sound_legal marks is = legal_list [] marks (sound_is marks is).legal
 
 -- marks that were read are sound and drawn

@@ -8,8 +8,8 @@ use Rattle.std.proofs.lemmas.Bool.Decides.{nat_tests}
 use Rattle.std.proofs.lemmas.List.{drop-append-le, length-take, length-take-le, nil_from_length, take-append-le, take-take, take_all}
 use Rattle.std.proofs.lemmas.Nat.{le-div}
 use Rattle.start_journal.specs.JournalLaws.{RightPrefixesAreLongest}
-use Rattle.start_journal.specs.SlotBytes.{HasRightPrefix, is_number_prefix, is_second_prefix, is_ending_of, is_kind, is_queue_of, is_status_of, may_stand, right_prefix, standing_from}
-use Rattle.hex_digits.specs.Values.{are_digits, are_zeros, is_digit, value_of}
+use Rattle.start_journal.specs.SlotBytes.{HasSlotPrefix, is_number_prefix, is_second_prefix, is_ending_of, is_kind, is_queue_of, is_status_of, may_stand, right_prefix, standing_from}
+use Rattle.hex_digits.specs.Values.{are_digits, are_zeros, is_digit, value_of_digits}
 use Rattle.std.proofs.lemmas.Bool.{and_from, and_parts, eqb-true}
 use Rattle.hex_digits.proofs.TestLemmas.{one_passes}
 use Rattle.start_journal.proofs.MarkLemmas.{or_true}
@@ -69,8 +69,8 @@ number_next kind digits before = by_kind (kind == 66) refl where
       ap (λ byte. is_number_prefix kind (digits ++ byte ∷ [])) (if_yes (kind == 66) 48 49 batch)
       ∙ if_yes (kind == 66) (are_zeros (digits ++ 48 ∷ [])) _ batch ∙ one_passes (λ byte. byte == 48) digits 48 (zeros_before batch) refl
   by_kind false other =
-      let value : value_of (digits ++ 49 ∷ []) ≡ value_of digits * 16 + 1 = value_last digits 49 in
-      let some : nat_le 1 (value_of (digits ++ 49 ∷ [])) ≡ true = grind (arith, nat_tests) in
+      let value : value_of_digits (digits ++ 49 ∷ []) ≡ value_of_digits digits * 16 + 1 = value_last digits 49 in
+      let some : nat_le 1 (value_of_digits (digits ++ 49 ∷ [])) ≡ true = grind (arith, nat_tests) in
       ap (λ byte. is_number_prefix kind (digits ++ byte ∷ [])) (if_no (kind == 66) 48 49 other)
       ∙ if_no (kind == 66) _ _ other
       ∙ and_from (are_digits (digits ++ 49 ∷ [])) _ (one_passes is_digit digits 49 (digits_before other) refl)
@@ -80,11 +80,11 @@ number_next kind digits before = by_kind (kind == 66) refl where
 second_next : (kind : ℕ) (digits : List ℕ) → length digits < 16 → (digits ≡ []) ⊎ (is_second_prefix kind digits ≡ true) → is_second_prefix kind (digits ++ 48 ∷ []) ≡ true
 second_next kind digits few before = by_kind (kind == 83 || kind == 66) refl where
   test : List ℕ → Bool
-  test list = are_digits list && nat_le (value_of list) (unsigned_abs LAST_SECOND / 16 ^ (16 - length list))
+  test list = are_digits list && nat_le (value_of_digits list) (unsigned_abs LAST_SECOND / 16 ^ (16 - length list))
 
-  parts : (kind == 83 || kind == 66) ≡ true → (are_digits digits ≡ true) × (value_of digits ≤ unsigned_abs LAST_SECOND / 16 ^ (16 - length digits))
+  parts : (kind == 83 || kind == 66) ≡ true → (are_digits digits ≡ true) × (value_of_digits digits ≤ unsigned_abs LAST_SECOND / 16 ^ (16 - length digits))
   parts timed = elim before [
-    | inl none ↦ (ap are_digits none, subst (λ list. value_of list ≤ unsigned_abs LAST_SECOND / 16 ^ (16 - length list)) (sym none) (lit≤ tt))
+    | inl none ↦ (ap are_digits none, subst (λ list. value_of_digits list ≤ unsigned_abs LAST_SECOND / 16 ^ (16 - length list)) (sym none) (lit≤ tt))
     | inr begun ↦
         let tests = and_parts (are_digits digits) _ (sym (if_yes (kind == 83 || kind == 66) (test digits) _ timed) ∙ begun) in
         (tests.0, grind (arith, nat_tests))
@@ -97,16 +97,16 @@ second_next kind digits few before = by_kind (kind == 83 || kind == 66) refl whe
       let counted : length (digits ++ 48 ∷ []) ≡ length digits + 1 = length-append digits (48 ∷ []) in
       let left : 16 - length (digits ++ 48 ∷ []) ≡ more = omega arith in
       let power : 16 ^ suc more ≡ 16 ^ more * 16 = pow-suc 16 more in
-      let known : value_of digits ≤ unsigned_abs LAST_SECOND / 16 ^ suc more = subst (λ n. value_of digits ≤ unsigned_abs LAST_SECOND / 16 ^ n) here (parts timed).1 in
-      let whole : value_of digits * 16 ^ suc more ≤ unsigned_abs LAST_SECOND = (le-div_iff_mul-le (some_power (suc more))).0 known in
-      let moved : value_of digits * (16 ^ more * 16) ≤ unsigned_abs LAST_SECOND = subst (λ p. value_of digits * p ≤ unsigned_abs LAST_SECOND) power whole in
-      let value : value_of (digits ++ 48 ∷ []) ≡ value_of digits * 16 + 0 = value_last digits 48 in
-      let small : value_of (digits ++ 48 ∷ []) * 16 ^ more ≤ unsigned_abs LAST_SECOND = subst (λ n. n * 16 ^ more ≤ unsigned_abs LAST_SECOND) (sym value) (omega arith) in
-      let least : value_of (digits ++ 48 ∷ []) ≤ unsigned_abs LAST_SECOND / 16 ^ more = le-div (value_of (digits ++ 48 ∷ [])) (unsigned_abs LAST_SECOND) (16 ^ more) (some_power more) small in
-      let tested : nat_le (value_of (digits ++ 48 ∷ [])) (unsigned_abs LAST_SECOND / 16 ^ more) ≡ true = grind (arith, nat_tests) in
+      let known : value_of_digits digits ≤ unsigned_abs LAST_SECOND / 16 ^ suc more = subst (λ n. value_of_digits digits ≤ unsigned_abs LAST_SECOND / 16 ^ n) here (parts timed).1 in
+      let whole : value_of_digits digits * 16 ^ suc more ≤ unsigned_abs LAST_SECOND = (le-div_iff_mul-le (some_power (suc more))).0 known in
+      let moved : value_of_digits digits * (16 ^ more * 16) ≤ unsigned_abs LAST_SECOND = subst (λ p. value_of_digits digits * p ≤ unsigned_abs LAST_SECOND) power whole in
+      let value : value_of_digits (digits ++ 48 ∷ []) ≡ value_of_digits digits * 16 + 0 = value_last digits 48 in
+      let small : value_of_digits (digits ++ 48 ∷ []) * 16 ^ more ≤ unsigned_abs LAST_SECOND = subst (λ n. n * 16 ^ more ≤ unsigned_abs LAST_SECOND) (sym value) (omega arith) in
+      let least : value_of_digits (digits ++ 48 ∷ []) ≤ unsigned_abs LAST_SECOND / 16 ^ more = le-div (value_of_digits (digits ++ 48 ∷ [])) (unsigned_abs LAST_SECOND) (16 ^ more) (some_power more) small in
+      let tested : nat_le (value_of_digits (digits ++ 48 ∷ [])) (unsigned_abs LAST_SECOND / 16 ^ more) ≡ true = grind (arith, nat_tests) in
       if_yes (kind == 83 || kind == 66) (test (digits ++ 48 ∷ [])) _ timed
       ∙ and_from (are_digits (digits ++ 48 ∷ [])) _ (one_passes is_digit digits 48 (parts timed).0 refl)
-      (ap (λ n. nat_le (value_of (digits ++ 48 ∷ [])) (unsigned_abs LAST_SECOND / 16 ^ n)) left ∙ tested)
+      (ap (λ n. nat_le (value_of_digits (digits ++ 48 ∷ [])) (unsigned_abs LAST_SECOND / 16 ^ n)) left ∙ tested)
   by_kind false other =
       let zeros : are_zeros digits ≡ true = elim before [ inl none ↦ ap are_zeros none | inr begun ↦ sym (if_no (kind == 83 || kind == 66) (test digits) _ other) ∙ begun ] in
       if_no (kind == 83 || kind == 66) _ (are_zeros (digits ++ 48 ∷ [])) other ∙ one_passes (λ byte. byte == 48) digits 48 zeros refl
@@ -291,7 +291,7 @@ few_stand slot count end counts = by_test (nat_le count 32) refl where
       let impossible : false ≡ true = sym (past_slot slot) ∙ counts.each 32 more in
       cc
 
-right_has : (slot : List ℕ) (count : ℕ) → Counts slot count (length slot) → HasRightPrefix slot count
+right_has : (slot : List ℕ) (count : ℕ) → Counts slot count (length slot) → HasSlotPrefix slot count
 right_has slot count counts =
     let few : count ≤ 32 = few_stand slot count (length slot) counts in
     let start : List ℕ = take count slot in
@@ -301,7 +301,7 @@ right_has slot count counts =
     let some : SpellsSome whole.right = all_spelled whole.right (parts_of whole.right whole.counted whole.each) in
     record { mark = some.mark; right = whole.right; spelled = some.spelled; inside = counts.inside; prefix = ap (λ n. take n whole.right) (sym counted) ∙ whole.prefix }
 
-no_more : (slot : List ℕ) (count more : ℕ) → Counts slot count (length slot) → HasRightPrefix slot more → more ≤ count
+no_more : (slot : List ℕ) (count more : ℕ) → Counts slot count (length slot) → HasSlotPrefix slot more → more ≤ count
 no_more slot count more counts prefix = by_test (nat_le more count) refl where
   by_test : (few : Bool) → nat_le more count ≡ few → more ≤ count
   by_test true is = grind (arith, nat_tests)

@@ -8,7 +8,7 @@ use Rattle.std.proofs.lemmas.List.Folds.{list_all-append}
 use Rattle.host_calls.specs.Folder.{overwritten}
 use Rattle.start_journal.specs.declared.mark.Mark.{Mark}
 use Rattle.start_journal.specs.declared.mark.Mark.TheVariants.{Removed, Started, Ended, Interrupted, Forgotten, Batch}
-use Rattle.start_journal.specs.Changing.{Gives, added}
+use Rattle.start_journal.specs.Changing.{GivesReadJournal, added}
 use Rattle.start_journal.specs.FirstFault.{GivesJournal, IsRightJournal, slot_at}
 use Rattle.start_journal.specs.Journals.{JournalRead, are_drawn, is_drawn}
 use Rattle.start_journal.specs.Marks.{IsLegalAfter}
@@ -55,7 +55,7 @@ pub record HasBytes (content : Option (List ℕ)) (journal : JournalRead) : Type
   pub is : content ≡ Some bytes
   pub long : length bytes ≡ 32 * (length journal.marks + journal.free)
 
-pub has_bytes : (content : Option (List ℕ)) (journal : JournalRead) → 1 ≤ journal.free → Gives content journal → HasBytes content journal
+pub has_bytes : (content : Option (List ℕ)) (journal : JournalRead) → 1 ≤ journal.free → GivesReadJournal content journal → HasBytes content journal
 has_bytes content journal free gives = by_content content refl ((journals_are_given some.0 content journal).0 (gives some.0 some.1)) where
   some : (last : ℕ) × (are_drawn last journal.marks ≡ true)
   some = some_last_of_all journal.marks
@@ -65,7 +65,7 @@ has_bytes content journal free gives = by_content content refl ((journals_are_gi
   by_content (Some bytes) is given = record { bytes = bytes; is = is; long = given.all }
 
 -- The slot, written in two parts.
-module _ (journal : JournalRead) (mark : Mark) (slot bytes : List ℕ) (free : 1 ≤ journal.free) (legal : IsLegalAfter journal.marks mark) (spelled : SpellsMark slot mark) (gives : Gives (Some bytes) journal) (long : length bytes ≡ 32 * (length journal.marks + journal.free)) where
+module _ (journal : JournalRead) (mark : Mark) (slot bytes : List ℕ) (free : 1 ≤ journal.free) (legal : IsLegalAfter journal.marks mark) (spelled : SpellsMark slot mark) (gives : GivesReadJournal (Some bytes) journal) (long : length bytes ≡ 32 * (length journal.marks + journal.free)) where
   abbrev count : ℕ
   count = length journal.marks
 
@@ -97,7 +97,7 @@ module _ (journal : JournalRead) (mark : Mark) (slot bytes : List ℕ) (free : 1
       after = λ at late. over_after bytes (32 * count + 1) part half_within at (omega arith);
     }
 
-    pub half_gives : Gives (Some half) journal
+    pub half_gives : GivesReadJournal (Some half) journal
     half_gives = λ last drawn. (journals_are_given last (Some half) journal).1
         (right_closed last bytes half journal (right last drawn) free half_differs (λ gate.
         closed_there last drawn (sym (over_before bytes (32 * count + 1) part half_within (32 * count) (omega arith))
@@ -126,7 +126,7 @@ module _ (journal : JournalRead) (mark : Mark) (slot bytes : List ℕ) (free : 1
           ∙ over_inside half (32 * count) gate whole_within (32 * count + 0) (omega arith) (omega arith)
           ∙ ap (slice_index gate) (let none : 32 * count + 0 - 32 * count ≡ 0 = omega arith in none)
 
-      pub closed_gives : ¬ (slice_index gate 0 ≡ 43) → Gives (Some whole) journal
+      pub closed_gives : ¬ (slice_index gate 0 ≡ 43) → GivesReadJournal (Some whole) journal
       closed_gives closed = λ last drawn. (journals_are_given last (Some whole) journal).1
           (right_closed last bytes whole journal (right last drawn) free whole_differs (λ is_open. closed (sym gate_there ∙ is_open)))
 
@@ -162,7 +162,7 @@ module _ (journal : JournalRead) (mark : Mark) (slot bytes : List ℕ) (free : 1
               ∙ get_or-drop 1 slot (at - 1) 0
               ∙ ap (slice_index slot) there
 
-    pub open_gives : Gives (Some all) (added journal mark)
+    pub open_gives : GivesReadJournal (Some all) (added journal mark)
     open_gives = λ last drawn.
         let both : (are_drawn last journal.marks ≡ true) × (are_drawn last (mark ∷ []) ≡ true) =
         and_parts (are_drawn last journal.marks) (are_drawn last (mark ∷ [])) (sym (list_all-append (is_drawn last) journal.marks (mark ∷ [])) ∙ drawn) in

@@ -10,7 +10,7 @@ use Rattle.start_journal.specs.declared.fields.Fields.{Fields}
 use Rattle.start_journal.specs.declared.mark.Mark.{Mark}
 use Rattle.start_journal.specs.declared.mark.Mark.TheVariants.{Removed, Started, Ended, Interrupted, Forgotten, Batch}
 use Rattle.start_journal.specs.SlotBytes.{is_number_prefix, is_second_prefix, is_ending_of, is_kind, is_queue_of, is_status_of, may_stand}
-use Rattle.hex_digits.specs.Values.{are_digits, is_digit, value_of}
+use Rattle.hex_digits.specs.Values.{are_digits, is_digit, value_of_digits}
 use Rattle.start_journal.specs.Slots.{IsWritable, SpellsMark, fields_of}
 use Rattle.std.proofs.lemmas.Bool.{and_from}
 use Rattle.hex_digits.proofs.TestLemmas.{place_of_all, take_passes}
@@ -61,16 +61,16 @@ same_stand one other place same =
     and_same (place == 31) _ _ (λ is. ap (λ b. b == 10) (byte 31 (after_place place 30 from_30 not_30)))))))))))
 
 -- the first digits of a job's number
-pub number_prefix : (digits : List ℕ) (number count : ℕ) → SpellsNumber digits number → 1 ≤ number → length digits ≡ 8 → (are_digits (take count digits) && (nat_lt (length (take count digits)) 8 || nat_le 1 (value_of (take count digits)))) ≡ true
+pub number_prefix : (digits : List ℕ) (number count : ℕ) → SpellsNumber digits number → 1 ≤ number → length digits ≡ 8 → (are_digits (take count digits) && (nat_lt (length (take count digits)) 8 || nat_le 1 (value_of_digits (take count digits)))) ≡ true
 number_prefix digits number count spelled some counted =
     and_from (are_digits (take count digits)) _ (take_passes is_digit digits count (spelled_digits digits number spelled)) (by_few (nat_lt (length (take count digits)) 8) refl) where
-      by_few : (few : Bool) → nat_lt (length (take count digits)) 8 ≡ few → (nat_lt (length (take count digits)) 8 || nat_le 1 (value_of (take count digits))) ≡ true
-      by_few true few = ap (λ b. b || nat_le 1 (value_of (take count digits))) few
+      by_few : (few : Bool) → nat_lt (length (take count digits)) 8 ≡ few → (nat_lt (length (take count digits)) 8 || nat_le 1 (value_of_digits (take count digits))) ≡ true
+      by_few true few = ap (λ b. b || nat_le 1 (value_of_digits (take count digits))) few
       by_few false all =
           let long : 8 ≤ length (take count digits) = from_place (length (take count digits)) 8 all in
           let taken : length (take count digits) ≡ min count (length digits) = length-take count digits in
           let whole : take count digits ≡ digits = take_all count digits (omega arith) in
-          ap (λ b. b || nat_le 1 (value_of (take count digits))) all ∙ ap (λ list. nat_le 1 (value_of list)) whole
+          ap (λ b. b || nat_le 1 (value_of_digits (take count digits))) all ∙ ap (λ list. nat_le 1 (value_of_digits list)) whole
           ∙ ap (nat_le 1) (value_spelled digits number spelled) ∙ grind (arith, nat_tests)
 
 pub number_right : (mark : Mark) (digits : List ℕ) (count : ℕ) → IsWritable mark → SpellsNumber digits (fields_of mark).number → length digits ≡ 8 → is_number_prefix (fields_of mark).kind (take count digits) ≡ true
@@ -118,17 +118,17 @@ status_right (Interrupted number) bytes place spelled inside = place_of_all (λ 
 status_right (Forgotten number) bytes place spelled inside = place_of_all (λ byte. byte == 48) bytes place (zeros_of bytes spelled) inside
 status_right (Batch second) bytes place spelled inside = place_of_all (λ byte. byte == 48) bytes place (zeros_of bytes spelled) inside
 
-pub second_prefix : (digits : List ℕ) (second count : ℕ) → SpellsNumber digits second → second ≤ unsigned_abs LAST_SECOND → length digits ≡ 16 → count ≤ 16 → (are_digits (take count digits) && nat_le (value_of (take count digits)) (unsigned_abs LAST_SECOND / 16 ^ (16 - length (take count digits)))) ≡ true
+pub second_prefix : (digits : List ℕ) (second count : ℕ) → SpellsNumber digits second → second ≤ unsigned_abs LAST_SECOND → length digits ≡ 16 → count ≤ 16 → (are_digits (take count digits) && nat_le (value_of_digits (take count digits)) (unsigned_abs LAST_SECOND / 16 ^ (16 - length (take count digits)))) ≡ true
 second_prefix digits second count spelled small counted few =
     let taken : length (take count digits) ≡ count = length-take-le count digits (omega arith) in
     let more : ℕ = 16 - count in
     let whole : take (count + more) digits ≡ digits = take_all (count + more) digits (omega arith) in
-    let value : value_of (take (count + more) digits) ≡ second = ap value_of whole ∙ value_spelled digits second spelled in
-    let prefix : value_of (take count digits) * 16 ^ more ≤ value_of (take (count + more) digits) = value_prefix digits count more (omega arith) in
-    let least : value_of (take count digits) ≤ unsigned_abs LAST_SECOND / 16 ^ more = le-div (value_of (take count digits)) (unsigned_abs LAST_SECOND) (16 ^ more) (some_power more) (omega arith) in
-    let tested : nat_le (value_of (take count digits)) (unsigned_abs LAST_SECOND / 16 ^ more) ≡ true = grind (arith, nat_tests) in
+    let value : value_of_digits (take (count + more) digits) ≡ second = ap value_of_digits whole ∙ value_spelled digits second spelled in
+    let prefix : value_of_digits (take count digits) * 16 ^ more ≤ value_of_digits (take (count + more) digits) = value_prefix digits count more (omega arith) in
+    let least : value_of_digits (take count digits) ≤ unsigned_abs LAST_SECOND / 16 ^ more = le-div (value_of_digits (take count digits)) (unsigned_abs LAST_SECOND) (16 ^ more) (some_power more) (omega arith) in
+    let tested : nat_le (value_of_digits (take count digits)) (unsigned_abs LAST_SECOND / 16 ^ more) ≡ true = grind (arith, nat_tests) in
     and_from (are_digits (take count digits)) _ (take_passes is_digit digits count (spelled_digits digits second spelled))
-    (ap (λ n. nat_le (value_of (take count digits)) (unsigned_abs LAST_SECOND / 16 ^ (16 - n))) taken ∙ tested)
+    (ap (λ n. nat_le (value_of_digits (take count digits)) (unsigned_abs LAST_SECOND / 16 ^ (16 - n))) taken ∙ tested)
 
 pub second_right : (mark : Mark) (digits : List ℕ) (count : ℕ) → IsWritable mark → SpellsNumber digits (fields_of mark).second → length digits ≡ 16 → count ≤ 16 → is_second_prefix (fields_of mark).kind (take count digits) ≡ true
 second_right (Removed number) digits count writable spelled counted few = take_passes (λ byte. byte == 48) digits count (zeros_of digits spelled)

@@ -12,15 +12,15 @@ use Rattle.start_journal.specs.Marks.{IsLegalAfter}
 use Rattle.start_journal.specs.SlotBytes.{mark_in}
 use Rattle.start_journal.specs.Slots.{SpellsMark}
 use Rattle.start_journal.specs.Lifecycles.{TellLifecycles}
-use Rattle.start_journal.specs.Taken.{IsNear, faults_in, free_after, legal_mark, marks_of, offset_of, place_of, read_past, slot_faults, slots_of, taken_at, taken_from, taken_of, with_taken}
+use Rattle.start_journal.specs.Taken.{IsSlotWithinFile, faults_in, free_after, legal_mark, marks_of, offset_of, place_of_fault, read_past, slot_faults, slots_of, taken_at, taken_from, taken_of, with_taken}
 use Rattle.start_journal.proofs.ByteLemmas.{given}
 use Rattle.start_journal.proofs.JournalLemmas.{legal_is}
 use Rattle.start_journal.proofs.ReadLemmas.{none_given}
 
 -- the fault of a slot is what reading it answers
-pub place_found : (found : Result (Option Mark) ℕ) (one : Result JournalRead ℕ) (read : JournalRead) → MatchResult found (λ some. one ≡ Ok (with_slot read some)) (λ place. one ≡ Err place) → place_of one ≡ result_err found
-place_found (Ok some) one read is = ap place_of is
-place_found (Err place) one read is = ap place_of is
+pub place_found : (found : Result (Option Mark) ℕ) (one : Result JournalRead ℕ) (read : JournalRead) → MatchResult found (λ some. one ≡ Ok (with_slot read some)) (λ place. one ≡ Err place) → place_of_fault one ≡ result_err found
+place_found (Ok some) one read is = ap place_of_fault is
+place_found (Err place) one read is = ap place_of_fault is
 
 -- the mark of a slot that spells one
 pub legal_some : (marks : List Mark) (slot : List ℕ) (mark : Mark) → SpellsMark slot mark → true ≡ is_legal_after marks mark → Some mark ≡ legal_mark marks (mark_in slot)
@@ -48,8 +48,8 @@ kept_lives before found mark new is more legal =
     subst (λ f. TellLifecycles (with_taken before f) new) (sym is) (more (subst (λ f. IfSome f (IsLegalAfter before)) is legal))
 
 -- a mark more whose slot lies within a file
-pub near_more : (marks new : List TakenMark) (place : ℕ) (mark : Mark) → new ≡ marks ++ record { place = place; mark = mark } ∷ [] → 32 * place + 32 < 2 ^ 64 → All IsNear marks → All IsNear new
-near_more marks new place mark is near all = subst (All IsNear) (sym is) (All-push IsNear marks (record { place = place; mark = mark }) all near)
+pub near_more : (marks new : List TakenMark) (place : ℕ) (mark : Mark) → new ≡ marks ++ record { place = place; mark = mark } ∷ [] → 32 * place + 32 < 2 ^ 64 → All IsSlotWithinFile marks → All IsSlotWithinFile new
+near_more marks new place mark is near all = subst (All IsSlotWithinFile) (sym is) (All-push IsSlotWithinFile marks (record { place = place; mark = mark }) all near)
 
 -- the marks alone, with one more
 marks_more : (so_far : List TakenMark) (place : ℕ) (found : Option Mark) → marks_of (so_far ++ taken_at place found) ≡ with_taken (marks_of so_far) found
@@ -79,7 +79,7 @@ lives_step so_far new place slot found lives more is tell =
     subst (λ marks. TellLifecycles marks lives) (sym (ap marks_of more ∙ marks_more so_far place found)) (tell legal)
 
 -- the faults
-pub faults_step : (bound place free closed : ℕ) (slots : List (List ℕ)) (so_far new : List TakenMark) (old_faults new_faults all : List ℕ) (found : Option Mark) (fault : Option ℕ) (other : List ℕ) → place < length slots → old_faults ++ slot_faults bound (place * 32) (record { marks = marks_of so_far; free = free }) (drop place slots) ≡ all → new ≡ so_far ++ taken_at place found → found ≡ legal_mark (marks_of so_far) (mark_in (get_or slots place other)) → new_faults ≡ old_faults ++ offset_of (place * 32) fault → place_of (one_slot bound (record { marks = marks_of so_far; free = free }) (get_or slots place other)) ≡ fault → free + closed ≡ free_after free (get_or slots place other) → new_faults ++ slot_faults bound ((place + 1) * 32) (record { marks = marks_of new; free = free + closed }) (drop (place + 1) slots) ≡ all
+pub faults_step : (bound place free closed : ℕ) (slots : List (List ℕ)) (so_far new : List TakenMark) (old_faults new_faults all : List ℕ) (found : Option Mark) (fault : Option ℕ) (other : List ℕ) → place < length slots → old_faults ++ slot_faults bound (place * 32) (record { marks = marks_of so_far; free = free }) (drop place slots) ≡ all → new ≡ so_far ++ taken_at place found → found ≡ legal_mark (marks_of so_far) (mark_in (get_or slots place other)) → new_faults ≡ old_faults ++ offset_of (place * 32) fault → place_of_fault (one_slot bound (record { marks = marks_of so_far; free = free }) (get_or slots place other)) ≡ fault → free + closed ≡ free_after free (get_or slots place other) → new_faults ++ slot_faults bound ((place + 1) * 32) (record { marks = marks_of new; free = free + closed }) (drop (place + 1) slots) ≡ all
 faults_step bound place free closed slots so_far new old_faults new_faults all found fault other inside before more is more_faults faulty freed =
     let rest : List (List ℕ) = drop (place + 1) slots in
     let slot : List ℕ = get_or slots place other in
@@ -92,7 +92,7 @@ faults_step bound place free closed slots so_far new old_faults new_faults all f
     ∙ ap (λ n. (old_faults ++ offset_of (place * 32) fault) ++ slot_faults bound ((place + 1) * 32) (record { marks = (read_past read slot).marks; free = n }) rest) freed
     ∙ append_assoc old_faults (offset_of (place * 32) fault) (slot_faults bound ((place + 1) * 32) (read_past read slot) rest)
     ∙ ap (λ f. old_faults ++ (offset_of (place * 32) f ++ slot_faults bound ((place + 1) * 32) (read_past read slot) rest)) (sym faulty)
-    ∙ ap (λ n. old_faults ++ (offset_of (place * 32) (place_of (one_slot bound read slot)) ++ slot_faults bound n (read_past read slot) rest)) offset
+    ∙ ap (λ n. old_faults ++ (offset_of (place * 32) (place_of_fault (one_slot bound read slot)) ++ slot_faults bound n (read_past read slot) rest)) offset
     ∙ ap (λ n. old_faults ++ slot_faults bound (place * 32) read (slot ∷ drop n slots)) (sym count)
     ∙ ap (λ list. old_faults ++ slot_faults bound (place * 32) read list) (sym (drop-cons slots place other inside))
     ∙ before

@@ -11,7 +11,7 @@ use Rattle.start_journal.specs.declared.fields.Fields.{Fields}
 use Rattle.start_journal.specs.declared.mark.Mark.{Mark}
 use Rattle.start_journal.specs.declared.mark.Mark.TheVariants.{Removed, Started, Ended, Interrupted, Forgotten, Batch}
 use Rattle.start_journal.specs.SlotBytes.{is_number_prefix, is_second_prefix, is_ending_of, is_kind, is_queue_of, is_status_of, may_stand}
-use Rattle.hex_digits.specs.Values.{are_digits, are_zeros, is_digit, value_of}
+use Rattle.hex_digits.specs.Values.{are_digits, are_zeros, is_digit, value_of_digits}
 use Rattle.start_journal.specs.Slots.{SpellsFields, SpellsMark, plain_fields}
 use Rattle.clock_range.specs.ClockRange.{IsClockSecond}
 use Rattle.clock_range.proofs.RangeLemmas.{second_is}
@@ -87,31 +87,31 @@ two_pass test slot counted first last =
     ])
 
 -- the number of a job
-pub number_of_job : (slot : List ℕ) → length slot ≡ 32 → (are_digits (slice_range slot 2 10) && (nat_lt (length (slice_range slot 2 10)) 8 || nat_le 1 (value_of (slice_range slot 2 10)))) ≡ true → SpellsNumber (slice_range slot 2 10) (value_of (slice_range slot 2 10)) × (1 ≤ value_of (slice_range slot 2 10))
+pub number_of_job : (slot : List ℕ) → length slot ≡ 32 → (are_digits (slice_range slot 2 10) && (nat_lt (length (slice_range slot 2 10)) 8 || nat_le 1 (value_of_digits (slice_range slot 2 10)))) ≡ true → SpellsNumber (slice_range slot 2 10) (value_of_digits (slice_range slot 2 10)) × (1 ≤ value_of_digits (slice_range slot 2 10))
 number_of_job slot counted is =
     let digits : List ℕ = slice_range slot 2 10 in
-    let tests : (are_digits digits ≡ true) × ((nat_lt (length digits) 8 || nat_le 1 (value_of digits)) ≡ true) = and_parts _ _ is in
+    let tests : (are_digits digits ≡ true) × ((nat_lt (length digits) 8 || nat_le 1 (value_of_digits digits)) ≡ true) = and_parts _ _ is in
     let long : length digits ≡ 8 = part_long slot 2 10 (omega arith) in
     let not_few : nat_lt (length digits) 8 ≡ false = grind (arith, nat_tests) in
-    let some : nat_le 1 (value_of digits) ≡ true = sym (ap (λ b. b || nat_le 1 (value_of digits)) not_few) ∙ tests.1 in
+    let some : nat_le 1 (value_of_digits digits) ≡ true = sym (ap (λ b. b || nat_le 1 (value_of_digits digits)) not_few) ∙ tests.1 in
     (digits_spell digits tests.0, grind (arith, nat_tests))
 
 -- a second of the clock's range
-pub second_of_slot : (slot : List ℕ) → length slot ≡ 32 → (are_digits (slice_range slot 14 30) && nat_le (value_of (slice_range slot 14 30)) (unsigned_abs LAST_SECOND / 16 ^ (16 - length (slice_range slot 14 30)))) ≡ true → SpellsNumber (slice_range slot 14 30) (value_of (slice_range slot 14 30)) × IsClockSecond (pos (value_of (slice_range slot 14 30)))
+pub second_of_slot : (slot : List ℕ) → length slot ≡ 32 → (are_digits (slice_range slot 14 30) && nat_le (value_of_digits (slice_range slot 14 30)) (unsigned_abs LAST_SECOND / 16 ^ (16 - length (slice_range slot 14 30)))) ≡ true → SpellsNumber (slice_range slot 14 30) (value_of_digits (slice_range slot 14 30)) × IsClockSecond (pos (value_of_digits (slice_range slot 14 30)))
 second_of_slot slot counted is =
     let digits : List ℕ = slice_range slot 14 30 in
-    let tests : (are_digits digits ≡ true) × (nat_le (value_of digits) (unsigned_abs LAST_SECOND / 16 ^ (16 - length digits)) ≡ true) = and_parts _ _ is in
+    let tests : (are_digits digits ≡ true) × (nat_le (value_of_digits digits) (unsigned_abs LAST_SECOND / 16 ^ (16 - length digits)) ≡ true) = and_parts _ _ is in
     let long : length digits ≡ 16 = part_long slot 14 30 (omega arith) in
-    let at_most : nat_le (value_of digits) (unsigned_abs LAST_SECOND) ≡ true = sym (ap (λ n. nat_le (value_of digits) (unsigned_abs LAST_SECOND / 16 ^ (16 - n))) long) ∙ tests.1 in
-    (digits_spell digits tests.0, second_is (pos (value_of digits)) at_most)
+    let at_most : nat_le (value_of_digits digits) (unsigned_abs LAST_SECOND) ≡ true = sym (ap (λ n. nat_le (value_of_digits digits) (unsigned_abs LAST_SECOND / 16 ^ (16 - n))) long) ∙ tests.1 in
+    (digits_spell digits tests.0, second_is (pos (value_of_digits digits)) at_most)
 
 -- a slot of a kind that says no more than a number
-pub plain_slot : (slot : List ℕ) (kind : ℕ) → HasParts slot → slice_index slot 1 ≡ kind → (kind == 66) ≡ false → (kind == 83) ≡ false → (kind == 69) ≡ false → SpellsFields slot (plain_fields kind (value_of (slice_range slot 2 10))) × (1 ≤ value_of (slice_range slot 2 10))
+pub plain_slot : (slot : List ℕ) (kind : ℕ) → HasParts slot → slice_index slot 1 ≡ kind → (kind == 66) ≡ false → (kind == 83) ≡ false → (kind == 69) ≡ false → SpellsFields slot (plain_fields kind (value_of_digits (slice_range slot 2 10))) × (1 ≤ value_of_digits (slice_range slot 2 10))
 plain_slot slot kind parts is not_batch not_start not_end =
     let digits : List ℕ = slice_range slot 2 10 in
     let seconds : List ℕ = slice_range slot 14 30 in
     let number = number_of_job slot parts.counted
-    (sym (ap (λ b. if b then are_zeros digits else (are_digits digits && (nat_lt (length digits) 8 || nat_le 1 (value_of digits)))) (ap (λ k. k == 66) is ∙ not_batch)) ∙ parts.number) in
+    (sym (ap (λ b. if b then are_zeros digits else (are_digits digits && (nat_lt (length digits) 8 || nat_le 1 (value_of_digits digits)))) (ap (λ k. k == 66) is ∙ not_batch)) ∙ parts.number) in
     let queue : slice_index slot 10 ≡ 45 = eqb-true (slice_index slot 10) 45
     (sym (ap (λ b. if b then is_ascii_alphabetic (slice_index slot 10) else slice_index slot 10 == 45) (ap (λ k. k == 83) is ∙ not_start)) ∙ parts.queue) in
     let ending : slice_index slot 11 ≡ 45 = eqb-true (slice_index slot 11) 45
@@ -119,8 +119,8 @@ plain_slot slot kind parts is not_batch not_start not_end =
     let first : (slice_index slot 12 == 48) ≡ true = sym (ap (λ e. is_status_of e (slice_index slot 12)) ending) ∙ parts.first in
     let last : (slice_index slot 13 == 48) ≡ true = sym (ap (λ e. is_status_of e (slice_index slot 13)) ending) ∙ parts.last in
     let no_second : (slice_index slot 1 == 83 || slice_index slot 1 == 66) ≡ false = ap (λ b. b || slice_index slot 1 == 66) (ap (λ k. k == 83) is ∙ not_start) ∙ ap (λ k. k == 66) is ∙ not_batch in
-    let zeros : are_zeros seconds ≡ true = sym (ap (λ b. if b then (are_digits seconds && nat_le (value_of seconds) (unsigned_abs LAST_SECOND / 16 ^ (16 - length seconds))) else are_zeros seconds) no_second) ∙ parts.second in (
-      fields_spelled slot (plain_fields kind (value_of digits)) parts is number.0 queue ending
+    let zeros : are_zeros seconds ≡ true = sym (ap (λ b. if b then (are_digits seconds && nat_le (value_of_digits seconds) (unsigned_abs LAST_SECOND / 16 ^ (16 - length seconds))) else are_zeros seconds) no_second) ∙ parts.second in (
+      fields_spelled slot (plain_fields kind (value_of_digits digits)) parts is number.0 queue ending
           (spelled_zero (slice_range slot 12 14) (two_pass (λ byte. byte == 48) slot parts.counted first last)) (spelled_zero seconds zeros),
       number.1,
     )
@@ -135,7 +135,7 @@ start_slot slot parts is =
     let last : (slice_index slot 13 == 48) ≡ true = subst (λ e. is_status_of e (slice_index slot 13) ≡ true) ending parts.last in
     let second = second_of_slot slot parts.counted (subst (λ kind. is_second_prefix kind (slice_range slot 14 30) ≡ true) is parts.second) in
     record {
-      mark = Started (value_of (slice_range slot 2 10)) (slice_index slot 10) (pos (value_of (slice_range slot 14 30)));
+      mark = Started (value_of_digits (slice_range slot 2 10)) (slice_index slot 10) (pos (value_of_digits (slice_range slot 14 30)));
       spelled = record {
         writable = record { drawn = number.1; letter = letter; second_of = second.1 };
         fields = fields_spelled slot _ parts is number.0 refl ending (spelled_zero (slice_range slot 12 14) (two_pass (λ byte. byte == 48) slot parts.counted first last)) second.0;
@@ -152,7 +152,7 @@ batch_slot slot parts is =
     let last : (slice_index slot 13 == 48) ≡ true = subst (λ e. is_status_of e (slice_index slot 13) ≡ true) ending parts.last in
     let second = second_of_slot slot parts.counted (subst (λ kind. is_second_prefix kind (slice_range slot 14 30) ≡ true) is parts.second) in
     record {
-      mark = Batch (pos (value_of (slice_range slot 14 30)));
+      mark = Batch (pos (value_of_digits (slice_range slot 14 30)));
       spelled = record {
         writable = second.1;
         fields = fields_spelled slot _ parts is (spelled_zero (slice_range slot 2 10) zeros) queue ending (spelled_zero (slice_range slot 12 14) (two_pass (λ byte. byte == 48) slot parts.counted first last)) second.0;
@@ -166,7 +166,7 @@ end_slot slot parts is =
     let queue : slice_index slot 10 ≡ 45 = eqb-true (slice_index slot 10) 45 (subst (λ kind. is_queue_of kind (slice_index slot 10) ≡ true) is parts.queue) in
     let zeros : are_zeros (slice_range slot 14 30) ≡ true = subst (λ kind. is_second_prefix kind (slice_range slot 14 30) ≡ true) is parts.second in
     let second : SpellsNumber (slice_range slot 14 30) 0 = spelled_zero (slice_range slot 14 30) zeros in
-    let digits : (e : ℕ) → slice_index slot 11 ≡ e → ((byte : ℕ) → is_status_of e byte ≡ is_digit byte) → SpellsNumber (slice_range slot 12 14) (value_of (slice_range slot 12 14)) =
+    let digits : (e : ℕ) → slice_index slot 11 ≡ e → ((byte : ℕ) → is_status_of e byte ≡ is_digit byte) → SpellsNumber (slice_range slot 12 14) (value_of_digits (slice_range slot 12 14)) =
     λ e at same. digits_spell (slice_range slot 12 14) (two_pass is_digit slot parts.counted
     (sym (same (slice_index slot 12)) ∙ subst (λ x. is_status_of x (slice_index slot 12) ≡ true) at parts.first)
     (sym (same (slice_index slot 13)) ∙ subst (λ x. is_status_of x (slice_index slot 13) ≡ true) at parts.last)) in
@@ -176,13 +176,13 @@ end_slot slot parts is =
         | inl exit ↦
             let at : slice_index slot 11 ≡ 120 = eqb-true (slice_index slot 11) 120 exit in
             record {
-              mark = Ended (value_of (slice_range slot 2 10)) (Exit (value_of (slice_range slot 12 14)));
+              mark = Ended (value_of_digits (slice_range slot 2 10)) (Exit (value_of_digits (slice_range slot 12 14)));
               spelled = record { writable = number.1; fields = fields_spelled slot _ parts is number.0 queue at (digits 120 at (λ byte. refl)) second };
             }
         | inr signal ↦
             let at : slice_index slot 11 ≡ 115 = eqb-true (slice_index slot 11) 115 signal in
             record {
-              mark = Ended (value_of (slice_range slot 2 10)) (Signal (value_of (slice_range slot 12 14)));
+              mark = Ended (value_of_digits (slice_range slot 2 10)) (Signal (value_of_digits (slice_range slot 12 14)));
               spelled = record { writable = number.1; fields = fields_spelled slot _ parts is number.0 queue at (digits 115 at (λ byte. refl)) second };
             }
       ]
@@ -191,20 +191,20 @@ end_slot slot parts is =
           let first : (slice_index slot 12 == 48) ≡ true = subst (λ e. is_status_of e (slice_index slot 12) ≡ true) at parts.first in
           let last : (slice_index slot 13 == 48) ≡ true = subst (λ e. is_status_of e (slice_index slot 13) ≡ true) at parts.last in
           record {
-            mark = Ended (value_of (slice_range slot 2 10)) NotStarted;
+            mark = Ended (value_of_digits (slice_range slot 2 10)) NotStarted;
             spelled = record { writable = number.1; fields = fields_spelled slot _ parts is number.0 queue at (spelled_zero (slice_range slot 12 14) (two_pass (λ byte. byte == 48) slot parts.counted first last)) second };
           }
     ]
 
 -- the slots of the other kinds
 pub removed_slot : (slot : List ℕ) → HasParts slot → slice_index slot 1 ≡ 82 → SpellsSome slot
-removed_slot slot parts is = let plain = plain_slot slot 82 parts is refl refl refl in record { mark = Removed (value_of (slice_range slot 2 10)); spelled = record { writable = plain.1; fields = plain.0 } }
+removed_slot slot parts is = let plain = plain_slot slot 82 parts is refl refl refl in record { mark = Removed (value_of_digits (slice_range slot 2 10)); spelled = record { writable = plain.1; fields = plain.0 } }
 
 pub interrupted_slot : (slot : List ℕ) → HasParts slot → slice_index slot 1 ≡ 73 → SpellsSome slot
-interrupted_slot slot parts is = let plain = plain_slot slot 73 parts is refl refl refl in record { mark = Interrupted (value_of (slice_range slot 2 10)); spelled = record { writable = plain.1; fields = plain.0 } }
+interrupted_slot slot parts is = let plain = plain_slot slot 73 parts is refl refl refl in record { mark = Interrupted (value_of_digits (slice_range slot 2 10)); spelled = record { writable = plain.1; fields = plain.0 } }
 
 pub forgotten_slot : (slot : List ℕ) → HasParts slot → slice_index slot 1 ≡ 70 → SpellsSome slot
-forgotten_slot slot parts is = let plain = plain_slot slot 70 parts is refl refl refl in record { mark = Forgotten (value_of (slice_range slot 2 10)); spelled = record { writable = plain.1; fields = plain.0 } }
+forgotten_slot slot parts is = let plain = plain_slot slot 70 parts is refl refl refl in record { mark = Forgotten (value_of_digits (slice_range slot 2 10)); spelled = record { writable = plain.1; fields = plain.0 } }
 
 -- a slot of which each byte may stand spells a mark
 pub all_spelled : (slot : List ℕ) → HasParts slot → SpellsSome slot

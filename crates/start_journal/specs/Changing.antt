@@ -9,8 +9,8 @@ use Rattle.whole_file.specs.Temporary.{temporary_file}
 use Rattle.start_journal.specs.Marks.{kept_marks}
 
 -- the content of a journal file gives this journal
-abbrev pub Gives : Option (List ℕ) → JournalRead → Type 0
-Gives content journal = GivesMarks content journal.marks journal.free
+abbrev pub GivesReadJournal : Option (List ℕ) → JournalRead → Type 0
+GivesReadJournal content journal = GivesMarks content journal.marks journal.free
 
 -- the journal with one mark more, and so one free slot fewer
 abbrev pub added : JournalRead → Mark → JournalRead
@@ -25,18 +25,18 @@ compacted journal = record { marks = kept_marks journal.marks; free = 256 }
 pub record HoldsJournal (journal : JournalRead) (folder : Folder) : Type 0 where
   pub certain : folder.pending ≡ []
   pub same : (image : Files) → IsImage folder image → map.get image journal_file ≡ map.get (reading_of folder) journal_file
-  pub gives : Gives (map.get (reading_of folder) journal_file) journal
+  pub gives : GivesReadJournal (map.get (reading_of folder) journal_file) journal
   pub no_temp : IsInNoImage folder temporary_file
 
 -- the image has the journal file that one image of the start has, or one that gives this journal
 pub record IsReplacing (journal : JournalRead) (start : Folder) (image : Files) : Type 0 where
   pub alone : LeavesOthers (IsEither temporary_file journal_file) start image
-  pub gives : (map.get image journal_file ≡ map.get alone.from journal_file) ⊎ Gives (map.get image journal_file) journal
+  pub gives : (map.get image journal_file ≡ map.get alone.from journal_file) ⊎ GivesReadJournal (map.get image journal_file) journal
 
 -- the image gives the one journal or the other, and other files are left alone
 pub record IsChanging (before after : JournalRead) (start : Folder) (image : Files) : Type 0 where
   pub alone : LeavesOthers (IsEither temporary_file journal_file) start image
-  pub gives : Gives (map.get image journal_file) before ⊎ Gives (map.get image journal_file) after
+  pub gives : GivesReadJournal (map.get image journal_file) before ⊎ GivesReadJournal (map.get image journal_file) after
 
 -- the folder holds the journal now, and all else reads as before
 pub record IsChanged (journal : JournalRead) (old new : Folder) : Type 0 where

@@ -5,7 +5,7 @@ use Rattle.host_calls.specs.Damages.{damage_at}
 use Rattle.start_journal.specs.declared.mark.Mark.{Mark}
 use Rattle.start_journal.specs.JournalLaws.{IsLongestPrefix}
 use Rattle.start_journal.specs.Journals.{JournalRead, journal_file, nothing_read}
-use Rattle.start_journal.specs.Marks.{AreLegal, IsLegalAfter, is_named, names}
+use Rattle.start_journal.specs.Marks.{AreLegalMarks, IsLegalAfter, has_mark_of, is_mark_of}
 use Rattle.start_journal.specs.Slots.{SpellsMark}
 
 -- the slot at a place: 32 bytes
@@ -24,8 +24,8 @@ pub record IsRightBefore (last : ℕ) (bytes : List ℕ) (place : ℕ) (marks : 
   pub few : length marks ≤ place
   pub spelled : (at : ℕ) (mark : Mark) → slice_get marks at ≡ Some mark → SpellsMark (slot_at bytes at) mark
   pub closed : (at : ℕ) → length marks ≤ at → at < place → ¬ IsOpenSlot bytes at
-  pub legal : AreLegal marks
-  pub drawn : (number : ℕ) → is_named number marks ≡ true → number ≤ last
+  pub legal : AreLegalMarks marks
+  pub drawn : (number : ℕ) → has_mark_of number marks ≡ true → number ≤ last
 
 -- Why the open slot at a place is wrong, after slots of which the first spell these marks, and where in it.
 pub data IsWrong (last : ℕ) (marks : List Mark) (place : ℕ) (slot : List ℕ) (offset : ℕ) : Type 0 where
@@ -38,7 +38,7 @@ pub data IsWrong (last : ℕ) (marks : List Mark) (place : ℕ) (slot : List ℕ
   not_legal : (mark : Mark) → length marks ≡ place → SpellsMark slot mark → ¬ IsLegalAfter marks mark → offset ≡ 0
       → IsWrong last marks place slot offset
   -- its mark names a number that was not drawn: at its gate
-  not_drawn : (mark : Mark) (number : ℕ) → length marks ≡ place → SpellsMark slot mark → names number mark ≡ true
+  not_drawn : (mark : Mark) (number : ℕ) → length marks ≡ place → SpellsMark slot mark → is_mark_of number mark ≡ true
       → last < number → offset ≡ 0 → IsWrong last marks place slot offset
 
 -- the first fault is in the open slot at some place

@@ -7,9 +7,9 @@ use Rattle.start_journal.specs.declared.fault.JournalFault.{JournalFault}
 use Rattle.start_journal.specs.declared.fault.JournalFault.TheVariants.{Damaged, Failed, Memory}
 
 -- a fault of the host, as this one
-abbrev pub fault_of : HostFault → JournalFault
-fault_of HostFailed = Failed
-fault_of HostMemory = Memory
+abbrev pub journal_fault_of : HostFault → JournalFault
+journal_fault_of HostFailed = Failed
+journal_fault_of HostMemory = Memory
 
 -- a fault of the journal's reading, as one of the store
 abbrev pub fault_of_journal : JournalFault → StoreFault

@@ -2,8 +2,8 @@
 use Rattle.std.specs.Prelude.{◌≡◌, ◌≤◌, ℕ, true, List, Some, Ok}
 use Rattle.start_journal.specs.declared.mark.Mark.{Mark}
 use Rattle.start_journal.specs.Journals.{SpellsJournal, are_drawn, journal_in}
-use Rattle.start_journal.specs.Marks.{AreLegal}
-use Rattle.start_journal.specs.SlotBytes.{HasRightPrefix, mark_in, right_prefix}
+use Rattle.start_journal.specs.Marks.{AreLegalMarks}
+use Rattle.start_journal.specs.SlotBytes.{HasSlotPrefix, mark_in, right_prefix}
 use Rattle.start_journal.specs.Slots.{SpellsMark}
 
 -- a slot gives a mark exactly where it spells it
@@ -16,8 +16,8 @@ SlotsGiveTheirMarks = (slot : List ℕ) (mark : Mark) → GivesItsMark slot mark
 
 -- some mark's slot has so many of the first bytes too, and none has more of them
 pub record IsLongestPrefix (slot : List ℕ) (count : ℕ) : Type 0 where
-  pub prefix : HasRightPrefix slot count
-  pub longest : (more : ℕ) → HasRightPrefix slot more → more ≤ count
+  pub prefix : HasSlotPrefix slot count
+  pub longest : (more : ℕ) → HasSlotPrefix slot more → more ≤ count
 
 -- the right prefix of a slot is its longest prefix that some mark's slot has too
 abbrev pub RightPrefixesAreLongest : Type 0
@@ -26,5 +26,5 @@ RightPrefixesAreLongest = (slot : List ℕ) → IsLongestPrefix slot (right_pref
 -- a journal that was placed whole reads back, where its marks are legal and name drawn numbers
 abbrev pub JournalsReadBack : Type 0
 JournalsReadBack =
-    (last : ℕ) (bytes : List ℕ) (marks : List Mark) (free : ℕ) → SpellsJournal bytes marks free → AreLegal marks
+    (last : ℕ) (bytes : List ℕ) (marks : List Mark) (free : ℕ) → SpellsJournal bytes marks free → AreLegalMarks marks
     → are_drawn last marks ≡ true → journal_in last (Some bytes) ≡ Ok (record { marks = marks; free = free })

@@ -6,7 +6,7 @@ use Rattle.host_calls.specs.declared.damage.Damage.{Damage}
 use Rattle.host_calls.specs.Damages.{damage_at}
 use Rattle.start_journal.specs.declared.mark.Mark.{Mark}
 use Rattle.start_journal.specs.declared.mark.Mark.TheVariants.{Removed, Started, Ended, Interrupted, Forgotten, Batch}
-use Rattle.start_journal.specs.Marks.{is_decided, is_ended, is_forgotten, is_named, is_started}
+use Rattle.start_journal.specs.Marks.{is_decided, is_ended, is_forgotten, has_mark_of, has_start_of}
 use Rattle.start_journal.specs.SlotBytes.{can_write, mark_in, right_prefix}
 use Rattle.start_journal.specs.Slots.{IsWritable, SpellsMark}
 
@@ -28,10 +28,10 @@ free_slot = codes "-..............................\n"
 
 -- the mark is legal after those before it, as a test
 abbrev pub is_legal_after : List Mark → Mark → Bool
-is_legal_after before (Removed number) = not (is_named number before)
-is_legal_after before (Started number queue second) = not (is_named number before)
-is_legal_after before (Ended number ending) = is_started number before && not (is_ended number before)
-is_legal_after before (Interrupted number) = is_started number before && not (is_ended number before)
+is_legal_after before (Removed number) = not (has_mark_of number before)
+is_legal_after before (Started number queue second) = not (has_mark_of number before)
+is_legal_after before (Ended number ending) = has_start_of number before && not (is_ended number before)
+is_legal_after before (Interrupted number) = has_start_of number before && not (is_ended number before)
 is_legal_after before (Forgotten number) = is_decided number before && not (is_forgotten number before)
 is_legal_after before (Batch second) = true
 

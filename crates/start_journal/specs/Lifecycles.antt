@@ -9,7 +9,7 @@ use Rattle.spool_model.specs.declared.fate.Fate.{Fate}
 use Rattle.spool_model.specs.declared.fate.Fate.TheVariants as fate
 use Rattle.start_journal.specs.declared.mark.Mark.{Mark}
 use Rattle.start_journal.specs.declared.mark.Mark.TheVariants.{Removed, Started, Ended, Interrupted, Forgotten, Batch}
-use Rattle.start_journal.specs.Marks.{AreLegal, forgets, is_forgotten, start_second, started_at}
+use Rattle.start_journal.specs.Marks.{AreLegalMarks, is_forgetting, is_forgotten, start_second, started_at}
 use Rattle.start_journal.specs.declared.stage.Stage.{Stage}
 use Rattle.start_journal.specs.Stages.{stage_by}
 use Rattle.start_journal.specs.declared.lifecycles.Lifecycle.{Lifecycle}
@@ -42,7 +42,7 @@ abbrev pub lifecycle_with : ℕ → Mark → Lifecycle → Lifecycle
 lifecycle_with number mark life = record {
   started = option_or life.started (start_second number mark);
   fate = option_or life.fate (fate_given number mark);
-  forgotten = life.forgotten || forgets number mark;
+  forgotten = life.forgotten || is_forgetting number mark;
 }
 
 -- a life of which nothing is told
@@ -63,7 +63,7 @@ lifecycle_in lives number = unwrap_or (life_under lives.by_number number) unknow
 
 -- the marks are legal, and for each number what is kept is what they tell
 abbrev pub TellLifecycles : List Mark → Lifecycles → Type 0
-TellLifecycles marks lives = AreLegal marks × ((number : ℕ) → lifecycle_in lives number ≡ lifecycle_at number marks)
+TellLifecycles marks lives = AreLegalMarks marks × ((number : ℕ) → lifecycle_in lives number ≡ lifecycle_at number marks)
 
 -- the fate of a life that is not forgotten
 abbrev pub remembered_fate : Lifecycle → Option Fate

@@ -8,33 +8,33 @@ use Rattle.start_journal.specs.declared.mark.Mark.{Mark}
 use Rattle.start_journal.specs.declared.mark.Mark.TheVariants.{Removed, Started, Ended, Interrupted, Forgotten, Batch}
 
 -- the number that the mark names, if it names one
-abbrev pub number_of : Mark → Option ℕ
-number_of (Removed number) = Some number
-number_of (Started number queue second) = Some number
-number_of (Ended number ending) = Some number
-number_of (Interrupted number) = Some number
-number_of (Forgotten number) = Some number
-number_of (Batch second) = None
+abbrev pub number_of_mark : Mark → Option ℕ
+number_of_mark (Removed number) = Some number
+number_of_mark (Started number queue second) = Some number
+number_of_mark (Ended number ending) = Some number
+number_of_mark (Interrupted number) = Some number
+number_of_mark (Forgotten number) = Some number
+number_of_mark (Batch second) = None
 
 -- the mark names the number
-abbrev pub names : ℕ → Mark → Bool
-names number (Removed other) = other == number
-names number (Started other queue second) = other == number
-names number (Ended other ending) = other == number
-names number (Interrupted other) = other == number
-names number (Forgotten other) = other == number
-names number (Batch second) = false
+abbrev pub is_mark_of : ℕ → Mark → Bool
+is_mark_of number (Removed other) = other == number
+is_mark_of number (Started other queue second) = other == number
+is_mark_of number (Ended other ending) = other == number
+is_mark_of number (Interrupted other) = other == number
+is_mark_of number (Forgotten other) = other == number
+is_mark_of number (Batch second) = false
 
 -- the mark is the start of the number
-abbrev pub starts : ℕ → Mark → Bool
-starts number (Started other queue second) = other == number
-starts number _ = false
+abbrev pub is_start_of : ℕ → Mark → Bool
+is_start_of number (Started other queue second) = other == number
+is_start_of number _ = false
 
 -- the mark is the end of the number, or gives it up
-abbrev pub ends : ℕ → Mark → Bool
-ends number (Ended other ending) = other == number
-ends number (Interrupted other) = other == number
-ends number _ = false
+abbrev pub is_end_of : ℕ → Mark → Bool
+is_end_of number (Ended other ending) = other == number
+is_end_of number (Interrupted other) = other == number
+is_end_of number _ = false
 
 -- the mark decides the number
 abbrev pub decides : ℕ → Mark → Bool
@@ -44,51 +44,51 @@ decides number (Interrupted other) = other == number
 decides number _ = false
 
 -- the mark forgets the number
-abbrev pub forgets : ℕ → Mark → Bool
-forgets number (Forgotten other) = other == number
-forgets number _ = false
+abbrev pub is_forgetting : ℕ → Mark → Bool
+is_forgetting number (Forgotten other) = other == number
+is_forgetting number _ = false
 
 -- some mark names the number, starts it, ends it, decides it or forgets it
-abbrev pub is_named : ℕ → List Mark → Bool
-is_named number marks = list_any (names number) marks
+abbrev pub has_mark_of : ℕ → List Mark → Bool
+has_mark_of number marks = list_any (is_mark_of number) marks
 
-abbrev pub is_started : ℕ → List Mark → Bool
-is_started number marks = list_any (starts number) marks
+abbrev pub has_start_of : ℕ → List Mark → Bool
+has_start_of number marks = list_any (is_start_of number) marks
 
 abbrev pub is_ended : ℕ → List Mark → Bool
-is_ended number marks = list_any (ends number) marks
+is_ended number marks = list_any (is_end_of number) marks
 
 abbrev pub is_decided : ℕ → List Mark → Bool
 is_decided number marks = list_any (decides number) marks
 
 abbrev pub is_forgotten : ℕ → List Mark → Bool
-is_forgotten number marks = list_any (forgets number) marks
+is_forgotten number marks = list_any (is_forgetting number) marks
 
 -- The mark is legal after those before it.
 abbrev pub IsLegalAfter : List Mark → Mark → Type 0
-IsLegalAfter before (Removed number) = is_named number before ≡ false
-IsLegalAfter before (Started number queue second) = is_named number before ≡ false
-IsLegalAfter before (Ended number ending) = (is_started number before ≡ true) × (is_ended number before ≡ false)
-IsLegalAfter before (Interrupted number) = (is_started number before ≡ true) × (is_ended number before ≡ false)
+IsLegalAfter before (Removed number) = has_mark_of number before ≡ false
+IsLegalAfter before (Started number queue second) = has_mark_of number before ≡ false
+IsLegalAfter before (Ended number ending) = (has_start_of number before ≡ true) × (is_ended number before ≡ false)
+IsLegalAfter before (Interrupted number) = (has_start_of number before ≡ true) × (is_ended number before ≡ false)
 IsLegalAfter before (Forgotten number) = (is_decided number before ≡ true) × (is_forgotten number before ≡ false)
 IsLegalAfter before (Batch second) = Unit {0}
 
 -- the marks are legal, one after the other, after those before them
-abbrev pub AreLegalAfter : List Mark → List Mark → Type 0
-AreLegalAfter before [] = Unit {0}
-AreLegalAfter before (mark ∷ later) = IsLegalAfter before mark × AreLegalAfter (before ++ mark ∷ []) later
+abbrev pub AreLegalMarksAfter : List Mark → List Mark → Type 0
+AreLegalMarksAfter before [] = Unit {0}
+AreLegalMarksAfter before (mark ∷ later) = IsLegalAfter before mark × AreLegalMarksAfter (before ++ mark ∷ []) later
 
 -- each mark is legal after those before it
-abbrev pub AreLegal : List Mark → Type 0
-AreLegal marks = AreLegalAfter [] marks
+abbrev pub AreLegalMarks : List Mark → Type 0
+AreLegalMarks marks = AreLegalMarksAfter [] marks
 
 -- the marks that name the number, in their order
 abbrev pub marks_of : ℕ → List Mark → List Mark
-marks_of number marks = filter (names number) marks
+marks_of number marks = filter (is_mark_of number) marks
 
 -- the number is started and not decided
 abbrev pub is_open : ℕ → List Mark → Bool
-is_open number marks = is_started number marks && not (is_decided number marks)
+is_open number marks = has_start_of number marks && not (is_decided number marks)
 
 -- the number is decided, and not forgotten
 abbrev pub is_remembered : ℕ → List Mark → Bool

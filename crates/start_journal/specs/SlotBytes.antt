@@ -6,7 +6,7 @@ use Rattle.start_journal.specs.declared.mark.Mark.{Mark}
 use Rattle.start_journal.specs.declared.mark.Mark.TheVariants.{Removed, Started, Ended, Interrupted, Forgotten, Batch}
 use Rattle.start_journal.specs.Slots.{SpellsMark, fields_of, mark_with}
 use Rattle.clock_range.specs.declared.range.TheConstants.{LAST_SECOND}
-use Rattle.hex_digits.specs.Values.{is_digit, value_of, are_digits, are_zeros}
+use Rattle.hex_digits.specs.Values.{is_digit, value_of_digits, are_digits, are_zeros}
 use Rattle.clock_range.specs.ClockRange.{is_clock_second}
 
 -- 32 bytes have the form of a slot whose gate is open
@@ -21,11 +21,11 @@ abbrev pub fields_in : List ℕ → Fields
 fields_in slot =
     record {
       kind = slice_index slot 1;
-      number = value_of (slice_range slot 2 10);
+      number = value_of_digits (slice_range slot 2 10);
       queue = slice_index slot 10;
       ending = slice_index slot 11;
-      status = value_of (slice_range slot 12 14);
-      second = value_of (slice_range slot 14 30);
+      status = value_of_digits (slice_range slot 12 14);
+      second = value_of_digits (slice_range slot 14 30);
     }
 
 -- the fields are the same
@@ -60,13 +60,13 @@ is_kind byte = byte == 82 || byte == 83 || byte == 69 || byte == 73 || byte == 7
 abbrev pub is_number_prefix : ℕ → List ℕ → Bool
 is_number_prefix kind digits =
     if kind == 66 then are_zeros digits
-    else (are_digits digits && (nat_lt (length digits) 8 || nat_le 1 (value_of digits)))
+    else (are_digits digits && (nat_lt (length digits) 8 || nat_le 1 (value_of_digits digits)))
 
 -- digits that the second of such a slot begins with: up to the last second for `S` and `B`, else zeros
 abbrev pub is_second_prefix : ℕ → List ℕ → Bool
 is_second_prefix kind digits =
     if kind == 83 || kind == 66
-    then (are_digits digits && nat_le (value_of digits) (unsigned_abs LAST_SECOND / 16 ^ (16 - length digits)))
+    then (are_digits digits && nat_le (value_of_digits digits) (unsigned_abs LAST_SECOND / 16 ^ (16 - length digits)))
     else are_zeros digits
 
 -- the queue of such a slot: a letter for `S`, else `-`
@@ -103,7 +103,7 @@ unfoldable pub right_prefix : List ℕ → ℕ
 right_prefix slot = standing_from slot 0 slot
 
 -- some mark's slot, its gate open, has the first bytes too
-pub record HasRightPrefix (slot : List ℕ) (count : ℕ) : Type 0 where
+pub record HasSlotPrefix (slot : List ℕ) (count : ℕ) : Type 0 where
   pub mark : Mark
   pub right : List ℕ
   pub spelled : SpellsMark right mark

@@ -49,8 +49,8 @@ abbrev pub marks_taken : Option (List ℕ) → List Mark
 marks_taken content = marks_of (taken_of content)
 
 -- the slot of the mark lies within a file
-abbrev pub IsNear : TakenMark → Type 0
-IsNear one = 32 * one.place + 32 < 2 ^ 64
+abbrev pub IsSlotWithinFile : TakenMark → Type 0
+IsSlotWithinFile one = 32 * one.place + 32 < 2 ^ 64
 
 -- how many slots are closed, with one slot more
 abbrev pub free_after : ℕ → List ℕ → ℕ
@@ -62,9 +62,9 @@ read_past read slot =
     record { marks = with_taken read.marks (legal_mark read.marks (mark_in slot)); free = free_after read.free slot }
 
 -- the place of a slot's fault, if it has one
-abbrev pub place_of : Result JournalRead ℕ → Option ℕ
-place_of (Ok read) = None
-place_of (Err place) = Some place
+abbrev pub place_of_fault : Result JournalRead ℕ → Option ℕ
+place_of_fault (Ok read) = None
+place_of_fault (Err place) = Some place
 
 -- the offset of that place, where the slot begins at the offset given
 abbrev pub offset_of : ℕ → Option ℕ → List ℕ
@@ -75,7 +75,7 @@ offset_of offset None = []
 abbrev pub slot_faults : ℕ → ℕ → JournalRead → List (List ℕ) → List ℕ
 slot_faults bound offset read [] = []
 slot_faults bound offset read (slot ∷ later) =
-    offset_of offset (place_of (one_slot bound read slot)) ++ slot_faults bound (offset + 32) (read_past read slot) later
+    offset_of offset (place_of_fault (one_slot bound read slot)) ++ slot_faults bound (offset + 32) (read_past read slot) later
 
 -- after all slots, a rest of fewer than 32 bytes is a fault at its first byte
 abbrev pub rest_fault : List ℕ → List ℕ

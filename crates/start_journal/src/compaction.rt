@@ -2,7 +2,7 @@
 ghost use Rattle.std.specs.Prelude.{◌≡◌, IfOk, count_by};
 ghost use Rattle.start_journal.specs.Compaction.{gone_count, wants_compaction};
 ghost use Rattle.start_journal.specs.inside.Keeping.{forgets_one, is_among};
-ghost use Rattle.start_journal.specs.Marks.{number_of};
+ghost use Rattle.start_journal.specs.Marks.{number_of_mark};
 
 use crate::kept_marks::forgotten;
 use crate::{Journal, Mark};
@@ -46,7 +46,7 @@ fn gone_count(alloc: Global, marks: &[Mark]) -> Result<usize, AllocError>
 }
 
 fn is_gone(gone: &BTreeSet<u32>, mark: Mark) -> bool
-    ensures { result ≡ is_among gone.now (number_of mark) }
+    ensures { result ≡ is_among gone.now (number_of_mark mark) }
 {
     match mark.number() {
         Some(number) => gone.contains(&number),

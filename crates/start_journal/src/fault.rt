@@ -1,6 +1,6 @@
 //! Why the journal could not be read.
 ghost use Rattle.std.specs.Prelude.{◌≡◌};
-ghost use Rattle.start_journal.specs.JournalFaults.{fault_of, fault_of_journal};
+ghost use Rattle.start_journal.specs.JournalFaults.{journal_fault_of, fault_of_journal};
 ghost use Rattle.start_journal.specs.declared.fault.JournalFault.TheVariants as variant;
 
 use host_calls::{Damage, HostFault, StoreFault};
@@ -26,7 +26,7 @@ impl fmt::Debug for JournalFault {
 }
 
 impl From<HostFault> for JournalFault {
-    ghost from_gives = { λ fault made. made ≡ fault_of fault };
+    ghost from_gives = { λ fault made. made ≡ journal_fault_of fault };
 
     fn from(fault: HostFault) -> Self {
         match fault {

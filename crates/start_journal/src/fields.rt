@@ -27,7 +27,7 @@ impl Fields {
         ensures { result ≡ fields_of mark.now }
     {
         match *mark {
-            Mark::Removed(number) => plain(b'R', number),
+            Mark::Removed(number) => plain_fields(b'R', number),
             Mark::Started {
                 number,
                 queue,
@@ -35,18 +35,18 @@ impl Fields {
             } => Fields {
                 queue,
                 second: second.unsigned_abs(),
-                ..plain(b'S', number)
+                ..plain_fields(b'S', number)
             },
             Mark::Ended { number, ending } => Fields {
-                ending: letter_of(ending),
+                ending: ending_letter(ending),
                 status: status_of(ending),
-                ..plain(b'E', number)
+                ..plain_fields(b'E', number)
             },
-            Mark::Interrupted(number) => plain(b'I', number),
-            Mark::Forgotten(number) => plain(b'F', number),
+            Mark::Interrupted(number) => plain_fields(b'I', number),
+            Mark::Forgotten(number) => plain_fields(b'F', number),
             Mark::Batch(second) => Fields {
                 second: second.unsigned_abs(),
-                ..plain(b'B', 0)
+                ..plain_fields(b'B', 0)
             },
         }
     }
@@ -84,7 +84,7 @@ impl Fields {
             }),
             b'E' => Some(Mark::Ended {
                 number,
-                ending: ending_of(self.ending, self.status)?,
+                ending: ending_in_mark(self.ending, self.status)?,
             }),
             b'I' => Some(Mark::Interrupted(number)),
             b'F' => Some(Mark::Forgotten(number)),
@@ -100,11 +100,11 @@ impl Fields {
     {
         slot[0] = b'+';
         slot[1] = self.kind;
-        hex_digits::write(&mut slot[2..10], self.number as u64);
+        hex_digits::write_hex(&mut slot[2..10], self.number as u64);
         slot[10] = self.queue;
         slot[11] = self.ending;
-        hex_digits::write(&mut slot[12..14], self.status as u64);
-        hex_digits::write(&mut slot[14..30], self.second);
+        hex_digits::write_hex(&mut slot[12..14], self.status as u64);
+        hex_digits::write_hex(&mut slot[14..30], self.second);
         slot[30] = b'.';
         slot[31] = b'\n';
     }
@@ -117,9 +117,9 @@ impl Fields {
         if slot[0] != b'+' || slot[30] != b'.' || slot[31] != b'\n' {
             return None;
         }
-        let number = hex_digits::read(&slot[2..10])?;
-        let status = hex_digits::read(&slot[12..14])?;
-        let second = hex_digits::read(&slot[14..30])?;
+        let number = hex_digits::read_hex(&slot[2..10])?;
+        let status = hex_digits::read_hex(&slot[12..14])?;
+        let second = hex_digits::read_hex(&slot[14..30])?;
         Some(Fields {
             kind: slot[1],
             number: number as u32,
@@ -132,7 +132,7 @@ impl Fields {
 }
 
 // The fields of a mark that says no more than its kind and a number.
-fn plain(kind: u8, number: u32) -> Fields
+fn plain_fields(kind: u8, number: u32) -> Fields
     ensures { result ≡ plain_fields kind number }
 {
     Fields {
@@ -145,7 +145,7 @@ fn plain(kind: u8, number: u32) -> Fields
     }
 }
 
-fn letter_of(ending: Ending) -> u8
+fn ending_letter(ending: Ending) -> u8
     ensures { result ≡ ending_byte ending }
 {
     match ending {
@@ -165,7 +165,7 @@ fn status_of(ending: Ending) -> u8
     }
 }
 
-fn ending_of(letter: u8, status: u8) -> Option<Ending>
+fn ending_in_mark(letter: u8, status: u8) -> Option<Ending>
     ensures { result ≡ ending_with letter status }
 {
     match letter {

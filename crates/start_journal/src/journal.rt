@@ -1,7 +1,7 @@
 //! The journal as it was read.
 ghost use Rattle.std.specs.Prelude.{◌≡◌};
 ghost use Rattle.start_journal.specs.Journals.{AreWritable};
-ghost use Rattle.start_journal.specs.Marks.{AreLegal};
+ghost use Rattle.start_journal.specs.Marks.{AreLegalMarks};
 
 use crate::Mark;
 use std::marker::Model;
@@ -28,7 +28,7 @@ impl Journal {
     /// The marks, in their order.
     pub fn marks(&self) -> &[Mark]
         ensures marks { result.now ≡ self.now.marks }
-        ensures legal { AreLegal self.now.marks }
+        ensures legal { AreLegalMarks self.now.marks }
         ensures writable { AreWritable self.now.marks }
     {
         self.marks.as_slice()

@@ -1,8 +1,8 @@
 //! What a compaction keeps of the marks.
 ghost use Rattle.std.specs.Prelude.{◌≡◌, ◌||◌, ℕ, IfOk, OnOk};
 ghost use Rattle.std.specs.List.{filter};
-ghost use Rattle.start_journal.specs.inside.Keeping.{AreForgotten, has_number, is_kept_beside};
-ghost use Rattle.start_journal.specs.Marks.{batch_second, forgets, is_kept, kept_marks, last_batch};
+ghost use Rattle.start_journal.specs.inside.Keeping.{AreForgotten, has_gone_number, is_kept_beside};
+ghost use Rattle.start_journal.specs.Marks.{batch_second, is_forgetting, is_kept, kept_marks, last_batch};
 
 use crate::Mark;
 use spool_model::is_batch;
@@ -44,7 +44,7 @@ pub(crate) fn forgotten(alloc: Global, marks: &[Mark]) -> Result<BTreeSet<u32>, 
 
 fn forget(gone: &mut BTreeSet<u32>, mark: Mark) -> Result<(), AllocError>
     ensures { OnOk result ((number : ℕ)
-        → has_number gone.new number ≡ (has_number gone.old number || forgets number mark)) }
+        → has_gone_number gone.new number ≡ (has_gone_number gone.old number || is_forgetting number mark)) }
 {
     if let Mark::Forgotten(number) = mark {
         gone.insert(number)?;

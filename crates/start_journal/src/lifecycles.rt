@@ -7,7 +7,7 @@ ghost use Rattle.std.specs.Ordering.{nat_cmp};
 ghost use Rattle.start_journal.specs.declared.mark.Mark.{Mark};
 ghost use Rattle.start_journal.specs.Journals.{is_legal_after};
 ghost use Rattle.start_journal.specs.Lifecycles.{TellLifecycles, decided_of, lifecycle_in, lifecycle_with, remembered_fate, stage_of};
-ghost use Rattle.start_journal.specs.Marks.{number_of};
+ghost use Rattle.start_journal.specs.Marks.{number_of_mark};
 
 use crate::life_map::LifeMap;
 use crate::{Mark, Stage};
@@ -33,7 +33,7 @@ impl Lifecycle {
 
     // The life with what a mark of its number tells.
     fn with(self, mark: Mark) -> Lifecycle
-        ensures { (number : ℕ) → number_of mark ≡ Some number → result ≡ lifecycle_with number mark self }
+        ensures { (number : ℕ) → number_of_mark mark ≡ Some number → result ≡ lifecycle_with number mark self }
     {
         let mut life = self;
         match mark {

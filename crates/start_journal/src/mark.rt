@@ -1,6 +1,6 @@
 //! A mark of the journal.
 ghost use Rattle.std.specs.Prelude.{◌≡◌};
-ghost use Rattle.start_journal.specs.Marks.{number_of};
+ghost use Rattle.start_journal.specs.Marks.{number_of_mark};
 
 use host_calls::Ending;
 
@@ -24,7 +24,7 @@ pub enum Mark {
 impl Mark {
     /// The number that it names, if it names one.
     pub fn number(self) -> Option<u32>
-        ensures { result ≡ number_of self }
+        ensures { result ≡ number_of_mark self }
     {
         match self {
             Mark::Removed(number) | Mark::Interrupted(number) | Mark::Forgotten(number) => {

@@ -3,7 +3,7 @@ ghost use Rattle.std.specs.Prelude.{◌≡◌, IsTrue, OnOk, length};
 ghost use Rattle.host_calls.specs.Session.{CallsInside, IsInside};
 ghost use Rattle.host_calls.specs.World.{IsWithinFile, reading};
 ghost use Rattle.whole_file.specs.Others.{ChangesFiles};
-ghost use Rattle.start_journal.specs.inside.Overwriting.{IsCertain, IsOverwriting, IsOverwritten};
+ghost use Rattle.start_journal.specs.inside.Overwriting.{IsDurableFile, IsOverwriting, IsOverwritten};
 
 use host_calls::{Host, HostFault, Name};
 use std::alloc::Global;
@@ -17,7 +17,7 @@ pub(crate) fn overwrite<H: Host>(
     bytes: &[u8],
 ) -> Result<(), HostFault>
     requires inside { IsInside (H.session host.old) }
-    requires certain { IsTrue H.tells → IsCertain name.now (H.world host.old).now.folder }
+    requires certain { IsTrue H.tells → IsDurableFile name.now (H.world host.old).now.folder }
     requires range { IsTrue H.tells → IsWithinFile (reading (H.world host.old)) name.now offset (length bytes.now) }
     ensures inside { CallsInside HostFault.Failed (H.session host.old) (H.session host.new) result }
     ensures files { IsTrue H.tells

@@ -51,7 +51,7 @@ impl Journal {
             journal_in last (map.get (reading (H.world host.old)) journal_file) ≡ Err damage) result }
     {
         match content(alloc, host, &journal_name())? {
-            Some(bytes) => read(alloc, bytes.as_slice(), last),
+            Some(bytes) => read_marks(alloc, bytes.as_slice(), last),
             None => Ok((
                 Journal {
                     marks: Vec::new(alloc),
@@ -64,7 +64,7 @@ impl Journal {
 }
 
 // The journal that these bytes give and what its marks tell, or the place where they break its form.
-fn read(alloc: Global, bytes: &[u8], last: u32) -> Result<(Journal, Lifecycles), JournalFault>
+fn read_marks(alloc: Global, bytes: &[u8], last: u32) -> Result<(Journal, Lifecycles), JournalFault>
     ensures journal { IfOk result (λ read. journal_in last (Some bytes.now) ≡ Ok read.0) }
     ensures lives { IfOk result (λ read. TellLifecycles read.0.marks read.1) }
     ensures damaged { IfDamaged JournalFault.Damaged (λ damage. journal_in last (Some bytes.now) ≡ Err damage) result }
@@ -83,7 +83,7 @@ fn read(alloc: Global, bytes: &[u8], last: u32) -> Result<(Journal, Lifecycles),
             }
         };
         match found {
-            Some(mark) => put(&mut marks, &mut lives, mark)?,
+            Some(mark) => put_mark(&mut marks, &mut lives, mark)?,
             None => free += 1,
         }
     }
@@ -93,7 +93,7 @@ fn read(alloc: Global, bytes: &[u8], last: u32) -> Result<(Journal, Lifecycles),
     Ok((Journal { marks, free }, lives))
 }
 
-fn put(marks: &mut Vec<Mark>, lives: &mut Lifecycles, mark: Mark) -> Result<(), AllocError>
+fn put_mark(marks: &mut Vec<Mark>, lives: &mut Lifecycles, mark: Mark) -> Result<(), AllocError>
     ensures marks { OnOk result (marks.new.items ≡ marks.old.items ++ mark ∷ []) }
     ensures lives { OnOk result (TellLifecycles marks.old.items lives.old
         → IsLegalAfter marks.old.items mark → TellLifecycles marks.new.items lives.new) }

@@ -53,7 +53,7 @@ fn is_number_prefix(kind: u8, digits: &[u8]) -> bool
     if kind == b'B' {
         return are_zeros(digits);
     }
-    match hex_digits::read(digits) {
+    match hex_digits::read_hex(digits) {
         // The number of a job is at least 1.
         Some(number) => digits.len() < 8 || number != 0,
         None => false,
@@ -98,7 +98,7 @@ fn is_second_prefix(kind: u8, digits: &[u8]) -> bool
     if kind != b'S' && kind != b'B' {
         return are_zeros(digits);
     }
-    match hex_digits::read(digits) {
+    match hex_digits::read_hex(digits) {
         // The digits that are left can all be zeros.
         Some(prefix) => prefix <= LAST_SECOND as u64 >> (4 * (16 - digits.len())),
         None => false,

@@ -5,7 +5,7 @@ ghost use Rattle.start_journal.specs.Journals.{one_slot};
 ghost use Rattle.start_journal.specs.Lifecycles.{TellLifecycles};
 ghost use Rattle.start_journal.specs.SlotBytes.{mark_in};
 ghost use Rattle.start_journal.specs.Marks.{IsLegalAfter};
-ghost use Rattle.start_journal.specs.Taken.{IsNear, faults_in, free_after, legal_mark, offset_of, place_of, taken_at, taken_of, with_taken};
+ghost use Rattle.start_journal.specs.Taken.{IsSlotWithinFile, faults_in, free_after, legal_mark, offset_of, place_of_fault, taken_at, taken_of, with_taken};
 
 use crate::lifecycles::Lifecycles;
 use crate::recall::next;
@@ -33,7 +33,7 @@ pub struct Taken {
 /// all the same, and is a fault besides.
 pub fn take(alloc: Global, bytes: &[u8], bound: u32) -> Result<Taken, AllocError>
     ensures marks { IfOk result (λ taken. taken.marks.items ≡ taken_of (Some bytes.now)) }
-    ensures near { IfOk result (λ taken. All IsNear taken.marks.items) }
+    ensures near { IfOk result (λ taken. All IsSlotWithinFile taken.marks.items) }
     ensures faults { IfOk result (λ taken. taken.faults.items ≡ faults_in bound bytes.now) }
 {
     let (slots, rest) = bytes.as_chunks::<SLOT>();
@@ -42,10 +42,10 @@ pub fn take(alloc: Global, bytes: &[u8], bound: u32) -> Result<Taken, AllocError
     let mut lives = Lifecycles::new(alloc, u32::MAX);
     let mut free: u64 = 0;
     for (place, slot) in slots.iter().enumerate() {
-        let fault = fault_of(&lives, free, slot, bound);
-        note(&mut faults, place * SLOT, fault)?;
+        let fault = slot_fault(&lives, free, slot, bound);
+        push_offset(&mut faults, place * SLOT, fault)?;
         let mark = legal_mark(&lives, slot);
-        keep(&mut marks, &mut lives, place, mark)?;
+        keep_taken(&mut marks, &mut lives, place, mark)?;
         free += closed(slot);
     }
     if !rest.is_empty() {
@@ -55,10 +55,10 @@ pub fn take(alloc: Global, bytes: &[u8], bound: u32) -> Result<Taken, AllocError
 }
 
 // The place of the fault of a slot, after marks that tell these lives and after free slots, if it has one.
-fn fault_of(lives: &Lifecycles, free: u64, slot: &[u8; SLOT], bound: u32) -> Option<usize>
+fn slot_fault(lives: &Lifecycles, free: u64, slot: &[u8; SLOT], bound: u32) -> Option<usize>
     ensures few { IfSome result (λ place. place ≤ 32) }
     ensures fault { (marks : List Mark) → TellLifecycles marks lives.now
-        → place_of (one_slot bound (record { marks = marks; free = free }) slot.now) ≡ result }
+        → place_of_fault (one_slot bound (record { marks = marks; free = free }) slot.now) ≡ result }
 {
     next(lives, free, slot, bound).err()
 }
@@ -74,7 +74,7 @@ fn legal_mark(lives: &Lifecycles, slot: &[u8; SLOT]) -> Option<Mark>
 }
 
 // Notes the offset of a slot's fault, if it has one.
-fn note(faults: &mut Vec<u64>, offset: usize, fault: Option<usize>) -> Result<(), AllocError>
+fn push_offset(faults: &mut Vec<u64>, offset: usize, fault: Option<usize>) -> Result<(), AllocError>
     requires few { IfSome fault (λ place. place ≤ 32) }
     requires inside { offset < 2 ^ 63 }
     ensures { OnOk result (faults.new.items ≡ faults.old.items ++ offset_of offset fault) }
@@ -86,7 +86,7 @@ fn note(faults: &mut Vec<u64>, offset: usize, fault: Option<usize>) -> Result<()
 }
 
 // Keeps the mark of the slot at this place, if there is one.
-fn keep(
+fn keep_taken(
     marks: &mut Vec<TakenMark>,
     lives: &mut Lifecycles,
     place: usize,
@@ -94,7 +94,7 @@ fn keep(
 ) -> Result<(), AllocError>
     requires near { 32 * place + 32 < 2 ^ 64 }
     ensures marks { OnOk result (marks.new.items ≡ marks.old.items ++ taken_at place mark) }
-    ensures near { OnOk result (All IsNear marks.old.items → All IsNear marks.new.items) }
+    ensures near { OnOk result (All IsSlotWithinFile marks.old.items → All IsSlotWithinFile marks.new.items) }
     ensures lives { OnOk result ((before : List Mark) → TellLifecycles before lives.old
         → IfSome mark (IsLegalAfter before) → TellLifecycles (with_taken before mark) lives.new) }
 {

@@ -9,7 +9,7 @@ use Rattle.listing_text.specs.declared.cause.Cause.TheVariants.{Refused}
 use Rattle.listing_text.specs.declared.refusal.Refusal.{Refusal}
 use Rattle.listing_text.specs.declared.refusal.Refusal.TheVariants.{BadDirectory, BadUser, EnvironmentTooLarge}
 use Rattle.cause_output.specs.Causes.{cause_of_script}
-use Rattle.command_rules.specs.Checks.{check_of, is_before, of_input, of_lock, of_variables, of_zone}
+use Rattle.command_rules.specs.Checks.{check_of, is_earlier_check, of_input, of_lock, of_variables, of_zone}
 use Rattle.command_rules.specs.Verdict.{directory_check, first_refusal, user_check, variables_check}
 
 -- a check that passes leaves the decision to the later ones
@@ -62,10 +62,10 @@ pub record IsContextRefused (fault : ScriptFault) (context : Context) : Type 0 w
   pub is : cause_of_script fault ≡ Refused refusal
   pub verdict : (later : List (Option Refusal)) →
       first_refusal (user_check context ∷ directory_check context ∷ variables_check context ∷ later) ≡ Some refusal
-  pub early : is_before (check_of refusal) of_lock ≡ true
-  pub before_clock : is_before of_variables (check_of refusal) ≡ false
-  pub before_zone : is_before of_zone (check_of refusal) ≡ false
-  pub before_input : is_before of_input (check_of refusal) ≡ false
+  pub early : is_earlier_check (check_of refusal) of_lock ≡ true
+  pub before_clock : is_earlier_check of_variables (check_of refusal) ≡ false
+  pub before_zone : is_earlier_check of_zone (check_of refusal) ≡ false
+  pub before_input : is_earlier_check of_input (check_of refusal) ≡ false
 
 pub some_one : {A : Type 0} (a b : A) → Some a ≡ Some b → a ≡ b
 some_one a b is = cc

@@ -7,7 +7,7 @@ use Rattle.civil_minute.specs.declared.zone.Zone.{Zone}
 use Rattle.clock_range.specs.ClockRange.{is_clock_second}
 use Rattle.host_calls.specs.Clock.{Answers, with_now}
 use Rattle.host_calls.specs.Inputs.{Contents, AreReadAtMostOnce, AreReadOnce, Sources}
-use Rattle.job_script.specs.Check.{IsFit, Written, first_fault}
+use Rattle.job_script.specs.Check.{IsUsableContext, Written, first_fault}
 use Rattle.job_script.specs.declared.checks.TheConstants.{MAX_ENVIRONMENT}
 use Rattle.job_script.specs.declared.writer.TheConstants.{MAX_COMMANDS}
 use Rattle.job_script.specs.JobText.{text_for}
@@ -20,9 +20,9 @@ use Rattle.listing_text.specs.declared.refusal.Refusal.{Refusal}
 use Rattle.listing_text.specs.declared.refusal.Refusal.TheVariants.{BadClock, BadZone, TooLong}
 use Rattle.cause_output.specs.declared.caller.Caller.{Caller}
 use Rattle.cause_output.specs.Causes.{cause_of_script, error_of}
-use Rattle.command_rules.specs.Checks.{Check, check_of, is_before, of_clock, of_input, of_length, of_lock, of_variables, of_zone}
+use Rattle.command_rules.specs.Checks.{Check, check_of, is_earlier_check, of_clock, of_input, of_length, of_lock, of_variables, of_zone}
 use Rattle.command_rules.specs.Ends.{KeepsOrder}
-use Rattle.command_rules.specs.Found.{AreRead, FindsInput, Found, found_of}
+use Rattle.command_rules.specs.Found.{AreReadCommands, FindsInput, Found, found_of}
 use Rattle.command_rules.specs.Times.{IsMeant, IsTimeOf}
 use Rattle.command_rules.specs.Verdict.{clock_check, directory_check, first_refusal, length_check, submission_checks, time_check, user_check, variables_check, zone_check}
 use Rattle.civil_minute.specs.Zone.{is_unreadable}
@@ -56,7 +56,7 @@ no_true is = cc
 module _ (readings_tell inputs_tell : Bool) (caller : Caller) (mail : Bool) (file : Option (List ℕ)) (when : When)
     (before after : Answers) (contents : Contents) where
   -- nothing was read
-  finds_none : (found : Found) (reached : Check) → is_before of_zone reached ≡ false → is_before of_input reached ≡ false →
+  finds_none : (found : Found) (reached : Check) → is_earlier_check of_zone reached ≡ false → is_earlier_check of_input reached ≡ false →
       FindsInput inputs_tell file when caller.zone contents reached found
   finds_none found reached zone input = record {
     time = λ beyond. absurd (no_true (sym zone ∙ beyond));
@@ -170,8 +170,8 @@ module _ (readings_tell inputs_tell : Bool) (caller : Caller) (mail : Bool) (fil
             }
 
         -- the time means no minute
-        time_stops : (refusal : Refusal) → IsMeant when now caller.zone (Err refusal) → is_before of_variables (check_of refusal) ≡ true →
-            is_before of_input (check_of refusal) ≡ false → is_before (check_of refusal) of_lock ≡ true →
+        time_stops : (refusal : Refusal) → IsMeant when now caller.zone (Err refusal) → is_earlier_check of_variables (check_of refusal) ≡ true →
+            is_earlier_check of_input (check_of refusal) ≡ false → is_earlier_check (check_of refusal) of_lock ≡ true →
             Prepares readings_tell inputs_tell caller mail file when before after contents (Err (error_of (Refused refusal)))
         time_stops refusal meant after_clock before_input early =
             let found : Found = found_of now (Err refusal) [] None None in
@@ -195,8 +195,8 @@ module _ (readings_tell inputs_tell : Bool) (caller : Caller) (mail : Bool) (fil
             Prepares readings_tell inputs_tell caller mail file when before after contents (Err (error_of cause))
         meant_stops Memory none = memory_stops
         meant_stops (Refused refusal) none = elim none.comes [
-          | inl is ↦ time_stops refusal none.time (ap (λ check. is_before of_variables check) is) (ap (λ check. is_before of_input check) is) (ap (λ check. is_before check of_lock) is)
-          | inr is ↦ time_stops refusal none.time (ap (λ check. is_before of_variables check) is) (ap (λ check. is_before of_input check) is) (ap (λ check. is_before check of_lock) is)
+          | inl is ↦ time_stops refusal none.time (ap (λ check. is_earlier_check of_variables check) is) (ap (λ check. is_earlier_check of_input check) is) (ap (λ check. is_earlier_check check of_lock) is)
+          | inr is ↦ time_stops refusal none.time (ap (λ check. is_earlier_check of_variables check) is) (ap (λ check. is_earlier_check of_input check) is) (ap (λ check. is_earlier_check check of_lock) is)
         ]
         meant_stops _ none = absurd none
 
@@ -233,7 +233,7 @@ module _ (readings_tell inputs_tell : Bool) (caller : Caller) (mail : Bool) (fil
           input_stops Memory of_input_fault = memory_stops
           input_stops _ of_input_fault = absurd of_input_fault
 
-          module _ (commands : List ℕ) (read : inputs_tell ≡ true → AreRead file contents commands) where
+          module _ (commands : List ℕ) (read : inputs_tell ≡ true → AreReadCommands file contents commands) where
             -- there are too many bytes of commands
             long_stops : MAX_COMMANDS < length commands →
                 Prepares readings_tell inputs_tell caller mail file when before after contents (Err (error_of (Refused TooLong)))
@@ -258,7 +258,7 @@ module _ (readings_tell inputs_tell : Bool) (caller : Caller) (mail : Bool) (fil
                 }
 
             -- no job text was made
-            script_stops : (T : Type 0) (fault : ScriptFault) → IsFit caller.context → Written {T = T} caller.context commands (Err fault) →
+            script_stops : (T : Type 0) (fault : ScriptFault) → IsUsableContext caller.context → Written {T = T} caller.context commands (Err fault) →
                 Prepares readings_tell inputs_tell caller mail file when before after contents (Err (error_of (cause_of_script fault)))
             script_stops T script.BadUser fit written = absurd (written fit.user)
             script_stops T script.BadDirectory fit written = absurd (written.1 fit.directory)
@@ -268,7 +268,7 @@ module _ (readings_tell inputs_tell : Bool) (caller : Caller) (mail : Bool) (fil
             script_stops T script.TooLong fit written = long_stops written.1
             script_stops T script.Memory fit written = memory_stops
 
-            pub script_stops_at : (T : Type 0) (shown : List ℕ) (fault : ScriptFault) → shown ≡ commands → IsFit caller.context →
+            pub script_stops_at : (T : Type 0) (shown : List ℕ) (fault : ScriptFault) → shown ≡ commands → IsUsableContext caller.context →
                 Written {T = T} caller.context shown (Err fault) →
                 Prepares readings_tell inputs_tell caller mail file when before after contents (Err (error_of (cause_of_script fault)))
             script_stops_at T shown fault same fit written =

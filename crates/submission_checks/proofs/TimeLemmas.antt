@@ -19,7 +19,7 @@ use Rattle.touch_time.specs.declared.touch.TouchTime.{TouchTime}
 use Rattle.touch_time.specs.Touch.{SpellsTouch}
 use Rattle.cause_output.specs.declared.command_error.CommandError.{CommandError}
 use Rattle.command_rules.specs.Times.{IsDated, IsOnly, IsSpecTime, IsTouchTime, no_timespec, no_tokens, no_touch, place_in, timespec, touch_time}
-use Rattle.submission_checks.specs.Timing.{IsDatedAs, Means}
+use Rattle.submission_checks.specs.Timing.{IsDatedAs, MeansTime}
 
 -- tokens that stop spell nothing
 stops_spell_nothing : (tokens : List Token) (fault : ℕ) (spec : Spelled) → StopsAt tokens fault → Spells tokens spec → ⊥
@@ -119,7 +119,7 @@ module _ (text : List ℕ) (now : ℤ) (zone : Zone) where
 
 -- a date's answer is the one time of a command
 pub means_dated : (IsTime : Result ℕ Refusal → Type 0) (result : Result ℕ DateFault) (answer : Result ℕ CommandError) →
-    ((time : Result ℕ Refusal) → IsDated result time → IsOnly IsTime time) → IsDatedAs result answer → Means IsTime answer
+    ((time : Result ℕ Refusal) → IsDated result time → IsOnly IsTime time) → IsDatedAs result answer → MeansTime IsTime answer
 means_dated IsTime (Ok minute) answer only is = rw is (only (Ok minute) refl)
 means_dated IsTime (Err date.NoSuchDay) answer only is = rw is (record { time = only (Err NoSuchDay) refl; comes = inr refl })
 means_dated IsTime (Err date.OutOfRange) answer only is = rw is (record { time = only (Err OutOfRange) refl; comes = inr refl })
@@ -130,7 +130,7 @@ means_dated IsTime (Err date.Memory) answer only is = rw is tt
 pub spec_dated : (text : List ℕ) (now given : ℤ) (zone : Zone) (placed others : List Placed) (spec : Spelled) (result : Result ℕ DateFault)
     (answer : Result ℕ CommandError) → placed ≡ others → Tokenizes text others → IsOnlyReading text others → Spells (tokens_of placed) spec →
     ((other : Spelled) → Spells (tokens_of placed) other → other ≡ spec) → given ≡ now → TimespecMeans spec given zone result →
-    IsOnlyMeaning spec given zone result → IsDatedAs result answer → Means (IsSpecTime text now zone) answer
+    IsOnlyMeaning spec given zone result → IsDatedAs result answer → MeansTime (IsSpecTime text now zone) answer
 spec_dated text now given zone placed others spec result answer same_tokens tokenizes sole spells one same means only dated =
     means_dated (IsSpecTime text now zone) result answer
     (λ time is. only_dated text now zone placed
@@ -156,7 +156,7 @@ one_touch answer touch other is also = cc
 pub touch_dated : (text : List ℕ) (now given : ℤ) (zone : Zone) (touch : TouchTime) (read : Option TouchTime) (result : Result ℕ DateFault)
     (answer : Result ℕ CommandError) → read ≡ Some touch → SpellsTouch text touch → ((time : TouchTime) → SpellsTouch text time → read ≡ Some time) →
     given ≡ now → TouchMeans touch given zone result → IsOnlyTouchMeaning touch given zone result → IsDatedAs result answer →
-    Means (IsTouchTime text now zone) answer
+    MeansTime (IsTouchTime text now zone) answer
 touch_dated text now given zone touch read result answer is spells only_read same means only dated =
     means_dated (IsTouchTime text now zone) result answer
     (λ time dates. only_touched text now zone touch result time spells (λ other spelled. one_touch read touch other is (only_read other spelled))

@@ -9,7 +9,7 @@ use Rattle.listing_text.specs.declared.cause.Cause.TheVariants.{Refused, InputFa
 use Rattle.listing_text.specs.declared.refusal.Refusal.{Refusal}
 use Rattle.cause_output.specs.declared.caller.Caller.{Caller}
 use Rattle.cause_output.specs.declared.command_error.CommandError.{CommandError}
-use Rattle.command_rules.specs.Checks.{Check, ComesUpTo, is_before, of_variables, of_lock}
+use Rattle.command_rules.specs.Checks.{Check, ComesUpTo, is_earlier_check, of_variables, of_lock}
 use Rattle.command_rules.specs.Ends.{KeepsOrder, Reaches}
 use Rattle.command_rules.specs.Found.{FindsInput, Found, found_of}
 use Rattle.command_rules.specs.Times.{minute_in}
@@ -35,7 +35,7 @@ pub record IsStoppedEarly (caller : Caller) (found : Found) (reached : Check) (c
   pub order : KeepsOrder (first_refusal (submission_checks caller found)) cause
   pub up_to : ComesUpTo (first_refusal (submission_checks caller found)) reached
   pub reach : Reaches cause reached
-  pub early : is_before reached of_lock ≡ true
+  pub early : is_earlier_check reached of_lock ≡ true
   pub comes : IsOfPreparing cause
 
 -- how the checks end
@@ -50,6 +50,6 @@ pub record Prepares (readings_tell inputs_tell : Bool) (caller : Caller) (mail :
   pub time : Result ℕ Refusal
   pub commands : List ℕ
   pub reached : Check
-  pub clock : readings_tell ≡ true → after ≡ (if is_before of_variables reached then with_now now before else before)
+  pub clock : readings_tell ≡ true → after ≡ (if is_earlier_check of_variables reached then with_now now before else before)
   pub finds : FindsInput inputs_tell file when caller.zone contents reached (found_of now time commands None None)
   pub ends : PreparingEnds caller mail (found_of now time commands None None) reached result

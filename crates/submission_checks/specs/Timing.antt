@@ -23,9 +23,9 @@ MeansNone IsTime Memory = Unit {0}
 MeansNone IsTime _ = ⊥
 
 -- the answer is the one time
-abbrev pub Means : (Result ℕ Refusal → Type 0) → Result ℕ CommandError → Type 0
-Means IsTime (Ok minute) = IsOnly IsTime (Ok minute)
-Means IsTime (Err stopped) = MeansNone IsTime stopped.cause
+abbrev pub MeansTime : (Result ℕ Refusal → Type 0) → Result ℕ CommandError → Type 0
+MeansTime IsTime (Ok minute) = IsOnly IsTime (Ok minute)
+MeansTime IsTime (Err stopped) = MeansNone IsTime stopped.cause
 
 -- a date's answer, as that of a command
 abbrev pub IsDatedAs : Result ℕ DateFault → Result ℕ CommandError → Type 0

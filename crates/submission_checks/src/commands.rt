@@ -4,7 +4,7 @@ ghost use Rattle.host_calls.specs.Causes.{HasCause};
 ghost use Rattle.host_calls.specs.Inputs.{AreReadOnce};
 ghost use Rattle.listing_text.specs.declared.cause.Cause.TheVariants as cause;
 ghost use Rattle.cause_output.specs.Causes.{error_of};
-ghost use Rattle.command_rules.specs.Found.{AreRead};
+ghost use Rattle.command_rules.specs.Found.{AreReadCommands};
 ghost use Rattle.submission_checks.specs.Reading.{ComesOfReading};
 
 use command_rules::CommandError;
@@ -23,7 +23,7 @@ pub(crate) fn read_commands<I: Inputs>(
     ensures cause { HasCause (error_of cause.InputFault)
         (I.sources inputs.old).input_faults (I.sources inputs.new).input_faults result }
     ensures comes { IfErr result ComesOfReading }
-    ensures read { IsTrue I.tells → IfOk result (AreRead (option_copied file.entry) (I.contents inputs.old)) }
+    ensures read { IsTrue I.tells → IfOk result (AreReadCommands (option_copied file.entry) (I.contents inputs.old)) }
 {
     match file {
         Some(path) => Ok(inputs.file(alloc, path, MAX_COMMANDS + 1)?),

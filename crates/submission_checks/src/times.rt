@@ -6,7 +6,7 @@ ghost use Rattle.cause_output.specs.Causes.{error_of};
 ghost use Rattle.listing_text.specs.declared.cause.Cause.TheVariants as cause;
 ghost use Rattle.listing_text.specs.declared.refusal.Refusal.TheVariants as refusal;
 ghost use Rattle.command_rules.specs.Times.{IsSpecTime, IsTimeOf, IsTouchTime, place_in};
-ghost use Rattle.submission_checks.specs.Timing.{IsDatedAs, Means};
+ghost use Rattle.submission_checks.specs.Timing.{IsDatedAs, MeansTime};
 
 use at_words::When;
 use civil_minute::{DateFault, Zone, minute_of, minute_of_touch};
@@ -26,7 +26,7 @@ pub(crate) fn minute_meant(
 ) -> Result<u32, CommandError>
     requires now { IsClockSecond now }
     requires zone { IsReadable zone.now }
-    ensures meant { Means (IsTimeOf when.now now zone.now) result }
+    ensures meant { MeansTime (IsTimeOf when.now now zone.now) result }
     ensures in_range { IfOk result IsClockMinute }
 {
     match when {
@@ -39,7 +39,7 @@ pub(crate) fn minute_meant(
 fn minute_of_spec(alloc: Global, text: &[u8], now: i64, zone: &Zone) -> Result<u32, CommandError>
     requires now { IsClockSecond now }
     requires zone { IsReadable zone.now }
-    ensures meant { Means (IsSpecTime text.now now zone.now) result }
+    ensures meant { MeansTime (IsSpecTime text.now now zone.now) result }
     ensures in_range { IfOk result IsClockMinute }
 {
     let placed = match tokens(text) {
@@ -49,7 +49,7 @@ fn minute_of_spec(alloc: Global, text: &[u8], now: i64, zone: &Zone) -> Result<u
     let placed = placed.as_slice();
     let spec = match parse(placed) {
         Ok(spec) => spec,
-        Err(fault) => return Err(misspelled(place_of(text, placed, fault.token))),
+        Err(fault) => return Err(misspelled(token_place(text, placed, fault.token))),
     };
     dated(minute_of(alloc, &spec, now, zone))
 }
@@ -58,7 +58,7 @@ fn minute_of_spec(alloc: Global, text: &[u8], now: i64, zone: &Zone) -> Result<u
 fn minute_of_touched(alloc: Global, text: &[u8], now: i64, zone: &Zone) -> Result<u32, CommandError>
     requires now { IsClockSecond now }
     requires zone { IsReadable zone.now }
-    ensures meant { Means (IsTouchTime text.now now zone.now) result }
+    ensures meant { MeansTime (IsTouchTime text.now now zone.now) result }
     ensures in_range { IfOk result IsClockMinute }
 {
     let Some(touch) = read_touch(text) else {
@@ -74,7 +74,7 @@ fn misspelled(place: u64) -> CommandError
 }
 
 // The place of a token, or the length of the text after the last one.
-fn place_of(text: &[u8], placed: &[Placed], token: usize) -> u64
+fn token_place(text: &[u8], placed: &[Placed], token: usize) -> u64
     ensures { result ≡ place_in text.now placed.now token }
 {
     match placed.get(token) {

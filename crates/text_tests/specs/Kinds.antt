@@ -44,9 +44,9 @@ one_digits line first second of_first of_second =
     ap one (one_number line first.number second.number of_first.spelled of_second.spelled)
 
 -- one of the records has the number
-abbrev pub has_number : ℕ → List Number → Bool
-has_number number records = list_any (λ one. one.number == number) records
+abbrev pub has_record_number : ℕ → List Number → Bool
+has_record_number number records = list_any (λ one. one.number == number) records
 
 -- the numbers of the records are in the set, and no other
-abbrev pub AreKept : List Number → BTreeSet ℕ → Type 0
-AreKept records kept = (number : ℕ) → contains nat_cmp kept number ≡ has_number number records
+abbrev pub AreKeptNumbers : List Number → BTreeSet ℕ → Type 0
+AreKeptNumbers records kept = (number : ℕ) → contains nat_cmp kept number ≡ has_record_number number records

@@ -1,5 +1,5 @@
 //! Numbers of the formats, as they are written there.
-use hex_digits::{digit_of, digits_of, read, write};
+use hex_digits::{digit_of, digits_of, read_hex, write_hex};
 
 #[test]
 fn numbers_and_their_digits(rt: HostRuntime) {
@@ -10,17 +10,17 @@ fn numbers_and_their_digits(rt: HostRuntime) {
         ("0000000067748580", 1_735_689_600),
         ("ffffffffffffffff", u64::MAX),
     ] {
-        assert_eq!(rt; read(digits.as_bytes()), Some(number), "{digits}");
+        assert_eq!(rt; read_hex(digits.as_bytes()), Some(number), "{digits}");
     }
     for bad in ["0000g", "0000F", "+0001", " 0001", "0x001", "00001\n"] {
-        assert_eq!(rt; read(bad.as_bytes()), None, "{bad}");
+        assert_eq!(rt; read_hex(bad.as_bytes()), None, "{bad}");
     }
 }
 
 #[test]
 fn digits_are_written_with_leading_zeros(rt: HostRuntime) {
     let mut out = *b"........";
-    write(&mut out, 28_928_160);
+    write_hex(&mut out, 28_928_160);
     assert_eq!(rt; out, *b"01b968a0");
     assert_eq!(rt; digit_of(b'/'), None);
     assert_eq!(rt; digit_of(b'`'), None);

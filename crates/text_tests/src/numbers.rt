@@ -3,7 +3,7 @@ ghost use Rattle.std.specs.Prelude.{◌≡◌, ◌==◌, ℕ, List, [], false, I
 ghost use Rattle.std.specs.Bool.{Decides};
 ghost use Rattle.std.specs.List.{list_any};
 ghost use Rattle.record_lines.specs.Lines.{CanBeSpelled, IsLineAdded};
-ghost use Rattle.text_tests.specs.Kinds.{AreKept, SpellsDigits, has_number, one_digits};
+ghost use Rattle.text_tests.specs.Kinds.{AreKeptNumbers, SpellsDigits, has_record_number, one_digits};
 
 use record_lines::{Keeper, LineRecord};
 use std::alloc::{AllocError, Global};
@@ -24,7 +24,7 @@ impl LineRecord for Number {
         if line.len() != 8 {
             return None;
         }
-        let number = hex_digits::read(line)?;
+        let number = hex_digits::read_hex(line)?;
         Some(Number {
             number: number as u32,
         })
@@ -32,7 +32,7 @@ impl LineRecord for Number {
 
     fn write(&self, text: &mut Vec<u8>) -> Result<(), AllocError> {
         let mut digits = [0; 8];
-        hex_digits::write(&mut digits, self.number as u64);
+        hex_digits::write_hex(&mut digits, self.number as u64);
         text.extend_from_slice(&digits)?;
         Ok(())
     }
@@ -47,7 +47,7 @@ pub struct Distinct {
 impl Distinct {
     /// No number.
     pub fn new(alloc: Global) -> Distinct
-        ensures { AreKept [] result.numbers }
+        ensures { AreKeptNumbers [] result.numbers }
     {
         Distinct {
             numbers: BTreeSet::new(alloc),
@@ -56,9 +56,9 @@ impl Distinct {
 }
 
 impl Keeper<Number> for Distinct {
-    ghost tells = { λ before kept. AreKept before kept.numbers };
+    ghost tells = { λ before kept. AreKeptNumbers before kept.numbers };
 
-    ghost legal = { λ before next. has_number next.number before ≡ false };
+    ghost legal = { λ before next. has_record_number next.number before ≡ false };
 
     fn allows(&self, next: &Number) -> bool {
         !self.numbers.contains(&next.number)

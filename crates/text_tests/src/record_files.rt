@@ -1,6 +1,6 @@
 //! Files, their records and their first bad lines.
 use crate::{Distinct, Letter, Number, Rising};
-use record_lines::{LinesFault, read_lines, read_records_can_be_written, text_of};
+use record_lines::{LinesFault, lines_text, read_lines, read_records_can_be_written};
 use std::alloc::Global;
 use std::test::Fail;
 
@@ -15,7 +15,7 @@ fn letters_in_order(rt: HostRuntime) -> Result<(), Fail> {
         Letter { byte: b'z' },
     ];
     assert_eq!(rt; read.as_slice(), letters.as_slice());
-    let text = text_of(alloc, letters.as_slice())?;
+    let text = lines_text(alloc, letters.as_slice())?;
     assert_eq!(rt; text.as_slice(), b"a\nc\nz\n".as_slice());
     Ok(())
 }
@@ -56,7 +56,7 @@ fn numbers_once(rt: HostRuntime) -> Result<(), Fail> {
     ];
     assert_eq!(rt; read.as_slice(), numbers.as_slice());
     read_records_can_be_written::<Number>(text);
-    assert_eq!(rt; text_of(alloc, read.as_slice())?.as_slice(), text);
+    assert_eq!(rt; lines_text(alloc, read.as_slice())?.as_slice(), text);
     Ok(())
 }
 

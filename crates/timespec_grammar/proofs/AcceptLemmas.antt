@@ -14,7 +14,7 @@ use Rattle.timespec_grammar.specs.declared.read.Read.{Read}
 use Rattle.timespec_grammar.specs.declared.read.Read.TheVariants as read
 use Rattle.timespec_grammar.specs.Grammar as grammar
 use Rattle.timespec_grammar.specs.Grammar.{IsClock24, IsClock12, IsHalf, IsTime, IsDate, IsIncrement, Spells, timespec_of}
-use Rattle.timespec_grammar.specs.Numbers.{is_hour, is_hour_minute, is_twelve, is_minute, is_month, is_month_number, is_weekday, is_day, is_year, is_date_number, is_count}
+use Rattle.timespec_grammar.specs.Numbers.{is_hour, is_hour_minute, is_twelve, is_minute, is_month, is_month_number, is_weekday_number, is_day_number, is_year, is_date_number, is_count}
 use Rattle.timespec_grammar.specs.inside.Steps.{timespec_read}
 use Rattle.timespec_grammar.proofs.ReadLemmas.{run}
 
@@ -70,7 +70,7 @@ time_ends at _ _ (later _ _ (grammar.plus digits count period fits)) = refl
 time_ends at _ _ (later _ _ (grammar.next period)) = refl
 
 -- what a number that begins a date may be
-day_begins : (digits value : ℕ) → is_day digits value ≡ true → is_date_number digits value ≡ true
+day_begins : (digits value : ℕ) → is_day_number digits value ≡ true → is_date_number digits value ≡ true
 day_begins digits value known = grind (arith, nat_tests)
 
 month_begins : (digits value : ℕ) → is_month_number digits value ≡ true → is_date_number digits value ≡ true
@@ -84,13 +84,13 @@ date_accepted : (at : Clock) (dates rest : List Token) (day : DatePart) (by : Op
     → IsEnd rest by → accepts (read.Timed at) (dates ++ rest) ≡ Some (timespec_of at day by)
 date_accepted at _ rest _ by (grammar.month_day month digits value fits known) end =
     when (is_month month) (read.MonthNamed at month) None (token.Number digits value ∷ rest) fits
-    ∙ when (is_day digits value) (read.DayNamed at month value) None rest known
+    ∙ when (is_day_number digits value) (read.DayNamed at month value) None rest known
     ∙ day_ends at month value rest by end
     ∙ end_accepted at (date.MonthDay month value None) rest by end
 date_accepted at _ rest _ by (grammar.month_day_year month digits value year_digits year fits known four) end =
     when (is_month month) (read.MonthNamed at month) None
     (token.Number digits value ∷ token.Comma ∷ token.Number year_digits year ∷ rest) fits
-    ∙ when (is_day digits value) (read.DayNamed at month value) None
+    ∙ when (is_day_number digits value) (read.DayNamed at month value) None
     (token.Comma ∷ token.Number year_digits year ∷ rest) known
     ∙ when (is_year year_digits year) (read.Dated at (date.MonthDay month value (Some year))) None rest four
     ∙ end_accepted at (date.MonthDay month value (Some year)) rest by end
@@ -99,13 +99,13 @@ date_accepted at _ rest _ by (grammar.slashes month_digits month digits value ye
     (token.Slash ∷ token.Number digits value ∷ token.Slash ∷ token.Number year_digits year ∷ rest) (month_begins month_digits month fits)
     ∙ when (is_month_number month_digits month) (read.MonthSlash at month) None
     (token.Number digits value ∷ token.Slash ∷ token.Number year_digits year ∷ rest) fits
-    ∙ when (is_day digits value) (read.SlashDay at month value) None (token.Slash ∷ token.Number year_digits year ∷ rest) known
+    ∙ when (is_day_number digits value) (read.SlashDay at month value) None (token.Slash ∷ token.Number year_digits year ∷ rest) known
     ∙ when (is_year year_digits year) (read.Dated at (date.MonthDay month value (Some year))) None rest four
     ∙ end_accepted at (date.MonthDay month value (Some year)) rest by end
 date_accepted at _ rest _ by (grammar.dots month_digits month digits value year_digits year fits known four) end =
     when (is_date_number digits value) (read.DateNumber at digits value) None
     (token.Dot ∷ token.Number month_digits month ∷ token.Dot ∷ token.Number year_digits year ∷ rest) (day_begins digits value known)
-    ∙ when (is_day digits value) (read.DayDot at value) None
+    ∙ when (is_day_number digits value) (read.DayDot at value) None
     (token.Number month_digits month ∷ token.Dot ∷ token.Number year_digits year ∷ rest) known
     ∙ when (is_month_number month_digits month) (read.DotMonth at month value) None
     (token.Dot ∷ token.Number year_digits year ∷ rest) fits
@@ -118,10 +118,10 @@ date_accepted at _ rest _ by (grammar.dashes month_digits month digits value yea
     (token.Number month_digits month ∷ token.Dash ∷ token.Number digits value ∷ rest) four
     ∙ when (is_month_number month_digits month) (read.DashMonth at month year) None
     (token.Dash ∷ token.Number digits value ∷ rest) fits
-    ∙ when (is_day digits value) (read.Dated at (date.MonthDay month value (Some year))) None rest known
+    ∙ when (is_day_number digits value) (read.Dated at (date.MonthDay month value (Some year))) None rest known
     ∙ end_accepted at (date.MonthDay month value (Some year)) rest by end
 date_accepted at _ rest _ by (grammar.weekday value fits) end =
-    when (is_weekday value) (read.Dated at (date.Weekday value)) None rest fits
+    when (is_weekday_number value) (read.Dated at (date.Weekday value)) None rest fits
     ∙ end_accepted at (date.Weekday value) rest by end
 date_accepted at _ rest _ by grammar.today end = end_accepted at date.Today rest by end
 date_accepted at _ rest _ by grammar.tomorrow end = end_accepted at date.Tomorrow rest by end

@@ -9,7 +9,7 @@ use Rattle.timespec_grammar.specs.declared.timespec.Timespec.{Timespec}
 use Rattle.timespec_grammar.specs.declared.read.Read.{Read}
 use Rattle.timespec_grammar.specs.declared.read.Read.TheVariants as read
 use Rattle.timespec_grammar.specs.Grammar.{Spells, tokens_of}
-use Rattle.timespec_grammar.specs.Viable.{PrefixesAreViable, GoesOn, IsViable, StopsAt}
+use Rattle.timespec_grammar.specs.Viable.{PrefixesAreViable, IsExtendable, IsViable, StopsAt}
 use Rattle.timespec_grammar.specs.inside.Steps.{step, timespec_read}
 use Rattle.timespec_grammar.proofs.ReadLemmas.{Reads, nothing_read, run, run_goes}
 use Rattle.timespec_grammar.proofs.ViableLemmas.{ends_spell, reads_viable, viable_goes_on}
@@ -39,7 +39,7 @@ one_more prefix next so_far ran =
     run-append read.Nothing prefix (next ∷ []) ∙ ap (λ (read : Option Read). option_and_then (λ onward. run onward (next ∷ [])) read) ran
 
 -- what can't be read begins no timespec
-unread : (tokens : List Token) → run read.Nothing tokens ≡ None → GoesOn tokens → ⊥
+unread : (tokens : List Token) → run read.Nothing tokens ≡ None → IsExtendable tokens → ⊥
 unread tokens ran onward =
     let none_read : run read.Nothing (tokens ++ onward.rest) ≡ None = run-append read.Nothing tokens onward.rest
     ∙ ap (λ (read : Option Read). option_and_then (λ more. run more onward.rest) read) ran in
@@ -47,11 +47,11 @@ unread tokens ran onward =
     cc (refused, spells_accepted (tokens ++ onward.rest) onward.whole onward.spelled)
 
 -- what begins a timespec is viable, by what is read of it
-viable_of : (tokens : List Token) (reading : Option Read) → run read.Nothing tokens ≡ reading → GoesOn tokens → IsViable tokens
+viable_of : (tokens : List Token) (reading : Option Read) → run read.Nothing tokens ≡ reading → IsExtendable tokens → IsViable tokens
 viable_of tokens None ran onward = absurd (unread tokens ran onward)
 viable_of tokens (Some so_far) ran onward = reads_viable tokens so_far (reads_of tokens so_far ran)
 
-begins_viable : (tokens : List Token) → GoesOn tokens → IsViable tokens
+begins_viable : (tokens : List Token) → IsExtendable tokens → IsViable tokens
 begins_viable tokens onward = viable_of tokens (run read.Nothing tokens) refl onward
 
 pub prefixes_are_viable : PrefixesAreViable
@@ -67,7 +67,7 @@ spelled_prefix tokens count spec spelled =
 prefix_viable : (tokens : List Token) (fault count : ℕ) → count ≤ fault → IsViable (take fault tokens)
     → IsViable (take count tokens)
 prefix_viable tokens fault count below viable =
-    let onward : GoesOn (take fault tokens) = viable_goes_on (take fault tokens) viable in
+    let onward : IsExtendable (take fault tokens) = viable_goes_on (take fault tokens) viable in
     let parts : take count tokens ++ drop count (take fault tokens) ≡ take fault tokens
     = ap (λ (prefix : List Token). prefix ++ drop count (take fault tokens)) (sym (take-take count fault tokens below))
     ∙ take-append-drop count (take fault tokens) in

@@ -10,7 +10,7 @@ use Rattle.timespec_grammar.specs.declared.timespec.Timespec.{Timespec}
 use Rattle.timespec_grammar.specs.declared.numbers.TheConstants.{MAX_COUNT}
 use Rattle.timespec_grammar.specs.Grammar as grammar
 use Rattle.timespec_grammar.specs.Grammar.{IsClock24, IsClock12, IsHalf, IsTime, IsDate, IsIncrement, Spells, IsClockInRange, IsDateInRange, IsTimespecInRange}
-use Rattle.timespec_grammar.specs.Numbers.{is_hour, is_hour_minute, is_minute, is_month, is_month_number, is_weekday, is_day, is_year, is_count}
+use Rattle.timespec_grammar.specs.Numbers.{is_hour, is_hour_minute, is_minute, is_month, is_month_number, is_weekday_number, is_day_number, is_year, is_count}
 
 hour_small : (digits value : ℕ) → is_hour digits value ≡ true → value ≤ 23
 hour_small digits value fits = grind (arith, nat_tests)
@@ -33,10 +33,10 @@ month_small month fits = grind (arith, nat_tests)
 number_month : (digits value : ℕ) → is_month_number digits value ≡ true → is_month value ≡ true
 number_month digits value fits = grind (arith, nat_tests)
 
-weekday_small : (day : ℕ) → is_weekday day ≡ true → day ≤ 6
+weekday_small : (day : ℕ) → is_weekday_number day ≡ true → day ≤ 6
 weekday_small day fits = grind (arith, nat_tests)
 
-day_small : (digits value : ℕ) → is_day digits value ≡ true → value ≤ 99
+day_small : (digits value : ℕ) → is_day_number digits value ≡ true → value ≤ 99
 day_small digits value fits = grind (arith, nat_tests)
 
 year_small : (digits value : ℕ) → is_year digits value ≡ true → value ≤ 9999
@@ -69,7 +69,7 @@ time_range _ _ grammar.teatime = (omega arith, omega arith)
 
 -- a month, a day and a year that were given in numbers
 numbers_range : (month_digits month digits day year_digits year : ℕ) → is_month_number month_digits month ≡ true
-    → is_day digits day ≡ true → is_year year_digits year ≡ true → IsDateInRange (date.MonthDay month day (Some year))
+    → is_day_number digits day ≡ true → is_year year_digits year ≡ true → IsDateInRange (date.MonthDay month day (Some year))
 numbers_range month_digits month digits day year_digits year fits known four =
     let named : is_month month ≡ true = number_month month_digits month fits in
     (month_some month named, month_small month named, day_small digits day known, year_small year_digits year four)

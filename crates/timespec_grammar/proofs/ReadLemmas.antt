@@ -13,7 +13,7 @@ use Rattle.timespec_grammar.specs.declared.read.Read.{Read}
 use Rattle.timespec_grammar.specs.declared.read.Read.TheVariants as read
 use Rattle.timespec_grammar.specs.Grammar as grammar
 use Rattle.timespec_grammar.specs.Grammar.{IsClock24, IsClock12, IsHalf, IsTime, IsDate, IsIncrement, Spells, timespec_of}
-use Rattle.timespec_grammar.specs.Numbers.{is_hour, is_hour_minute, is_twelve, is_minute, is_month, is_month_number, is_weekday, is_day, is_year, is_date_number, is_count}
+use Rattle.timespec_grammar.specs.Numbers.{is_hour, is_hour_minute, is_twelve, is_minute, is_month, is_month_number, is_weekday_number, is_day_number, is_year, is_date_number, is_count}
 use Rattle.timespec_grammar.specs.inside.Steps.{begin, after_colon, after_date, after_time, after_half, after_minute, after_hour, after_month, after_day, after_plus, after_count, year_due, after_number, after_slash, second_slash, after_dot, second_dot, after_dash, second_dash, day_due, step}
 
 -- what may stand before an increment
@@ -40,11 +40,11 @@ opens_later _ later _ _ by (opens_date tokens dates at day time it) more =
 
 -- the tokens of a date up to its year
 pub data BeforeYear : List Token → ℕ → ℕ → Type 0 where
-  comma : (month digits day : ℕ) → IsTrue (is_month month) → IsTrue (is_day digits day)
+  comma : (month digits day : ℕ) → IsTrue (is_month month) → IsTrue (is_day_number digits day)
       → BeforeYear (token.Month month ∷ token.Number digits day ∷ token.Comma ∷ []) month day
-  slashes : (month_digits month digits day : ℕ) → IsTrue (is_month_number month_digits month) → IsTrue (is_day digits day)
+  slashes : (month_digits month digits day : ℕ) → IsTrue (is_month_number month_digits month) → IsTrue (is_day_number digits day)
       → BeforeYear (token.Number month_digits month ∷ token.Slash ∷ token.Number digits day ∷ token.Slash ∷ []) month day
-  dots : (month_digits month digits day : ℕ) → IsTrue (is_month_number month_digits month) → IsTrue (is_day digits day)
+  dots : (month_digits month digits day : ℕ) → IsTrue (is_month_number month_digits month) → IsTrue (is_day_number digits day)
       → BeforeYear (token.Number digits day ∷ token.Dot ∷ token.Number month_digits month ∷ token.Dot ∷ []) month day
 
 -- with its year it is a date
@@ -70,7 +70,7 @@ pub data Reads : List Token → Read → Type 0 where
   month_read : (tokens : List Token) (at : Clock) (month : ℕ) → IsTime tokens at → IsTrue (is_month month)
       → Reads (tokens ++ token.Month month ∷ []) (read.MonthNamed at month)
   day_read : (tokens : List Token) (at : Clock) (month digits day : ℕ) → IsTime tokens at → IsTrue (is_month month)
-      → IsTrue (is_day digits day)
+      → IsTrue (is_day_number digits day)
       → Reads (tokens ++ token.Month month ∷ token.Number digits day ∷ []) (read.DayNamed at month day)
   year_due_read : (tokens dates : List Token) (at : Clock) (month day : ℕ) → IsTime tokens at → BeforeYear dates month day
       → Reads (tokens ++ dates) (read.YearDue at month day)
@@ -79,12 +79,12 @@ pub data Reads : List Token → Read → Type 0 where
   slash_read : (tokens : List Token) (at : Clock) (digits month : ℕ) → IsTime tokens at → IsTrue (is_month_number digits month)
       → Reads (tokens ++ token.Number digits month ∷ token.Slash ∷ []) (read.MonthSlash at month)
   slash_day_read : (tokens : List Token) (at : Clock) (month_digits month digits day : ℕ) → IsTime tokens at
-      → IsTrue (is_month_number month_digits month) → IsTrue (is_day digits day)
+      → IsTrue (is_month_number month_digits month) → IsTrue (is_day_number digits day)
       → Reads (tokens ++ token.Number month_digits month ∷ token.Slash ∷ token.Number digits day ∷ []) (read.SlashDay at month day)
-  dot_read : (tokens : List Token) (at : Clock) (digits day : ℕ) → IsTime tokens at → IsTrue (is_day digits day)
+  dot_read : (tokens : List Token) (at : Clock) (digits day : ℕ) → IsTime tokens at → IsTrue (is_day_number digits day)
       → Reads (tokens ++ token.Number digits day ∷ token.Dot ∷ []) (read.DayDot at day)
   dot_month_read : (tokens : List Token) (at : Clock) (month_digits month digits day : ℕ) → IsTime tokens at
-      → IsTrue (is_month_number month_digits month) → IsTrue (is_day digits day)
+      → IsTrue (is_month_number month_digits month) → IsTrue (is_day_number digits day)
       → Reads (tokens ++ token.Number digits day ∷ token.Dot ∷ token.Number month_digits month ∷ []) (read.DotMonth at month day)
   dash_read : (tokens : List Token) (at : Clock) (digits year : ℕ) → IsTime tokens at → IsTrue (is_year digits year)
       → Reads (tokens ++ token.Number digits year ∷ token.Dash ∷ []) (read.YearDash at year)
@@ -126,7 +126,7 @@ time_goes tokens at (token.Month number) is =
     chosen (Reads (tokens ++ token.Month number ∷ [])) (is_month number) (read.MonthNamed at number) None
     (λ fits. month_read tokens at number is fits) tt
 time_goes tokens at (token.Weekday number) is =
-    chosen (Reads (tokens ++ token.Weekday number ∷ [])) (is_weekday number) (read.Dated at (date.Weekday number)) None
+    chosen (Reads (tokens ++ token.Weekday number ∷ [])) (is_weekday_number number) (read.Dated at (date.Weekday number)) None
     (λ fits. opening_read (tokens ++ token.Weekday number ∷ []) at (date.Weekday number)
     (opens_date tokens (token.Weekday number ∷ []) at (date.Weekday number) is (grammar.weekday number fits))) tt
 time_goes tokens at (token.Number digits value) is =
@@ -183,13 +183,13 @@ first_goes _ = tt
 month_goes : (tokens : List Token) (at : Clock) (number : ℕ) (coming : Token) → IsTime tokens at → IsTrue (is_month number)
     → Goes (tokens ++ token.Month number ∷ []) coming (after_month at number coming)
 month_goes tokens at number (token.Number digits value) is fits =
-    chosen (Reads ((tokens ++ token.Month number ∷ []) ++ token.Number digits value ∷ [])) (is_day digits value)
+    chosen (Reads ((tokens ++ token.Month number ∷ []) ++ token.Number digits value ∷ [])) (is_day_number digits value)
     (read.DayNamed at number value) None
     (λ known. rw append_assoc (day_read tokens at number digits value is fits known)) tt
 month_goes tokens at number _ is fits = tt
 
 day_goes : (tokens : List Token) (at : Clock) (number digits value : ℕ) (coming : Token) → IsTime tokens at
-    → IsTrue (is_month number) → IsTrue (is_day digits value)
+    → IsTrue (is_month number) → IsTrue (is_day_number digits value)
     → Goes (tokens ++ token.Month number ∷ token.Number digits value ∷ []) coming (after_day at number value coming)
 day_goes tokens at number digits value token.Comma is fits known =
     rw append_assoc (year_due_read tokens (token.Month number ∷ token.Number digits value ∷ token.Comma ∷ []) at number value is
@@ -216,7 +216,7 @@ number_goes tokens at digits value token.Slash is =
     (read.MonthSlash at value) None
     (λ fits. rw append_assoc (slash_read tokens at digits value is fits)) tt
 number_goes tokens at digits value token.Dot is =
-    chosen (Reads ((tokens ++ token.Number digits value ∷ []) ++ token.Dot ∷ [])) (is_day digits value) (read.DayDot at value) None
+    chosen (Reads ((tokens ++ token.Number digits value ∷ []) ++ token.Dot ∷ [])) (is_day_number digits value) (read.DayDot at value) None
     (λ fits. rw append_assoc (dot_read tokens at digits value is fits)) tt
 number_goes tokens at digits value token.Dash is =
     chosen (Reads ((tokens ++ token.Number digits value ∷ []) ++ token.Dash ∷ [])) (is_year digits value) (read.YearDash at value) None
@@ -227,13 +227,13 @@ slash_goes : (tokens : List Token) (at : Clock) (digits number : ℕ) (coming : 
     → IsTrue (is_month_number digits number)
     → Goes (tokens ++ token.Number digits number ∷ token.Slash ∷ []) coming (after_slash at number coming)
 slash_goes tokens at digits number (token.Number count value) is fits =
-    chosen (Reads ((tokens ++ token.Number digits number ∷ token.Slash ∷ []) ++ token.Number count value ∷ [])) (is_day count value)
+    chosen (Reads ((tokens ++ token.Number digits number ∷ token.Slash ∷ []) ++ token.Number count value ∷ [])) (is_day_number count value)
     (read.SlashDay at number value) None
     (λ known. rw append_assoc (slash_day_read tokens at digits number count value is fits known)) tt
 slash_goes tokens at digits number _ is fits = tt
 
 slash_day_goes : (tokens : List Token) (at : Clock) (digits number count value : ℕ) (coming : Token) → IsTime tokens at
-    → IsTrue (is_month_number digits number) → IsTrue (is_day count value)
+    → IsTrue (is_month_number digits number) → IsTrue (is_day_number count value)
     → Goes (tokens ++ token.Number digits number ∷ token.Slash ∷ token.Number count value ∷ []) coming
     (second_slash at number value coming)
 slash_day_goes tokens at digits number count value token.Slash is fits known =
@@ -243,7 +243,7 @@ slash_day_goes tokens at digits number count value token.Slash is fits known =
 slash_day_goes tokens at digits number count value _ is fits known = tt
 
 dot_goes : (tokens : List Token) (at : Clock) (count value : ℕ) (coming : Token) → IsTime tokens at
-    → IsTrue (is_day count value)
+    → IsTrue (is_day_number count value)
     → Goes (tokens ++ token.Number count value ∷ token.Dot ∷ []) coming (after_dot at value coming)
 dot_goes tokens at count value (token.Number digits number) is known =
     chosen (Reads ((tokens ++ token.Number count value ∷ token.Dot ∷ []) ++ token.Number digits number ∷ []))
@@ -252,7 +252,7 @@ dot_goes tokens at count value (token.Number digits number) is known =
 dot_goes tokens at count value _ is known = tt
 
 dot_month_goes : (tokens : List Token) (at : Clock) (digits number count value : ℕ) (coming : Token) → IsTime tokens at
-    → IsTrue (is_month_number digits number) → IsTrue (is_day count value)
+    → IsTrue (is_month_number digits number) → IsTrue (is_day_number count value)
     → Goes (tokens ++ token.Number count value ∷ token.Dot ∷ token.Number digits number ∷ []) coming (second_dot at number value coming)
 dot_month_goes tokens at digits number count value token.Dot is fits known =
     rw append_assoc (year_due_read tokens
@@ -286,7 +286,7 @@ day_due_goes tokens at digits number count year (token.Number length value) is f
     = token.Number count year ∷ token.Dash ∷ token.Number digits number ∷ token.Dash ∷ token.Number length value ∷ [] in
     chosen (Reads ((tokens ++ token.Number count year ∷ token.Dash ∷ token.Number digits number ∷ token.Dash ∷ [])
     ++ token.Number length value ∷ []))
-    (is_day length value) (read.Dated at (date.MonthDay number value (Some year))) None
+    (is_day_number length value) (read.Dated at (date.MonthDay number value (Some year))) None
     (λ known. rw append_assoc (opening_read (tokens ++ all) at (date.MonthDay number value (Some year))
     (opens_date tokens all at (date.MonthDay number value (Some year)) is
     (grammar.dashes digits number length value count year fits known four)))) tt

@@ -11,9 +11,9 @@ use Rattle.timespec_grammar.specs.declared.timespec.Timespec.{Timespec}
 use Rattle.timespec_grammar.specs.declared.read.Read.{Read}
 use Rattle.timespec_grammar.specs.Grammar as grammar
 use Rattle.timespec_grammar.specs.Grammar.{IsTime, IsDate, IsIncrement, Spells, timespec_of}
-use Rattle.timespec_grammar.specs.Numbers.{is_day, is_year}
+use Rattle.timespec_grammar.specs.Numbers.{is_day_number, is_year}
 use Rattle.timespec_grammar.specs.Viable as viable
-use Rattle.timespec_grammar.specs.Viable.{BeginsDate, BeginsIncrement, GoesOn, IsViable, ViableTokensGoOn}
+use Rattle.timespec_grammar.specs.Viable.{BeginsDate, BeginsIncrement, IsExtendable, IsViable, ViableTokensGoOn}
 use Rattle.timespec_grammar.specs.inside.Steps.{timespec_read}
 use Rattle.timespec_grammar.proofs.ReadLemmas.{BeforeYear, comma, slashes, dots, Opens, opens_now, opens_time, opens_date, Reads, nothing_read, hour_read, colon_read, minute_read, half_read, time_read, month_read, day_read, year_due_read, number_read, slash_read, slash_day_read, dot_read, dot_month_read, dash_read, dash_month_read, day_due_read, opening_read, added_read, counted_read, following_read, whole_read, opens_alone, opens_later}
 
@@ -90,7 +90,7 @@ reads_viable _ _ (whole_read tokens spec spelled) = viable.whole tokens spec spe
 
 -- a time and a date of two parts, of which the second is to come
 dated : (times first rest : List Token) (at : Clock) (day : DatePart) → IsTime times at → IsDate (first ++ rest) day
-    → GoesOn (times ++ first)
+    → IsExtendable (times ++ first)
 dated times first rest at day is that = record {
   rest = rest;
   whole = timespec_of at day None;
@@ -98,8 +98,8 @@ dated times first rest at day is that = record {
 }
 
 -- a number that begins a date goes on as a day or as a year
-number_goes_on : (times : List Token) (at : Clock) (digits value : ℕ) (test : Bool) → IsTime times at → is_day digits value ≡ test
-    → IsTrue (test || is_year digits value) → GoesOn (times ++ token.Number digits value ∷ [])
+number_goes_on : (times : List Token) (at : Clock) (digits value : ℕ) (test : Bool) → IsTime times at → is_day_number digits value ≡ test
+    → IsTrue (test || is_year digits value) → IsExtendable (times ++ token.Number digits value ∷ [])
 number_goes_on times at digits value true is known fits =
     dated times (token.Number digits value ∷ []) (token.Dot ∷ token.Number 1 1 ∷ token.Dot ∷ token.Number 4 2000 ∷ []) at _ is
     (grammar.dots 1 1 digits value 4 2000 refl known refl)
@@ -107,14 +107,14 @@ number_goes_on times at digits value false is known four =
     dated times (token.Number digits value ∷ []) (token.Dash ∷ token.Number 1 1 ∷ token.Dash ∷ token.Number 1 1 ∷ []) at _ is
     (grammar.dashes 1 1 1 1 digits value refl refl four)
 
-date_goes_on : (times dates : List Token) (at : Clock) → IsTime times at → BeginsDate dates → GoesOn (times ++ dates)
+date_goes_on : (times dates : List Token) (at : Clock) → IsTime times at → BeginsDate dates → IsExtendable (times ++ dates)
 date_goes_on times _ at is (viable.month number fits) =
     dated times (token.Month number ∷ []) (token.Number 1 1 ∷ []) at _ is (grammar.month_day number 1 1 fits refl)
 date_goes_on times _ at is (viable.month_day_comma number digits day fits known) =
     dated times (token.Month number ∷ token.Number digits day ∷ token.Comma ∷ []) (token.Number 4 2000 ∷ []) at _ is
     (grammar.month_day_year number digits day 4 2000 fits known refl)
 date_goes_on times _ at is (viable.number digits value fits) =
-    number_goes_on times at digits value (is_day digits value) is refl fits
+    number_goes_on times at digits value (is_day_number digits value) is refl fits
 date_goes_on times _ at is (viable.month_slash digits number fits) =
     dated times (token.Number digits number ∷ token.Slash ∷ []) (token.Number 1 1 ∷ token.Slash ∷ token.Number 4 2000 ∷ []) at _ is
     (grammar.slashes digits number 1 1 4 2000 fits refl refl)
@@ -154,7 +154,7 @@ opens _ _ (grammar.now_increment later by onward) none = absurd (cc)
 
 -- the same, and an increment of two parts, of which the second is to come
 added : (before first rest : List Token) (spec : Timespec) (by : Increment) → Spells before spec → spec.increment ≡ None
-    → IsIncrement (first ++ rest) by → GoesOn (before ++ first)
+    → IsIncrement (first ++ rest) by → IsExtendable (before ++ first)
 added before first rest spec by spelled none more = record {
   rest = rest;
   whole = timespec_of spec.clock spec.date (Some by);
@@ -162,7 +162,7 @@ added before first rest spec by spelled none more = record {
 }
 
 increment_goes_on : (before later : List Token) (spec : Timespec) → Spells before spec → spec.increment ≡ None
-    → BeginsIncrement later → GoesOn (before ++ later)
+    → BeginsIncrement later → IsExtendable (before ++ later)
 increment_goes_on before _ spec spelled none viable.plus =
     added before (token.Plus ∷ []) (token.Number 1 1 ∷ token.Unit period.Day ∷ []) spec _ spelled none (grammar.plus 1 1 period.Day refl)
 increment_goes_on before _ spec spelled none (viable.plus_count digits count fits) =

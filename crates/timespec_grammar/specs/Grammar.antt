@@ -12,7 +12,7 @@ use Rattle.timespec_grammar.specs.declared.date.DatePart.TheVariants as date
 use Rattle.timespec_grammar.specs.declared.increment.Increment.{Increment}
 use Rattle.timespec_grammar.specs.declared.timespec.Timespec.{Timespec}
 use Rattle.timespec_grammar.specs.declared.numbers.TheConstants.{MAX_COUNT}
-use Rattle.timespec_grammar.specs.Numbers.{is_hour, is_hour_minute, is_twelve, is_minute, is_month, is_month_number, is_weekday, is_day, is_year, is_count}
+use Rattle.timespec_grammar.specs.Numbers.{is_hour, is_hour_minute, is_twelve, is_minute, is_month, is_month_number, is_weekday_number, is_day_number, is_year, is_count}
 
 -- an hour and a minute of the 24-hour clock
 pub data IsClock24 : List Token → ℕ → ℕ → Type 0 where
@@ -52,29 +52,29 @@ pub data IsTime : List Token → Clock → Type 0 where
 
 -- a date
 pub data IsDate : List Token → DatePart → Type 0 where
-  month_day : (month digits day : ℕ) → IsTrue (is_month month) → IsTrue (is_day digits day)
+  month_day : (month digits day : ℕ) → IsTrue (is_month month) → IsTrue (is_day_number digits day)
       → IsDate (token.Month month ∷ token.Number digits day ∷ []) (date.MonthDay month day None)
   month_day_year : (month digits day year_digits year : ℕ) → IsTrue (is_month month)
-      → IsTrue (is_day digits day) → IsTrue (is_year year_digits year)
+      → IsTrue (is_day_number digits day) → IsTrue (is_year year_digits year)
       → IsDate
       (token.Month month ∷ token.Number digits day ∷ token.Comma ∷ token.Number year_digits year ∷ [])
       (date.MonthDay month day (Some year))
   slashes : (month_digits month digits day year_digits year : ℕ) → IsTrue (is_month_number month_digits month)
-      → IsTrue (is_day digits day) → IsTrue (is_year year_digits year)
+      → IsTrue (is_day_number digits day) → IsTrue (is_year year_digits year)
       → IsDate
       (token.Number month_digits month ∷ token.Slash ∷ token.Number digits day ∷ token.Slash ∷ token.Number year_digits year ∷ [])
       (date.MonthDay month day (Some year))
   dots : (month_digits month digits day year_digits year : ℕ) → IsTrue (is_month_number month_digits month)
-      → IsTrue (is_day digits day) → IsTrue (is_year year_digits year)
+      → IsTrue (is_day_number digits day) → IsTrue (is_year year_digits year)
       → IsDate
       (token.Number digits day ∷ token.Dot ∷ token.Number month_digits month ∷ token.Dot ∷ token.Number year_digits year ∷ [])
       (date.MonthDay month day (Some year))
   dashes : (month_digits month digits day year_digits year : ℕ) → IsTrue (is_month_number month_digits month)
-      → IsTrue (is_day digits day) → IsTrue (is_year year_digits year)
+      → IsTrue (is_day_number digits day) → IsTrue (is_year year_digits year)
       → IsDate
       (token.Number year_digits year ∷ token.Dash ∷ token.Number month_digits month ∷ token.Dash ∷ token.Number digits day ∷ [])
       (date.MonthDay month day (Some year))
-  weekday : (day : ℕ) → IsTrue (is_weekday day) → IsDate (token.Weekday day ∷ []) (date.Weekday day)
+  weekday : (day : ℕ) → IsTrue (is_weekday_number day) → IsDate (token.Weekday day ∷ []) (date.Weekday day)
   today : IsDate (token.Today ∷ []) date.Today
   tomorrow : IsDate (token.Tomorrow ∷ []) date.Tomorrow
 

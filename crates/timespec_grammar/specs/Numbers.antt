@@ -24,12 +24,12 @@ abbrev pub is_month : ℕ → Bool
 is_month month = nat_le 1 month && nat_le month 12
 
 -- a day of the week: Sunday is 0
-abbrev pub is_weekday : ℕ → Bool
-is_weekday day = nat_le day 6
+abbrev pub is_weekday_number : ℕ → Bool
+is_weekday_number day = nat_le day 6
 
 -- a day of a month, in one digit or two
-abbrev pub is_day : ℕ → ℕ → Bool
-is_day digits value = nat_le 1 digits && nat_le digits 2 && nat_le value 99
+abbrev pub is_day_number : ℕ → ℕ → Bool
+is_day_number digits value = nat_le 1 digits && nat_le digits 2 && nat_le value 99
 
 -- a month in one digit or two: January is 1
 abbrev pub is_month_number : ℕ → ℕ → Bool
@@ -41,7 +41,7 @@ is_year digits value = digits == 4 && nat_le value 9999
 
 -- a number that a date may begin with: that of a day, as which each month's number counts too, or that of a year
 abbrev pub is_date_number : ℕ → ℕ → Bool
-is_date_number digits value = is_day digits value || is_year digits value
+is_date_number digits value = is_day_number digits value || is_year digits value
 
 -- a count of periods, in few digits
 abbrev pub is_count : ℕ → ℕ → Bool

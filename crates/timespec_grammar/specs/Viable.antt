@@ -6,26 +6,26 @@ use Rattle.timespec_lexer.specs.declared.token.Token.TheVariants as token
 use Rattle.timespec_grammar.specs.declared.clock.Clock.{Clock}
 use Rattle.timespec_grammar.specs.declared.timespec.Timespec.{Timespec}
 use Rattle.timespec_grammar.specs.Grammar.{IsTime, Spells}
-use Rattle.timespec_grammar.specs.Numbers.{is_hour, is_month, is_month_number, is_day, is_year, is_date_number, is_count}
+use Rattle.timespec_grammar.specs.Numbers.{is_hour, is_month, is_month_number, is_day_number, is_year, is_date_number, is_count}
 
 -- the first tokens of a date, and not all of them
 pub data BeginsDate : List Token → Type 0 where
   month : (month : ℕ) → IsTrue (is_month month) → BeginsDate (token.Month month ∷ [])
-  month_day_comma : (month digits day : ℕ) → IsTrue (is_month month) → IsTrue (is_day digits day)
+  month_day_comma : (month digits day : ℕ) → IsTrue (is_month month) → IsTrue (is_day_number digits day)
       → BeginsDate (token.Month month ∷ token.Number digits day ∷ token.Comma ∷ [])
   number : (digits value : ℕ) → IsTrue (is_date_number digits value) → BeginsDate (token.Number digits value ∷ [])
   month_slash : (month_digits month : ℕ) → IsTrue (is_month_number month_digits month)
       → BeginsDate (token.Number month_digits month ∷ token.Slash ∷ [])
-  slash_day : (month_digits month digits day : ℕ) → IsTrue (is_month_number month_digits month) → IsTrue (is_day digits day)
+  slash_day : (month_digits month digits day : ℕ) → IsTrue (is_month_number month_digits month) → IsTrue (is_day_number digits day)
       → BeginsDate (token.Number month_digits month ∷ token.Slash ∷ token.Number digits day ∷ [])
   slash_day_slash : (month_digits month digits day : ℕ) → IsTrue (is_month_number month_digits month)
-      → IsTrue (is_day digits day)
+      → IsTrue (is_day_number digits day)
       → BeginsDate (token.Number month_digits month ∷ token.Slash ∷ token.Number digits day ∷ token.Slash ∷ [])
-  day_dot : (digits day : ℕ) → IsTrue (is_day digits day) → BeginsDate (token.Number digits day ∷ token.Dot ∷ [])
-  dot_month : (month_digits month digits day : ℕ) → IsTrue (is_month_number month_digits month) → IsTrue (is_day digits day)
+  day_dot : (digits day : ℕ) → IsTrue (is_day_number digits day) → BeginsDate (token.Number digits day ∷ token.Dot ∷ [])
+  dot_month : (month_digits month digits day : ℕ) → IsTrue (is_month_number month_digits month) → IsTrue (is_day_number digits day)
       → BeginsDate (token.Number digits day ∷ token.Dot ∷ token.Number month_digits month ∷ [])
   dot_month_dot : (month_digits month digits day : ℕ) → IsTrue (is_month_number month_digits month)
-      → IsTrue (is_day digits day)
+      → IsTrue (is_day_number digits day)
       → BeginsDate (token.Number digits day ∷ token.Dot ∷ token.Number month_digits month ∷ token.Dot ∷ [])
   year_dash : (year_digits year : ℕ) → IsTrue (is_year year_digits year)
       → BeginsDate (token.Number year_digits year ∷ token.Dash ∷ [])
@@ -53,14 +53,14 @@ pub data IsViable : List Token → Type 0 where
   whole : (tokens : List Token) (spec : Timespec) → Spells tokens spec → IsViable tokens
 
 -- some tokens after these make a timespec of them
-pub record GoesOn (tokens : List Token) : Type 0 where
+pub record IsExtendable (tokens : List Token) : Type 0 where
   pub rest : List Token
   pub whole : Timespec
   pub spelled : Spells (tokens ++ rest) whole
 
 -- viable tokens can go on to a timespec
 abbrev pub ViableTokensGoOn : Type 0
-ViableTokensGoOn = (tokens : List Token) → IsViable tokens → GoesOn tokens
+ViableTokensGoOn = (tokens : List Token) → IsViable tokens → IsExtendable tokens
 
 -- the first tokens of each timespec are viable
 abbrev pub PrefixesAreViable : Type 0

@@ -1,6 +1,6 @@
 //! Which numbers may stand where.
 ghost use Rattle.std.specs.Prelude.{◌≡◌, ◌≤◌, ◌/◌, ◌%◌, IsTrue};
-ghost use Rattle.timespec_grammar.specs.Numbers.{is_hour, is_hour_minute, is_twelve, is_minute, is_month, is_month_number, is_weekday, is_day, is_year, is_date_number, is_count};
+ghost use Rattle.timespec_grammar.specs.Numbers.{is_hour, is_hour_minute, is_twelve, is_minute, is_month, is_month_number, is_weekday_number, is_day_number, is_year, is_date_number, is_count};
 
 /// The greatest count of an increment.
 pub const MAX_COUNT: u32 = 999_999;
@@ -48,15 +48,15 @@ pub fn is_month(month: u8) -> bool
 }
 
 /// A day of the week, of which Sunday is 0.
-pub fn is_weekday(day: u8) -> bool
-    ensures { result ≡ is_weekday day }
+pub fn is_weekday_number(day: u8) -> bool
+    ensures { result ≡ is_weekday_number day }
 {
     day <= 6
 }
 
 /// A day of a month in one or two digits.
-pub fn is_day(digits: u8, value: u32) -> bool
-    ensures test { result ≡ is_day digits value }
+pub fn is_day_number(digits: u8, value: u32) -> bool
+    ensures test { result ≡ is_day_number digits value }
     ensures small { IsTrue result → value ≤ 99 }
 {
     1 <= digits && digits <= 2 && value <= 99
@@ -82,7 +82,7 @@ pub fn is_year(digits: u8, value: u32) -> bool
 pub fn is_date_number(digits: u8, value: u32) -> bool
     ensures { result ≡ is_date_number digits value }
 {
-    is_day(digits, value) || is_year(digits, value)
+    is_day_number(digits, value) || is_year(digits, value)
 }
 
 /// A count of periods, which may be 0.

@@ -3,7 +3,7 @@ ghost use Rattle.std.specs.Prelude.{◌≡◌};
 ghost use Rattle.timespec_grammar.specs.inside.Steps.{after_dash, after_dot, after_number, after_slash, day_due, second_dash, second_dot, second_slash, year_due};
 
 use crate::Clock;
-use crate::numbers::{is_day, is_month_number, is_year};
+use crate::numbers::{is_day_number, is_month_number, is_year};
 use crate::read::Read;
 use crate::steps::month_day;
 use timespec_lexer::Token;
@@ -30,7 +30,7 @@ pub fn after_number(clock: Clock, digits: u8, value: u32, token: Token) -> Optio
             clock,
             value as u8,
         )),
-        Token::Dot if is_day(digits, value) => Some(Read::DayDot(clock, value as u8)),
+        Token::Dot if is_day_number(digits, value) => Some(Read::DayDot(clock, value as u8)),
         Token::Dash if is_year(digits, value) => Some(Read::YearDash(clock, value as u16)),
         _ => None,
     }
@@ -41,7 +41,7 @@ pub fn after_slash(clock: Clock, month: u8, token: Token) -> Option<Read>
     ensures { result ≡ after_slash clock month token }
 {
     match token {
-        Token::Number { digits, value } if is_day(digits, value) => {
+        Token::Number { digits, value } if is_day_number(digits, value) => {
             Some(Read::SlashDay(clock, month, value as u8))
         }
         _ => None,
@@ -107,7 +107,7 @@ pub fn day_due(clock: Clock, month: u8, year: u16, token: Token) -> Option<Read>
     ensures { result ≡ day_due clock month year token }
 {
     match token {
-        Token::Number { digits, value } if is_day(digits, value) => {
+        Token::Number { digits, value } if is_day_number(digits, value) => {
             Some(Read::Dated(clock, month_day(month, value as u8, Some(year))))
         }
         _ => None,

@@ -4,8 +4,8 @@ ghost use Rattle.timespec_grammar.specs.Grammar.{timespec_of};
 ghost use Rattle.timespec_grammar.specs.inside.Steps.{step, timespec_read, begin, after_colon, after_date, after_time, after_half, after_minute, after_hour, after_month, after_day, after_plus, after_count};
 
 use crate::numbers::{
-    is_count, is_date_number, is_day, is_hour, is_hour_minute, is_minute, is_month, is_twelve,
-    is_weekday,
+    is_count, is_date_number, is_day_number, is_hour, is_hour_minute, is_minute, is_month,
+    is_twelve, is_weekday_number,
 };
 use crate::numeric::{
     after_dash, after_dot, after_number, after_slash, day_due, second_dash, second_dot,
@@ -50,12 +50,18 @@ pub fn timespec_read(read: Read) -> Option<Timespec>
     ensures { result ≡ timespec_read read }
 {
     match read {
-        Read::Hour(hour) => Some(plain(at(hour, 0, false), DatePart::Absent)),
-        Read::HourMinute(hour, minute) => Some(plain(at(hour, minute, false), DatePart::Absent)),
-        Read::Half(hour, minute) => Some(plain(at(hour, minute, false), DatePart::Absent)),
-        Read::Timed(clock) => Some(plain(clock, DatePart::Absent)),
-        Read::DayNamed(clock, month, day) => Some(plain(clock, month_day(month, day, None))),
-        Read::Dated(clock, date) => Some(plain(clock, date)),
+        Read::Hour(hour) => Some(plain_timespec(at(hour, 0, false), DatePart::Absent)),
+        Read::HourMinute(hour, minute) => Some(plain_timespec(
+            at(hour, minute, false),
+            DatePart::Absent,
+        )),
+        Read::Half(hour, minute) => Some(plain_timespec(at(hour, minute, false), DatePart::Absent)),
+        Read::Timed(clock) => Some(plain_timespec(clock, DatePart::Absent)),
+        Read::DayNamed(clock, month, day) => Some(plain_timespec(
+            clock,
+            month_day(month, day, None),
+        )),
+        Read::Dated(clock, date) => Some(plain_timespec(clock, date)),
         Read::Whole(spec) => Some(spec),
         _ => None,
     }
@@ -76,7 +82,7 @@ pub(crate) fn month_day(month: u8, day: u8, year: Option<u16>) -> DatePart
 }
 
 // A timespec without an increment.
-fn plain(clock: Clock, date: DatePart) -> Timespec
+fn plain_timespec(clock: Clock, date: DatePart) -> Timespec
     ensures { result ≡ timespec_of clock date None }
 {
     Timespec {
@@ -152,7 +158,10 @@ fn after_time(clock: Clock, token: Token) -> Option<Read>
 {
     match token {
         Token::Month(month) if is_month(month) => Some(Read::MonthNamed(clock, month)),
-        Token::Weekday(day) if is_weekday(day) => Some(Read::Dated(clock, DatePart::Weekday(day))),
+        Token::Weekday(day) if is_weekday_number(day) => Some(Read::Dated(
+            clock,
+            DatePart::Weekday(day),
+        )),
         Token::Number { digits, value } if is_date_number(digits, value) => {
             Some(Read::DateNumber(clock, digits, value))
         }
@@ -167,7 +176,7 @@ fn after_month(clock: Clock, month: u8, token: Token) -> Option<Read>
     ensures { result ≡ after_month clock month token }
 {
     match token {
-        Token::Number { digits, value } if is_day(digits, value) => {
+        Token::Number { digits, value } if is_day_number(digits, value) => {
             Some(Read::DayNamed(clock, month, value as u8))
         }
         _ => None,

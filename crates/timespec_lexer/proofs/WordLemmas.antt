@@ -6,7 +6,7 @@ use Rattle.std.proofs.lemmas.List.Sums.{AllPass-from_list_all}
 use Rattle.std.proofs.lemmas.Bool.{cases_lt}
 use Rattle.std.proofs.lemmas.List.Elements.{All-push, All-weaker, All-contains, Contains-append_left, Contains-append_right}
 use Rattle.timespec_lexer.specs.Keywords.{keywords}
-use Rattle.timespec_lexer.specs.inside.Search.{IsBest}
+use Rattle.timespec_lexer.specs.inside.Search.{IsLongestMatch}
 use Rattle.timespec_lexer.specs.Tokens.{HasWord, WordTable}
 use Rattle.timespec_lexer.specs.declared.token.Token.{Token}
 use Rattle.timespec_lexer.specs.declared.found.Found.{Found}
@@ -17,8 +17,8 @@ IsNoLonger text place count row = HasWord text place row.0 → length row.0 ≤ 
 
 -- a row whose word does not stand there changes nothing
 pub best_past : (text : List ℕ) (place : ℕ) (table : WordTable) (best : Option Found) (word : List ℕ) (token : Token)
-    → IsBest text place table best → ¬ HasWord text place word
-    → IsBest text place (table ++ (word, token) ∷ []) best
+    → IsLongestMatch text place table best → ¬ HasWord text place word
+    → IsLongestMatch text place (table ++ (word, token) ∷ []) best
 best_past text place table None word token kept missing = All-push (λ row. ¬ HasWord text place row.0) table (word, token) kept missing
 best_past text place table (Some found) word token kept missing = (
   kept.0,
@@ -34,7 +34,7 @@ best_past text place table (Some found) word token kept missing = (
 this_row : (text : List ℕ) (place : ℕ) (table : WordTable) (word : List ℕ) (token : Token) (end : ℕ)
     → HasWord text place word → end ≡ place + length word
     → All (λ row. HasWord text place row.0 → length row.0 ≤ length word) table
-    → IsBest text place (table ++ (word, token) ∷ []) (Some (record { token = token; end = end }))
+    → IsLongestMatch text place (table ++ (word, token) ∷ []) (Some (record { token = token; end = end }))
 this_row text place table word token end here reach others = (
   word,
   record {
@@ -47,23 +47,23 @@ this_row text place table word token end here reach others = (
 
 -- the farther one of the best so far and of a row whose word stands there is the best with that row
 pub best_more : (text : List ℕ) (place : ℕ) (table : WordTable) (best : Option Found) (word : List ℕ) (found next : Found)
-    → IsBest text place table best → HasWord text place word → found.end ≡ place + length word
+    → IsLongestMatch text place table best → HasWord text place word → found.end ≡ place + length word
     → IfNone best (next ≡ found)
     → IfSome best (λ old. old.end < found.end → next ≡ found)
     → IfSome best (λ old. found.end ≤ old.end → next ≡ old)
-    → IsBest text place (table ++ (word, found.token) ∷ []) (Some next)
+    → IsLongestMatch text place (table ++ (word, found.token) ∷ []) (Some next)
 best_more text place table None word found next kept here reach first longer stays =
-    subst (λ (one : Found). IsBest text place (table ++ (word, found.token) ∷ []) (Some one)) (sym first)
+    subst (λ (one : Found). IsLongestMatch text place (table ++ (word, found.token) ∷ []) (Some one)) (sym first)
     (this_row text place table word found.token found.end here reach (All-weaker (λ row. ¬ HasWord text place row.0) (IsNoLonger text place (length word)) (λ row none here. absurd (none here)) table kept))
 best_more text place table (Some old) word found next kept here reach first longer stays =
     elim (cases_lt old.end found.end) [
       | inl less ↦
-          subst (λ (one : Found). IsBest text place (table ++ (word, found.token) ∷ []) (Some one)) (sym (longer less))
+          subst (λ (one : Found). IsLongestMatch text place (table ++ (word, found.token) ∷ []) (Some one)) (sym (longer less))
           (this_row text place table word found.token found.end here reach
           (All-weaker (IsNoLonger text place (length kept.0)) (IsNoLonger text place (length word))
           (λ row below here. let short : length row.0 ≤ length kept.0 = below here in omega (arith, kept.2)) table kept.1.longest))
       | inr most ↦
-          subst (λ (one : Found). IsBest text place (table ++ (word, found.token) ∷ []) (Some one)) (sym (stays most)) (
+          subst (λ (one : Found). IsLongestMatch text place (table ++ (word, found.token) ∷ []) (Some one)) (sym (stays most)) (
             kept.0,
             record {
               listed = Contains-append_left _ _ _ kept.1.listed;
@@ -82,7 +82,7 @@ keyword_some word token listed =
     (AllPass-from_list_all (λ row. nat_lt 0 (length row.0)) keywords refl) listed)
 
 -- a keyword that was found ends after its place
-pub best_forward : (text : List ℕ) (place : ℕ) (best : Option Found) → IsBest text place keywords best
+pub best_forward : (text : List ℕ) (place : ℕ) (best : Option Found) → IsLongestMatch text place keywords best
     → IfSome best (λ found. place < found.end)
 best_forward text place None kept = tt
 best_forward text place (Some found) kept =

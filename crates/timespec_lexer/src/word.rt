@@ -1,7 +1,7 @@
 //! Keywords in a text.
 ghost use Rattle.std.specs.Prelude.{◌≡◌, ◌≤◌, ◌<◌, ◌↔◌, length, IsTrue, IfSome, IfNone};
 ghost use Rattle.timespec_lexer.specs.Keywords.{keywords};
-ghost use Rattle.timespec_lexer.specs.inside.Search.{AddsRow, IsBest, words_of};
+ghost use Rattle.timespec_lexer.specs.inside.Search.{AddsRow, IsLongestMatch, words_of};
 ghost use Rattle.timespec_lexer.specs.Tokens.{HasWord};
 
 use crate::Token;
@@ -11,7 +11,7 @@ use crate::keywords::KEYWORDS;
 /// The longest keyword at a place.
 pub fn keyword_at(text: &[u8], place: usize) -> Option<Found>
     requires { place ≤ length text.now }
-    ensures longest { IsBest text.now place keywords result }
+    ensures longest { IsLongestMatch text.now place keywords result }
     ensures forward { IfSome result (λ found. place < found.end) }
     ensures within { IfSome result (λ found. found.end ≤ length text.now) }
 {
@@ -21,7 +21,7 @@ pub fn keyword_at(text: &[u8], place: usize) -> Option<Found>
 // The longest word of a table at a place.
 fn longest_word(text: &[u8], place: usize, table: &[(&str, Token)]) -> Option<Found>
     requires { place ≤ length text.now }
-    ensures { IsBest text.now place (words_of table.now) result }
+    ensures { IsLongestMatch text.now place (words_of table.now) result }
 {
     let mut longest = None;
     for row in table {

@@ -1,17 +1,17 @@
 -- Hints that name the tool, the user or a path (own).
 use Rattle.std.specs.Prelude.{◌++◌, ℕ, List, codes}
-use Rattle.caller_environment.specs.Tools.{name_of}
+use Rattle.caller_environment.specs.Tools.{name_of_tool}
 use Rattle.caller_environment.specs.declared.tool_name.ToolName.{ToolName}
 use Rattle.tool_help.specs.declared.hint_texts.ListsFound.{ListsFound}
 use Rattle.tool_help.specs.declared.hint_texts.ListsFound.TheVariants.{Allow, Deny, Neither}
 
 -- the line of a hint
 abbrev pub hint_line_of : ToolName → List ℕ → List ℕ
-hint_line_of tool hint = name_of tool ++ codes ": " ++ hint ++ codes "\n"
+hint_line_of tool hint = name_of_tool tool ++ codes ": " ++ hint ++ codes "\n"
 
 -- that the help says how the tool is called
 abbrev pub help_hint_of : ToolName → List ℕ
-help_hint_of tool = codes "try " ++ name_of tool ++ codes " --help"
+help_hint_of tool = codes "try " ++ name_of_tool tool ++ codes " --help"
 
 -- who holds the lock beside the spool
 abbrev pub lock_hint_of : List ℕ → List ℕ

@@ -8,12 +8,12 @@ use Rattle.tool_help.specs.declared.hint.Hint.{Hint}
 use Rattle.tool_help.specs.declared.hint.Hint.TheVariants.{Help, Lists, Spool, Lock, Text}
 
 -- the hint says this text
-abbrev pub Says : List ℕ → Hint → Type 0
-Says text Help = ⊥
-Says text Lists = ⊥
-Says text Spool = ⊥
-Says text Lock = ⊥
-Says text (Text words) = words.now ≡ text
+abbrev pub HintSays : List ℕ → Hint → Type 0
+HintSays text Help = ⊥
+HintSays text Lists = ⊥
+HintSays text Spool = ⊥
+HintSays text Lock = ⊥
+HintSays text (Text words) = words.now ≡ text
 
 -- the text after a refusal
 abbrev pub text_after : Refusal → List ℕ
@@ -44,17 +44,17 @@ text_after TargetNotEmpty = codes "name a directory that is not there yet, or an
 abbrev pub IsRefusalHint : Refusal → Hint → Type 0
 IsRefusalHint Usage hint = hint ≡ Help
 IsRefusalHint NotAllowed hint = hint ≡ Lists
-IsRefusalHint refusal hint = Says (text_after refusal) hint
+IsRefusalHint refusal hint = HintSays (text_after refusal) hint
 
 -- the hint after a command that did not do all
 abbrev pub IsHint : Cause → Hint → Type 0
 IsHint cause.Done hint = ⊥
 IsHint (cause.Refused refusal) hint = IsRefusalHint refusal hint
 IsHint cause.FileFault hint = hint ≡ Spool
-IsHint cause.InputFault hint = Says (codes "can the file of the commands be read?") hint
-IsHint cause.OutputFault hint = Says (codes "what was asked for is done; its lines were lost") hint
+IsHint cause.InputFault hint = HintSays (codes "can the file of the commands be read?") hint
+IsHint cause.OutputFault hint = HintSays (codes "what was asked for is done; its lines were lost") hint
 IsHint cause.Busy hint = hint ≡ Lock
-IsHint cause.Memory hint = Says (codes "atq tells whether it was done") hint
-IsHint (cause.Damaged damage) hint = Says (codes "see DAMAGE in atjobs(5); nothing is changed until that is mended") hint
-IsHint cause.StillRunning hint = Says (codes "more turns wait for them: see --turns") hint
-IsHint cause.Faulty hint = Says (codes "see DAMAGE in atjobs(5)") hint
+IsHint cause.Memory hint = HintSays (codes "atq tells whether it was done") hint
+IsHint (cause.Damaged damage) hint = HintSays (codes "see DAMAGE in atjobs(5); nothing is changed until that is mended") hint
+IsHint cause.StillRunning hint = HintSays (codes "more turns wait for them: see --turns") hint
+IsHint cause.Faulty hint = HintSays (codes "see DAMAGE in atjobs(5)") hint

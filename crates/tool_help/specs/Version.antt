@@ -3,7 +3,7 @@ use Rattle.std.specs.Prelude.{◌==◌, ◌&&◌, ◌||◌, ◌++◌, ℕ, Bool,
 use Rattle.std.specs.Char.{is_ascii_digit}
 use Rattle.std.specs.List.{prefix_len, slice_split, starts_with}
 use Rattle.std.specs.Str.{bytes_eq}
-use Rattle.caller_environment.specs.Tools.{name_of}
+use Rattle.caller_environment.specs.Tools.{name_of_tool}
 use Rattle.caller_environment.specs.declared.tool_name.ToolName.{ToolName}
 use Rattle.tool_help.specs.declared.version.TheConstants.{SHORT_COMMIT, VERSION}
 
@@ -20,8 +20,8 @@ abbrev pub without_head : List ℕ → List ℕ → Option (List ℕ)
 without_head head line = if has_head head line then Some (drop (length head) line) else None
 
 -- what follows the head in the first line of a record that begins with it
-abbrev pub value_of : List ℕ → List ℕ → Option (List ℕ)
-value_of head proof_record = option_and_then (without_head head) (headed_line head proof_record)
+abbrev pub value_after : List ℕ → List ℕ → Option (List ℕ)
+value_after head proof_record = option_and_then (without_head head) (headed_line head proof_record)
 
 -- a digit of a commit
 abbrev pub is_commit_digit : ℕ → Bool
@@ -46,13 +46,13 @@ proof_by _ _ = codes "not proved"
 
 -- what a record says of the proof; without a record the program is not proved
 abbrev pub proof_of : Option (List ℕ) → List ℕ
-proof_of (Some proof_record) = proof_by (value_of (codes "commit ") proof_record) (value_of (codes "toolchain ") proof_record)
+proof_of (Some proof_record) = proof_by (value_after (codes "commit ") proof_record) (value_after (codes "toolchain ") proof_record)
 proof_of None = codes "not proved"
 
 -- the lines of a tool's version
 abbrev pub version_of : ToolName → Option (List ℕ) → List ℕ
 version_of tool proof_record =
-    name_of tool ++ codes " (Coefhird) " ++ VERSION.now ++ codes "\n" ++ proof_of proof_record ++ codes "\n"
+    name_of_tool tool ++ codes " (Coefhird) " ++ VERSION.now ++ codes "\n" ++ proof_of proof_record ++ codes "\n"
 
 -- a checksum is the one that the record has
 abbrev pub is_checksum : Option (List ℕ) → List ℕ → Bool
@@ -61,4 +61,4 @@ is_checksum None checksum = false
 
 -- the record is of the program with this checksum
 abbrev pub is_record_of : List ℕ → List ℕ → Bool
-is_record_of proof_record checksum = is_checksum (value_of (codes "sha256 ") proof_record) checksum
+is_record_of proof_record checksum = is_checksum (value_after (codes "sha256 ") proof_record) checksum

@@ -1,6 +1,6 @@
 //! What to do after a refusal.
 ghost use Rattle.std.specs.Prelude.{MatchOption, IsTrue};
-ghost use Rattle.listing_text.specs.Cause.{is_done};
+ghost use Rattle.listing_text.specs.Cause.{is_done_cause};
 ghost use Rattle.tool_help.specs.Hints.{IsHint, IsRefusalHint};
 
 use listing_text::{Cause, Refusal};
@@ -28,7 +28,7 @@ pub enum Hint {
 
 /// What to do after a command that ended so. None where there is nothing to do.
 pub fn hint_of(cause: &Cause) -> Option<Hint>
-    ensures { MatchOption result (IsTrue (is_done cause.now)) (IsHint cause.now) }
+    ensures { MatchOption result (IsTrue (is_done_cause cause.now)) (IsHint cause.now) }
 {
     match cause {
         Cause::Done => None,

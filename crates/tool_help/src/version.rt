@@ -1,6 +1,6 @@
 //! What `--version` prints.
 ghost use Rattle.std.specs.Prelude.{◌≡◌, ◌≤◌, ◌++◌, IfOk, OnOk, length, option_copied};
-ghost use Rattle.tool_help.specs.Version.{commit_digits, headed_line, is_commit_digit, is_record_of, proof_of, proved_by, value_of, version_of};
+ghost use Rattle.tool_help.specs.Version.{commit_digits, headed_line, is_commit_digit, is_record_of, proof_of, proved_by, value_after, version_of};
 
 use caller_environment::ToolName;
 use host_calls::Bytes;
@@ -34,7 +34,7 @@ pub fn version_text(
 pub fn is_record_of(proof_record: &[u8], checksum: &[u8]) -> bool
     ensures { result ≡ is_record_of proof_record.now checksum.now }
 {
-    match value_of(proof_record, b"sha256 ") {
+    match value_after(proof_record, b"sha256 ") {
         Some(value) => value == checksum,
         None => false,
     }
@@ -48,8 +48,8 @@ fn add_proof(text: &mut Vec<u8>, proof_record: Option<&[u8]>) -> Result<(), Allo
         return text.extend_from_slice(b"not proved");
     };
     match (
-        value_of(proof_record, b"commit "),
-        value_of(proof_record, b"toolchain "),
+        value_after(proof_record, b"commit "),
+        value_after(proof_record, b"toolchain "),
     ) {
         (Some(commit), Some(toolchain)) => add_parts(text, commit, toolchain),
         _ => text.extend_from_slice(b"not proved"),
@@ -86,8 +86,8 @@ fn is_commit_digit(byte: u8) -> bool
 }
 
 // What follows such a head in the first line that begins with it.
-fn value_of<'a>(proof_record: &'a [u8], head: &[u8]) -> Option<&'a [u8]>
-    ensures { option_copied result ≡ value_of head.now proof_record.now }
+fn value_after<'a>(proof_record: &'a [u8], head: &[u8]) -> Option<&'a [u8]>
+    ensures { option_copied result ≡ value_after head.now proof_record.now }
 {
     let line = headed_line(proof_record, head)?;
     line.strip_prefix(head)

@@ -5,7 +5,7 @@ use Rattle.std.proofs.lemmas.Bool.Decides.{nat_tests}
 use Rattle.std.proofs.lemmas.List.{nil_from_length}
 use Rattle.std.proofs.lemmas.Option.{none-some}
 use Rattle.std.specs.Int.{IsInRange, is_in_range}
-use Rattle.touch_time.specs.inside.Reader.{Read, read_number, read_short_year, read_full_year, read_year, is_last, is_seconds}
+use Rattle.touch_time.specs.inside.Reader.{Read, read_number, read_short_year, read_full_year, read_year, is_last_number, is_seconds}
 use Rattle.touch_time.specs.Touch.{two_digits, SpellsYear, no_year, short_year, full_year, SpellsSeconds, no_seconds, some_seconds}
 use Rattle.touch_time.proofs.OptionLemmas.{cond_some, and_then_some, same_parts}
 
@@ -38,10 +38,10 @@ is_seconds_complete text no_seconds = refl
 is_seconds_complete text (some_seconds second few) = rw (read_number_complete 0 60 second [] (omega arith, few) (lit≤ tt))
 
 -- two digits and nothing after them
-last_sound : (text : List ℕ) → is_last (read_number 0 60 text) ≡ true → (second : ℕ) × (second ≤ 60) × (text ≡ two_digits second)
+last_sound : (text : List ℕ) → is_last_number (read_number 0 60 text) ≡ true → (second : ℕ) × (second ≤ 60) × (text ≡ two_digits second)
 last_sound text e = go (read_number 0 60 text) refl e
   where
-    go : (read : Read ℕ) → read_number 0 60 text ≡ read → is_last read ≡ true → (second : ℕ) × (second ≤ 60) × (text ≡ two_digits second)
+    go : (read : Read ℕ) → read_number 0 60 text ≡ read → is_last_number read ≡ true → (second : ℕ) × (second ≤ 60) × (text ≡ two_digits second)
     go None is_read last = cc
     go (Some read) is_read last =
         let sound = read_number_sound 0 60 text read.1 read.0 is_read in
@@ -51,7 +51,7 @@ pub is_seconds_sound : (text : List ℕ) → is_seconds text ≡ true → Spells
 unfolding is_seconds
 is_seconds_sound [] e = no_seconds
 is_seconds_sound (point ∷ rest) e =
-    let (at_point, last) = and_parts (point == 46) (is_last (read_number 0 60 rest)) e in
+    let (at_point, last) = and_parts (point == 46) (is_last_number (read_number 0 60 rest)) e in
     let (second, few, same) = last_sound rest last in
     subst SpellsSeconds (sym (ap (λ p. p ∷ rest) (eqb-true _ _ at_point) ∙ ap (λ r. 46 ∷ r) same)) (some_seconds second few)
 

@@ -16,6 +16,6 @@ abbrev pub count_from : ℕ → ℕ → ℕ → ℕ
 count_from size offset most = min most (size - offset)
 
 -- what the folder gave of a listed file from an offset on when it was listed, or so many bytes of it at most
-abbrev pub kept_bytes : Listing → Listed → ℕ → ℕ → List ℕ
-kept_bytes listing file offset most =
+abbrev pub listed_bytes : Listing → Listed → ℕ → ℕ → List ℕ
+listed_bytes listing file offset most =
     slice_range (head_in listing.heads.items file) offset (offset + count_from file.length offset most)

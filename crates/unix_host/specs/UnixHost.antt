@@ -12,8 +12,8 @@ use Rattle.unix_host.specs.declared.job.JobStart.{JobStart}
 use Rattle.unix_host.specs.declared.unsynced.Unsynced.{Unsynced}
 
 -- what every host tells; it spells nothing of what it was made as
-abbrev pub session_of : {R A B C D E F G : Type 0} → UnixHost R A B C D E F G → Session
-session_of host =
+abbrev pub unix_session : {R A B C D E F G : Type 0} → UnixHost R A B C D E F G → Session
+unix_session host =
     record {
       inside = is_some host.folder;
       children = first_children (vec_len host.kids);
@@ -40,8 +40,8 @@ abbrev pub torn_file : {R A B C D E F G : Type 0} → UnixHost R A B C D E F G �
 torn_file host = option_and_then (λ folder. torn_alone folder.changes.torn) host.folder
 
 -- within a session, what the byte of the lock says of it
-abbrev pub known_of : {R A B C D E F G : Type 0} → UnixHost R A B C D E F G → Option Unsynced
-known_of host = option_map (λ folder. folder.lock.known) host.folder
+abbrev pub known_unsynced : {R A B C D E F G : Type 0} → UnixHost R A B C D E F G → Option Unsynced
+known_unsynced host = option_map (λ folder. folder.lock.known) host.folder
 
 -- within a session, the names of the kept listing
 abbrev pub listed_names : {R A B C D E F G : Type 0} → UnixHost R A B C D E F G → Option (List (List ℕ))

@@ -2,7 +2,7 @@
 ghost use Rattle.std.specs.Prelude.{◌≡◌, ◌≢◌, Some, length, option_map, string_bytes, true, false};
 ghost use Rattle.unix_host.specs.Listings.{names_in};
 ghost use Rattle.unix_host.specs.Unsynced.{unsynced_by};
-ghost use Rattle.unix_host.specs.inside.Changes.{left_by};
+ghost use Rattle.unix_host.specs.inside.Changes.{unsynced_left_by};
 ghost use Rattle.unix_host.specs.inside.Paths.{file_in};
 ghost use Rattle.unix_host.specs.inside.Torn.{HasTorn, HasWhole, HasMoved};
 
@@ -44,7 +44,7 @@ impl Changes {
 
     /// What the next session is to be told.
     pub fn left(&self) -> Unsynced
-        ensures { result ≡ left_by self.now }
+        ensures { result ≡ unsynced_left_by self.now }
     {
         if self.has_failed || self.torn.is_some() {
             Unsynced::Anything

@@ -1,7 +1,7 @@
 //! The changes of a folder themselves. Each is made only once the session knows of it, the byte of the lock says
 //! enough, and no listing is kept that would say what was before it.
 ghost use Rattle.std.specs.Prelude.{◌≡◌, ◌≤◌, IsTrue, None, string_bytes};
-ghost use Rattle.unix_host.specs.inside.Changes.{left_by};
+ghost use Rattle.unix_host.specs.inside.Changes.{unsynced_left_by};
 ghost use Rattle.unix_host.specs.inside.LockByte.{amount_of};
 ghost use Rattle.unix_host.specs.inside.Paths.{file_in};
 ghost use Rattle.unix_host.specs.inside.Torn.{may_tear};
@@ -16,7 +16,7 @@ use std::io::Write;
 use std::os::unix::fs::{FileExt, OpenOptionsExt, PermissionsExt};
 
 /// Makes a file.
-pub fn make_file<R: Files<File = File>>(
+pub fn create_file<R: Files<File = File>>(
     folder: &LockedFolder,
     rt: &R,
     path: &str,
@@ -26,7 +26,7 @@ pub fn make_file<R: Files<File = File>>(
     requires path { path.now ≡ file_in (string_bytes folder.now.paths.folder) name.now }
     requires names { IsTrue folder.now.changes.names }
     requires torn { IsTrue (may_tear folder.now.changes.torn name.now) }
-    requires known { amount_of (left_by folder.now.changes) ≤ amount_of folder.now.lock.known }
+    requires known { amount_of (unsynced_left_by folder.now.changes) ≤ amount_of folder.now.lock.known }
     requires unlisted { folder.now.listing ≡ None }
 {
     let _ = name;
@@ -52,7 +52,7 @@ pub fn write_range<R: Files<File = File>>(
 ) -> Result<(), HostFault>
     requires path { path.now ≡ file_in (string_bytes folder.now.paths.folder) name.now }
     requires torn { IsTrue (may_tear folder.now.changes.torn name.now) }
-    requires known { amount_of (left_by folder.now.changes) ≤ amount_of folder.now.lock.known }
+    requires known { amount_of (unsynced_left_by folder.now.changes) ≤ amount_of folder.now.lock.known }
     requires unlisted { folder.now.listing ≡ None }
 {
     let _ = name;
@@ -74,7 +74,7 @@ pub fn move_name<R: Files>(
     requires target { target.now ≡ file_in (string_bytes folder.now.paths.folder) to.now }
     requires names { IsTrue folder.now.changes.names }
     requires torn { IsTrue (may_tear folder.now.changes.torn from.now) → folder.now.changes.torn ≡ Torn.Each }
-    requires known { amount_of (left_by folder.now.changes) ≤ amount_of folder.now.lock.known }
+    requires known { amount_of (unsynced_left_by folder.now.changes) ≤ amount_of folder.now.lock.known }
     requires unlisted { folder.now.listing ≡ None }
 {
     let _ = from;
@@ -91,7 +91,7 @@ pub fn remove_name<R: Files>(
 ) -> Result<(), HostFault>
     requires path { path.now ≡ file_in (string_bytes folder.now.paths.folder) name.now }
     requires names { IsTrue folder.now.changes.names }
-    requires known { amount_of (left_by folder.now.changes) ≤ amount_of folder.now.lock.known }
+    requires known { amount_of (unsynced_left_by folder.now.changes) ≤ amount_of folder.now.lock.known }
     requires unlisted { folder.now.listing ≡ None }
 {
     let _ = name;

@@ -18,7 +18,7 @@ pub fn sync_file<'a, R: Files<File = File>>(rt: &R, path: &'a str) -> Result<Syn
 }
 
 /// Makes the bytes of each of these files certain, the last first.
-pub fn sync_each<'a, R: Files<File = File>>(
+pub fn sync_each_file<'a, R: Files<File = File>>(
     rt: &R,
     alloc: Global,
     paths: &'a Paths,

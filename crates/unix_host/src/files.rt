@@ -30,13 +30,13 @@ pub fn enter_folder<R: Files<File = File> + Env>(
     naming: Naming,
 ) -> Result<Paths, EnterFault> {
     match absent {
-        Absent::Makes => make_folders(rt, alloc, spool, absent, naming),
+        Absent::Makes => create_spool_and_output(rt, alloc, spool, absent, naming),
         Absent::Fails => find_folder(rt, alloc, spool, naming),
     }
 }
 
 // The spool folder and the folder of outputs, which are made where they are absent.
-fn make_folders<R: Files<File = File> + Env>(
+fn create_spool_and_output<R: Files<File = File> + Env>(
     rt: &R,
     alloc: Global,
     spool: &str,
@@ -45,11 +45,11 @@ fn make_folders<R: Files<File = File> + Env>(
 ) -> Result<Paths, EnterFault>
     requires { absent ≡ Absent.Makes }
 {
-    let Ok(is_new) = make_folder(rt, spool, absent) else {
+    let Ok(is_new) = create_spool(rt, spool, absent) else {
         return Err(EnterFault::Failed);
     };
     let paths = resolved(rt, alloc, spool, naming)?;
-    let Ok(has_new_outputs) = make_folder(rt, paths.outputs(), absent) else {
+    let Ok(has_new_outputs) = create_spool(rt, paths.outputs(), absent) else {
         return Err(EnterFault::Failed);
     };
     // A submission that is acknowledged is not to vanish with the folder.
@@ -66,18 +66,18 @@ fn find_folder<R: Files + Env>(
     spool: &str,
     naming: Naming,
 ) -> Result<Paths, EnterFault> {
-    if !is_folder(rt, spool) {
+    if !is_spool_directory(rt, spool) {
         return Err(EnterFault::Failed);
     }
     resolved(rt, alloc, spool, naming)
 }
 
 // Whether the folder is new. Only its owner may look into it. A host of a folder that is there can't call it.
-fn make_folder<R: Files>(rt: &R, path: &str, absent: Absent) -> io::Result<bool>
+fn create_spool<R: Files>(rt: &R, path: &str, absent: Absent) -> io::Result<bool>
     requires { absent ≡ Absent.Makes }
 {
     let _ = absent;
-    if is_folder(rt, path) {
+    if is_spool_directory(rt, path) {
         return Ok(false);
     }
     match DirBuilder::new().mode(0o700).create(rt, path) {
@@ -87,12 +87,12 @@ fn make_folder<R: Files>(rt: &R, path: &str, absent: Absent) -> io::Result<bool>
             Ok(true)
         }
         // Another program was faster.
-        Err(_) if is_folder(rt, path) => Ok(false),
+        Err(_) if is_spool_directory(rt, path) => Ok(false),
         Err(error) => Err(error),
     }
 }
 
-fn is_folder<R: Files>(rt: &R, path: &str) -> bool {
+fn is_spool_directory<R: Files>(rt: &R, path: &str) -> bool {
     match fs::metadata(rt, path) {
         Ok(found) => found.is_dir(),
         Err(_) => false,
@@ -130,18 +130,18 @@ fn base_of<'a, R: Env>(rt: &R, folder: &'a str, spool: &str, naming: Naming) -> 
 }
 
 /// The plain files, their lengths, and so many first bytes of each at most. Whatever has no `Name` is left out.
-pub fn list<R: Files<File = File>>(
+pub fn list_files<R: Files<File = File>>(
     rt: &R,
     alloc: Global,
     paths: &Paths,
     most: usize,
 ) -> Result<Listing, HostFault> {
-    let mut folder = rt.open_dir(paths.folder()).map_err(fault_of)?;
+    let mut folder = rt.open_dir(paths.folder()).map_err(host_fault_of)?;
     let mut found = FoundFiles::none(alloc);
     let mut head = vec![in alloc; 0; most]?;
     let mut names = [0; NAMES];
     for _ in 0..u64::MAX {
-        let count = folder.read(&mut names).map_err(fault_of)?;
+        let count = folder.read(&mut names).map_err(host_fault_of)?;
         if count == 0 {
             return Ok(Listing::of(alloc, found)?);
         }
@@ -177,7 +177,7 @@ fn add_plain_file<R: Files<File = File>>(
     head: &mut [u8],
     found: &mut FoundFiles,
 ) -> Result<(), HostFault> {
-    let looked = fs::symlink_metadata(rt, path).map_err(fault_of)?;
+    let looked = fs::symlink_metadata(rt, path).map_err(host_fault_of)?;
     if looked.is_file() {
         let length = looked.len();
         let count = read_head(rt, path, length, head);
@@ -201,7 +201,7 @@ fn read_head<R: Files<File = File>>(rt: &R, path: &str, size: u64, head: &mut [u
 }
 
 // Nothing was done where a list could not be made for want of memory.
-fn fault_of(error: io::Error) -> HostFault
+fn host_fault_of(error: io::Error) -> HostFault
     ensures memory { error_kind error ≡ ErrorKind.OutOfMemory → result ≡ HostFault.Memory }
     ensures failed { error_kind error ≢ ErrorKind.OutOfMemory → result ≡ HostFault.Failed }
 {
@@ -232,7 +232,7 @@ pub fn opened<R: Files<File = File>>(
 
 /// What a plain file of this length has from an offset on, or `most` bytes of it. One that ends before its length is no
 /// whole file, and that is a fault.
-pub fn read<R: Files<File = File>>(
+pub fn read_plain_file<R: Files<File = File>>(
     rt: &R,
     alloc: Global,
     path: &str,

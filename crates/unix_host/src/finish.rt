@@ -4,12 +4,12 @@ ghost use Rattle.host_calls.specs.Causes.{HasCause};
 
 use crate::locked::LockedFolder;
 use host_calls::HostFault;
-use witnessed_host::Counts;
+use witnessed_host::FaultCounts;
 
 /// After a call on the files: where it failed, that is kept account of and counted.
 pub fn finish<T>(
     folder: &mut LockedFolder,
-    counts: &mut Counts,
+    counts: &mut FaultCounts,
     answer: Result<T, HostFault>,
 ) -> Result<T, HostFault>
     ensures same { result ≡ answer }

@@ -5,7 +5,7 @@ ghost use Rattle.host_calls.specs.Folder.{name_cmp};
 ghost use Rattle.host_calls.specs.Session.{IsInside, IsLeft, IsOutside, CallsInside, Enters, Starts, StaysInside};
 ghost use Rattle.unix_host.specs.Counted.{CountsEnters, CountsFiles, CountsNothing, CountsStarts};
 ghost use Rattle.unix_host.specs.declared.unsynced.Unsynced.{Unsynced};
-ghost use Rattle.unix_host.specs.UnixHost.{ending_in, listed_names, starts_of, session_of, known_of, torn_file, unsynced_of};
+ghost use Rattle.unix_host.specs.UnixHost.{ending_in, listed_names, starts_of, unix_session, known_unsynced, torn_file, unsynced_of};
 ghost use Rattle.witnessed_host.specs.Nothing.{empty_world};
 
 use crate::absent::Absent;
@@ -20,7 +20,7 @@ use std::alloc::{AllocError, Global};
 use std::fs::File;
 use std::process::Processes;
 use std::rt::Runtime;
-use witnessed_host::Counts;
+use witnessed_host::FaultCounts;
 
 /// A spool folder on a disk, its lock and the children that were started from it.
 #[derive(Drop)]
@@ -33,7 +33,7 @@ pub struct UnixHost<R: Runtime<File = File> + Processes> {
     pub(crate) head: usize,
     pub(crate) folder: Option<LockedFolder>,
     pub(crate) kids: Vec<ChildProcess<R>>,
-    pub(crate) counts: Counts,
+    pub(crate) counts: FaultCounts,
 }
 
 impl<R: Runtime<File = File> + Processes> Host for UnixHost<R> {
@@ -41,20 +41,20 @@ impl<R: Runtime<File = File> + Processes> Host for UnixHost<R> {
 
     ghost alone = { false };
 
-    ghost session = { session_of };
+    ghost session = { unix_session };
 
     // It tells nothing, and no clause says anything of this.
     ghost world = { λ _. empty_world };
 
     fn enter(&mut self, alloc: Global) -> Result<(), EnterFault>
-        requires { IsOutside (session_of self.old) }
-        ensures enters { Enters (session_of self.old) (session_of self.new) result }
+        requires { IsOutside (unix_session self.old) }
+        ensures enters { Enters (unix_session self.old) (unix_session self.new) result }
         ensures taken { IsErrOf result EnterFault.Taken
-            → Rose (session_of self.old).taken (session_of self.new).taken }
+            → Rose (unix_session self.old).taken (unix_session self.new).taken }
         ensures failed { IsErrOf result EnterFault.Failed
-            → Rose (session_of self.old).file_faults (session_of self.new).file_faults }
-        ensures counts { CountsEnters (session_of self.old) (session_of self.new) result }
-        ensures known { OnOk result (unsynced_of self.new ≡ known_of self.new) }
+            → Rose (unix_session self.old).file_faults (unix_session self.new).file_faults }
+        ensures counts { CountsEnters (unix_session self.old) (unix_session self.new) result }
+        ensures known { OnOk result (unsynced_of self.new ≡ known_unsynced self.new) }
         ensures unlisted { OnOk result (listed_names self.new ≡ None) }
     {
         let entered = LockedFolder::enter(
@@ -75,9 +75,9 @@ impl<R: Runtime<File = File> + Processes> Host for UnixHost<R> {
     }
 
     fn leave(&mut self)
-        requires { IsInside (session_of self.old) }
-        ensures left { IsLeft (session_of self.old) (session_of self.new) }
-        ensures counts { CountsNothing (session_of self.old) (session_of self.new) }
+        requires { IsInside (unix_session self.old) }
+        ensures left { IsLeft (unix_session self.old) (unix_session self.new) }
+        ensures counts { CountsNothing (unix_session self.old) (unix_session self.new) }
     {
         if let Some(folder) = self.folder.take() {
             folder.leave();
@@ -85,9 +85,9 @@ impl<R: Runtime<File = File> + Processes> Host for UnixHost<R> {
     }
 
     fn names(&mut self, alloc: Global) -> Result<Vec<Name>, HostFault>
-        requires { IsInside (session_of self.old) }
-        ensures inside { CallsInside HostFault.Failed (session_of self.old) (session_of self.new) result }
-        ensures counts { CountsFiles (session_of self.old) (session_of self.new) result }
+        requires { IsInside (unix_session self.old) }
+        ensures inside { CallsInside HostFault.Failed (unix_session self.old) (unix_session self.new) result }
+        ensures counts { CountsFiles (unix_session self.old) (unix_session self.new) result }
         ensures order { IfOk result (λ names. IsSorted name_cmp names.items) }
         ensures kept { IfOk result (λ names. IfSome (listed_names self.old) (λ kept. names.items ≡ kept)) }
         ensures keeps { IfOk result (λ names. listed_names self.new ≡ Some names.items) }
@@ -98,9 +98,9 @@ impl<R: Runtime<File = File> + Processes> Host for UnixHost<R> {
     }
 
     fn length(&mut self, alloc: Global, name: &Name) -> Result<u64, HostFault>
-        requires { IsInside (session_of self.old) }
-        ensures inside { CallsInside HostFault.Failed (session_of self.old) (session_of self.new) result }
-        ensures counts { CountsFiles (session_of self.old) (session_of self.new) result }
+        requires { IsInside (unix_session self.old) }
+        ensures inside { CallsInside HostFault.Failed (unix_session self.old) (unix_session self.new) result }
+        ensures counts { CountsFiles (unix_session self.old) (unix_session self.new) result }
     {
         let folder = self.folder.as_mut().unwrap();
         let answer = read_file::length(folder, &self.rt, alloc, name);
@@ -114,20 +114,20 @@ impl<R: Runtime<File = File> + Processes> Host for UnixHost<R> {
         offset: u64,
         most: usize,
     ) -> Result<Vec<u8>, HostFault>
-        requires { IsInside (session_of self.old) }
-        ensures inside { CallsInside HostFault.Failed (session_of self.old) (session_of self.new) result }
-        ensures counts { CountsFiles (session_of self.old) (session_of self.new) result }
+        requires { IsInside (unix_session self.old) }
+        ensures inside { CallsInside HostFault.Failed (unix_session self.old) (unix_session self.new) result }
+        ensures counts { CountsFiles (unix_session self.old) (unix_session self.new) result }
         ensures few { IfOk result (λ bytes. vec_len bytes ≤ most) }
     {
         let folder = self.folder.as_mut().unwrap();
-        let answer = read_file::read(folder, &self.rt, alloc, name, offset, most);
+        let answer = read_file::read_file(folder, &self.rt, alloc, name, offset, most);
         finish(folder, &mut self.counts, answer)
     }
 
     fn create(&mut self, alloc: Global, name: &Name, bytes: &[u8]) -> Result<(), HostFault>
-        requires { IsInside (session_of self.old) }
-        ensures inside { CallsInside HostFault.Failed (session_of self.old) (session_of self.new) result }
-        ensures counts { CountsFiles (session_of self.old) (session_of self.new) result }
+        requires { IsInside (unix_session self.old) }
+        ensures inside { CallsInside HostFault.Failed (unix_session self.old) (unix_session self.new) result }
+        ensures counts { CountsFiles (unix_session self.old) (unix_session self.new) result }
         ensures unsynced { OnOk result (unsynced_of self.new ≡ Some Unsynced.Anything) }
         ensures torn { OnOk result (unsynced_of self.old ≢ Some Unsynced.Anything
             → torn_file self.new ≡ Some name.now) }
@@ -145,9 +145,9 @@ impl<R: Runtime<File = File> + Processes> Host for UnixHost<R> {
         offset: u64,
         bytes: &[u8],
     ) -> Result<(), HostFault>
-        requires { IsInside (session_of self.old) }
-        ensures inside { CallsInside HostFault.Failed (session_of self.old) (session_of self.new) result }
-        ensures counts { CountsFiles (session_of self.old) (session_of self.new) result }
+        requires { IsInside (unix_session self.old) }
+        ensures inside { CallsInside HostFault.Failed (unix_session self.old) (unix_session self.new) result }
+        ensures counts { CountsFiles (unix_session self.old) (unix_session self.new) result }
         ensures unsynced { OnOk result (unsynced_of self.new ≡ Some Unsynced.Anything) }
         ensures torn { OnOk result (unsynced_of self.old ≢ Some Unsynced.Anything
             → torn_file self.new ≡ Some name.now) }
@@ -159,9 +159,9 @@ impl<R: Runtime<File = File> + Processes> Host for UnixHost<R> {
     }
 
     fn sync(&mut self, alloc: Global, name: &Name) -> Result<(), HostFault>
-        requires { IsInside (session_of self.old) }
-        ensures inside { CallsInside HostFault.Failed (session_of self.old) (session_of self.new) result }
-        ensures counts { CountsFiles (session_of self.old) (session_of self.new) result }
+        requires { IsInside (unix_session self.old) }
+        ensures inside { CallsInside HostFault.Failed (unix_session self.old) (unix_session self.new) result }
+        ensures counts { CountsFiles (unix_session self.old) (unix_session self.new) result }
         ensures synced { OnOk result (torn_file self.old ≡ Some name.now
             → unsynced_of self.new ≢ Some Unsynced.Anything) }
     {
@@ -171,9 +171,9 @@ impl<R: Runtime<File = File> + Processes> Host for UnixHost<R> {
     }
 
     fn sync_names(&mut self, alloc: Global) -> Result<(), HostFault>
-        requires { IsInside (session_of self.old) }
-        ensures inside { CallsInside HostFault.Failed (session_of self.old) (session_of self.new) result }
-        ensures counts { CountsFiles (session_of self.old) (session_of self.new) result }
+        requires { IsInside (unix_session self.old) }
+        ensures inside { CallsInside HostFault.Failed (unix_session self.old) (unix_session self.new) result }
+        ensures counts { CountsFiles (unix_session self.old) (unix_session self.new) result }
         ensures synced { OnOk result (unsynced_of self.new ≢ Some Unsynced.Names) }
     {
         let _ = alloc;
@@ -183,9 +183,9 @@ impl<R: Runtime<File = File> + Processes> Host for UnixHost<R> {
     }
 
     fn settle(&mut self, alloc: Global) -> Result<(), HostFault>
-        requires { IsInside (session_of self.old) }
-        ensures inside { CallsInside HostFault.Failed (session_of self.old) (session_of self.new) result }
-        ensures counts { CountsFiles (session_of self.old) (session_of self.new) result }
+        requires { IsInside (unix_session self.old) }
+        ensures inside { CallsInside HostFault.Failed (unix_session self.old) (unix_session self.new) result }
+        ensures counts { CountsFiles (unix_session self.old) (unix_session self.new) result }
         ensures settled { OnOk result (unsynced_of self.new ≡ Some Unsynced.Nothing) }
     {
         let folder = self.folder.as_mut().unwrap();
@@ -194,9 +194,9 @@ impl<R: Runtime<File = File> + Processes> Host for UnixHost<R> {
     }
 
     fn rename(&mut self, alloc: Global, from: &Name, to: &Name) -> Result<(), HostFault>
-        requires { IsInside (session_of self.old) }
-        ensures inside { CallsInside HostFault.Failed (session_of self.old) (session_of self.new) result }
-        ensures counts { CountsFiles (session_of self.old) (session_of self.new) result }
+        requires { IsInside (unix_session self.old) }
+        ensures inside { CallsInside HostFault.Failed (unix_session self.old) (unix_session self.new) result }
+        ensures counts { CountsFiles (unix_session self.old) (unix_session self.new) result }
         ensures unsynced { OnOk result (unsynced_of self.new ≢ Some Unsynced.Nothing) }
         ensures unlisted { OnOk result (listed_names self.new ≡ None) }
     {
@@ -206,9 +206,9 @@ impl<R: Runtime<File = File> + Processes> Host for UnixHost<R> {
     }
 
     fn remove(&mut self, alloc: Global, name: &Name) -> Result<(), HostFault>
-        requires { IsInside (session_of self.old) }
-        ensures inside { CallsInside HostFault.Failed (session_of self.old) (session_of self.new) result }
-        ensures counts { CountsFiles (session_of self.old) (session_of self.new) result }
+        requires { IsInside (unix_session self.old) }
+        ensures inside { CallsInside HostFault.Failed (unix_session self.old) (unix_session self.new) result }
+        ensures counts { CountsFiles (unix_session self.old) (unix_session self.new) result }
         ensures unsynced { OnOk result (unsynced_of self.new ≢ Some Unsynced.Nothing) }
         ensures unlisted { OnOk result (listed_names self.new ≡ None) }
     {
@@ -224,11 +224,11 @@ impl<R: Runtime<File = File> + Processes> Host for UnixHost<R> {
         name: &Name,
         nice: u8,
     ) -> Result<Child, StartFault>
-        requires { IsInside (session_of self.old) }
-        ensures starts { Starts (session_of self.old) (session_of self.new) result }
+        requires { IsInside (unix_session self.old) }
+        ensures starts { Starts (unix_session self.old) (unix_session self.new) result }
         ensures cause { HasCause StartFault.Failed
-            (session_of self.old).start_faults (session_of self.new).start_faults result }
-        ensures counts { CountsStarts (session_of self.old) (session_of self.new) result }
+            (unix_session self.old).start_faults (unix_session self.new).start_faults result }
+        ensures counts { CountsStarts (unix_session self.old) (unix_session self.new) result }
         ensures started_as { IfOk result (λ child.
             slice_get (starts_of self.new) child.id ≡ Some (record { name = name.now; nice = nice })) }
     {
@@ -250,10 +250,10 @@ impl<R: Runtime<File = File> + Processes> Host for UnixHost<R> {
     }
 
     fn ended(&mut self, alloc: Global, child: &Child) -> Result<Option<Ending>, AllocError>
-        requires inside { IsInside (session_of self.old) }
-        requires started { Contains (session_of self.old).children child.now }
-        ensures inside { StaysInside (session_of self.old) (session_of self.new) }
-        ensures counts { CountsNothing (session_of self.old) (session_of self.new) }
+        requires inside { IsInside (unix_session self.old) }
+        requires started { Contains (unix_session self.old).children child.now }
+        ensures inside { StaysInside (unix_session self.old) (unix_session self.new) }
+        ensures counts { CountsNothing (unix_session self.old) (unix_session self.new) }
         ensures was_started { result ≢ Ok (Some Ending.NotStarted) }
         ensures known { IfOk result (λ known. IsSome known → known ≡ ending_in self.new child.now.id) }
         ensures again { IfSome (ending_in self.old child.now.id) (λ ending. result ≡ Ok (Some ending)) }

@@ -4,7 +4,7 @@ ghost use Rattle.host_calls.specs.Causes.{HasCause};
 ghost use Rattle.host_calls.specs.Inputs.{after_read};
 ghost use Rattle.witnessed_host.specs.Nothing.{no_contents};
 
-use crate::prefix::prefix;
+use crate::prefix::read_prefix;
 use host_calls::{Bytes, InputFault, Inputs};
 use std::alloc::Global;
 use std::fs::{File, Files};
@@ -45,8 +45,8 @@ impl<R: Files<File = File> + Input + Drop> Inputs for UnixInputs<R> {
         ensures counts { ¬ (IsErrOf result InputFault.Failed) → self.new.input_faults ≡ self.old.input_faults }
     {
         self.reads = self.reads.saturating_add(1);
-        let answer = prefix(alloc, &mut self.rt.reader(), most);
-        counted(&mut self.input_faults, answer)
+        let answer = read_prefix(alloc, &mut self.rt.reader(), most);
+        counted_fault(&mut self.input_faults, answer)
     }
 
     fn file(&mut self, alloc: Global, path: &str, most: usize) -> Result<Bytes, InputFault>
@@ -57,14 +57,14 @@ impl<R: Files<File = File> + Input + Drop> Inputs for UnixInputs<R> {
     {
         self.reads = self.reads.saturating_add(1);
         let answer = match File::open(&self.rt, path) {
-            Ok(mut file) => prefix(alloc, &mut file, most),
+            Ok(mut file) => read_prefix(alloc, &mut file, most),
             Err(_) => Err(InputFault::Failed),
         };
-        counted(&mut self.input_faults, answer)
+        counted_fault(&mut self.input_faults, answer)
     }
 }
 
-fn counted(faults: &mut u64, answer: Result<Bytes, InputFault>) -> Result<Bytes, InputFault>
+fn counted_fault(faults: &mut u64, answer: Result<Bytes, InputFault>) -> Result<Bytes, InputFault>
     ensures same { result ≡ answer }
     ensures cause { HasCause InputFault.Failed faults.old faults.new result }
     ensures quiet { ¬ (IsErrOf result InputFault.Failed) → faults.new ≡ faults.old }

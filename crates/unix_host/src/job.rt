@@ -69,12 +69,12 @@ fn spawned<R: Processes>(
             process,
             started_as: start,
         }),
-        Err(error) => Err(fault_of(error)),
+        Err(error) => Err(start_fault_of(error)),
     }
 }
 
 // Nothing was started where the system found no memory for it.
-fn fault_of(error: io::Error) -> StartFault
+fn start_fault_of(error: io::Error) -> StartFault
     ensures memory { error_kind error ≡ ErrorKind.OutOfMemory → result ≡ StartFault.Memory }
     ensures failed { error_kind error ≢ ErrorKind.OutOfMemory → result ≡ StartFault.Failed }
 {
@@ -114,16 +114,16 @@ pub fn ending_of(status: ExitStatus) -> Ending
     ensures { result ≡ ending_for status }
 {
     match status.code() {
-        Some(code) => Ending::Exit(byte_of(code)),
+        Some(code) => Ending::Exit(status_byte(code)),
         None => match status.signal() {
-            Some(signal) => Ending::Signal(byte_of(signal)),
+            Some(signal) => Ending::Signal(status_byte(signal)),
             None => Ending::Signal(0),
         },
     }
 }
 
 // The numbers of exits and signals are bytes.
-fn byte_of(number: i32) -> u8
+fn status_byte(number: i32) -> u8
     ensures { (byte : ℕ) → byte < 256 → number ≡ pos byte → result ≡ byte }
 {
     u8::try_from(number).unwrap_or(0)

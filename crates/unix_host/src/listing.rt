@@ -1,7 +1,7 @@
 //! What a folder holds at one moment of a session.
 ghost use Rattle.std.specs.Prelude.{◌≡◌, Contains, IfSome, IfOk, IsPermutation, IsSorted, length};
 ghost use Rattle.host_calls.specs.Folder.{name_cmp};
-ghost use Rattle.unix_host.specs.Listings.{count_from, kept_bytes, names_in};
+ghost use Rattle.unix_host.specs.Listings.{count_from, listed_bytes, names_in};
 
 use crate::found::FoundFiles;
 use crate::listed_files::{Listed, ListedFiles};
@@ -45,7 +45,7 @@ impl Listing {
     /// What a listed file has from an offset on, or `most` bytes of it, if its first bytes tell.
     pub fn bytes_of(&self, file: &Listed, offset: u64, most: usize) -> Option<&[u8]>
         ensures whole { IfSome result (λ bytes. length bytes.now ≡ count_from file.now.length offset most) }
-        ensures kept { IfSome result (λ bytes. bytes.now ≡ kept_bytes self.now file.now offset most) }
+        ensures kept { IfSome result (λ bytes. bytes.now ≡ listed_bytes self.now file.now offset most) }
     {
         let count = count_after(file.length, offset, most);
         let start = usize::try_from(offset).ok()?;

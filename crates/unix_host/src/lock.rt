@@ -24,7 +24,7 @@
 //! What it doesn't cover: a program that changes the folder without this lock, and a copy of the folder that
 //! is put in its place with its lock file. Remove the lock file then.
 ghost use Rattle.std.specs.Prelude.{◌≡◌, ◌≤◌, OnOk, OnErr};
-ghost use Rattle.unix_host.specs.inside.Changes.{left_by};
+ghost use Rattle.unix_host.specs.inside.Changes.{unsynced_left_by};
 ghost use Rattle.unix_host.specs.inside.LockByte.{amount_of, meaning_of};
 
 use crate::changes::Changes;
@@ -73,7 +73,7 @@ impl Lock {
 
     /// Makes the byte say at least what may be unsynced.
     pub fn raise(&mut self, changes: &Changes) -> Result<(), HostFault>
-        ensures covers { OnOk result (amount_of (left_by changes.now) ≤ amount_of self.new.known) }
+        ensures covers { OnOk result (amount_of (unsynced_left_by changes.now) ≤ amount_of self.new.known) }
         ensures never_less { amount_of self.old.known ≤ amount_of self.new.known }
     {
         let left = changes.left();
@@ -96,7 +96,7 @@ impl Lock {
     }
 
     fn tell(&mut self, known: Unsynced, changes: &Changes) -> Result<(), HostFault>
-        requires { amount_of (left_by changes.now) ≤ amount_of known }
+        requires { amount_of (unsynced_left_by changes.now) ≤ amount_of known }
         ensures ok { OnOk result (self.new.known ≡ known) }
         ensures err { OnErr result (self.new.known ≡ self.old.known) }
     {
@@ -108,7 +108,7 @@ impl Lock {
 
 // A byte that says less than what may be unsynced would have the next session sync too little.
 fn write_byte(file: &File, byte: u8, changes: &Changes) -> Result<(), HostFault>
-    requires { amount_of (left_by changes.now) ≤ amount_of (meaning_of byte) }
+    requires { amount_of (unsynced_left_by changes.now) ≤ amount_of (meaning_of byte) }
 {
     let _ = changes;
     file.write_all_at(&[byte], 0).map_err(|_| HostFault::Failed)

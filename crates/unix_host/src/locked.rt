@@ -4,9 +4,9 @@
 //! program may be killed at any moment. What may be unsynced is forgotten after the sync of it alone.
 ghost use Rattle.std.specs.Prelude.{◌≡◌, ◌≢◌, ◌≤◌, Contains, IsSorted, IsTrue, IfOk, IfSome, OnOk, OnErr, None, Some, true, false, length, option_map, string_bytes, vec_len};
 ghost use Rattle.host_calls.specs.Folder.{name_cmp};
-ghost use Rattle.unix_host.specs.Listings.{count_from, kept_bytes, names_in};
+ghost use Rattle.unix_host.specs.Listings.{count_from, listed_bytes, names_in};
 ghost use Rattle.unix_host.specs.Unsynced.{unsynced_by};
-ghost use Rattle.unix_host.specs.inside.Changes.{left_by, Remembers};
+ghost use Rattle.unix_host.specs.inside.Changes.{unsynced_left_by, Remembers};
 ghost use Rattle.unix_host.specs.inside.LockByte.{amount_of};
 ghost use Rattle.unix_host.specs.inside.Paths.{file_in};
 ghost use Rattle.unix_host.specs.inside.Torn.{may_tear, HasTorn, HasWhole};
@@ -51,7 +51,7 @@ impl LockedFolder {
         waits: Waits,
     ) -> Result<LockedFolder, EnterFault>
         ensures known { IfOk result (λ folder. unsynced_by folder.changes ≡ folder.lock.known) }
-        ensures left { IfOk result (λ folder. left_by folder.changes ≡ folder.lock.known) }
+        ensures left { IfOk result (λ folder. unsynced_left_by folder.changes ≡ folder.lock.known) }
         ensures unlisted { IfOk result (λ folder. folder.listing ≡ None) }
     {
         let paths = files::enter_folder(rt, alloc, spool, absent, naming)?;
@@ -105,7 +105,7 @@ impl LockedFolder {
     {
         let listing = match self.listing.take() {
             Some(listing) => listing,
-            None => files::list(rt, alloc, &self.paths, most)?,
+            None => files::list_files(rt, alloc, &self.paths, most)?,
         };
         let names = listing.names(alloc);
         self.listing = Some(listing);
@@ -128,7 +128,7 @@ impl LockedFolder {
     pub fn first_bytes(&self, file: &Listed, offset: u64, most: usize) -> Option<&[u8]>
         ensures whole { IfSome result (λ bytes. length bytes.now ≡ count_from file.now.length offset most) }
         ensures kept { IfSome result (λ bytes. IfSome self.now.listing (λ listing.
-            bytes.now ≡ kept_bytes listing file.now offset most)) }
+            bytes.now ≡ listed_bytes listing file.now offset most)) }
     {
         match &self.listing {
             Some(listing) => listing.bytes_of(file, offset, most),
@@ -153,7 +153,7 @@ impl LockedFolder {
         let path = self.paths.file(alloc, name)?;
         let next = self.changes.made(name);
         self.prepare(next)?;
-        file_calls::make_file(self, rt, path.as_str(), name, bytes)
+        file_calls::create_file(self, rt, path.as_str(), name, bytes)
     }
 
     /// Writes over a range of a file.
@@ -267,7 +267,7 @@ impl LockedFolder {
         ensures failed { self.new.changes.has_failed ≡ self.old.changes.has_failed }
     {
         let names = self.names(rt, alloc, 0)?;
-        let files = file_syncs::sync_each(rt, alloc, &self.paths, &names)?;
+        let files = file_syncs::sync_each_file(rt, alloc, &self.paths, &names)?;
         // The folder may be as new as a lock file that says nothing.
         let parent = sync_path(rt, self.paths.parent())?;
         self.changes = self.changes.all_synced(&self.listing, files, parent);
@@ -280,7 +280,7 @@ impl LockedFolder {
         ensures paths { self.new.paths ≡ self.old.paths }
         ensures ok { OnOk result (self.new.changes ≡ next) }
         ensures err { OnErr result (self.new.changes ≡ self.old.changes) }
-        ensures known { OnOk result (amount_of (left_by self.new.changes) ≤ amount_of self.new.lock.known) }
+        ensures known { OnOk result (amount_of (unsynced_left_by self.new.changes) ≤ amount_of self.new.lock.known) }
         ensures unlisted { self.new.listing ≡ None }
     {
         self.listing = None;

@@ -1,7 +1,7 @@
 //! The two ways in which the host of a spool folder is made.
 ghost use Rattle.std.specs.Prelude.{◌≡◌, [], None, IfOk};
 ghost use Rattle.host_calls.specs.Session.{IsOutside};
-ghost use Rattle.unix_host.specs.UnixHost.{session_of};
+ghost use Rattle.unix_host.specs.UnixHost.{unix_session};
 
 use crate::absent::Absent;
 use crate::host::UnixHost;
@@ -12,13 +12,13 @@ use std::alloc::{AllocError, Global};
 use std::fs::File;
 use std::process::Processes;
 use std::rt::Runtime;
-use witnessed_host::Counts;
+use witnessed_host::FaultCounts;
 
 impl<R: Runtime<File = File> + Processes> UnixHost<R> {
     /// The host of this folder, which a session makes where it is absent. It touches no file.
     pub fn make(rt: R, alloc: Global, spool: Text) -> Result<UnixHost<R>, AllocError>
-        ensures outside { IfOk result (λ made. IsOutside (session_of made)) }
-        ensures children { IfOk result (λ made. (session_of made).children ≡ []) }
+        ensures outside { IfOk result (λ made. IsOutside (unix_session made)) }
+        ensures children { IfOk result (λ made. (unix_session made).children ≡ []) }
         ensures spool { IfOk result (λ made. made.spool ≡ spool) }
         ensures absent { IfOk result (λ made. made.absent ≡ Absent.Makes) }
         ensures waits { IfOk result (λ made. made.waits ≡ Waits.Asking) }
@@ -29,8 +29,8 @@ impl<R: Runtime<File = File> + Processes> UnixHost<R> {
 
     /// The host of a folder that is there: a session fails where it is absent, and makes nothing. It touches no file.
     pub fn existing(rt: R, alloc: Global, spool: Text) -> Result<UnixHost<R>, AllocError>
-        ensures outside { IfOk result (λ made. IsOutside (session_of made)) }
-        ensures children { IfOk result (λ made. (session_of made).children ≡ []) }
+        ensures outside { IfOk result (λ made. IsOutside (unix_session made)) }
+        ensures children { IfOk result (λ made. (unix_session made).children ≡ []) }
         ensures spool { IfOk result (λ made. made.spool ≡ spool) }
         ensures absent { IfOk result (λ made. made.absent ≡ Absent.Fails) }
         ensures waits { IfOk result (λ made. made.waits ≡ Waits.Asking) }
@@ -88,7 +88,7 @@ fn host_of<R: Runtime<File = File> + Processes>(
         head: 0,
         folder: None,
         kids: Vec::new(alloc),
-        counts: Counts {
+        counts: FaultCounts {
             files: 0,
             starts: 0,
             taken: 0,

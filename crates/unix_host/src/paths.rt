@@ -32,8 +32,8 @@ impl Paths {
         Ok(Paths {
             whole: String::from_str(alloc, whole)?,
             folder: String::from_str(alloc, folder)?,
-            outputs: joined(alloc, whole, ".out")?,
-            lock: joined(alloc, whole, ".lock")?,
+            outputs: joined_path(alloc, whole, ".out")?,
+            lock: joined_path(alloc, whole, ".lock")?,
             parent: String::from_str(alloc, parent)?,
         })
     }
@@ -70,7 +70,7 @@ impl Paths {
     pub fn file(&self, alloc: Global, name: &Name) -> Result<String, AllocError>
         ensures { IfOk result (λ path. string_bytes path ≡ file_in (string_bytes self.now.folder) name.now) }
     {
-        within(alloc, self.folder.as_str(), name)
+        file_path(alloc, self.folder.as_str(), name)
     }
 
     /// The same, in the place of another path.
@@ -85,7 +85,7 @@ impl Paths {
         ensures path { IfOk result (λ path. string_bytes path ≡ file_in (string_bytes self.now.whole) name.now) }
         ensures absolute { IfOk result (λ path. IsAbsolute (string_bytes path)) }
     {
-        within(alloc, self.whole.as_str(), name)
+        file_path(alloc, self.whole.as_str(), name)
     }
 
     /// The file of this name in the folder of outputs.
@@ -93,11 +93,11 @@ impl Paths {
         ensures path { IfOk result (λ path. string_bytes path ≡ file_in (string_bytes self.now.outputs) name.now) }
         ensures absolute { IfOk result (λ path. IsAbsolute (string_bytes path)) }
     {
-        within(alloc, self.outputs.as_str(), name)
+        file_path(alloc, self.outputs.as_str(), name)
     }
 }
 
-fn joined(alloc: Global, folder: &str, after: &str) -> Result<String, AllocError>
+fn joined_path(alloc: Global, folder: &str, after: &str) -> Result<String, AllocError>
     requires { IsAbsolute folder.now }
     ensures path { IfOk result (λ path. string_bytes path ≡ folder.now ++ after.now) }
     ensures absolute { IfOk result (λ path. IsAbsolute (string_bytes path)) }
@@ -108,7 +108,7 @@ fn joined(alloc: Global, folder: &str, after: &str) -> Result<String, AllocError
 }
 
 /// The file of this name in a folder.
-pub fn within(alloc: Global, folder: &str, name: &Name) -> Result<String, AllocError>
+pub fn file_path(alloc: Global, folder: &str, name: &Name) -> Result<String, AllocError>
     ensures path { IfOk result (λ path. string_bytes path ≡ file_in folder.now name.now) }
     ensures absolute { IfOk result (λ path. IsAbsolute folder.now → IsAbsolute (string_bytes path)) }
 {

@@ -11,7 +11,7 @@ use std::io::{ErrorKind, Read};
 const CHUNK: usize = 4096;
 
 /// Fills the buffer, and tells how much of it is filled: less only where the reader ends.
-pub fn fill<R: Read>(reader: &mut R, buffer: &mut [u8]) -> io::Result<usize>
+pub fn fill_buffer<R: Read>(reader: &mut R, buffer: &mut [u8]) -> io::Result<usize>
     ensures few { IfOk result (λ filled. filled ≤ length buffer.new) }
     ensures bytes { IfOk result (λ filled.
         Consumes (R.remaining reader.old) (R.remaining reader.new) (take filled buffer.new)) }
@@ -33,7 +33,7 @@ pub fn fill<R: Read>(reader: &mut R, buffer: &mut [u8]) -> io::Result<usize>
 }
 
 /// The first bytes that a reader gives: all of them, or `most`.
-pub fn prefix<R: Read>(alloc: Global, reader: &mut R, most: usize) -> Result<Bytes, InputFault>
+pub fn read_prefix<R: Read>(alloc: Global, reader: &mut R, most: usize) -> Result<Bytes, InputFault>
     ensures few { IfOk result (λ bytes. length bytes ≤ most) }
     ensures taken { IfOk result (Consumes (R.remaining reader.old) (R.remaining reader.new)) }
     ensures prefix { IfOk result (λ bytes. IfSome (R.remaining reader.old) (λ all. bytes ≡ take most all)) }
@@ -42,7 +42,7 @@ pub fn prefix<R: Read>(alloc: Global, reader: &mut R, most: usize) -> Result<Byt
     let mut chunk = [0; CHUNK];
     for _ in 0..u64::MAX {
         let want = CHUNK.min(most - bytes.len());
-        let Ok(count) = fill(reader, &mut chunk[..want]) else {
+        let Ok(count) = fill_buffer(reader, &mut chunk[..want]) else {
             return Err(InputFault::Failed);
         };
         bytes.extend_from_slice(&chunk[..count])?;

@@ -22,7 +22,7 @@ pub fn length<R: Files>(
 }
 
 /// At most `most` bytes of a file from an offset on, fewer only at its end: those of the kept listing, where it has them.
-pub fn read<R: Files<File = File>>(
+pub fn read_file<R: Files<File = File>>(
     folder: &LockedFolder,
     rt: &R,
     alloc: Global,
@@ -35,11 +35,11 @@ pub fn read<R: Files<File = File>>(
     let Some(file) = folder.listed(name) else {
         let path = folder.paths().file(alloc, name)?;
         let length = files::length(rt, path.as_str())?;
-        return files::read(rt, alloc, path.as_str(), length, offset, most);
+        return files::read_plain_file(rt, alloc, path.as_str(), length, offset, most);
     };
     if let Some(bytes) = folder.first_bytes(file, offset, most) {
         return Ok(Vec::from_slice(alloc, bytes)?);
     }
     let path = folder.paths().file(alloc, name)?;
-    files::read(rt, alloc, path.as_str(), file.length, offset, most)
+    files::read_plain_file(rt, alloc, path.as_str(), file.length, offset, most)
 }

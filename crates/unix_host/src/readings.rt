@@ -4,7 +4,7 @@ ghost use Rattle.std.specs.Path.{IsAbsolute};
 ghost use Rattle.host_calls.specs.Causes.{Rose};
 ghost use Rattle.unix_host.specs.inside.Seconds.{second_in};
 
-use crate::prefix::fill;
+use crate::prefix::fill_buffer;
 use crate::watch::Watch;
 use host_calls::{Name, Readings};
 use load_reading::hundredths;
@@ -102,6 +102,6 @@ fn second_of(time: Option<Duration>) -> i64
 fn load_of<R: Files<File = File>>(rt: &R) -> Option<u32> {
     let mut file = File::open(rt, "/proc/loadavg").ok()?;
     let mut text = [0; 64];
-    let count = fill(&mut file, &mut text).ok()?;
+    let count = fill_buffer(&mut file, &mut text).ok()?;
     hundredths(&text[..count])
 }

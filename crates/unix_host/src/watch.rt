@@ -4,7 +4,7 @@ ghost use Rattle.std.specs.Duration.{as_nanos};
 ghost use Rattle.std.specs.Path.{IsAbsolute};
 ghost use Rattle.unix_host.specs.inside.Seconds.{nanos_left};
 
-use crate::paths::within;
+use crate::paths::file_path;
 use crate::watched_file::WatchedFile;
 use host_calls::Name;
 use std::alloc::{AllocError, Global};
@@ -31,7 +31,7 @@ impl Watch {
     {
         let mut files = Vec::with_capacity(alloc, names.len())?;
         for name in names {
-            files.push(WatchedFile::at(within(alloc, folder, name)?))?;
+            files.push(WatchedFile::at(file_path(alloc, folder, name)?))?;
         }
         let mut watch = Watch { files, time: None };
         watch.look(rt);

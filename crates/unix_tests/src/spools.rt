@@ -1,7 +1,7 @@
 //! What is seen of spools, each over one host of its folder.
 ghost use Rattle.std.specs.Prelude.{IfOk};
 ghost use Rattle.host_calls.specs.Session.{IsOutside};
-ghost use Rattle.unix_host.specs.UnixHost.{session_of};
+ghost use Rattle.unix_host.specs.UnixHost.{unix_session};
 
 use crate::calls::{Call, sessions};
 use crate::refusing::Refusing;
@@ -24,7 +24,7 @@ pub fn seen_at(
 
 // A host that keeps eight bytes of each file, and makes its folder the current directory.
 fn moving_host(rt: &HostRuntime, path: &str) -> Result<UnixHost<HostRuntime>, Fail>
-    ensures outside { IfOk result (λ host. IsOutside (session_of host)) }
+    ensures outside { IfOk result (λ host. IsOutside (unix_session host)) }
 {
     Ok(host_of(rt, path)?.keeping(8).moving())
 }

@@ -1,7 +1,7 @@
 //! What the tests are written in. Each test has a folder of its own.
 ghost use Rattle.std.specs.Prelude.{◌≡◌, is_ok, IfOk};
 ghost use Rattle.host_calls.specs.Session.{IsOutside};
-ghost use Rattle.unix_host.specs.UnixHost.{session_of};
+ghost use Rattle.unix_host.specs.UnixHost.{unix_session};
 
 use host_calls::{Host, HostFault, Name, Text};
 use std::alloc::{AllocError, Global};
@@ -40,7 +40,7 @@ pub fn clear(rt: &HostRuntime, path: &str) -> Result<(), Fail> {
 
 /// The host of a folder of the system.
 pub fn host_of(rt: &HostRuntime, path: &str) -> Result<UnixHost<HostRuntime>, Fail>
-    ensures outside { IfOk result (λ host. IsOutside (session_of host)) }
+    ensures outside { IfOk result (λ host. IsOutside (unix_session host)) }
 {
     Ok(host_over(rt.clone()?, rt.alloc(), path)?)
 }
@@ -51,7 +51,7 @@ pub fn host_over<R: Runtime<File = File> + Processes>(
     alloc: Global,
     path: &str,
 ) -> Result<UnixHost<R>, AllocError>
-    ensures outside { IfOk result (λ host. IsOutside (session_of host)) }
+    ensures outside { IfOk result (λ host. IsOutside (unix_session host)) }
 {
     let spool = Text::of(alloc, path)?;
     UnixHost::make(outside, alloc, spool)

@@ -7,7 +7,7 @@ use Rattle.std.proofs.lemmas.Bool.Decides.{nat_tests}
 use Rattle.std.proofs.lemmas.Slice.Eq.{bytes_eq-Decides}
 use Rattle.host_calls.specs.declared.fault.HostFault.{HostFault}
 use Rattle.host_calls.specs.Folder.{AreAfterSome, Body, Files, Folder, IsImage, IsInNoImage, MayHold, MayStand, Names, files_of, names_of, reading_of, with_body, with_names_certain}
-use Rattle.host_calls.specs.World.{FileCall, GoesOn, IsWithin, World}
+use Rattle.host_calls.specs.World.{FileCall, TimePasses, IsWithin, World}
 use Rattle.host_calls.proofs.FolderLemmas.{all_are_some, get-insert_other, get-insert_same, get-remove_other, get-remove_same, get-files_of, reading_is_image}
 use Rattle.host_calls.proofs.WorldLemmas.{call_then, leaves_none, leaves_weaker}
 use Rattle.whole_file.specs.Others.{ChangesFiles, IsEither}
@@ -103,7 +103,7 @@ pub names_certain : (folder : Folder) (image : Files) → IsImage (with_names_ce
 names_certain folder image is = record { names = is.names; chosen = subst (AreAfterSome folder.pending folder.certain) (sym is.chosen) (all_are_some folder.pending folder.certain); each = is.each }
 
 -- calls on files hand nothing over
-pub changes_go_on : (P : Files → Type 0) (old new : World) → ChangesFiles P old new → GoesOn old new
+pub changes_go_on : (P : Files → Type 0) (old new : World) → ChangesFiles P old new → TimePasses old new
 changes_go_on P old new changes = record {
   asked = changes.asked;
   handed = changes.handed;

@@ -6,13 +6,13 @@ use host_calls::{EnterFault, HostFault, InputFault, StartFault};
 
 /// How many faults of files, of starts and how many taken locks there were.
 #[derive(Clone, Copy)]
-pub struct Counts {
+pub struct FaultCounts {
     pub files: u64,
     pub starts: u64,
     pub taken: u64,
 }
 
-impl Counts {
+impl FaultCounts {
     /// Counts a call on the files by its answer.
     pub fn file_call<T>(&mut self, answer: Result<T, HostFault>) -> Result<T, HostFault>
         ensures same { result ≡ answer }

@@ -1,6 +1,6 @@
 //! Who is told each call on inputs.
 ghost use Rattle.std.specs.Prelude.{◌≡◌, Bool, IsTrue, IfOk};
-ghost use Rattle.host_calls.specs.Inputs.{Contents, IsPrefixOf};
+ghost use Rattle.host_calls.specs.Inputs.{Contents, IsInputPrefix};
 ghost use Rattle.witnessed_host.specs.Passing.{Passes};
 
 use host_calls::{Bytes, InputFault};
@@ -20,7 +20,7 @@ pub trait InputWitness {
         answer: Result<Bytes, InputFault>,
     ) -> Result<Bytes, InputFault>
         ensures passes { Passes InputFault.Failed answer result }
-        ensures prefix { IsTrue knows → IfOk result (IsPrefixOf (Some (contents self.old).standard) most) }
+        ensures prefix { IsTrue knows → IfOk result (IsInputPrefix (Some (contents self.old).standard) most) }
         ensures contents { contents self.new ≡ contents self.old };
 
     /// The first bytes of a file were read: all of them, or `most`.
@@ -31,6 +31,6 @@ pub trait InputWitness {
         answer: Result<Bytes, InputFault>,
     ) -> Result<Bytes, InputFault>
         ensures passes { Passes InputFault.Failed answer result }
-        ensures prefix { IsTrue knows → IfOk result (IsPrefixOf ((contents self.old).file path.now) most) }
+        ensures prefix { IsTrue knows → IfOk result (IsInputPrefix ((contents self.old).file path.now) most) }
         ensures contents { contents self.new ≡ contents self.old };
 }

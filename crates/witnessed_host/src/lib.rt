@@ -12,7 +12,7 @@ mod witness;
 mod witnessed;
 mod witnessed_inputs;
 
-pub use counts::Counts;
+pub use counts::FaultCounts;
 pub use input_witness::InputWitness;
 pub use no_files::NoFiles;
 pub use silent::Silent;

@@ -3,7 +3,7 @@ ghost use Rattle.std.specs.Prelude.{◌≡◌, Bool, IsTrue, IsSome, IfOk, lengt
 ghost use Rattle.std.specs.Allocator.{alloc_error};
 ghost use Rattle.std.specs.FinMap as map;
 ghost use Rattle.host_calls.specs.Folder.{IsInNoImage, IsMade, IsMadeInPart, IsWritten, IsWrittenInPart, IsSynced, IsRenamed, IsRemoved, HasNamesSynced, IsSettled, IsSyncedInPart};
-ghost use Rattle.host_calls.specs.World.{World, FileCall, StartCall, Asks, GoesOn, reading, size_of, bytes_from, IsWithinFile};
+ghost use Rattle.host_calls.specs.World.{World, FileCall, StartCall, Asks, TimePasses, reading, size_of, bytes_from, IsWithinFile};
 ghost use Rattle.witnessed_host.specs.Passing.{Passes};
 
 use host_calls::{Child, Ending, EnterFault, HostFault, Name, StartFault};
@@ -23,12 +23,12 @@ pub trait Witness {
     /// A session was begun, or not.
     fn entered(&mut self, answer: Result<(), EnterFault>) -> Result<(), EnterFault>
         ensures passes { Passes EnterFault.Failed answer result }
-        ensures goes_on { IsTrue knows → GoesOn (world self.old) (world self.new) }
+        ensures goes_on { IsTrue knows → TimePasses (world self.old) (world self.new) }
         ensures alone { IsTrue knows → IsTrue alone → world self.new ≡ world self.old };
 
     /// The session was ended.
     fn left(&mut self)
-        ensures goes_on { IsTrue knows → GoesOn (world self.old) (world self.new) }
+        ensures goes_on { IsTrue knows → TimePasses (world self.old) (world self.new) }
         ensures alone { IsTrue knows → IsTrue alone → world self.new ≡ world self.old };
 
     /// The names of the plain files were asked for.

@@ -1,7 +1,7 @@
 //! A host beside a witness.
 ghost use Rattle.std.specs.Prelude.{◌≡◌};
 
-use crate::counts::Counts;
+use crate::counts::FaultCounts;
 use crate::{Untold, Witness};
 use host_calls::{Child, Ending, EnterFault, Host, HostFault, Name, StartFault};
 use std::alloc::{AllocError, Global};
@@ -12,7 +12,7 @@ use std::alloc::{AllocError, Global};
 pub struct Witnessed<H: Untold + Drop, W: Witness + Drop> {
     host: H,
     witness: W,
-    counts: Counts,
+    counts: FaultCounts,
 }
 
 impl<H: Untold + Drop, W: Witness + Drop> Witnessed<H, W> {
@@ -25,7 +25,7 @@ impl<H: Untold + Drop, W: Witness + Drop> Witnessed<H, W> {
         Witnessed {
             host,
             witness,
-            counts: Counts {
+            counts: FaultCounts {
                 files: 0,
                 starts: 0,
                 taken: 0,

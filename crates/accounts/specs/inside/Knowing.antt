@@ -8,8 +8,8 @@ use Rattle.std.specs.Ordering.{nat_cmp}
 use Rattle.accounts.specs.declared.news.KnownJob.{KnownJob}
 use Rattle.accounts.specs.declared.news.KnownJob.TheVariants.{Done, Live}
 use Rattle.accounts.specs.declared.record.AccountRecord.{AccountRecord}
-use Rattle.accounts.specs.News.{runs}
-use Rattle.accounts.specs.Records.{is_named}
+use Rattle.accounts.specs.News.{is_running_state}
+use Rattle.accounts.specs.Records.{has_record_of}
 use Rattle.spool_model.specs.declared.decided.Decided.{Decided}
 use Rattle.spool_model.specs.declared.row.Row.{Row}
 
@@ -21,7 +21,7 @@ abbrev pub record_known : AccountRecord → Known
 record_known one = (one.number, None)
 
 abbrev pub row_known : Row → Known
-row_known row = (row.number, Some (Live (record { user = row.user; queue = row.queue }) (runs row.state)))
+row_known row = (row.number, Some (Live (record { user = row.user; queue = row.queue }) (is_running_state row.state)))
 
 abbrev pub decided_known : Decided → Known
 decided_known decided = (decided.number, Some (Done decided.fate))
@@ -44,4 +44,4 @@ ArePut known old new = (number : ℕ) → job_at new number ≡ jobs_after (job_
 -- the map has what is known of each number, and each number that the records name
 pub record Knows (before : List AccountRecord) (known : ℕ → Option KnownJob) (jobs : Jobs) : Type 0 where
   pub each : (number : ℕ) → unwrap_or (job_at jobs number) None ≡ known number
-  pub named : (number : ℕ) → is_named number before ≡ true → is_some (job_at jobs number) ≡ true
+  pub named : (number : ℕ) → has_record_of number before ≡ true → is_some (job_at jobs number) ≡ true

@@ -10,10 +10,10 @@ use Rattle.accounts.specs.declared.record.AccountRecord.{AccountRecord}
 use Rattle.accounts.specs.declared.record.Closing.{Closing}
 use Rattle.accounts.specs.declared.record.Closing.TheVariants.{Finished, Interrupted, Lost, NotStarted, Removed}
 use Rattle.accounts.specs.declared.record.Owner.{Owner}
-use Rattle.accounts.specs.Lines.{IsEventText, SpellsRecord, letter_of}
+use Rattle.accounts.specs.Lines.{IsEventText, SpellsRecord, letter_of_event}
 
 -- what stands after a number is one event's
-one_closing : (first second : Closing) → letter_of (Closed first) ≡ letter_of (Closed second) → first ≡ second
+one_closing : (first second : Closing) → letter_of_event (Closed first) ≡ letter_of_event (Closed second) → first ≡ second
 one_closing Finished Finished same = refl
 one_closing NotStarted NotStarted same = refl
 one_closing Interrupted Interrupted same = refl
@@ -21,7 +21,7 @@ one_closing Removed Removed same = refl
 one_closing Lost Lost same = refl
 one_closing first second same = absurd (omega arith)
 
-not_closing : (closing : Closing) → (letter_of (Closed closing) ≡ 65) ⊎ (letter_of (Closed closing) ≡ 83) → ⊥
+not_closing : (closing : Closing) → (letter_of_event (Closed closing) ≡ 65) ⊎ (letter_of_event (Closed closing) ≡ 83) → ⊥
 not_closing Finished same = omega arith
 not_closing NotStarted same = omega arith
 not_closing Interrupted same = omega arith

@@ -27,22 +27,22 @@ abbrev pub is_met : List AccountRecord → List AccountRecord → Owner → Bool
 is_met all counted owner = list_any (λ one. is_seen_with one.number owner all) counted
 
 -- so many records were counted for the owner, of each kind
-abbrev pub AreCounted : List AccountRecord → List AccountRecord → Owner → List ℕ → Type 0
-AreCounted all counted owner counts =
+abbrev pub AreOwnerCounts : List AccountRecord → List AccountRecord → Owner → List ℕ → Type 0
+AreOwnerCounts all counted owner counts =
     (kind : ℕ) → kind < 7 → length counted < 2 ^ 64 → slice_index counts kind ≡ count_by (counts_for all owner kind) counted
 
 -- the counts are the owner's, and there are none where no record was counted for it
 abbrev pub IsTallied : List AccountRecord → List AccountRecord → Owner → Option (List ℕ) → Type 0
 IsTallied all counted owner None = is_met all counted owner ≡ false
-IsTallied all counted owner (Some counts) = (is_met all counted owner ≡ true) × AreCounted all counted owner counts
+IsTallied all counted owner (Some counts) = (is_met all counted owner ≡ true) × AreOwnerCounts all counted owner counts
 
 -- the map has the counts of each owner
 abbrev pub IsTallyOf : List AccountRecord → List AccountRecord → BTreeMap Pair (List ℕ) → Type 0
 IsTallyOf all counted tally = (owner : Owner) → IsTallied all counted owner (tree.get pair_cmp tally (owner_pair owner))
 
 -- the line of an owner and its counts
-abbrev pub line_of : Pair × List ℕ → AccountLine
-line_of entry = record { user = entry.0.0; queue = entry.0.1; counts = entry.1 }
+abbrev pub owner_line : Pair × List ℕ → AccountLine
+owner_line entry = record { user = entry.0.0; queue = entry.0.1; counts = entry.1 }
 
 -- the counts before the first record of an owner
 abbrev pub counts_so_far : Option (List ℕ) → ℕ → ℕ

@@ -11,37 +11,37 @@ use Rattle.at_account.specs.Counting.{GivesRecords, IsAccountDamage}
 use Rattle.at_account.specs.Names.{account_file, account_temp}
 
 -- a fault of a file, want of memory, or damage
-abbrev pub IsOfReading : Cause → Type 0
-IsOfReading FileFault = Unit {0}
-IsOfReading Memory = Unit {0}
-IsOfReading (Damaged damage) = Unit {0}
-IsOfReading _ = ⊥
+abbrev pub IsReadingCause : Cause → Type 0
+IsReadingCause FileFault = Unit {0}
+IsReadingCause Memory = Unit {0}
+IsReadingCause (Damaged damage) = Unit {0}
+IsReadingCause _ = ⊥
 
 -- a fault of a file, or want of memory
-abbrev pub IsOfHost : Cause → Type 0
-IsOfHost FileFault = Unit {0}
-IsOfHost Memory = Unit {0}
-IsOfHost _ = ⊥
+abbrev pub IsHostCause : Cause → Type 0
+IsHostCause FileFault = Unit {0}
+IsHostCause Memory = Unit {0}
+IsHostCause _ = ⊥
 
 -- damage is answered where the content has it
-abbrev pub IsUnread : Option (List ℕ) → Cause → Type 0
-IsUnread content (Damaged damage) = IsAccountDamage content damage
-IsUnread content FileFault = Unit {0}
-IsUnread content Memory = Unit {0}
-IsUnread content _ = ⊥
+abbrev pub IsAccountUnread : Option (List ℕ) → Cause → Type 0
+IsAccountUnread content (Damaged damage) = IsAccountDamage content damage
+IsAccountUnread content FileFault = Unit {0}
+IsAccountUnread content Memory = Unit {0}
+IsAccountUnread content _ = ⊥
 
 -- what a reading of the content answers
 abbrev pub ReadsAccount : Option (List ℕ) → Result (List AccountRecord) CommandError → Type 0
 ReadsAccount content (Ok records) = GivesRecords content records
-ReadsAccount content (Err stopped) = IsUnread content stopped.cause
+ReadsAccount content (Err stopped) = IsAccountUnread content stopped.cause
 
 -- the file of accounts has the records in each image
-abbrev pub EachGives : List AccountRecord → Folder → Type 0
-EachGives records folder = (image : Files) → IsImage folder image → GivesRecords (finite.get image account_file) records
+abbrev pub EachGivesRecords : List AccountRecord → Folder → Type 0
+EachGivesRecords records folder = (image : Files) → IsImage folder image → GivesRecords (finite.get image account_file) records
 
 -- It has them, the one that is being made is gone, and all other files read as before.
-pub record IsWritten (records : List AccountRecord) (old new : Folder) : Type 0 where
-  pub gives : EachGives records new
+pub record AreRecordsWritten (records : List AccountRecord) (old new : Folder) : Type 0 where
+  pub gives : EachGivesRecords records new
   pub no_temp : IsInNoImage new account_temp
   pub others : (name : List ℕ) → ¬ (IsEither account_temp account_file name)
       → finite.get (reading_of new) name ≡ finite.get (reading_of old) name

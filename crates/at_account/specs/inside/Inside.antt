@@ -11,19 +11,19 @@ use Rattle.listing_text.specs.declared.cause.Cause.TheVariants.{Done, Refused, F
 use Rattle.listing_text.specs.declared.refusal.Refusal.TheVariants.{AccountsFull}
 use Rattle.spool_model.specs.JobTable.{JobTable}
 use Rattle.whole_file.specs.Others.{ChangesFiles}
-use Rattle.at_account.specs.Accounting.{IsAccounted, IsAccounting, IsDamage, IsLeftAlone, Leaves, RefusalLeaves}
+use Rattle.at_account.specs.Accounting.{IsAccounted, IsAccounting, IsSpoolOrAccountDamage, IsLeftAlone, AccountLeaves, AccountRefusalLeaves}
 use Rattle.at_account.specs.Counting.{GivesRecords, IsAccountDamage}
 
 -- what may stop the work: a fault of a file, want of memory, damage, or that there would be too many records
-abbrev pub IsOfWork : Cause → Type 0
-IsOfWork FileFault = Unit {0}
-IsOfWork Memory = Unit {0}
-IsOfWork (Damaged damage) = Unit {0}
-IsOfWork (Refused AccountsFull) = Unit {0}
-IsOfWork _ = ⊥
+abbrev pub IsAccountingCause : Cause → Type 0
+IsAccountingCause FileFault = Unit {0}
+IsAccountingCause Memory = Unit {0}
+IsAccountingCause (Damaged damage) = Unit {0}
+IsAccountingCause (Refused AccountsFull) = Unit {0}
+IsAccountingCause _ = ⊥
 
 -- the records are those of the content with what is new of the table, not too many
-pub record IsCounted (table : JobTable) (content : Option (List ℕ)) (records : List AccountRecord) : Type 0 where
+pub record AreUpdatedContent (table : JobTable) (content : Option (List ℕ)) (records : List AccountRecord) : Type 0 where
   pub read : List AccountRecord
   pub news : List AccountRecord
   pub gives : GivesRecords content read
@@ -46,13 +46,13 @@ StopsCounting table content Memory = Unit {0}
 StopsCounting table content _ = ⊥
 
 abbrev pub Counts : JobTable → Option (List ℕ) → Result (List AccountRecord) CommandError → Type 0
-Counts table content (Ok records) = IsCounted table content records
+Counts table content (Ok records) = AreUpdatedContent table content records
 Counts table content (Err stopped) = StopsCounting table content stopped.cause
 
 -- what is left by the cause that stopped the work
 abbrev pub StopsInside : World → World → Cause → Type 0
-StopsInside old new (Damaged damage) = IsDamage (reading old) damage × IsLeftAlone old new
-StopsInside old new (Refused refusal) = RefusalLeaves refusal old new
+StopsInside old new (Damaged damage) = IsSpoolOrAccountDamage (reading old) damage × IsLeftAlone old new
+StopsInside old new (Refused refusal) = AccountRefusalLeaves refusal old new
 StopsInside old new FileFault = Unit {0}
 StopsInside old new Memory = Unit {0}
 StopsInside old new _ = ⊥
@@ -63,13 +63,13 @@ EndsInside show old new (Ok text) = IsAccounted show old new text
 EndsInside show old new (Err stopped) = StopsInside old new stopped.cause
 
 -- all of the text was put, a prefix of it, or nothing for want of memory
-abbrev pub PutsText : Bool → List ℕ → SinkAt → SinkAt → Cause → Type 0
-PutsText tells text old new Done = tells ≡ true → IsPut text old new
-PutsText tells text old new OutputFault = tells ≡ true → IsCut text old new
-PutsText tells text old new Memory = tells ≡ true → IsSilent old new
-PutsText tells text old new _ = ⊥
+abbrev pub PutsCounts : Bool → List ℕ → SinkAt → SinkAt → Cause → Type 0
+PutsCounts tells text old new Done = tells ≡ true → IsPut text old new
+PutsCounts tells text old new OutputFault = tells ≡ true → IsCut text old new
+PutsCounts tells text old new Memory = tells ≡ true → IsSilent old new
+PutsCounts tells text old new _ = ⊥
 
 -- what each image has and what is left, where the host tells its files and nobody else changes them
 pub record Accounts (files alone output show : Bool) (old new : World) (was now : SinkAt) (cause : Cause) : Type 0 where
   pub images : files ≡ true → alone ≡ true → ChangesFiles (IsAccounting old.now.folder) old new
-  pub leaves : files ≡ true → alone ≡ true → Leaves show output old new was now cause
+  pub leaves : files ≡ true → alone ≡ true → AccountLeaves show output old new was now cause

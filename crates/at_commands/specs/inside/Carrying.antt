@@ -7,10 +7,10 @@ use Rattle.listing_text.specs.declared.cause.Cause.{Cause}
 use Rattle.spool_model.specs.declared.step.Step.{Step}
 use Rattle.spool_model.specs.JobTable.{JobTable}
 use Rattle.cause_output.specs.declared.caller.Caller.{Caller}
-use Rattle.command_rules.specs.Checks.{Check, ComesUpTo, is_before, of_lock, of_folder}
+use Rattle.command_rules.specs.Checks.{Check, ComesUpTo, is_earlier_check, of_lock, of_folder}
 use Rattle.command_rules.specs.Ends.{KeepsOrder, Reaches}
 use Rattle.command_rules.specs.Found.{AreInFolder, Found}
-use Rattle.command_rules.specs.Requested.{Prints, Says, next_number, steps_of}
+use Rattle.command_rules.specs.Requested.{RequestPrints, RequestSays, next_number, steps_of_request}
 use Rattle.command_rules.specs.Spool.{SpoolEnds}
 use Rattle.command_rules.specs.Verdict.{spool_verdict, table_verdict}
 
@@ -21,22 +21,22 @@ Finding = Option (List ℕ) → Option (List ℕ) → Found
 -- the steps of a request that the table does not refuse
 pub record AreWorkSteps (asked : ToolRequest) (caller : Caller) (found : Found) (table : JobTable) (steps : List Step) : Type 0 where
   pub none : table_verdict asked caller (Ok table) ≡ None
-  pub steps_are : steps ≡ steps_of asked caller found table
+  pub steps_are : steps ≡ steps_of_request asked caller found table
 
 -- the steps of a request that the session does not refuse
-pub record AreSessionSteps (asked : ToolRequest) (caller : Caller) (found : Found) (table : JobTable) (steps : List Step) : Type 0 where
+pub record AreUnrefusedSteps (asked : ToolRequest) (caller : Caller) (found : Found) (table : JobTable) (steps : List Step) : Type 0 where
   pub none : spool_verdict asked caller found (Ok table) ≡ None
-  pub steps_are : steps ≡ steps_of asked caller found table
+  pub steps_are : steps ≡ steps_of_request asked caller found table
 
 -- the text that is printed, of a request that the session does not refuse
 abbrev pub IsSessionText : ToolRequest → Caller → Found → Result JobTable Damage → List ℕ → Type 0
 IsSessionText asked caller found shown text =
-    (table : JobTable) × (shown ≡ Ok table) × (spool_verdict asked caller found shown ≡ None) × Prints asked caller table text
+    (table : JobTable) × (shown ≡ Ok table) × (spool_verdict asked caller found shown ≡ None) × RequestPrints asked caller table text
 
 -- the line that is said, of such a request
 abbrev pub IsSessionLine : ToolRequest → Caller → Found → Result JobTable Damage → List ℕ → Type 0
 IsSessionLine asked caller found shown line =
-    (spool_verdict asked caller found shown ≡ None) × Says asked caller.zone found (next_number shown) line
+    (spool_verdict asked caller found shown ≡ None) × RequestSays asked caller.zone found (next_number shown) line
 
 -- After the checks before it, a session was entered for the request and left, or could not be entered.
 pub record Carries (tells alone : Bool) (asked : ToolRequest) (caller : Caller) (finding : Finding) (old new : World)
@@ -45,10 +45,10 @@ pub record Carries (tells alone : Bool) (asked : ToolRequest) (caller : Caller) 
   pub deny : Option (List ℕ)
   pub shown : Result JobTable Damage
   pub reached : Check
-  pub entered : is_before reached of_lock ≡ false
+  pub entered : is_earlier_check reached of_lock ≡ false
   pub reach : Reaches cause reached
   pub order : KeepsOrder (spool_verdict asked caller (finding allow deny) shown) cause
   pub up_to : ComesUpTo (spool_verdict asked caller (finding allow deny) shown) reached
   pub folder : tells ≡ true → alone ≡ true → AreInFolder (reading old) (finding allow deny) shown
-  pub apart : tells ≡ true → alone ≡ true → is_before reached of_folder ≡ true → new ≡ old
-  pub spool : tells ≡ true → alone ≡ true → SpoolEnds (AreSessionSteps asked caller (finding allow deny)) old new cause
+  pub apart : tells ≡ true → alone ≡ true → is_earlier_check reached of_folder ≡ true → new ≡ old
+  pub spool : tells ≡ true → alone ≡ true → SpoolEnds (AreUnrefusedSteps asked caller (finding allow deny)) old new cause

@@ -4,14 +4,14 @@ use Rattle.listing_text.specs.declared.cause.Cause.TheVariants.{Refused, FileFau
 use Rattle.cause_output.specs.declared.command_error.CommandError.{CommandError}
 
 -- the output did not fail, nor did the inputs
-abbrev pub IsOfSpool : Cause → Type 0
-IsOfSpool FileFault = Unit {0}
-IsOfSpool Memory = Unit {0}
-IsOfSpool Busy = Unit {0}
-IsOfSpool (Refused refusal) = Unit {0}
-IsOfSpool (Damaged damage) = Unit {0}
-IsOfSpool _ = ⊥
+abbrev pub IsSpoolCause : Cause → Type 0
+IsSpoolCause FileFault = Unit {0}
+IsSpoolCause Memory = Unit {0}
+IsSpoolCause Busy = Unit {0}
+IsSpoolCause (Refused refusal) = Unit {0}
+IsSpoolCause (Damaged damage) = Unit {0}
+IsSpoolCause _ = ⊥
 
 -- the command was stopped by one of these
 abbrev pub IsNoOutput : CommandError → Type 0
-IsNoOutput stopped = IsOfSpool stopped.cause
+IsNoOutput stopped = IsSpoolCause stopped.cause

@@ -20,7 +20,7 @@ CarriesFor tells alone asked user old new result =
     (caller : Caller) → caller.context.user ≡ user → Carries tells alone asked caller lists_alone old new (cause_in result)
 
 -- a text was made in the session, which is the one that is printed
-pub record Lists (tells alone : Bool) (asked : ToolRequest) (caller : Caller) (old new : World)
+pub record ListsInSession (tells alone : Bool) (asked : ToolRequest) (caller : Caller) (old new : World)
     (result : Result (List ℕ) CommandError) : Type 0 where
   pub carries : Carries tells alone asked caller lists_alone old new (cause_in result)
   pub text : IfOk result (IsSessionText asked caller (lists_alone carries.allow carries.deny) carries.shown)
@@ -28,10 +28,10 @@ pub record Lists (tells alone : Bool) (asked : ToolRequest) (caller : Caller) (o
 -- for each caller of this user's name and with this zone
 abbrev pub ListsFor : Bool → Bool → ToolRequest → List ℕ → Zone → World → World → Result (List ℕ) CommandError → Type 0
 ListsFor tells alone asked user zone old new result =
-    (caller : Caller) → caller.context.user ≡ user → caller.zone ≡ zone → Lists tells alone asked caller old new result
+    (caller : Caller) → caller.context.user ≡ user → caller.zone ≡ zone → ListsInSession tells alone asked caller old new result
 
 -- the texts were printed in the session
-pub record Shows (tells alone output : Bool) (asked : ToolRequest) (caller : Caller) (old new : World) (was is : SinkAt)
+pub record ShowsInSession (tells alone output : Bool) (asked : ToolRequest) (caller : Caller) (old new : World) (was is : SinkAt)
     (result : Result (Unit {0}) CommandError) : Type 0 where
   pub carries : Carries tells alone asked caller lists_alone old new (cause_in result)
   pub prints : tells ≡ true → alone ≡ true → output ≡ true →
@@ -39,4 +39,4 @@ pub record Shows (tells alone output : Bool) (asked : ToolRequest) (caller : Cal
 
 abbrev pub ShowsFor : Bool → Bool → Bool → ToolRequest → List ℕ → World → World → SinkAt → SinkAt → Result (Unit {0}) CommandError → Type 0
 ShowsFor tells alone output asked user old new was is result =
-    (caller : Caller) → caller.context.user ≡ user → Shows tells alone output asked caller old new was is result
+    (caller : Caller) → caller.context.user ≡ user → ShowsInSession tells alone output asked caller old new was is result

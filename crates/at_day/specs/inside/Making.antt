@@ -19,10 +19,10 @@ IsDayRequest (request.Make count) = count ≤ MAX_EVENTS
 IsDayRequest _ = ⊥
 
 -- the folder was counted, or no memory was found for it
-abbrev pub IsSound : Result Counts StoreFault → Type 0
-IsSound (Ok counts) = Unit {0}
-IsSound (Err fault.Memory) = Unit {0}
-IsSound _ = ⊥
+abbrev pub IsCountedOrMemory : Result Counts StoreFault → Type 0
+IsCountedOrMemory (Ok counts) = Unit {0}
+IsCountedOrMemory (Err fault.Memory) = Unit {0}
+IsCountedOrMemory _ = ⊥
 
 -- the lines are those of what the day of so many events comes to
 pub record AreLinesOfDay (count : ℕ) (lines : List (List ℕ)) : Type 0 where

@@ -23,19 +23,19 @@ sight_status request sight true = record { code = done_code request.wait request
 sight_status request sight false = stopped_status StillRunning
 
 -- what was put of the text, by the status
-abbrev pub PutsBy : StatRequest → Sight → List ℕ → Bool → SinkAt → SinkAt → ℕ → Option Cause → Type 0
-PutsBy request sight text tells old new code None =
+abbrev pub PutsStatesBy : StatRequest → Sight → List ℕ → Bool → SinkAt → SinkAt → ℕ → Option Cause → Type 0
+PutsStatesBy request sight text tells old new code None =
     (sight.finished ≡ true) × (code ≡ done_code request.wait request.which sight.store.table) × (tells ≡ true → IsPut text old new)
-PutsBy request sight text tells old new code (Some StillRunning) = (sight.finished ≡ false) × (tells ≡ true → IsPut text old new)
-PutsBy request sight text tells old new code (Some OutputFault) = tells ≡ true → IsCut text old new
-PutsBy request sight text tells old new code (Some Memory) = tells ≡ true → IsSilent old new
-PutsBy request sight text tells old new code (Some _) = ⊥
+PutsStatesBy request sight text tells old new code (Some StillRunning) = (sight.finished ≡ false) × (tells ≡ true → IsPut text old new)
+PutsStatesBy request sight text tells old new code (Some OutputFault) = tells ≡ true → IsCut text old new
+PutsStatesBy request sight text tells old new code (Some Memory) = tells ≡ true → IsSilent old new
+PutsStatesBy request sight text tells old new code (Some _) = ⊥
 
 -- a text of the jobs was put so, or no memory was found for one
-abbrev pub PutsLines : StatRequest → List ℕ → Zone → Sight → Bool → SinkAt → SinkAt → StatStatus → Type 0
-PutsLines request user zone sight tells old new status =
+abbrev pub PutsStateLines : StatRequest → List ℕ → Zone → Sight → Bool → SinkAt → SinkAt → StatStatus → Type 0
+PutsStateLines request user zone sight tells old new status =
     (text : List ℕ) × (IsText request user zone sight.store.table text)
-    × PutsBy request sight text tells old new status.code status.cause
+    × PutsStatesBy request sight text tells old new status.code status.cause
 
 -- or no memory was found for a text
 pub record IsWithoutText (tells : Bool) (old new : SinkAt) (status : StatStatus) : Type 0 where

@@ -4,7 +4,7 @@ use Rattle.at_words.specs.declared.filter.Filter.{Filter}
 use Rattle.cause_output.specs.declared.command_error.CommandError.{CommandError}
 use Rattle.step_runs.specs.Current.{Kept}
 use Rattle.at_stat.specs.declared.wait.Sight.{Sight}
-use Rattle.at_stat.specs.Waiting.{ComesAfter, HasSeen, HasStopped, HasWaited, LooksAt, RestsBetween, StopsAfter, StopsWaiting, WaitAt, WaitTelling}
+use Rattle.at_stat.specs.Waiting.{ComesAfter, HasSeen, HasStopped, HasWaited, LooksAt, RestsBetween, StopsStatAfter, StopsWaiting, WaitAt, WaitTelling}
 
 -- one session more, after a rest
 abbrev pub LooksAgain : WaitTelling → List ℕ → Filter → WaitAt → WaitAt → Result Kept CommandError → Type 0
@@ -22,7 +22,7 @@ HasLooked tells user turns which awaited seen start new (Err stopped) =
 abbrev pub Awaits : WaitTelling → List ℕ → ℕ → Filter → Kept → WaitAt → WaitAt → Result Sight CommandError → Type 0
 Awaits tells user turns which seen start new (Ok sight) =
     ComesAfter tells user (Some turns) which seen start new sight.store sight.finished
-Awaits tells user turns which seen start new (Err stopped) = StopsAfter tells user (Some turns) which seen start new stopped
+Awaits tells user turns which seen start new (Err stopped) = StopsStatAfter tells user (Some turns) which seen start new stopped
 
 -- the sessions
 abbrev pub Sees : WaitTelling → List ℕ → Option ℕ → Filter → WaitAt → WaitAt → Result Sight CommandError → Type 0

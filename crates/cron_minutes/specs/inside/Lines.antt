@@ -16,11 +16,11 @@ after_cut (Byte byte ∷ pieces) = after_cut pieces
 after_cut (Cut ∷ pieces) = Some pieces
 
 -- the byte of a piece on standard input
-abbrev pub byte_of : Piece → ℕ
-byte_of (Byte byte) = byte
-byte_of Cut = 10
+abbrev pub piece_byte : Piece → ℕ
+piece_byte (Byte byte) = byte
+piece_byte Cut = 10
 
 -- the pieces on standard input
 unfoldable pub input : List Piece → List ℕ
 input [] = 10 ∷ []
-input (piece ∷ pieces) = byte_of piece ∷ input pieces
+input (piece ∷ pieces) = piece_byte piece ∷ input pieces

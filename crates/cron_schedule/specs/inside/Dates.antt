@@ -8,7 +8,7 @@ use Rattle.civil_minute.specs.declared.civil.CivilMinute.{CivilMinute}
 use Rattle.civil_minute.specs.declared.zone.Zone.{Zone}
 use Rattle.cron_text.specs.declared.entry.CronEntry.{CronEntry}
 use Rattle.cron_minutes.specs.Due.{is_date_due}
-use Rattle.cron_schedule.specs.Schedule.{IsDueWithin, IsIdle}
+use Rattle.cron_schedule.specs.Schedule.{IsDueWithin, IsNotDueWithin}
 
 -- the civil time is one of the date
 pub record HasDate (date : Date) (civil : CivilMinute) : Type 0 where
@@ -32,5 +32,5 @@ AreIdleDates entry first end = (date : ℕ) → first ≤ date → date < end �
 
 -- the first minute up to the end at which the entry is due, if there is one
 abbrev pub IsFirstDue : Zone → CronEntry → ℕ → ℕ → Option ℕ → Type 0
-IsFirstDue zone entry from end (Some minute) = IsDueWithin zone entry from end minute × IsIdle zone entry from minute
-IsFirstDue zone entry from end None = IsIdle zone entry from end
+IsFirstDue zone entry from end (Some minute) = IsDueWithin zone entry from end minute × IsNotDueWithin zone entry from minute
+IsFirstDue zone entry from end None = IsNotDueWithin zone entry from end

@@ -5,7 +5,7 @@ use Rattle.civil_minute.specs.Civil.{IsCivilTime}
 use Rattle.civil_minute.specs.declared.zone.Zone.{Zone}
 use Rattle.civil_minute.specs.declared.civil.CivilMinute.{CivilMinute}
 use Rattle.cron_minutes.specs.Commands.{commands}
-use Rattle.cron_minutes.specs.Due.{is_due}
+use Rattle.cron_minutes.specs.Due.{is_entry_due}
 use Rattle.cron_text.specs.declared.entry.CronEntry.{CronEntry}
 use Rattle.job_script.specs.declared.context.Context.{Context}
 use Rattle.spool_model.specs.declared.job.Job.{Job}
@@ -14,7 +14,7 @@ use Rattle.cron_session.specs.declared.session.TheConstants.{CRON_QUEUE}
 
 -- the commands of the entries that are due at the civil minute, in their order
 abbrev pub due_commands : List CronEntry → CivilMinute → List (List ℕ)
-due_commands entries civil = map (λ entry. commands entry.command) (filter (λ entry. is_due entry civil) entries)
+due_commands entries civil = map (λ entry. commands entry.command) (filter (λ entry. is_entry_due entry civil) entries)
 
 -- the job of these commands
 abbrev pub cron_job : Context → ℕ → List ℕ → Job

@@ -13,26 +13,26 @@ use Rattle.step_runs.specs.Current.{IsCurrent, Kept}
 use Rattle.whole_file.specs.Others.{ChangesFiles}
 use Rattle.cron_mark.specs.Names.{mark_temp}
 use Rattle.cron_session.specs.Leaving.{EachIsWhole, HasCome, IsOnTheMark, IsUnmarked, KeepsOtherFiles}
-use Rattle.cron_session.specs.Steps.{numbers_after, submissions}
+use Rattle.cron_session.specs.Steps.{next_numbers, submissions}
 use Rattle.whole_file.specs.Replacing.{IsCertainAt}
-use Rattle.cron_session.specs.inside.Submitting.{IsPartOf, Part}
+use Rattle.cron_session.specs.inside.Submitting.{IsPartOf, CronPart}
 
 -- where it was stopped, an image of the end is unmarked before the first job and shows the table, or has the mark and shows
 -- the table after what was made, and a prefix of the next submission
-abbrev pub EachHasCome : ℕ → JobTable → Part → World → World → Type 0
+abbrev pub EachHasCome : ℕ → JobTable → CronPart → World → World → Type 0
 EachHasCome minute table part old new =
     (image : Files) → IsImage new.now.folder image →
     ((part.made ≡ []) × IsUnmarked old.now.folder image × Shows image table)
     ⊎ HasCome minute table (submissions table.last part.made) (submissions (table.last + length part.made) part.next) image
 
 -- what each image of the end is, by the answer
-abbrev pub MarkingEnds : ℕ → JobTable → List Job → Part → World → World → Result (Unit {0}) StoreFault → Type 0
+abbrev pub MarkingEnds : ℕ → JobTable → List Job → CronPart → World → World → Result (Unit {0}) StoreFault → Type 0
 MarkingEnds minute table jobs part old new (Ok done) =
     EachIsWhole minute table (submissions table.last jobs) new.now.folder × KeepsOtherFiles old.now.folder new.now.folder
 MarkingEnds minute table jobs part old new (Err fault) = EachHasCome minute table part old new
 
 -- what is left of the mark and the table
-pub record MarkingLeaves (minute : ℕ) (table : JobTable) (jobs : List Job) (part : Part) (old new : World)
+pub record MarkingLeaves (minute : ℕ) (table : JobTable) (jobs : List Job) (part : CronPart) (old new : World)
     (result : Result (Unit {0}) StoreFault) : Type 0 where
   pub files : ChangesFiles (IsOnTheMark minute table (submissions table.last jobs) old.now.folder) old new
   pub ends : MarkingEnds minute table jobs part old new result
@@ -42,8 +42,8 @@ pub record MarksAndSubmits (tells : Bool) (before after : Session) (old new : Wo
     (was is : List ℕ) (result : Result (Unit {0}) StoreFault) : Type 0 where
   pub inside : CallsInside FileFault before after result
   pub faults : IfErr result IsOfStep
-  pub part : Part
+  pub part : CronPart
   pub is_part : IsPartOf jobs part result
-  pub written : is ≡ was ++ numbers_after kept.table.last (length part.made)
+  pub written : is ≡ was ++ next_numbers kept.table.last (length part.made)
   pub leaves : tells ≡ true → (table : JobTable) → IsCurrent kept old.now.folder table → IsCertainAt mark_temp old.now.folder →
       MarkingLeaves minute table jobs part old new result

@@ -13,32 +13,32 @@ use Rattle.step_runs.specs.Current.{IsCurrent, Kept}
 use Rattle.cron_mark.specs.Names.{mark_temp}
 use Rattle.cron_session.specs.declared.report.CronEnd.{CronEnd}
 use Rattle.cron_session.specs.declared.report.CronEnd.TheVariants.{Done, Busy, FileFault, Damaged, QueueFull, NumbersUsedUp, Memory}
-use Rattle.cron_session.specs.Leaving.{CronAt, CronLeaves, IfUnread}
-use Rattle.cron_session.specs.Steps.{AreDueJobs, Cron, HasRoomFor, minute_of, numbers_after}
+use Rattle.cron_session.specs.Leaving.{CronAt, CronLeaves, IfNoJobBegun}
+use Rattle.cron_session.specs.Steps.{AreDueJobs, Cron, HasRoomFor, minute_of, next_numbers}
 use Rattle.cron_session.specs.inside.Marking.{MarkingLeaves}
 use Rattle.whole_file.specs.Replacing.{IsCertainAt}
 use Rattle.cron_session.specs.inside.Room.{IsRoomFault}
-use Rattle.cron_session.specs.inside.Submitting.{IsPartOf, Part}
+use Rattle.cron_session.specs.inside.Submitting.{IsPartOf, CronPart}
 
 -- the end of a session by a fault
-abbrev pub end_by : StoreFault → CronEnd
-end_by fault.FileFault = FileFault
-end_by (fault.Damaged damage) = Damaged damage
-end_by fault.QueueFull = QueueFull
-end_by fault.NumbersUsedUp = NumbersUsedUp
-end_by fault.Memory = Memory
+abbrev pub cron_end_by : StoreFault → CronEnd
+cron_end_by fault.FileFault = FileFault
+cron_end_by (fault.Damaged damage) = Damaged damage
+cron_end_by fault.QueueFull = QueueFull
+cron_end_by fault.NumbersUsedUp = NumbersUsedUp
+cron_end_by fault.Memory = Memory
 
 -- the end of a session, by what came of its work
-abbrev pub end_after : Result (Unit {0}) StoreFault → CronEnd
-end_after (Ok done) = Done
-end_after (Err fault) = end_by fault
+abbrev pub cron_end_after : Result (Unit {0}) StoreFault → CronEnd
+cron_end_after (Ok done) = Done
+cron_end_after (Err fault) = cron_end_by fault
 
 -- the end of a session, by what came of it
-abbrev pub end_of_session : Result (Result (Unit {0}) StoreFault) EnterFault → CronEnd
-end_of_session (Ok worked) = end_after worked
-end_of_session (Err entry.Taken) = Busy
-end_of_session (Err entry.Failed) = FileFault
-end_of_session (Err entry.Memory) = Memory
+abbrev pub end_of_cron_session : Result (Result (Unit {0}) StoreFault) EnterFault → CronEnd
+end_of_cron_session (Ok worked) = cron_end_after worked
+end_of_cron_session (Err entry.Taken) = Busy
+end_of_cron_session (Err entry.Failed) = FileFault
+end_of_cron_session (Err entry.Memory) = Memory
 
 -- the mark is of the minute or of a later one
 abbrev pub is_since : ℕ → Option ℕ → Bool
@@ -46,50 +46,51 @@ is_since minute None = false
 is_since minute (Some marked) = nat_le minute marked
 
 -- The jobs that are due at the minute were begun, with room for them.
-pub record IsBegun (cron : Cron) (table : JobTable) (numbers : List ℕ) (old new : World)
+pub record AreSubmissionsBegun (cron : Cron) (table : JobTable) (numbers : List ℕ) (old new : World)
     (result : Result (Unit {0}) StoreFault) : Type 0 where
   pub jobs : List Job
   pub are : AreDueJobs cron jobs
   pub room : HasRoomFor table (length jobs)
-  pub part : Part
+  pub part : CronPart
   pub is_part : IsPartOf jobs part result
-  pub written : numbers ≡ numbers_after table.last (length part.made)
+  pub written : numbers ≡ next_numbers table.last (length part.made)
   pub leaves : MarkingLeaves (minute_of cron) table jobs part old new result
 
 -- nothing was done
-pub record IsUntouched (numbers : List ℕ) (old new : World) : Type 0 where
+pub record IsCronUntouched (numbers : List ℕ) (old new : World) : Type 0 where
   pub none : numbers ≡ []
   pub same : new ≡ old
 
 -- Nothing was done: there is no room for the jobs that are due, or no number for each.
-pub record IsRefused (cron : Cron) (table : JobTable) (numbers : List ℕ) (old new : World) (of : StoreFault) : Type 0 where
+pub record AreJobsRefused (cron : Cron) (table : JobTable) (numbers : List ℕ) (old new : World) (of : StoreFault) : Type 0 where
   pub jobs : List Job
   pub are : AreDueJobs cron jobs
   pub because : IsRoomFault table (length jobs) of
-  pub untouched : IsUntouched numbers old new
+  pub untouched : IsCronUntouched numbers old new
 
 -- what is left of the minute, by the answer
 abbrev pub DueLeaves : Cron → JobTable → List ℕ → World → World → Result (Unit {0}) StoreFault → Type 0
-DueLeaves cron table numbers old new (Ok done) = IsBegun cron table numbers old new (Ok done)
-DueLeaves cron table numbers old new (Err fault.FileFault) = IsBegun cron table numbers old new (Err fault.FileFault)
+DueLeaves cron table numbers old new (Ok done) = AreSubmissionsBegun cron table numbers old new (Ok done)
+DueLeaves cron table numbers old new (Err fault.FileFault) = AreSubmissionsBegun cron table numbers old new (Err fault.FileFault)
 DueLeaves cron table numbers old new (Err fault.Memory) =
-    IsUntouched numbers old new ⊎ IsBegun cron table numbers old new (Err fault.Memory)
-DueLeaves cron table numbers old new (Err fault.QueueFull) = IsRefused cron table numbers old new fault.QueueFull
-DueLeaves cron table numbers old new (Err fault.NumbersUsedUp) = IsRefused cron table numbers old new fault.NumbersUsedUp
+    IsCronUntouched numbers old new ⊎ AreSubmissionsBegun cron table numbers old new (Err fault.Memory)
+DueLeaves cron table numbers old new (Err fault.QueueFull) = AreJobsRefused cron table numbers old new fault.QueueFull
+DueLeaves cron table numbers old new (Err fault.NumbersUsedUp) = AreJobsRefused cron table numbers old new fault.NumbersUsedUp
 DueLeaves cron table numbers old new (Err (fault.Damaged damage)) = ⊥
 
 -- The jobs that are due at the minute of a session whose mark isn't there yet: what came of them.
 pub record SubmitsDue (tells : Bool) (before after : Session) (old new : World) (kept : Kept) (cron : Cron) (numbers : List ℕ)
     (result : Result (Unit {0}) StoreFault) : Type 0 where
   pub inside : CallsInside fault.FileFault before after result
-  pub unread : IfUnread (end_after result) (numbers ≡ [])
+  pub unread : IfNoJobBegun (cron_end_after result) (numbers ≡ [])
   pub distinct : IsTrue (are_distinct numbers)
   pub leaves : tells ≡ true → (table : JobTable) → IsCurrent kept old.now.folder table → IsCertainAt mark_temp old.now.folder →
       DueLeaves cron table numbers old new result
 
 -- The work of a session: a recovery, the mark, and the jobs that are due.
-pub record Works (tells : Bool) (cron : Cron) (old new : CronAt) (numbers : List ℕ) (result : Result (Unit {0}) StoreFault) : Type 0 where
-  pub inside : CallsInside fault.FileFault old.session new.session result
-  pub unread : IfUnread (end_after result) (numbers ≡ [])
-  pub distinct : IsTrue (are_distinct numbers)
-  pub leaves : tells ≡ true → CronLeaves cron numbers old.world new.world (end_after result)
+pub record CronWorks (tells : Bool) (cron : Cron) (old new : CronAt) (numbers : List ℕ) (result : Result (Unit {0}) StoreFault) : Type 0
+  where
+    pub inside : CallsInside fault.FileFault old.session new.session result
+    pub unread : IfNoJobBegun (cron_end_after result) (numbers ≡ [])
+    pub distinct : IsTrue (are_distinct numbers)
+    pub leaves : tells ≡ true → CronLeaves cron numbers old.world new.world (cron_end_after result)

@@ -25,17 +25,17 @@ abbrev ◌>>=◌ : {A B : Type 0} → Option A → (A → Option B) → Option B
 o >>= f = option_and_then f o
 
 -- the number of one or two digits that the text begins with
-unfoldable pub number_in : List ℕ → Read ℕ
-number_in [] = None
-number_in (ones ∷ []) = if is_ascii_digit ones then Some (ones - 48, []) else None
-number_in (tens ∷ ones ∷ rest) =
+unfoldable pub number_before : List ℕ → Read ℕ
+number_before [] = None
+number_before (ones ∷ []) = if is_ascii_digit ones then Some (ones - 48, []) else None
+number_before (tens ∷ ones ∷ rest) =
     if is_ascii_digit tens && is_ascii_digit ones then Some ((tens - 48) * 10 + (ones - 48), rest)
     else (if is_ascii_digit tens then Some (tens - 48, ones ∷ rest) else None)
 
 -- the range from a number to the one that the text is
 unfoldable pub range_to : ℕ → List ℕ → Option (ℕ × ℕ)
 range_to first text = do
-  last ← number_in text
+  last ← number_before text
   if length last.1 == 0 then Some (first, last.0) else None
 
 -- the range from a number, which has come before the text
@@ -46,7 +46,7 @@ range_from first (hyphen ∷ rest) = if hyphen == 45 then range_to first rest el
 -- one number, or two with a hyphen between them
 unfoldable pub span_in : List ℕ → Option (ℕ × ℕ)
 span_in text = do
-  first ← number_in text
+  first ← number_before text
   range_from first.0 first.1
 
 -- a range that stands from low to high
@@ -100,8 +100,8 @@ line_in line = do
   if is_command found.1 then Some found else None
 
 -- the entry of these patterns and this command
-abbrev pub entry_of : Schedule → List ℕ → CronEntry
-entry_of schedule command = record {
+abbrev pub cron_entry : Schedule → List ℕ → CronEntry
+cron_entry schedule command = record {
   minute = schedule.minute;
   hour = schedule.hour;
   day = schedule.day;
@@ -111,13 +111,13 @@ entry_of schedule command = record {
 }
 
 -- an entry
-abbrev pub entry_in : List ℕ → Option CronEntry
-entry_in line = option_map (λ found. entry_of found.0 found.1) (line_in line)
+abbrev pub entry_in_line : List ℕ → Option CronEntry
+entry_in_line line = option_map (λ found. cron_entry found.0 found.1) (line_in line)
 
 -- the entries with that of one line more, if the line isn't bad
 unfoldable pub with_line : List CronEntry → List ℕ → Option (List CronEntry)
 with_line entries line =
-    if is_ignored line then Some entries else option_map (λ entry. entries ++ entry ∷ []) (entry_in line)
+    if is_ignored line then Some entries else option_map (λ entry. entries ++ entry ∷ []) (entry_in_line line)
 
 -- the entries with those of the lines, or the number of the first bad line, where so many lines come before these
 unfoldable pub lines_in : List CronEntry → ℕ → List (List ℕ) → Result (List CronEntry) ℕ

@@ -12,14 +12,14 @@ use Rattle.cause_output.specs.Sinks.{IsCut, IsPut, IsSilent, SinkAt}
 use Rattle.host_calls.specs.declared.damage.Damage.{Damage}
 use Rattle.cron_session.specs.declared.report.CronEnd.{CronEnd}
 use Rattle.cron_session.specs.declared.report.CronEnd.TheVariants.{Done, Busy, FileFault, Damaged, QueueFull, NumbersUsedUp, Memory}
-use Rattle.cron_turn.specs.Items.{EndsSaying, GoesOnSaying, Item, rest_after}
-use Rattle.cron_turn.specs.Running.{Serves}
-use Rattle.cron_turn.specs.Sessions.{IsMade, Stops}
+use Rattle.cron_turn.specs.Items.{EndsSaying, GoesOnSaying, CronItem, rest_after_session}
+use Rattle.cron_turn.specs.Running.{MakesCronSessions}
+use Rattle.cron_turn.specs.Sessions.{IsSessionMade, Stops}
 
 -- what was said of a session, by whether a further one may come
-abbrev pub Says : Bool → CronEnd → SinkAt → SinkAt → Option Cause → Type 0
-Says tells end old new None = GoesOnSaying tells end old new
-Says tells end old new (Some cause) = EndsSaying tells end old new cause
+abbrev pub SaysSession : Bool → CronEnd → SinkAt → SinkAt → Option Cause → Type 0
+SaysSession tells end old new None = GoesOnSaying tells end old new
+SaysSession tells end old new (Some cause) = EndsSaying tells end old new cause
 
 -- the line was put, or cut where its put failed, or nothing of it was put where there was no memory for it
 abbrev pub PutsOne : List ℕ → SinkAt → SinkAt → Result (Unit {0}) SinkFault → Type 0
@@ -44,14 +44,14 @@ damage_in NumbersUsedUp = None
 damage_in Memory = None
 
 -- the session was done
-abbrev pub is_done : CronEnd → Bool
-is_done Done = true
-is_done Busy = false
-is_done FileFault = false
-is_done (Damaged damage) = false
-is_done QueueFull = false
-is_done NumbersUsedUp = false
-is_done Memory = false
+abbrev pub is_done_session : CronEnd → Bool
+is_done_session Done = true
+is_done_session Busy = false
+is_done_session FileFault = false
+is_done_session (Damaged damage) = false
+is_done_session QueueFull = false
+is_done_session NumbersUsedUp = false
+is_done_session Memory = false
 
 -- the line of want of memory may be wanting
 abbrev pub unless_memory : CronEnd → Option Cause
@@ -70,20 +70,20 @@ after_put end (Err sink.Failed) = Some cause.OutputFault
 after_put end (Err sink.Memory) = unless_memory end
 
 -- a session was made after which another may come, before which so many seconds are to be rested
-pub record GoesOn (tells : Telling) (caller : Caller) (path : List ℕ) (next : Option ℕ) (old new : WorkAt CronAt) : Type 0 where
-  pub item : Item
-  pub made : IsMade tells caller path item old new
+pub record ContinuesAfter (tells : Telling) (caller : Caller) (path : List ℕ) (next : Option ℕ) (old new : WorkAt CronAt) : Type 0 where
+  pub item : CronItem
+  pub made : IsSessionMade tells caller path item old new
   pub says : GoesOnSaying tells.errors item.end old.said new.said
-  pub next_is : next ≡ Some (rest_after item.end item.now)
+  pub next_is : next ≡ Some (rest_after_session item.end item.now)
 
 -- one session more, after the rest, by whether a further one may come
 abbrev pub Turns : Telling → Caller → List ℕ → Option ℕ → WorkAt CronAt → (WorkAt CronAt) → Option Cause → Type 0
-Turns tells caller path next old new None = GoesOn tells caller path next old new
+Turns tells caller path next old new None = ContinuesAfter tells caller path next old new
 Turns tells caller path next old new (Some cause) = Stops tells caller path old new cause
 
 -- so many sessions were made
-pub record HasServed (tells : Telling) (caller : Caller) (path : List ℕ) (count : ℕ) (rest : Option ℕ)
+pub record HasMadeSessions (tells : Telling) (caller : Caller) (path : List ℕ) (count : ℕ) (rest : Option ℕ)
     (first now : WorkAt CronAt) : Type 0 where
-  pub items : List Item
+  pub items : List CronItem
   pub counted : length items ≡ count
-  pub serves : Serves tells caller path first items rest now
+  pub serves : MakesCronSessions tells caller path first items rest now

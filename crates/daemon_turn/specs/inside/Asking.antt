@@ -8,7 +8,7 @@ use Rattle.step_runs.specs.Current.{IsCurrent, Kept}
 use Rattle.step_runs.specs.Made.{AreMade}
 use Rattle.daemon_turn.specs.declared.kid.Kid.{Kid}
 use Rattle.spool_model.specs.declared.turn_step.TurnStep.{TurnStep}
-use Rattle.daemon_turn.specs.Decisions.{ends, questions}
+use Rattle.daemon_turn.specs.Decisions.{end_steps, questions}
 
 -- The first of the kids have answered so, and all of them where the call succeeded, which gives the ends that they told. On
 -- a host that tells its files these questions were asked and no step was made.
@@ -16,6 +16,6 @@ pub record AsksAll {E : Type 0} (tells : Bool) (kids : List Kid) (old new : Worl
     (result : Result (Vec TurnStep Global) E) : Type 0 where
   pub answers : List (Option Ending)
   pub few : length answers ≤ length kids
-  pub all : IfOk result (λ known. (length answers ≡ length kids) × (known.items ≡ ends kids answers))
+  pub all : IfOk result (λ known. (length answers ≡ length kids) × (known.items ≡ end_steps kids answers))
   pub asked : tells ≡ true → (kept : Kept) (table : JobTable) → IsCurrent kept old.now.folder table →
       AreMade table [] [] (questions kids answers) kept old new

@@ -8,20 +8,20 @@ use Rattle.step_runs.specs.Current.{Kept}
 use Rattle.host_calls.specs.declared.store_fault.StoreFault.{StoreFault}
 use Rattle.daemon_turn.specs.declared.kid.Kid.{Kid}
 use Rattle.spool_model.specs.declared.turn_step.TurnStep.{TurnStep}
-use Rattle.daemon_turn.specs.Decisions.{ends, interrupts, questions, runs_in}
-use Rattle.daemon_turn.specs.Kids.{AreByNumber, AreChildren}
-use Rattle.daemon_turn.specs.Turning.{IsPrefixOf}
+use Rattle.daemon_turn.specs.Decisions.{end_steps, interrupts, questions, runs_in}
+use Rattle.daemon_turn.specs.Kids.{AreKidsByNumber, AreChildren}
+use Rattle.daemon_turn.specs.Turning.{IsStepsPrefix}
 use Rattle.daemon_turn.specs.inside.Ended.{without_ended}
-use Rattle.daemon_turn.specs.inside.Going.{Goes, MayGo, Part}
+use Rattle.daemon_turn.specs.inside.Going.{MakesPart, MayMakePart, TurnPart}
 
 -- The jobs that nobody watches were given up, and the kids asked, whose ends were made: all of these steps, or the first
 -- of them. Nothing was started.
-pub record AreDecided (table : JobTable) (kids : List Kid) (part : Part) (result : Result Kept StoreFault) : Type 0 where
+pub record AreEndsRecorded (table : JobTable) (kids : List Kid) (part : TurnPart) (result : Result Kept StoreFault) : Type 0 where
   pub answers : List (Option Ending)
   pub few : length answers ≤ length kids
-  pub prefix : IsPrefixOf (part.steps ++ part.next) (interrupts table kids ++ ends kids answers)
+  pub prefix : IsStepsPrefix (part.steps ++ part.next) (interrupts table kids ++ end_steps kids answers)
   pub all : IfOk result (λ store.
-      (length answers ≡ length kids) × (part.steps ≡ interrupts table kids ++ ends kids answers))
+      (length answers ≡ length kids) × (part.steps ≡ interrupts table kids ++ end_steps kids answers))
   pub asked : part.questions ≡ questions kids answers
   pub flags : part.flags ≡ []
   pub added : part.added ≡ []
@@ -29,9 +29,9 @@ pub record AreDecided (table : JobTable) (kids : List Kid) (part : Part) (result
 -- what is decided was made, and written down
 pub record MakesDecisions (tells : Bool) (before after : Session) (old new : World) (kept : Kept) (kids : List Kid)
     (was is : List TurnStep) (result : Result Kept StoreFault) : Type 0 where
-  pub part : Part
-  pub goes : Goes tells before after old new kept part result
-  pub decided : AreDecided kept.table kids part result
+  pub part : TurnPart
+  pub goes : MakesPart tells before after old new kept part result
+  pub decided : AreEndsRecorded kept.table kids part result
   pub written : is ≡ was ++ part.steps
 
 -- and the kids that have ended are dropped
@@ -43,7 +43,7 @@ pub record Decides (tells : Bool) (before after : Session) (old new : World) (ke
 -- The kids may be asked, and the jobs that nobody watches be given up: a session is on, the kids are of jobs that run, by
 -- number, and have children of the host.
 pub record MayDecide (tells : Bool) (session : Session) (world : World) (kept : Kept) (kids : List Kid) : Type 0 where
-  pub go : MayGo tells session world kept
+  pub go : MayMakePart tells session world kept
   pub run : All (λ kid. runs_in kept.table kid ≡ true) kids
-  pub ordered : AreByNumber kids
+  pub ordered : AreKidsByNumber kids
   pub children : AreChildren session.children kids

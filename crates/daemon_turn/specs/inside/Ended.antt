@@ -5,7 +5,7 @@ use Rattle.daemon_turn.specs.declared.kid.Kid.{Kid}
 use Rattle.spool_model.specs.declared.turn_step.TurnStep.{TurnStep}
 use Rattle.spool_model.specs.declared.turn_step.TurnStep.TheVariants.{HandedOver, Ended, Interrupted, Forgotten}
 use Rattle.daemon_turn.specs.Kids.{tells_end_of}
-use Rattle.spool_model.specs.StepsOf.{number_of}
+use Rattle.spool_model.specs.StepsOf.{number_of_step}
 
 -- the step is an end
 abbrev pub is_end : TurnStep → Bool
@@ -17,7 +17,7 @@ is_end (Forgotten number) = false
 -- the steps are ends, by number
 pub record AreEndsByNumber (steps : List TurnStep) : Type 0 where
   pub each : All (λ step. is_end step ≡ true) steps
-  pub ordered : AllPairs (λ one other. number_of one < number_of other) steps
+  pub ordered : AllPairs (λ one other. number_of_step one < number_of_step other) steps
 
 -- the kids of which the steps tell no end
 abbrev pub without_ended : List TurnStep → List Kid → List Kid

@@ -15,11 +15,11 @@ use Rattle.host_calls.specs.StoreFaults.{IsOfStep}
 use Rattle.daemon_turn.specs.declared.kid.Kid.{Kid}
 use Rattle.spool_model.specs.declared.turn_step.TurnStep.{TurnStep}
 use Rattle.daemon_turn.specs.Kids.{started_numbers}
-use Rattle.spool_model.specs.StepsOf.{steps_of}
+use Rattle.spool_model.specs.StepsOf.{steps_of_turn}
 
 -- The steps of a part of a turn, the next one that may stand where it was stopped, the questions, whether a child came of
 -- each start, and the kids that came.
-pub record Part : Type 0 where
+pub record TurnPart : Type 0 where
   pub steps : List TurnStep
   pub next : List TurnStep
   pub questions : List Asked
@@ -27,12 +27,12 @@ pub record Part : Type 0 where
   pub added : List Kid
 
 -- a part that asks and starts nothing
-abbrev pub quiet_part : List TurnStep → List TurnStep → Part
+abbrev pub quiet_part : List TurnStep → List TurnStep → TurnPart
 quiet_part steps next = record { steps = steps; next = next; questions = []; flags = []; added = [] }
 
 -- one part after another
-abbrev pub joined : Part → Part → Part
-joined first later = record {
+abbrev pub joined_parts : TurnPart → TurnPart → TurnPart
+joined_parts first later = record {
   steps = first.steps ++ later.steps;
   next = later.next;
   questions = first.questions ++ later.questions;
@@ -41,31 +41,31 @@ joined first later = record {
 }
 
 -- what is left where the steps were made, and where they were stopped
-abbrev pub PartEnds : JobTable → Part → List Handed → World → World → Result Kept StoreFault → Type 0
-PartEnds table part given old new (Ok kept) = AreMade table (steps_of part.steps) given part.questions kept old new
-PartEnds table part given old new (Err fault) =
-    AreStopped table (steps_of part.steps) (steps_of part.next) given part.questions old new
+abbrev pub TurnPartEnds : JobTable → TurnPart → List Handed → World → World → Result Kept StoreFault → Type 0
+TurnPartEnds table part given old new (Ok kept) = AreMade table (steps_of_turn part.steps) given part.questions kept old new
+TurnPartEnds table part given old new (Err fault) =
+    AreStopped table (steps_of_turn part.steps) (steps_of_turn part.next) given part.questions old new
 
 -- these were handed over: whether a child came of each, and the numbers of the kids
-pub record Gives (table : JobTable) (part : Part) (old new : World) (result : Result Kept StoreFault) : Type 0 where
+pub record StartsPart (table : JobTable) (part : TurnPart) (old new : World) (result : Result Kept StoreFault) : Type 0 where
   pub given : List Handed
   pub flagged : flags_of given ≡ part.flags
   pub numbered : started_numbers given ≡ map (λ kid. kid.number) part.added
-  pub ends : PartEnds table part given old new result
+  pub ends : TurnPartEnds table part given old new result
 
 -- The part of a turn was made, or stopped by a file fault or want of memory.
-pub record Goes (tells : Bool) (before after : Session) (old new : World) (kept : Kept) (part : Part)
+pub record MakesPart (tells : Bool) (before after : Session) (old new : World) (kept : Kept) (part : TurnPart)
     (result : Result Kept StoreFault) : Type 0 where
   pub inside : IsInside after
   pub counts : KeepsCounts before after
   pub cause : HasCause FileFault before.file_faults after.file_faults result
   pub faults : IfErr result IsOfStep
   pub children : after.children ≡ before.children ++ map (λ kid. kid.child) part.added
-  pub table_is : IfOk result (λ store. store.table ≡ after_steps kept.table (steps_of part.steps))
+  pub table_is : IfOk result (λ store. store.table ≡ after_steps kept.table (steps_of_turn part.steps))
   pub whole : IfOk result (λ store. part.next ≡ [])
-  pub files : tells ≡ true → (table : JobTable) → IsCurrent kept old.now.folder table → Gives table part old new result
+  pub files : tells ≡ true → (table : JobTable) → IsCurrent kept old.now.folder table → StartsPart table part old new result
 
 -- The next part may be made: a session is on, and on a host that tells its files what is kept is current.
-pub record MayGo (tells : Bool) (session : Session) (world : World) (kept : Kept) : Type 0 where
+pub record MayMakePart (tells : Bool) (session : Session) (world : World) (kept : Kept) : Type 0 where
   pub inside : IsInside session
   pub current : tells ≡ true → (table : JobTable) × IsCurrent kept world.now.folder table

@@ -14,9 +14,9 @@ use Rattle.host_calls.specs.declared.store_fault.StoreFault.TheVariants.{FileFau
 use Rattle.host_calls.specs.StoreFaults.{IsOfStep}
 
 -- the children that a call adds, by what it answers
-abbrev pub added_by : Result (Kept × Option Child) StoreFault → List Child
-added_by (Ok started) = option_to_list started.1
-added_by (Err fault) = []
+abbrev pub added_by_start : Result (Kept × Option Child) StoreFault → List Child
+added_by_start (Ok started) = option_to_list started.1
+added_by_start (Err fault) = []
 
 -- what a start leaves: it stands and its script was handed over, or nothing was, and the start may stand or not
 abbrev pub HandingEnds : JobTable → ℕ → ℤ → World → World → Result (Kept × Option Child) StoreFault → Type 0
@@ -28,7 +28,7 @@ pub record HandsJobOver (tells : Bool) (before after : Session) (old new : World
     (result : Result (Kept × Option Child) StoreFault) : Type 0 where
   pub inside : IsInside after
   pub counts : KeepsCounts before after
-  pub children : after.children ≡ before.children ++ added_by result
+  pub children : after.children ≡ before.children ++ added_by_start result
   pub cause : HasCause FileFault before.file_faults after.file_faults result
   pub faults : IfErr result IsOfStep
   pub table_is : IfOk result (λ started. started.0.table ≡ after_step kept.table (Start number second))

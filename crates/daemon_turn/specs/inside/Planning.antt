@@ -3,7 +3,7 @@ use Rattle.std.specs.Prelude.{◌≡◌, List}
 use Rattle.spool_model.specs.JobTable.{JobTable}
 use Rattle.daemon_turn.specs.declared.kid.Kid.{Kid}
 use Rattle.daemon_turn.specs.declared.turn_input.TurnInput.{TurnInput}
-use Rattle.daemon_turn.specs.declared.plan.Plan.{Plan}
+use Rattle.daemon_turn.specs.declared.plan.TurnPlan.{TurnPlan}
 use Rattle.daemon_turn.specs.Daemons.{DaemonState}
 use Rattle.daemon_turn.specs.Decisions.{interrupts}
 use Rattle.daemon_turn.specs.Starting.{IsOrder, turn_of}
@@ -13,6 +13,6 @@ abbrev pub with_kids : List Kid → DaemonState → DaemonState
 with_kids kids daemon = record { kids = kids; limit = daemon.limit; interval = daemon.interval }
 
 -- the jobs that are given up, and the numbers of those that start, whatever the kids are
-pub record IsPlan (daemon : DaemonState) (at : TurnInput) (table : JobTable) (plan : Plan) : Type 0 where
+pub record IsPlan (daemon : DaemonState) (at : TurnInput) (table : JobTable) (plan : TurnPlan) : Type 0 where
   pub interrupted : plan.interrupted.items ≡ interrupts table daemon.kids
   pub ordered : (kids : List Kid) → IsOrder (turn_of (with_kids kids daemon) at) table plan.order.items

@@ -13,10 +13,10 @@ use Rattle.daemon_turn.specs.Decisions.{asked_kids, questions}
 use Rattle.daemon_turn.specs.Kids.{AreChildren, kept_kids}
 use Rattle.daemon_turn.specs.Starting.{Turn}
 use Rattle.daemon_turn.specs.Turning.{AreFirstSteps, AreTurnSteps}
-use Rattle.daemon_turn.specs.inside.Going.{Goes, Part}
+use Rattle.daemon_turn.specs.inside.Going.{MakesPart, TurnPart}
 
 -- all steps of the turn, or the first of them
-abbrev pub AreStepsBy : Turn → JobTable → List (Option Ending) → Part → Result Kept StoreFault → Type 0
+abbrev pub AreStepsBy : Turn → JobTable → List (Option Ending) → TurnPart → Result Kept StoreFault → Type 0
 AreStepsBy turn table answers part (Ok kept) = AreTurnSteps turn table answers part.flags part.steps
 AreStepsBy turn table answers part (Err fault) = AreFirstSteps turn table answers part.flags (part.steps ++ part.next)
 
@@ -24,8 +24,8 @@ AreStepsBy turn table answers part (Err fault) = AreFirstSteps turn table answer
 -- stay and those that were added, each with a child of the host, and no two with one number.
 pub record MakesTurn (tells : Bool) (before after : Session) (old new : World) (kept : Kept) (turn : Turn) (left : List Kid)
     (report : List TurnStep) (result : Result Kept StoreFault) : Type 0 where
-  pub part : Part
-  pub goes : Goes tells before after old new kept part result
+  pub part : TurnPart
+  pub goes : MakesPart tells before after old new kept part result
   pub answers : List (Option Ending)
   pub are : AreStepsBy turn kept.table answers part result
   pub asked : part.questions ≡ questions (asked_kids kept.table turn.kids) answers

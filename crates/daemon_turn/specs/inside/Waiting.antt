@@ -4,7 +4,7 @@ use Rattle.spool_model.specs.JobTable.{IsPending, JobTable}
 use Rattle.queue_rules.specs.Order.{Differ}
 
 -- the jobs of the numbers wait, and no number stands twice
-pub record AreWaiting (table : JobTable) (numbers : List ℕ) : Type 0 where
+pub record ArePendingNumbers (table : JobTable) (numbers : List ℕ) : Type 0 where
   pub each : All (IsPending table) numbers
   pub apart : Differ numbers
 

@@ -8,15 +8,15 @@ use Rattle.host_calls.specs.World.{World}
 use Rattle.step_runs.specs.Current.{Kept}
 use Rattle.host_calls.specs.declared.store_fault.StoreFault.{StoreFault}
 use Rattle.host_calls.specs.declared.store_fault.StoreFault.TheVariants as fault
-use Rattle.host_calls.specs.StoreFaults.{IsOfReading}
+use Rattle.host_calls.specs.StoreFaults.{IsReadingFault}
 use Rattle.daemon_turn.specs.declared.kid.Kid.{Kid}
 use Rattle.spool_model.specs.declared.turn_step.TurnStep.{TurnStep}
 use Rattle.host_session.specs.Ends.{end_after}
 use Rattle.daemon_turn.specs.Decisions.{asked_kids, questions}
-use Rattle.daemon_turn.specs.Kids.{AreByNumber, AreChildren, AreKidsAfter, KeepsChildren}
-use Rattle.daemon_turn.specs.Leaving.{IsNone, DaemonAt, TurnLeaves}
+use Rattle.daemon_turn.specs.Kids.{AreKidsByNumber, AreChildren, AreKidsAfter, KeepsChildren}
+use Rattle.daemon_turn.specs.Leaving.{IsNoStepMade, DaemonAt, TurnLeaves}
 use Rattle.daemon_turn.specs.Starting.{Turn}
-use Rattle.daemon_turn.specs.inside.Going.{Goes, Part}
+use Rattle.daemon_turn.specs.inside.Going.{MakesPart, TurnPart}
 use Rattle.daemon_turn.specs.inside.Turned.{AreStepsBy}
 
 -- an answer without what is kept
@@ -29,8 +29,8 @@ pub record TurnsOn (tells : Bool) (before after : Session) (old new : World) (ke
     (report : List TurnStep) (result : Result (Unit {0}) StoreFault) : Type 0 where
   pub outcome : Result Kept StoreFault
   pub same : result ≡ unit_of outcome
-  pub part : Part
-  pub goes : Goes tells before after old new kept part outcome
+  pub part : TurnPart
+  pub goes : MakesPart tells before after old new kept part outcome
   pub answers : List (Option Ending)
   pub are : AreStepsBy turn kept.table answers part outcome
   pub asked : part.questions ≡ questions (asked_kids kept.table turn.kids) answers
@@ -39,14 +39,14 @@ pub record TurnsOn (tells : Bool) (before after : Session) (old new : World) (ke
   pub children : AreChildren after.children left
 
 -- The work of a turn: a recovery, and the steps.
-pub record Works (tells : Bool) (turn : Turn) (old new : DaemonAt) (steps : List TurnStep)
+pub record TurnWorks (tells : Bool) (turn : Turn) (old new : DaemonAt) (steps : List TurnStep)
     (result : Result (Unit {0}) StoreFault) : Type 0 where
   pub inside : IsInside new.session
   pub counts : KeepsCounts old.session new.session
   pub kept : KeepsChildren old.session.children new.session.children
   pub cause : HasCause fault.FileFault old.session.file_faults new.session.file_faults result
-  pub faults : IfErr result IsOfReading
+  pub faults : IfErr result IsReadingFault
   pub children : AreChildren new.session.children new.daemon.kids
-  pub ordered : AreByNumber new.daemon.kids
-  pub unread : IfDamaged fault.Damaged (λ damage. IsNone steps old.daemon new.daemon) result
+  pub ordered : AreKidsByNumber new.daemon.kids
+  pub unread : IfDamaged fault.Damaged (λ damage. IsNoStepMade steps old.daemon new.daemon) result
   pub leaves : tells ≡ true → TurnLeaves turn steps old new (end_after result)

@@ -2,20 +2,20 @@
 use Rattle.std.specs.Prelude.{◌≡◌, ℕ, List, Some, None, map}
 use Rattle.spool_model.specs.declared.decided.Decided.{Decided}
 use Rattle.spool_model.specs.declared.entry.Entry.TheVariants as entry
-use Rattle.spool_store.specs.Listed.{entry_in}
+use Rattle.spool_store.specs.Listed.{entry_under}
 use Rattle.spool_store.specs.Rows.{decided_entry}
 use Rattle.spool_store.specs.Stored.{IsRowInRange}
-use Rattle.job_states.specs.declared.stage.Stage.{Stage}
-use Rattle.job_states.specs.declared.stage.Stage.TheVariants.{Live, Done, Forgotten}
+use Rattle.job_states.specs.declared.stage.JobStage.{JobStage}
+use Rattle.job_states.specs.declared.stage.JobStage.TheVariants.{Live, Done, Forgotten}
 
 -- the stage of a number that no live job has, among the numbers of jobs that are done
-abbrev pub IsDoneStage : List Decided → ℕ → Stage → Type 0
+abbrev pub IsDoneStage : List Decided → ℕ → JobStage → Type 0
 IsDoneStage decided number (Live row) = ⊥
-IsDoneStage decided number (Done fate) = entry_in (map decided_entry decided) number ≡ Some (entry.Done fate)
-IsDoneStage decided number Forgotten = entry_in (map decided_entry decided) number ≡ None
+IsDoneStage decided number (Done fate) = entry_under (map decided_entry decided) number ≡ Some (entry.Done fate)
+IsDoneStage decided number Forgotten = entry_under (map decided_entry decided) number ≡ None
 
 -- a live job can be shown: its minute can be dated, and its queue is a letter
-abbrev pub CanBeShown : Stage → Type 0
+abbrev pub CanBeShown : JobStage → Type 0
 CanBeShown (Live row) = IsRowInRange row
 CanBeShown (Done fate) = Unit {0}
 CanBeShown Forgotten = Unit {0}

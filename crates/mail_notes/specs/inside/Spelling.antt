@@ -10,7 +10,7 @@ use Rattle.record_lines.proofs.LineLemmas.{none_of, one_split}
 use Rattle.mail_notes.specs.declared.note.Note.{Note}
 use Rattle.mail_notes.specs.declared.note.Note.TheVariants.{Dropped, Noted, Sent}
 use Rattle.mail_notes.specs.declared.note.NotedJob.{NotedJob}
-use Rattle.mail_notes.specs.Lines.{IsFileOf, SpellsNote, flag_byte, job_text, note_text}
+use Rattle.mail_notes.specs.Lines.{IsJobFileName, SpellsNote, flag_byte, noted_job_text, note_text}
 
 -- the text after the number of a job that was seen has these parts, each after a space
 pub record AreParts (rest file : List ℕ) (flag : ℕ) (user : List ℕ) : Type 0 where
@@ -18,7 +18,7 @@ pub record AreParts (rest file : List ℕ) (flag : ℕ) (user : List ℕ) : Type
   pub no_space : HasNone 32 file
 
 -- the name of a job's file has no space
-pub no_space : (number : ℕ) (file : List ℕ) → IsFileOf number file → HasNone 32 file
+pub no_space : (number : ℕ) (file : List ℕ) → IsJobFileName number file → HasNone 32 file
 no_space number file of = none_of is_name_byte 32 file refl (job_is_name file of.queue number of.minute of.new_form of.spelled).each
 
 -- numbers with the same eight digits are the same
@@ -34,7 +34,7 @@ one_flag true false same = absurd (let unequal : 49 ≡ 48 = same in omega arith
 one_flag false true same = absurd (let unequal : 48 ≡ 49 = same in omega arith)
 
 one_job : (first second : NotedJob) → first.number ≡ second.number → HasNone 32 first.file → HasNone 32 second.file
-    → job_text first ≡ job_text second
+    → noted_job_text first ≡ noted_job_text second
     → first ≡ second
 one_job first second numbers of_first of_second texts =
     let parts = one_split 32 first.file second.file _ _ of_first of_second (ap (drop 1) texts) in
@@ -63,13 +63,13 @@ letters first second same = ap (λ (text : List ℕ). get_or text 0 0) same
 one_text : (first second : Note) (line : List ℕ) → SpellsNote line first → SpellsNote line second → note_text first
     ≡ note_text second → first ≡ second
 one_text (Noted first) (Noted second) line of_first of_second texts =
-    let tails : digits_of first.number ++ job_text first ≡ digits_of second.number ++ job_text second =
+    let tails : digits_of first.number ++ noted_job_text first ≡ digits_of second.number ++ noted_job_text second =
     after_letter (Noted first) (Noted second) texts in
     ap Noted (one_job first second
     (one_of_eight first.number second.number of_first.of.0 of_second.of.0
-    (same_digits first.number second.number (job_text first) (job_text second) tails))
+    (same_digits first.number second.number (noted_job_text first) (noted_job_text second) tails))
     (no_space first.number first.file of_first.of.1.file) (no_space second.number second.file of_second.of.1.file)
-    (same_rests first.number second.number (job_text first) (job_text second) tails))
+    (same_rests first.number second.number (noted_job_text first) (noted_job_text second) tails))
 one_text (Sent first) (Sent second) line of_first of_second texts =
     ap Sent (one_of_eight first second of_first.of of_second.of (same_digits first second [] [] (after_letter (Sent first)
     (Sent second) texts)))

@@ -15,7 +15,7 @@ use Rattle.mail_notes.specs.declared.note.Note.{Note}
 use Rattle.mail_notes.specs.Lines.{notes_text}
 use Rattle.mail_notes.specs.Names.{mail_file}
 use Rattle.mail_session.specs.declared.plan.MailPlan.{MailPlan}
-use Rattle.mail_session.specs.Leaving.{GivesNotes, IsDamage}
+use Rattle.mail_session.specs.Leaving.{GivesNotes, IsSpoolOrNotesDamage}
 use Rattle.mail_session.specs.News.{IsNotedFrom, new_numbers, noting_of}
 use Rattle.mail_session.specs.Reading.{IsDamageOf}
 use Rattle.mail_session.specs.Stale.{stale_names}
@@ -59,7 +59,7 @@ pub record IsPlanned (tells : Bool) (old new : World) (kids : List Kid) (plan : 
 
 -- damage is answered where the folder shows it, or else its file of notes
 abbrev pub IfDamageOf : World → StoreFault → Type 0
-IfDamageOf world (Damaged damage) = IsDamage (reading world) damage
+IfDamageOf world (Damaged damage) = IsSpoolOrNotesDamage (reading world) damage
 IfDamageOf world FileFault = Unit {0}
 IfDamageOf world Memory = Unit {0}
 IfDamageOf world QueueFull = Unit {0}

@@ -15,7 +15,7 @@ use Rattle.mail_notes.specs.declared.note.Note.TheVariants.{Sent}
 use Rattle.mail_notes.specs.Hands.{IsHandedFor, IsNoticeOf, Mailing, notice_nice}
 use Rattle.mail_notes.specs.Lines.{notes_text}
 use Rattle.mail_notes.specs.Names.{mail_temp, notice_file}
-use Rattle.mail_notes.specs.Runs.{AreMade, AreStopped, IsReady}
+use Rattle.mail_notes.specs.Runs.{AreNotesMade, AreNotesStopped, HoldsNotesAlone}
 use Rattle.mail_session.specs.NoticeFiles.{ReadsBeside}
 
 -- a file of mail was placed, or not
@@ -24,9 +24,9 @@ pub record Places (target bytes : List ℕ) (old new : World) (result : Result (
   pub placed : OnOk result (IsPlaced mail_temp target bytes old.now.folder new.now.folder)
 
 -- the children that a call adds, by what it answers
-abbrev pub added_by : Result (Option Child) HostFault → List Child
-added_by (Ok child) = option_to_list child
-added_by (Err fault) = []
+abbrev pub added_by_notice : Result (Option Child) HostFault → List Child
+added_by_notice (Ok child) = option_to_list child
+added_by_notice (Err fault) = []
 
 -- the world after a notice was handed over, by the answer
 abbrev pub HandedAs : ℕ → World → World → Result (Option Child) HostFault → Type 0
@@ -48,7 +48,7 @@ pub record HandsNoticeOver (tells : Bool) (before after : Session) (old new : Wo
     (result : Result (Option Child) HostFault) : Type 0 where
   pub inside : IsInside after
   pub counts : KeepsCounts before after
-  pub children : after.children ≡ before.children ++ added_by result
+  pub children : after.children ≡ before.children ++ added_by_notice result
   pub no_fault : ¬ (result ≡ Err Failed)
   pub files : tells ≡ true → IsHandingOver number old new result
 
@@ -56,17 +56,17 @@ pub record HandsNoticeOver (tells : Bool) (before after : Session) (old new : Wo
 abbrev pub SendingEnds : Mailing → List Note → ℕ → World → World → Result (Option Child) HostFault → Type 0
 SendingEnds of notes number old new (Ok child) =
     (handed : Handed) × IsHandedFor of number handed × (handed.started ≡ is_some child)
-    × AreMade of notes (Sent number ∷ []) (handed ∷ []) [] old new
-SendingEnds of notes number old new (Err fault) = AreStopped of notes [] (Sent number ∷ []) [] [] old new
+    × AreNotesMade of notes (Sent number ∷ []) (handed ∷ []) [] old new
+SendingEnds of notes number old new (Err fault) = AreNotesStopped of notes [] (Sent number ∷ []) [] [] old new
 
 -- The notice was sent, and a child came of it or none; or a file fault or want of memory is answered, and no child came.
 pub record Sends (tells : Bool) (before after : Session) (old new : World) (number : ℕ) (script text : List ℕ)
     (result : Result (Option Child) HostFault) : Type 0 where
   pub inside : IsInside after
   pub counts : KeepsCounts before after
-  pub children : after.children ≡ before.children ++ added_by result
+  pub children : after.children ≡ before.children ++ added_by_notice result
   pub cause : HasCause Failed before.file_faults after.file_faults result
   pub no_temp : tells ≡ true → IfOk result (λ child. IsInNoImage new.now.folder mail_temp)
   pub reads : tells ≡ true → IfOk result (λ child. ReadsBeside (number ∷ []) old new)
-  pub files : tells ≡ true → (of : Mailing) (notes : List Note) → IsReady notes old.now.folder →
+  pub files : tells ≡ true → (of : Mailing) (notes : List Note) → HoldsNotesAlone notes old.now.folder →
       text ≡ notes_text (notes ++ Sent number ∷ []) → IsNoticeOf of number script → SendingEnds of notes number old new result

@@ -11,9 +11,9 @@ place_by place None = place + 1
 place_by place (Some ending) = place
 
 -- the kids after the one at the place has answered so
-abbrev pub left_by : List Kid → ℕ → Option Ending → List Kid
-left_by kids place None = kids
-left_by kids place (Some ending) = remove kids place
+abbrev pub kids_left_by : List Kid → ℕ → Option Ending → List Kid
+kids_left_by kids place None = kids
+kids_left_by kids place (Some ending) = remove kids place
 
 -- the child is that of the kid at the place
 pub record IsChildAt (kids : List Kid) (place : ℕ) (child : Child) : Type 0 where

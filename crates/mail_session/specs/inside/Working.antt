@@ -15,26 +15,26 @@ use Rattle.host_calls.specs.World.{Moment, World, moments, reading}
 use Rattle.spool_model.specs.JobTable.{JobTable}
 use Rattle.host_calls.specs.declared.store_fault.StoreFault.{StoreFault}
 use Rattle.host_calls.specs.declared.store_fault.StoreFault.TheVariants as fault
-use Rattle.host_calls.specs.StoreFaults.{IsOfReading}
+use Rattle.host_calls.specs.StoreFaults.{IsReadingFault}
 use Rattle.whole_file.specs.Others.{LeavesOthers}
 use Rattle.daemon_turn.specs.declared.kid.Kid.{Kid}
 use Rattle.daemon_turn.specs.Decisions.{has_kid, questions}
 use Rattle.daemon_turn.specs.Kids.{AreChildren, KeepsChildren, started_numbers}
 use Rattle.host_session.specs.Ends.{end_after}
 use Rattle.mail_notes.specs.declared.note.Note.{Note}
-use Rattle.mail_notes.specs.Hands.{Hands, Mailing}
+use Rattle.mail_notes.specs.Hands.{SendsNotices, Mailing}
 use Rattle.mail_notes.specs.Lines.{Fits, notes_text}
 use Rattle.mail_notes.specs.Names.{IsMailName, notice_file}
-use Rattle.mail_notes.specs.Notes.{AreFirst}
-use Rattle.mail_notes.specs.Runs.{AreMade, AreStopped, IsReady}
+use Rattle.mail_notes.specs.Notes.{IsNotesPrefix}
+use Rattle.mail_notes.specs.Runs.{AreNotesMade, AreNotesStopped, HoldsNotesAlone}
 use Rattle.mail_session.specs.declared.plan.MailPlan.{MailPlan}
 use Rattle.mail_session.specs.Asking.{kids_after}
 use Rattle.mail_session.specs.Dues.{AreDue, notes_of, sent_numbers}
-use Rattle.mail_session.specs.Leaving.{IsNone, MailLeaves, PostAt}
+use Rattle.mail_session.specs.Leaving.{IsNothingSent, MailLeaves, PostSpool}
 use Rattle.mail_session.specs.News.{noting_of}
 use Rattle.mail_session.specs.NoticeFiles.{ReadsBeside, is_notice_of}
-use Rattle.mail_session.specs.Posting.{Part}
-use Rattle.mail_session.specs.Sessions.{HasPosted, IsOpened}
+use Rattle.mail_session.specs.Posting.{MailPart}
+use Rattle.mail_session.specs.Sessions.{HasPosted, AreNotesOpened}
 use Rattle.mail_session.specs.Stale.{stale_names}
 
 -- all notes that are made by the plan, in order
@@ -42,26 +42,27 @@ abbrev pub steps_by : MailPlan → List Note
 steps_by plan = noting_of plan.news.items ++ notes_of plan.dues.items
 
 -- what is left where the notes were made, and where they were stopped, with these questions asked
-abbrev pub MakingEnds : Mailing → List Note → Part → List Handed → List Asked → World → World → Result (Unit {0}) HostFault → Type 0
-MakingEnds of notes part given asked old new (Ok done) = AreMade of notes part.made given asked old new
-MakingEnds of notes part given asked old new (Err fault) = AreStopped of notes part.made part.next given asked old new
+abbrev pub NotesMakingEnds : Mailing → List Note → MailPart → List Handed → List Asked → World → World → Result (Unit {0}) HostFault
+    → Type 0
+NotesMakingEnds of notes part given asked old new (Ok done) = AreNotesMade of notes part.made given asked old new
+NotesMakingEnds of notes part given asked old new (Err fault) = AreNotesStopped of notes part.made part.next given asked old new
 
 -- these were handed over, and the kids are the children that came of them
-pub record GivesAsked (of : Mailing) (notes : List Note) (part : Part) (asked : List Asked) (old new : World)
+pub record GivesAsked (of : Mailing) (notes : List Note) (part : MailPart) (asked : List Asked) (old new : World)
     (result : Result (Unit {0}) HostFault) : Type 0 where
   pub given : List Handed
   pub numbered : started_numbers given ≡ map (λ kid. kid.number) part.added
-  pub ends : MakingEnds of notes part given asked old new result
+  pub ends : NotesMakingEnds of notes part given asked old new result
 
 -- What of every host is known of the steps of a session: how far they came, and which kids and numbers there are.
-pub record Goes (before after : Session) (plan : MailPlan) (kids left : List Kid) (sent gone : List ℕ) (part : Part)
+pub record MakesNotes (before after : Session) (plan : MailPlan) (kids left : List Kid) (sent gone : List ℕ) (part : MailPart)
     (answers : List (Option Ending)) (result : Result (Unit {0}) HostFault) : Type 0 where
   pub inside : IsInside after
   pub counts : KeepsCounts before after
   pub cause : HasCause Failed before.file_faults after.file_faults result
   pub children : after.children ≡ before.children ++ map (λ kid. kid.child) part.added
   pub few : length answers ≤ length kids
-  pub prefix : AreFirst (part.made ++ part.next) (steps_by plan)
+  pub prefix : IsNotesPrefix (part.made ++ part.next) (steps_by plan)
   pub all : IfOk result (λ done. (part.made ≡ steps_by plan) × (length answers ≡ length kids))
   pub kids_are : left ≡ kids_after kids answers ++ part.added
   pub sent_are : gone ≡ sent ++ sent_numbers part.made
@@ -69,11 +70,11 @@ pub record Goes (before after : Session) (plan : MailPlan) (kids left : List Kid
 -- The kids were asked, the new jobs noted, and what is due was made, or the first of it.
 pub record Makes (program : List ℕ) (tells : Bool) (before after : Session) (old new : World) (plan : MailPlan)
     (kids left : List Kid) (sent gone : List ℕ) (result : Result (Unit {0}) HostFault) : Type 0 where
-  pub part : Part
+  pub part : MailPart
   pub answers : List (Option Ending)
-  pub goes : Goes before after plan kids left sent gone part answers result
+  pub goes : MakesNotes before after plan kids left sent gone part answers result
   pub reads : tells ≡ true → IfOk result (λ done. ReadsBeside (sent_numbers part.made) old new)
-  pub files : tells ≡ true → (of : Mailing) (notes : List Note) → of.program ≡ program → IsReady notes old.now.folder →
+  pub files : tells ≡ true → (of : Mailing) (notes : List Note) → of.program ≡ program → HoldsNotesAlone notes old.now.folder →
       plan.text.items ≡ notes_text (notes ++ noting_of plan.news.items) →
       AreDue of plan.dues.items → GivesAsked of notes part (questions kids answers) old new result
 
@@ -82,16 +83,16 @@ pub record MayCarryOut (opened : World) (kids : List Kid) (plan : MailPlan) : Ty
   pub start : World
   pub table : JobTable
   pub notes : List Note
-  pub is_opened : IsOpened notes table start opened
+  pub is_opened : AreNotesOpened notes table start opened
   pub stale : plan.stale.items ≡ stale_names kids (reading opened)
 
 -- where all steps were made, each image has all notes
 abbrev pub IfReady : List Note → World → Result (Unit {0}) HostFault → Type 0
-IfReady notes new (Ok done) = IsReady notes new.now.folder
+IfReady notes new (Ok done) = HoldsNotesAlone notes new.now.folder
 IfReady notes new (Err fault) = Unit {0}
 
 -- the notes that were made are posted, and where they were stopped those that come next may be too
-abbrev pub PostedBy : Mailing → List Note → JobTable → Part → World → World → Result (Unit {0}) HostFault → Type 0
+abbrev pub PostedBy : Mailing → List Note → JobTable → MailPart → World → World → Result (Unit {0}) HostFault → Type 0
 PostedBy of notes table part start new (Ok done) = HasPosted of notes part.made table start new
 PostedBy of notes table part start new (Err fault) = HasPosted of notes (part.made ++ part.next) table start new
 
@@ -118,13 +119,13 @@ ReadBy kids sent old new (Ok done) = ReadsNotices kids sent old new
 ReadBy kids sent old new (Err fault) = Unit {0}
 
 -- the session is posted so far, these were handed over, and the kids are the children that came of them
-pub record CarriesTo (of : Mailing) (notes : List Note) (table : JobTable) (kids : List Kid) (part : Part) (asked : List Asked)
+pub record CarriesTo (of : Mailing) (notes : List Note) (table : JobTable) (kids : List Kid) (part : MailPart) (asked : List Asked)
     (start old new : World) (result : Result (Unit {0}) HostFault) : Type 0 where
   pub given : List Handed
   pub numbered : started_numbers given ≡ map (λ kid. kid.number) part.added
   pub posted : PostedBy of notes table part start new result
   pub handed : new.now.handed ≡ old.now.handed ++ given
-  pub hands : Hands of part.made given
+  pub hands : SendsNotices of part.made given
   pub asked_are : new.asked ≡ old.asked ++ asked
   pub ready : IfReady (notes ++ part.made) new result
   pub alone : AloneBy old new result
@@ -132,24 +133,24 @@ pub record CarriesTo (of : Mailing) (notes : List Note) (table : JobTable) (kids
   pub reads : ReadBy kids (sent_numbers part.made) old new result
 
 -- The files that are left over were removed, and then the steps were made, or the first of them.
-pub record CarriesOut (program : List ℕ) (tells : Bool) (before after : Session) (old new : World) (plan : MailPlan)
+pub record CarriesOutPlan (program : List ℕ) (tells : Bool) (before after : Session) (old new : World) (plan : MailPlan)
     (kids left : List Kid) (sent gone : List ℕ) (result : Result (Unit {0}) HostFault) : Type 0 where
-  pub part : Part
+  pub part : MailPart
   pub answers : List (Option Ending)
-  pub goes : Goes before after plan kids left sent gone part answers result
+  pub goes : MakesNotes before after plan kids left sent gone part answers result
   pub files : tells ≡ true → (of : Mailing) (notes : List Note) (table : JobTable) (start : World) → of.program ≡ program →
-      IsOpened notes table start old →
+      AreNotesOpened notes table start old →
       plan.text.items ≡ notes_text (notes ++ noting_of plan.news.items) →
       AreDue of plan.dues.items → CarriesTo of notes table kids part (questions kids answers) start old new result
 
 -- The work of a session: a recovery, and the steps.
-pub record Works (tells : Bool) (old new : PostAt) (sent : List ℕ) (result : Result (Unit {0}) StoreFault) : Type 0 where
+pub record MailWorks (tells : Bool) (old new : PostSpool) (sent : List ℕ) (result : Result (Unit {0}) StoreFault) : Type 0 where
   pub inside : IsInside new.session
   pub counts : KeepsCounts old.session new.session
   pub kept : KeepsChildren old.session.children new.session.children
   pub cause : HasCause fault.FileFault old.session.file_faults new.session.file_faults result
-  pub faults : IfErr result IsOfReading
+  pub faults : IfErr result IsReadingFault
   pub children : AreChildren new.session.children new.post.kids
   pub distinct : IsTrue (are_distinct sent)
-  pub unread : IfDamaged fault.Damaged (λ damage. IsNone sent old.post new.post) result
+  pub unread : IfDamaged fault.Damaged (λ damage. IsNothingSent sent old.post new.post) result
   pub leaves : tells ≡ true → MailLeaves sent old new (end_after result)

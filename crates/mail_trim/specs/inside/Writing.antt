@@ -9,7 +9,7 @@ use Rattle.mail_notes.specs.Names.{mail_file, mail_temp}
 use Rattle.mail_trim.specs.Trimming.{trimmed}
 
 -- the text of those that stay was placed, or all stay and nothing was done
-abbrev pub IsWritten : JobTable → List Note → World → World → Type 0
-IsWritten table notes old new =
+abbrev pub IsTrimWritten : JobTable → List Note → World → World → Type 0
+IsTrimWritten table notes old new =
     IsPlaced mail_temp mail_file (notes_text (trimmed table notes)) old.now.folder new.now.folder
     ⊎ ((new ≡ old) × (trimmed table notes ≡ notes))

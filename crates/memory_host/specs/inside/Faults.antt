@@ -1,7 +1,7 @@
 -- How often calls have failed, by what the host was made as.
 use Rattle.std.specs.Prelude.{◌≡◌, ◌+◌, ◌<◌, ◌≤◌, ◌&&◌, [], ◌∷◌, ℕ, Bool, List, None, map, nat_lt, not, if◌then◌else◌}
 use Rattle.host_calls.specs.Clock.{last_count}
-use Rattle.memory_host.specs.Plan.{IsQuiet, Progress, is_blown, is_planned}
+use Rattle.memory_host.specs.Plan.{IsFaultless, Progress, is_blown, is_planned}
 use Rattle.memory_host.specs.declared.failing_list.Failing.{Failing}
 use Rattle.memory_host.specs.declared.plan.Plan.{Plan}
 
@@ -27,9 +27,9 @@ failing_calls failing = map (λ one. one.call) failing
 -- stopped, each fault was planned for a call that has been: no more faults than such entries.
 pub record AreFaultsPlanned (at : Progress) (fuses : List ℕ) (file_faults start_faults taken : ℕ) : Type 0 where
   pub no_fuse : HasNoFuse at.plan fuses → at.fuse ≡ None
-  pub no_file_fault : IsQuiet at.plan → fuses ≡ [] → file_faults ≡ 0
-  pub no_start_fault : IsQuiet at.plan → fuses ≡ [] → start_faults ≡ 0
-  pub not_taken : IsQuiet at.plan → fuses ≡ [] → taken ≡ 0
+  pub no_file_fault : IsFaultless at.plan → fuses ≡ [] → file_faults ≡ 0
+  pub no_start_fault : IsFaultless at.plan → fuses ≡ [] → start_faults ≡ 0
+  pub not_taken : IsFaultless at.plan → fuses ≡ [] → taken ≡ 0
   pub files_planned : HasNoFuse at.plan fuses → at.calls < last_count
       → file_faults ≤ below_in at.calls (failing_calls at.plan.failing)
   pub starts_planned : HasNoFuse at.plan fuses → at.calls < last_count

@@ -18,12 +18,12 @@ AreWaits plans asked waits =
     → slice_index_or waits child 0 ≡ (plan_of plans child).asks - questions_to child asked
 
 -- each child was started
-abbrev pub AreStarted : List Child → ℕ → Type 0
-AreStarted children starts = (child : Child) → Contains children child → child.id < starts
+abbrev pub AreChildrenStarted : List Child → ℕ → Type 0
+AreChildrenStarted children starts = (child : Child) → Contains children child → child.id < starts
 
 -- what is kept of the children belongs to their plans
-pub record AreKin (plans : List ChildPlan) (asked : List Asked) (waits : List ℕ) (children : List Child) : Type 0 where
-  pub started : AreStarted children (length waits)
+pub record AreChildrenAsPlanned (plans : List ChildPlan) (asked : List Asked) (waits : List ℕ) (children : List Child) : Type 0 where
+  pub started : AreChildrenStarted children (length waits)
   pub questioned : All (λ one. one.child.id < length waits) asked
   pub waiting : AreWaits plans asked waits
   pub answered : AreAnswers plans asked

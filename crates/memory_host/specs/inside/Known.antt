@@ -10,24 +10,24 @@ use Rattle.memory_host.specs.declared.bodies.Bodies.{Bodies}
 use Rattle.memory_host.specs.declared.name_table.NameTable.{NameTable}
 
 -- the table holds these names and pending changes
-pub record AreNamed (certain : Names) (pending : List Change) (names : NameTable) : Type 0 where
+pub record AreNamesKept (certain : Names) (pending : List Change) (names : NameTable) : Type 0 where
   pub certain_names : (name : List ℕ) → map.get certain name ≡ certain_in names.held name
   pub now_names : (name : List ℕ) → map.get (names_after pending certain) name ≡ now_in names.held name
   pub changes : pending ≡ pending_of names.pending.items
   pub places : HaveAllPlaces names.held names.pending.items
 
 -- the number is in the list
-abbrev pub Lists : List ℕ → ℕ → Type 0
-Lists [] number = ⊥
-Lists (first ∷ others) number = (number ≡ first) ⊎ Lists others number
+abbrev pub ListsNumber : List ℕ → ℕ → Type 0
+ListsNumber [] number = ⊥
+ListsNumber (first ∷ others) number = (number ≡ first) ⊎ ListsNumber others number
 
 -- all of the body is certain
-abbrev pub IsCertain : KeptBody → Type 0
-IsCertain kept = kept_synced kept ≡ kept
+abbrev pub IsSyncedBody : KeptBody → Type 0
+IsSyncedBody kept = kept_synced kept ≡ kept
 
 -- each body is certain, or its number is listed
 abbrev pub ListsUnsettled : List KeptBody → List ℕ → Type 0
-ListsUnsettled list unsettled = (number : ℕ) → IsCertain (kept_at list number) ⊎ Lists unsettled number
+ListsUnsettled list unsettled = (number : ℕ) → IsSyncedBody (kept_at list number) ⊎ ListsNumber unsettled number
 
 -- the bodies stand for those of the folder
 pub record AreBodied (body : ℕ → Body) (bodies : Bodies) : Type 0 where
@@ -42,8 +42,8 @@ pub record KeepsNumbersApart (certain : Names) (pending : List Change) (next : �
       → map.get names first ≡ Some number → map.get names second ≡ Some number → first ≡ second
 
 -- what is kept belongs to the state
-pub record IsKnown (at : State) (names : NameTable) (bodies : Bodies) (handed : List Handed) : Type 0 where
-  pub named : AreNamed at.folder.certain at.folder.pending names
+pub record IsStateKept (at : State) (names : NameTable) (bodies : Bodies) (handed : List Handed) : Type 0 where
+  pub named : AreNamesKept at.folder.certain at.folder.pending names
   pub bodied : AreBodied at.folder.body bodies
   pub counted : at.next ≡ length bodies.list.items
   pub scripts : at.handed ≡ handed
@@ -52,6 +52,6 @@ pub record IsKnown (at : State) (names : NameTable) (bodies : Bodies) (handed : 
 -- A file was made under the next number. Where there was no room, the folder is as before.
 abbrev pub MakesFile : {T E : Type 0} → List ℕ → List ℕ → NameTable → NameTable → Bodies → Bodies → Result T E → Type 0
 MakesFile name bytes names after bodies more (Ok value) =
-    (at : State) (handed : List Handed) → IsKnown at names bodies handed → IsKnown (with_new_file name bytes at) after more handed
+    (at : State) (handed : List Handed) → IsStateKept at names bodies handed → IsStateKept (with_new_file name bytes at) after more handed
 MakesFile name bytes names after bodies more (Err fault) =
-    (at : State) (handed : List Handed) → IsKnown at names bodies handed → IsKnown at after more handed
+    (at : State) (handed : List Handed) → IsStateKept at names bodies handed → IsStateKept at after more handed

@@ -15,9 +15,9 @@ use Rattle.spool_faults.specs.Faults.{faults_of}
 use Rattle.spool_faults.specs.Listed.{LeavesFolder}
 use Rattle.spool_salvage.specs.declared.fault.SalvageFault.{SalvageFault}
 use Rattle.spool_salvage.specs.declared.fault.SalvageFault.TheVariants as fault
-use Rattle.spool_check.specs.Checking.{PrintsBy}
+use Rattle.spool_check.specs.Checking.{PrintsFaultsBy}
 use Rattle.spool_check.specs.Outside.{Visit}
-use Rattle.spool_check.specs.Telling.{fault_lines, verdict_of}
+use Rattle.spool_check.specs.Telling.{fault_lines, cause_of_faults}
 
 -- the cause of an answer: the one that it gives, or that stopped it
 abbrev pub cause_by : Result Cause CommandError → Cause
@@ -32,33 +32,33 @@ salvage_cause fault.NotEmpty = Refused TargetNotEmpty
 salvage_cause fault.Memory = Memory
 
 -- the folder could not be looked at
-abbrev pub IsOfLooking : Cause → Type 0
-IsOfLooking FileFault = Unit {0}
-IsOfLooking Busy = Unit {0}
-IsOfLooking Memory = Unit {0}
-IsOfLooking _ = ⊥
+abbrev pub IsSurveyCause : Cause → Type 0
+IsSurveyCause FileFault = Unit {0}
+IsSurveyCause Busy = Unit {0}
+IsSurveyCause Memory = Unit {0}
+IsSurveyCause _ = ⊥
 
 -- the lines could not be put
-abbrev pub IsOfTelling : Cause → Type 0
-IsOfTelling OutputFault = Unit {0}
-IsOfTelling Memory = Unit {0}
-IsOfTelling _ = ⊥
+abbrev pub IsReportCause : Cause → Type 0
+IsReportCause OutputFault = Unit {0}
+IsReportCause Memory = Unit {0}
+IsReportCause _ = ⊥
 
 -- the refusal of a new folder that is a spool
-abbrev pub IsOfTarget : Refusal → Type 0
-IsOfTarget TargetNotEmpty = Unit {0}
-IsOfTarget _ = ⊥
+abbrev pub IsTargetRefusal : Refusal → Type 0
+IsTargetRefusal TargetNotEmpty = Unit {0}
+IsTargetRefusal _ = ⊥
 
 -- the new folder could not be written
-abbrev pub IsOfSaving : Cause → Type 0
-IsOfSaving FileFault = Unit {0}
-IsOfSaving Busy = Unit {0}
-IsOfSaving Memory = Unit {0}
-IsOfSaving (Refused refusal) = IsOfTarget refusal
-IsOfSaving _ = ⊥
+abbrev pub IsSalvageCause : Cause → Type 0
+IsSalvageCause FileFault = Unit {0}
+IsSalvageCause Busy = Unit {0}
+IsSalvageCause Memory = Unit {0}
+IsSalvageCause (Refused refusal) = IsTargetRefusal refusal
+IsSalvageCause _ = ⊥
 
 -- a fault of a file, or a lock that was taken, comes only where its count rose
-pub record Rises (old new : Session) (cause : Cause) : Type 0 where
+pub record SessionFaultsRose (old new : Session) (cause : Cause) : Type 0 where
   pub file_fault : cause ≡ FileFault → Rose old.file_faults new.file_faults
   pub busy : cause ≡ Busy → Rose old.taken new.taken
 
@@ -74,9 +74,9 @@ pub record Looks (old new : FolderAt) (faults : List Damage → Type 0) : Type 0
   pub found : old.tells ≡ true → faults (faults_of (reading visit.first))
 
 -- The faults were told, or their lines could not be put.
-pub record Tells (tells : Bool) (faults : List Damage) (old new : SinkAt) (result : Result Cause CommandError) : Type 0 where
+pub record ReportsFaults (tells : Bool) (faults : List Damage) (old new : SinkAt) (result : Result Cause CommandError) : Type 0 where
   pub later : old.faults ≤ new.faults
   pub failed : cause_by result ≡ OutputFault → Rose old.faults new.faults
-  pub verdict : IfOk result (λ cause. cause ≡ verdict_of faults)
-  pub stopped : IfErr result (λ stopped. IsOfTelling stopped.cause)
-  pub prints : tells ≡ true → PrintsBy (cause_by result) (fault_lines faults) old new
+  pub verdict : IfOk result (λ cause. cause ≡ cause_of_faults faults)
+  pub stopped : IfErr result (λ stopped. IsReportCause stopped.cause)
+  pub prints : tells ≡ true → PrintsFaultsBy (cause_by result) (fault_lines faults) old new

@@ -16,8 +16,8 @@ use Rattle.start_journal.specs.declared.mark.Mark.{Mark}
 use Rattle.start_journal.specs.Marks.{is_decided}
 
 -- the set has the numbers that the marks decide
-abbrev pub AreDecided : List Mark → BTreeSet ℕ → Type 0
-AreDecided marks decided = (number : ℕ) → contains nat_cmp decided number ≡ is_decided number marks
+abbrev pub AreDecidedNumbers : List Mark → BTreeSet ℕ → Type 0
+AreDecidedNumbers marks decided = (number : ℕ) → contains nat_cmp decided number ≡ is_decided number marks
 
 -- the set has these numbers
 abbrev pub HasNumbers : List ℕ → BTreeSet ℕ → Type 0
@@ -44,9 +44,9 @@ abbrev pub prefix_of : List ℕ × List ℕ → List ℕ × List ℕ
 prefix_of file = (file.0, take MAX_HEADER file.1)
 
 -- the job of a name that counts, where these are the marks
-abbrev pub IsCounted : List Mark → List ℕ → Option JobName → Type 0
-IsCounted marks name (Some job) = (counts marks name ≡ true) × (job_named name ≡ Some (job_of_name job))
-IsCounted marks name None = counts marks name ≡ false
+abbrev pub IsCountedName : List Mark → List ℕ → Option JobName → Type 0
+IsCountedName marks name (Some job) = (counts marks name ≡ true) × (job_named name ≡ Some (job_of_name job))
+IsCountedName marks name None = counts marks name ≡ false
 
 -- the numbers of files, the last one first, before some
 abbrev pub numbers_from : List ℕ → List JobFile → List ℕ
@@ -62,6 +62,6 @@ abbrev pub file_first : FirstFile → JobFile
 file_first first = record { name = first.name; job = job_of_name first.job; bytes = [] }
 
 -- they are, of each number, the first of these files, and the map has the queues
-pub record AreFirst (files : List JobFile) (firsts : FirstFiles) : Type 0 where
+pub record AreFirstFiles (files : List JobFile) (firsts : FirstFiles) : Type 0 where
   pub queues : AreQueues files firsts.queues
   pub files_are : map file_first firsts.files.items ≡ map bare (first_files [] files)

@@ -7,7 +7,7 @@ use Rattle.sequence_file.specs.LastNumber.{last_in}
 use Rattle.sequence_file.specs.Sequence.{sequence_file}
 use Rattle.spool_faults.specs.declared.look.Look.{Look}
 use Rattle.spool_faults.specs.Faults.{has_header}
-use Rattle.spool_faults.specs.inside.Finding.{AreDecided, AreFirst}
+use Rattle.spool_faults.specs.inside.Finding.{AreDecidedNumbers, AreFirstFiles}
 use Rattle.spool_shows.specs.JobFiles.{job_files}
 use Rattle.start_journal.specs.Journals.{journal_file}
 use Rattle.start_journal.specs.Taken.{marks_taken}
@@ -18,5 +18,5 @@ pub record IsLook (files : Files) (look : Look) : Type 0 where
   pub journal : look.journal ≡ finite.get files journal_file
   pub names : look.names.items ≡ finite.keys files
   pub marks : look.marks.items ≡ marks_taken look.journal
-  pub decided : AreDecided look.marks.items look.decided
-  pub firsts : AreFirst (filter has_header (job_files look.marks.items (finite.entries files))) look.firsts
+  pub decided : AreDecidedNumbers look.marks.items look.decided
+  pub firsts : AreFirstFiles (filter has_header (job_files look.marks.items (finite.entries files))) look.firsts

@@ -10,12 +10,12 @@ use Rattle.whole_file.specs.Others.{IsEither}
 use Rattle.whole_file.specs.Temporary.{temporary_file}
 
 -- the reading is the only image
-abbrev pub IsCertain : Folder → Type 0
-IsCertain folder = (image : Files) → IsImage folder image → image ≡ reading_of folder
+abbrev pub HasOneImage : Folder → Type 0
+HasOneImage folder = (image : Files) → IsImage folder image → image ≡ reading_of folder
 
 -- so it is, and it has no file of a spool
 pub record IsBare (folder : Folder) : Type 0 where
-  pub certain : IsCertain folder
+  pub certain : HasOneImage folder
   pub bare : is_spool (reading_of folder) ≡ false
 
 -- each of the names is that of a job's file
@@ -35,8 +35,8 @@ abbrev pub IsCopied : List ℕ → List ℕ → Type 0
 IsCopied name other = IsSome (job_named name) × IsEither temporary_file name other
 
 -- each image has this at the name
-abbrev pub EachHas : List ℕ → Option (List ℕ) → Folder → Type 0
-EachHas name held folder = (image : Files) → IsImage folder image → map.get image name ≡ held
+abbrev pub EachHasFile : List ℕ → Option (List ℕ) → Folder → Type 0
+EachHasFile name held folder = (image : Files) → IsImage folder image → map.get image name ≡ held
 
 -- of files with these names, the bytes that the files have
 abbrev pub copied : List (List ℕ) → Files → List ℕ → Option (List ℕ)

@@ -11,7 +11,7 @@ use Rattle.start_journal.specs.declared.mark.Mark.{Mark}
 use Rattle.start_journal.specs.Marks.{started_at}
 use Rattle.spool_shows.specs.JobFiles.{JobFile, damage_of, file_of, file_place, files_damage}
 use Rattle.spool_shows.specs.Shown.{state_since, user_of}
-use Rattle.spool_store.specs.inside.Tables.{Rise}
+use Rattle.spool_store.specs.inside.Tables.{AreAscending}
 
 -- the row of a file
 abbrev pub row_of : List Mark → JobFile → Row
@@ -28,42 +28,43 @@ abbrev pub RowMap : Type 0
 RowMap = List (ℕ × Row)
 
 -- the row under the number
-abbrev pub row_at : RowMap → ℕ → Option Row
-row_at rows number = lookup (is_at (nat_cmp number)) rows
+abbrev pub row_in_map : RowMap → ℕ → Option Row
+row_in_map rows number = lookup (is_at (nat_cmp number)) rows
 
 -- the numbers rise
 abbrev pub IsInOrder : RowMap → Type 0
-IsInOrder rows = Rise (map (λ under. under.0) rows)
+IsInOrder rows = AreAscending (map (λ under. under.0) rows)
 
 -- each row under its own number
-abbrev pub numbered : List Row → RowMap
-numbered rows = map (λ row. (row.number, row)) rows
+abbrev pub rows_by_number : List Row → RowMap
+rows_by_number rows = map (λ row. (row.number, row)) rows
 
 -- under each number stands the row of its file
 abbrev pub AreRowsOf : List Mark → List JobFile → RowMap → Type 0
-AreRowsOf marks files rows = (number : ℕ) → row_at rows number ≡ option_map (row_of marks) (file_of number files)
+AreRowsOf marks files rows = (number : ℕ) → row_in_map rows number ≡ option_map (row_of marks) (file_of number files)
 
 -- the rows are those of the files, in the order of their numbers
 pub record ListsRows (marks : List Mark) (files : List JobFile) (rows : List Row) : Type 0 where
-  pub are : AreRowsOf marks files (numbered rows)
-  pub rise : IsInOrder (numbered rows)
+  pub are : AreRowsOf marks files (rows_by_number rows)
+  pub rise : IsInOrder (rows_by_number rows)
 
 -- the files have no damage, and these are their rows
 abbrev pub HaveRows : ℕ → List Mark → List JobFile → List Row → Type 0
 HaveRows last marks files rows = (files_damage last [] files ≡ None) × ListsRows marks files rows
 
 -- the numbers of files that were surveyed, the last one first, before these
-abbrev pub numbers_after : List ℕ → List JobFile → List ℕ
-numbers_after before [] = before
-numbers_after before (file ∷ later) = numbers_after (file.job.number ∷ before) later
+abbrev pub surveyed_numbers : List ℕ → List JobFile → List ℕ
+surveyed_numbers before [] = before
+surveyed_numbers before (file ∷ later) = surveyed_numbers (file.job.number ∷ before) later
 
 -- whether the number is one of these
 abbrev pub IsTaken : List ℕ → ℕ → Bool → Type 0
 IsTaken numbers number taken = taken ≡ list_any (λ other. other == number) numbers
 
 -- the new rows are these and one row under its number
-abbrev pub IsPut : RowMap → RowMap → Row → Type 0
-IsPut old new row = (number : ℕ) → row_at new number ≡ (if is_at (nat_cmp row.number) number then Some row else row_at old number)
+abbrev pub IsRowInserted : RowMap → RowMap → Row → Type 0
+IsRowInserted old new row = (number : ℕ) → row_in_map new number ≡ (if is_at (nat_cmp row.number) number then Some row else row_in_map old
+    number)
 
 -- the row of a file that has no fault, or its damage
 abbrev pub IsRowOrDamage : ℕ → List ℕ → List Mark → JobFile → Result Row Damage → Type 0
@@ -73,12 +74,12 @@ IsRowOrDamage last before marks file (Err damage) = damage_of file (file_place l
 -- Of these files so many were surveyed: the damage of all is that of the others after them, and the
 -- rows are theirs.
 pub record IsSurveyedSoFar (last : ℕ) (marks : List Mark) (files : List JobFile) (place : ℕ) (rows : RowMap) : Type 0 where
-  pub damage : files_damage last [] files ≡ files_damage last (numbers_after [] (take place files)) (drop place files)
+  pub damage : files_damage last [] files ≡ files_damage last (surveyed_numbers [] (take place files)) (drop place files)
   pub rows_are : AreRowsOf marks (take place files) rows
 
 -- Of these files so many have rising numbers and rows without a fault; these are the rows, and none has a number above
 -- this one.
 pub record IsRisingSoFar (last : ℕ) (marks : List Mark) (files : List JobFile) (place above : ℕ) (rows : List Row) : Type 0 where
-  pub so_far : IsSurveyedSoFar last marks files place (numbered rows)
-  pub rise : IsInOrder (numbered rows)
-  pub below : AllByRecursion (λ number. number ≤ above) (map (λ under. under.0) (numbered rows))
+  pub so_far : IsSurveyedSoFar last marks files place (rows_by_number rows)
+  pub rise : IsInOrder (rows_by_number rows)
+  pub below : AllByRecursion (λ number. number ≤ above) (map (λ under. under.0) (rows_by_number rows))

@@ -20,6 +20,6 @@ pub record IsRowPut (old : List Row) (row : Row) (put new : List Row) : Type 0 w
   pub is : new ≡ prefix ++ (put ++ back)
 
 -- The rows and the decided numbers are listed, and the lines are those of the rows.
-pub record AreKept (last : ℕ) (rows : List Row) (decided : List Decided) (lines : Lines) : Type 0 where
+pub record AreRowsKept (last : ℕ) (rows : List Row) (decided : List Decided) (lines : Lines) : Type 0 where
   pub listed : AreListed last (map row_entry rows) (map decided_entry decided)
   pub lined : AreLinesOf rows lines

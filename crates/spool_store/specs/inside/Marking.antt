@@ -15,7 +15,7 @@ use Rattle.start_journal.specs.Marks.{decides, kept_marks}
 use Rattle.whole_file.specs.Others.{IsEither}
 use Rattle.step_runs.specs.WithoutScripts.{without_scripts}
 use Rattle.step_runs.specs.Current.{EachShows, HasNoDecidedFile, IsCurrent, Kept}
-use Rattle.spool_store.specs.Scripts.{IsFileOf}
+use Rattle.spool_store.specs.Scripts.{IsLiveFileName}
 
 -- what is kept of a table: the table without scripts, the journal, and the numbers of names in the old form
 abbrev pub kept_with : List ℕ → JournalRead → JobTable → Kept
@@ -39,7 +39,7 @@ pub record IsDecisionOf (old_form : List ℕ) (journal : JournalRead) (folder : 
   pub is_mark : IsMarkOf old_form journal folder table step mark
   pub number : ℕ
   pub decided : decides number mark ≡ true
-  pub file : IsFileOf table old_form number name
+  pub file : IsLiveFileName table old_form number name
 
 -- the marks with one more, or what a compaction keeps of them with one more
 abbrev pub HaveOneMore : List Mark → Mark → List Mark → Type 0
@@ -52,7 +52,7 @@ KeepsFiles old new =
 
 -- The mark stands: each image shows the table, and what is kept is current with it, but for files of numbers
 -- that the last mark decides.
-pub record IsMarked (before : List Mark) (journal : JournalRead) (folder : Folder) (table : JobTable) : Type 0 where
+pub record IsMarkDurable (before : List Mark) (journal : JournalRead) (folder : Folder) (table : JobTable) : Type 0 where
   pub shows : EachShows folder table
   pub holds : HoldsJournal journal folder
   pub sequence : (image : Files) → IsImage folder image → finite.get image sequence_file ≡ finite.get (reading_of folder) sequence_file

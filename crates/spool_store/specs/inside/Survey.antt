@@ -18,7 +18,7 @@ use Rattle.spool_shows.specs.Shown.{Shows}
 use Rattle.spool_store.specs.declared.surveyed_files.SurveyedFiles.{SurveyedFiles}
 use Rattle.spool_store.specs.declared.surveyed_files.Kind.{Kind}
 use Rattle.spool_store.specs.declared.surveyed_files.Kind.TheVariants.{Counts, LeftOver, Other}
-use Rattle.spool_store.specs.declared.survey.Survey.{Survey}
+use Rattle.spool_store.specs.declared.survey.RecoveryScan.{RecoveryScan}
 use Rattle.spool_store.specs.inside.SurveyedJobs.{files_surveyed, job_of_name, old_form_numbers}
 
 -- a mark decides the number of the job, if there is one
@@ -49,7 +49,7 @@ pub record AreSurveyedFiles (marks : List Mark) (files : List (List ℕ × List 
 
 -- The folder shows a table. These are its jobs without scripts, its journal, the numbers of the files with narrow
 -- names, and the names of the files that count no more, each once.
-pub record IsSurvey (files : Files) (survey : Survey) : Type 0 where
+pub record IsSurvey (files : Files) (survey : RecoveryScan) : Type 0 where
   pub table : JobTable
   pub shows : Shows files table
   pub jobs : survey.jobs ≡ without_scripts table

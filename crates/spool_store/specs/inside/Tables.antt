@@ -13,29 +13,29 @@ use Rattle.step_runs.specs.WithoutScripts.{without_scripts}
 use Rattle.spool_store.specs.Rows.{listed_table}
 
 -- the number was drawn
-abbrev pub IsDrawn : ℕ → ℕ → Type 0
-IsDrawn last number = (1 ≤ number) × (number ≤ last)
+abbrev pub IsDrawnBy : ℕ → ℕ → Type 0
+IsDrawnBy last number = (1 ≤ number) × (number ≤ last)
 
 -- no file is that of a decided number
 abbrev pub AreUndecided : List Mark → List JobFile → Type 0
 AreUndecided marks files = (file : JobFile) → Contains files file → is_decided file.job.number marks ≡ false
 
 -- numbers that rise
-abbrev pub Rise : List ℕ → Type 0
-Rise numbers = IsStrictlySortedBy nat_cmp numbers
+abbrev pub AreAscending : List ℕ → Type 0
+AreAscending numbers = IsStrictlySortedBy nat_cmp numbers
 
 -- There is no damage, and the rows and decided numbers, each in the order of their numbers, are the table
 -- that is shown, without scripts.
 pub record ListsTable (last : ℕ) (marks : List Mark) (files : List JobFile) (rows : List Row) (decided : List Decided) : Type 0 where
   pub whole : damage_of_jobs last marks files ≡ None
   pub table : listed_table last rows decided (last_batch marks) ≡ without_scripts (table_shown last marks files)
-  pub rows_rise : Rise (map (λ row. row.number) rows)
-  pub decided_rise : Rise (map (λ one. one.number) decided)
+  pub rows_rise : AreAscending (map (λ row. row.number) rows)
+  pub decided_rise : AreAscending (map (λ one. one.number) decided)
 
 -- each number of the rows and the decided ones was drawn, and none is in both
 pub record ListsDrawn (last : ℕ) (rows : List Row) (decided : List Decided) : Type 0 where
-  pub rows_drawn : (row : Row) → Contains rows row → IsDrawn last row.number
-  pub decided_drawn : (one : Decided) → Contains decided one → IsDrawn last one.number
+  pub rows_drawn : (row : Row) → Contains rows row → IsDrawnBy last row.number
+  pub decided_drawn : (one : Decided) → Contains decided one → IsDrawnBy last one.number
   pub apart : (row : Row) (one : Decided) → Contains rows row → Contains decided one → ¬ (row.number ≡ one.number)
 
 -- there is no damage, and this is the table that is shown, without scripts

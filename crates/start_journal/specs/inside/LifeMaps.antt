@@ -6,13 +6,13 @@ use Rattle.start_journal.specs.declared.lifecycles.Lifecycle.{Lifecycle}
 use Rattle.start_journal.specs.declared.life_map.LifeMap.TheInside.{Inside}
 
 -- the lives of a row, each with its number
-abbrev pub numbered : ℕ → List Lifecycle → List (ℕ × Lifecycle)
-numbered first [] = []
-numbered first (life ∷ later) = (first, life) ∷ numbered (suc first) later
+abbrev pub lives_by_number : ℕ → List Lifecycle → List (ℕ × Lifecycle)
+lives_by_number first [] = []
+lives_by_number first (life ∷ later) = (first, life) ∷ lives_by_number (suc first) later
 
 -- all lives, each with its number: those of the map, and then those of the row
 abbrev pub lives_of : Inside → List (ℕ × Lifecycle)
-lives_of inside = inside.below.entries ++ numbered inside.first inside.row.items
+lives_of inside = inside.below.entries ++ lives_by_number inside.first inside.row.items
 
 -- the numbers of the map are below those of the row, and each of these is one of 32 bits
 pub record IsLifeMap (inside : Inside) : Type 0 where

@@ -5,7 +5,7 @@ use Rattle.host_calls.specs.Folder.{Files, Folder, IsImage, overwritten, reading
 use Rattle.whole_file.specs.Others.{LeavesOthers}
 
 -- no change of names is pending, and the file has the same bytes in every image
-pub record IsCertain (name : List ℕ) (folder : Folder) : Type 0 where
+pub record IsDurableFile (name : List ℕ) (folder : Folder) : Type 0 where
   pub certain : folder.pending ≡ []
   pub same : (image : Files) → IsImage folder image → map.get image name ≡ map.get (reading_of folder) name
 
@@ -18,7 +18,7 @@ pub record IsOverwriting (name : List ℕ) (offset count : ℕ) (start : Folder)
 
 -- the range has these bytes in every image, no change of names is pending, and other files are left alone
 pub record IsOverwritten (name : List ℕ) (offset : ℕ) (part : List ℕ) (old new : Folder) : Type 0 where
-  pub certain : IsCertain name new
+  pub certain : IsDurableFile name new
   pub written : map.get (reading_of new) name ≡ option_map (λ bytes. overwritten bytes offset part) (map.get (reading_of old) name)
   pub alone : (image : Files) → IsImage new image → LeavesOthers (λ other. other ≡ name) old image
   pub others : (other : List ℕ) → ¬ (other ≡ name) → map.get (reading_of new) other ≡ map.get (reading_of old) other

@@ -10,7 +10,7 @@ use Rattle.timespec_grammar.specs.declared.timespec.Timespec.{Timespec}
 use Rattle.timespec_grammar.specs.declared.read.Read.{Read}
 use Rattle.timespec_grammar.specs.declared.read.Read.TheVariants as read
 use Rattle.timespec_grammar.specs.Grammar.{timespec_of}
-use Rattle.timespec_grammar.specs.Numbers.{is_hour, is_hour_minute, is_twelve, is_minute, is_month, is_month_number, is_weekday, is_day, is_year, is_date_number, is_count}
+use Rattle.timespec_grammar.specs.Numbers.{is_hour, is_hour_minute, is_twelve, is_minute, is_month, is_month_number, is_weekday_number, is_day_number, is_year, is_date_number, is_count}
 
 -- the first token
 abbrev pub begin : Token → Option Read
@@ -39,7 +39,7 @@ after_date at day _ = None
 -- what follows a whole time: a date, or what follows a date
 abbrev pub after_time : Clock → Token → Option Read
 after_time at (token.Month month) = if is_month month then Some (read.MonthNamed at month) else None
-after_time at (token.Weekday day) = if is_weekday day then Some (read.Dated at (date.Weekday day)) else None
+after_time at (token.Weekday day) = if is_weekday_number day then Some (read.Dated at (date.Weekday day)) else None
 after_time at (token.Number digits value) = if is_date_number digits value then Some (read.DateNumber at digits value) else None
 after_time at token.Today = Some (read.Dated at date.Today)
 after_time at token.Tomorrow = Some (read.Dated at date.Tomorrow)
@@ -64,7 +64,7 @@ after_hour hour other = after_minute hour 0 other
 -- the day after a month
 abbrev pub after_month : Clock → ℕ → Token → Option Read
 after_month at month (token.Number digits value) =
-    if is_day digits value then Some (read.DayNamed at month value) else None
+    if is_day_number digits value then Some (read.DayNamed at month value) else None
 after_month at month _ = None
 
 -- what follows a month and a day: a comma, or what follows a date
@@ -81,14 +81,14 @@ year_due at month day _ = None
 -- the mark after a number that begins a date: it says whether that was a month, a day or a year
 abbrev pub after_number : Clock → ℕ → ℕ → Token → Option Read
 after_number at digits value token.Slash = if is_month_number digits value then Some (read.MonthSlash at value) else None
-after_number at digits value token.Dot = if is_day digits value then Some (read.DayDot at value) else None
+after_number at digits value token.Dot = if is_day_number digits value then Some (read.DayDot at value) else None
 after_number at digits value token.Dash = if is_year digits value then Some (read.YearDash at value) else None
 after_number at digits value _ = None
 
 -- the day after a month and a slash
 abbrev pub after_slash : Clock → ℕ → Token → Option Read
 after_slash at month (token.Number digits value) =
-    if is_day digits value then Some (read.SlashDay at month value) else None
+    if is_day_number digits value then Some (read.SlashDay at month value) else None
 after_slash at month _ = None
 
 -- the second slash
@@ -121,7 +121,7 @@ second_dash at month year _ = None
 -- the day after a year and a month
 abbrev pub day_due : Clock → ℕ → ℕ → Token → Option Read
 day_due at month year (token.Number digits value) =
-    if is_day digits value then Some (read.Dated at (date.MonthDay month value (Some year))) else None
+    if is_day_number digits value then Some (read.Dated at (date.MonthDay month value (Some year))) else None
 day_due at month year _ = None
 
 -- the count after a plus

@@ -10,12 +10,12 @@ abbrev pub words_of : List (Bor (List ℕ) × Token) → WordTable
 words_of rows = map (λ row. (row.0.now, row.1)) rows
 
 -- the word of the table that is found at a place is its longest there, and none where it has none
-abbrev pub IsBest : List ℕ → ℕ → WordTable → Option Found → Type 0
-IsBest text place table None = HasNoWord text place table
-IsBest text place table (Some found) =
+abbrev pub IsLongestMatch : List ℕ → ℕ → WordTable → Option Found → Type 0
+IsLongestMatch text place table None = HasNoWord text place table
+IsLongestMatch text place table (Some found) =
     (word : List ℕ) × IsLongest text place table word found.token × (found.end ≡ place + length word)
 
 -- what is found with one row more, whatever the rows before it are
 abbrev pub AddsRow : List ℕ → ℕ → Option Found → List ℕ × Token → Option Found → Type 0
 AddsRow text place old row new =
-    (table : WordTable) → IsBest text place table old → IsBest text place (table ++ row ∷ []) new
+    (table : WordTable) → IsLongestMatch text place table old → IsLongestMatch text place (table ++ row ∷ []) new

@@ -47,14 +47,14 @@ read_year text =
     else (if (length text == 12) || (length text == 15) then read_full_year text else None))
 
 -- a number was read, and it was the last
-abbrev pub is_last : Read ℕ → Bool
-is_last None = false
-is_last (Some read) = length read.1 == 0
+abbrev pub is_last_number : Read ℕ → Bool
+is_last_number None = false
+is_last_number (Some read) = length read.1 == 0
 
 -- nothing, or a point and seconds
 unfoldable pub is_seconds : List ℕ → Bool
 is_seconds [] = true
-is_seconds (point ∷ rest) = (point == 46) && is_last (read_number 0 60 rest)
+is_seconds (point ∷ rest) = (point == 46) && is_last_number (read_number 0 60 rest)
 
 -- a time and nothing after it
 unfoldable pub read_touch : List ℕ → Option TouchTime

@@ -7,8 +7,8 @@ use Rattle.unix_host.specs.declared.unsynced.Unsynced.{Unsynced}
 use Rattle.unix_host.specs.declared.unsynced.Unsynced.TheVariants.{Anything}
 
 -- what the next session is to be told: where a call failed, the worst
-abbrev pub left_by : Changes → Unsynced
-left_by changes = if changes.has_failed then Anything else unsynced_by changes
+abbrev pub unsynced_left_by : Changes → Unsynced
+unsynced_left_by changes = if changes.has_failed then Anything else unsynced_by changes
 
 -- nothing that may be unsynced is forgotten
 pub record Remembers (old new : Changes) : Type 0 where

@@ -1,6 +1,6 @@
 use Rattle.std.proofs.Common.{◌++◌, append-nil, subst, sym, take}
 use Rattle.std.proofs.lemmas.List.{take_all}
-use Rattle.accounts.specs.Records.{MayCome}
+use Rattle.accounts.specs.Records.{IsRecordAllowed}
 use Rattle.accounts.specs.Standings.{IsLedgerOf}
 use Rattle.accounts.proofs.GatheringLemmas.{legal_at, so_far_more}
 use Rattle.accounts.proofs.gathering.add_records.Goals as goal
@@ -13,7 +13,7 @@ loop-one-preserved c before ledger legal =
     let place = c.loop-one.one-index in
     let records = c.args.records.now in
     subst (λ r. IsLedgerOf r c.add.new.self) (so_far_more before records place c.one-item.result c.loop-one-test.true c.one-item.is)
-    (c.in_ok-add.ensures (before ++ take place records) (c.loop-one.invariant before ledger legal) (legal_at MayCome before records place c.one-item.result c.loop-one-test.true c.one-item.is legal))
+    (c.in_ok-add.ensures (before ++ take place records) (c.loop-one.invariant before ledger legal) (legal_at IsRecordAllowed before records place c.one-item.result c.loop-one-test.true c.one-item.is legal))
 
 pub returns : goal.returns
 returns c before ledger legal =

@@ -8,9 +8,9 @@ use Rattle.accounts.proofs.gathering.news_of_jobs.Goals as goal
 
 pub loop-number-preserved : goal.loop-number-preserved
 loop-number-preserved c before ledger =
-    gathered_more before (news_of_all before c.args.jobs.now.entries) c.loop-number.news.items c.add_news.new.news.items c.in-Some.number.now c.in-Some.known.now
+    gathered_more before (news_of_all before c.args.jobs.now.entries) c.loop-number.news.items c.add_new_records.new.news.items c.in-Some.number.now c.in-Some.known.now
     c.loop-number.number-iterator c.next.new.self c.in-Some.ensures.steps (c.loop-number.invariant before ledger)
-    (c.in_ok-add_news.ensures before (c.standing.ensures before ledger)
+    (c.in_ok-add_new_records.ensures before (c.state_of.ensures before ledger)
     ∙ ap (λ job. c.loop-number.news.items ++ news_of before c.in-Some.number.now job) c.as_ref.ensures.value)
 
 pub returns-clause-are : goal.returns-clause-are

@@ -7,8 +7,8 @@ use Rattle.accounts.proofs.tally.count_one.Goals as goal
 pub returns : goal.returns
 returns c all counted ledger tally =
     tally_more all counted c.args.one.now c.in-Some.standing.now c.args.tally.now c.insert.new.self c.raised-counts.result (c.in-Some.ensures all ledger)
-    (subst (λ kind. AreRaised (tree.get pair_cmp c.args.tally.now (owner_pair c.in-Some.standing.now.owner)) kind c.raised-counts.result) c.kind_of.ensures.kind
-    (subst (λ found. AreRaised found c.kind_of.result c.raised-counts.result) c.get.ensures.value c.raised-counts.ensures))
+    (subst (λ kind. AreRaised (tree.get pair_cmp c.args.tally.now (owner_pair c.in-Some.standing.now.owner)) kind c.raised-counts.result) c.kind_of_event.ensures.kind
+    (subst (λ found. AreRaised found c.kind_of_event.result c.raised-counts.result) c.get.ensures.value c.raised-counts.ensures))
     c.in_ok-insert.ensures.updates.0 tally
 
 pub returns-in_default : goal.returns-in_default

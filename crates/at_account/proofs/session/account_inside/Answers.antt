@@ -1,10 +1,10 @@
 use Rattle.std.proofs.Common.{subst, sym}
 use Rattle.std.proofs.lemmas.Result.{err_from_is_err_and}
-use Rattle.host_calls.specs.World.{GoesOn, World}
+use Rattle.host_calls.specs.World.{TimePasses, World}
 use Rattle.step_runs.specs.Calls.{ShowsAsBefore}
 use Rattle.whole_file.specs.Others.{ChangesFiles}
 use Rattle.at_account.specs.Accounting.{IsAccounting}
-use Rattle.at_account.specs.inside.Filing.{IsWriting, IsWritten}
+use Rattle.at_account.specs.inside.Filing.{IsWriting, AreRecordsWritten}
 use Rattle.at_account.specs.inside.Inside.{StopsInside}
 use Rattle.at_account.proofs.CountingLemmas.{accounted, accounting_alone, accounting_since, goes_on_by, host_stops, stops}
 use Rattle.at_account.proofs.session.account_inside.Goals as goal
@@ -19,7 +19,7 @@ returns-in_err-store-clause-images g c = λ known.
 
 pub returns-in_err-account-clause-goes_on : goal.returns-in_err-account-clause-goes_on
 returns-in_err-account-clause-goes_on g c = λ known.
-    subst (GoesOn (g.H.Host.world c.args.host.now)) (sym (c.in_err-account.ensures.looks known))
+    subst (TimePasses (g.H.Host.world c.args.host.now)) (sym (c.in_err-account.ensures.looks known))
     (goes_on_by (ShowsAsBefore (g.H.Host.world c.args.host.now).now.folder) (g.H.Host.world c.args.host.now) (g.H.Host.world c.recover.new.host) (c.in_ok-store.ensures.files known))
 
 pub returns-in_err-account-clause-images : goal.returns-in_err-account-clause-images
@@ -29,7 +29,7 @@ returns-in_err-account-clause-images g c = λ known.
 
 pub returns-in_err-text-clause-goes_on : goal.returns-in_err-text-clause-goes_on
 returns-in_err-text-clause-goes_on g c = λ known.
-    subst (GoesOn (g.H.Host.world c.args.host.now)) (sym (c.in_ok-account.ensures.looks known))
+    subst (TimePasses (g.H.Host.world c.args.host.now)) (sym (c.in_ok-account.ensures.looks known))
     (goes_on_by (ShowsAsBefore (g.H.Host.world c.args.host.now).now.folder) (g.H.Host.world c.args.host.now) (g.H.Host.world c.recover.new.host) (c.in_ok-store.ensures.files known))
 
 pub returns-in_err-text-clause-images : goal.returns-in_err-text-clause-images
@@ -88,5 +88,5 @@ returns-clause-ends g c = λ known.
     (subst (λ (from : World). ChangesFiles (IsWriting c.in_ok-account.account from.now.folder) from (g.H.Host.world c.write_account.new.host)) (c.in_ok-account.ensures.looks known)
     (c.in_ok-write_account.ensures.files known))
     c.args.show c.in_ok-text.text c.in_ok-text.ensures
-    (subst (λ (from : World). IsWritten c.in_ok-account.account from.now.folder (g.H.Host.world c.write_account.new.host).now.folder) (c.in_ok-account.ensures.looks known)
+    (subst (λ (from : World). AreRecordsWritten c.in_ok-account.account from.now.folder (g.H.Host.world c.write_account.new.host).now.folder) (c.in_ok-account.ensures.looks known)
     (c.in_ok-write_account.ensures.written known))

@@ -17,8 +17,8 @@ returns-then-is_unreadable-clause-ends g c =
     (sink_at (g.O.Sink.content c.args.out.now) (g.O.Sink.outlet c.args.out.now)) c.requires.named
     (sym c.is_unreadable.ensures ∙ c.if-is_unreadable.true)
 
-pub in_session-requires-clause-may : goal.in_session-requires-clause-may
-in_session-requires-clause-may g c = λ at inside. search (rules, zone_readable c.args.caller.now.zone (sym c.is_unreadable.ensures ∙ c.if-is_unreadable.false))
+pub in_command_session-requires-clause-may : goal.in_command_session-requires-clause-may
+in_command_session-requires-clause-may g c = λ at inside. search (rules, zone_readable c.args.caller.now.zone (sym c.is_unreadable.ensures ∙ c.if-is_unreadable.false))
 
 pub returns-in-Err-clause-no_input_fault : goal.returns-in-Err-clause-no_input_fault
 returns-in-Err-clause-no_input_fault g c = no_input_of_spool c.in-Err.stopped
@@ -31,7 +31,7 @@ returns-in-Err-clause-output_fault g c = λ same. absurd (no_output_of_spool c.i
 pub returns-in-Err-clause-ends : goal.returns-in-Err-clause-ends
 returns-in-Err-clause-ends g c =
     listing_stopped g.H.Host.tells g.H.Host.alone g.O.Sink.tells c.args.which.now c.args.caller.now (g.H.Host.world c.args.host.now)
-    (g.H.Host.world c.in_session.new.host) c.requires.named (sym c.is_unreadable.ensures ∙ c.if-is_unreadable.false)
+    (g.H.Host.world c.in_command_session.new.host) c.requires.named (sym c.is_unreadable.ensures ∙ c.if-is_unreadable.false)
     c.in-Err.stopped (sink_at (g.O.Sink.content c.args.out.now) (g.O.Sink.outlet c.args.out.now))
     (no_output_of_session g.H.Host _ _ _ _ _ _ c.in-Err.ensures.ends (λ first last did. search (rules, did)))
     (lists_of_session g.H.Host _ _ _ _ _ _ (request.List c.args.which.now) c.args.caller.now c.in-Err.ensures.ends
@@ -48,7 +48,7 @@ returns-in-Ok-clause-no_input_fault g c = puts_no_input_fault _ _ _ _ c.put_whol
 pub returns-in-Ok-clause-ends : goal.returns-in-Ok-clause-ends
 returns-in-Ok-clause-ends g c =
     listing_put g.H.Host.tells g.H.Host.alone g.O.Sink.tells c.args.which.now c.args.caller.now (g.H.Host.world c.args.host.now)
-    (g.H.Host.world c.in_session.new.host) c.requires.named (sym c.is_unreadable.ensures ∙ c.if-is_unreadable.false)
+    (g.H.Host.world c.in_command_session.new.host) c.requires.named (sym c.is_unreadable.ensures ∙ c.if-is_unreadable.false)
     c.put_whole.result c.in-Ok.text (sink_at (g.O.Sink.content c.args.out.now) (g.O.Sink.outlet c.args.out.now))
     (sink_at (g.O.Sink.content c.put_whole.new.out) (g.O.Sink.outlet c.put_whole.new.out))
     (lists_of_session g.H.Host _ _ _ _ _ _ (request.List c.args.which.now) c.args.caller.now c.in-Ok.ensures.ends

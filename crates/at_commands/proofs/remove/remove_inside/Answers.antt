@@ -22,7 +22,7 @@ pub returns-in_err-store-clause-carries : goal.returns-in_err-store-clause-carri
 returns-in_err-store-clause-carries g c = λ caller same.
     let p = err_from_is_err_and c.from_residual.result c.from_residual.ensures.1 in
     rw (p.1, p.2)
-    (carries_unopened g.H.Host.tells _ (request.Remove c.args.numbers.now) caller (g.H.Host.world c.args.host.now) (g.H.Host.world c.open.new.host)
+    (carries_unopened g.H.Host.tells _ (request.Remove c.args.numbers.now) caller (g.H.Host.world c.args.host.now) (g.H.Host.world c.open_store.new.host)
     c.args.user.now c.in_err-store.field-0.0.cause same c.in_err-store.ensures.not_opened)
 
 pub returns-in-Some-clause-comes : goal.returns-in-Some-clause-comes
@@ -34,8 +34,8 @@ returns-in-Some-clause-no_output g c = rw c.refused.ensures tt
 pub returns-in-Some-clause-carries : goal.returns-in-Some-clause-carries
 returns-in-Some-clause-carries g c = λ caller same.
     rw c.refused.ensures
-    (removal_refused g.H.Host.tells _ c.args.numbers.now caller c.args.user.now same (g.H.Host.world c.args.host.now) (g.H.Host.world c.open.new.host)
-    (g.H.Host.world c.open.new.host) c.in_ok-store.store c.in_ok-store.ensures.opened c.in-Some.refusal c.in-Some.ensures (λ known. refl))
+    (removal_refused g.H.Host.tells _ c.args.numbers.now caller c.args.user.now same (g.H.Host.world c.args.host.now) (g.H.Host.world c.open_store.new.host)
+    (g.H.Host.world c.open_store.new.host) c.in_ok-store.store c.in_ok-store.ensures.opened c.in-Some.refusal c.in-Some.ensures (λ known. refl))
 
 pub remove_jobs-requires-clause-legal : goal.remove_jobs-requires-clause-legal
 remove_jobs-requires-clause-legal g c =
@@ -52,12 +52,12 @@ returns-in-None-clause-no_output g c = removing_no_output c.remove_jobs.result c
 
 pub returns-in-None-clause-goes_on : goal.returns-in-None-clause-goes_on
 returns-in-None-clause-goes_on g c = λ known.
-    goes_on_then (g.H.Host.world c.args.host.now) (g.H.Host.world c.open.new.host) (g.H.Host.world c.remove_jobs.new.host)
+    goes_on_then (g.H.Host.world c.args.host.now) (g.H.Host.world c.open_store.new.host) (g.H.Host.world c.remove_jobs.new.host)
     (c.in_ok-store.ensures.goes_on known) (c.remove_jobs.ensures.goes_on known)
 
 pub returns-in-None-clause-carries : goal.returns-in-None-clause-carries
 returns-in-None-clause-carries g c = λ caller same.
-    removal_by g.H.Host.tells _ c.args.numbers.now caller c.args.user.now same (g.H.Host.world c.args.host.now) (g.H.Host.world c.open.new.host)
+    removal_by g.H.Host.tells _ c.args.numbers.now caller c.args.user.now same (g.H.Host.world c.args.host.now) (g.H.Host.world c.open_store.new.host)
     (g.H.Host.world c.remove_jobs.new.host) c.in_ok-store.store c.in_ok-store.ensures.opened (cause_in c.remove_jobs.result) c.in-None.ensures
     (removal_comes c.remove_jobs.result c.remove_jobs.ensures.comes)
     (λ known. c.remove_jobs.ensures.works known c.in_ok-store.ensures.opened.table (c.in_ok-store.ensures.opened.recovered known).current)

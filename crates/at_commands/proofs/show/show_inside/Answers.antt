@@ -25,7 +25,7 @@ pub returns-in_err-store-clause-shows : goal.returns-in_err-store-clause-shows
 returns-in_err-store-clause-shows g c = λ caller same.
     let p = err_from_is_err_and c.from_residual.result c.from_residual.ensures.1 in
     rw (p.1, p.2)
-    (showing_unopened g.H.Host.tells _ g.O.Sink.tells (request.Show c.args.numbers.now) caller (g.H.Host.world c.args.host.now) (g.H.Host.world c.open.new.host)
+    (showing_unopened g.H.Host.tells _ g.O.Sink.tells (request.Show c.args.numbers.now) caller (g.H.Host.world c.args.host.now) (g.H.Host.world c.open_store.new.host)
     (sink_at (g.O.Sink.content c.args.out.now) (g.O.Sink.outlet c.args.out.now)) c.args.user.now c.in_err-store.field-0.0.cause same c.in_err-store.ensures.not_opened)
 
 pub returns-in-Some-clause-comes : goal.returns-in-Some-clause-comes
@@ -35,7 +35,7 @@ pub returns-in-Some-clause-shows : goal.returns-in-Some-clause-shows
 returns-in-Some-clause-shows g c = λ caller same.
     rw c.refused.ensures
     (showing_refused g.H.Host.tells g.O.Sink.tells c.args.numbers.now caller c.args.user.now same (g.H.Host.world c.args.host.now)
-    (g.H.Host.world c.open.new.host) (g.H.Host.world c.open.new.host) (sink_at (g.O.Sink.content c.args.out.now) (g.O.Sink.outlet c.args.out.now))
+    (g.H.Host.world c.open_store.new.host) (g.H.Host.world c.open_store.new.host) (sink_at (g.O.Sink.content c.args.out.now) (g.O.Sink.outlet c.args.out.now))
     (sink_at (g.O.Sink.content c.args.out.now) (g.O.Sink.outlet c.args.out.now)) c.in_ok-store.store c.in_ok-store.ensures.opened c.in-Some.refusal c.in-Some.ensures
     (λ known. refl) (silent _))
 
@@ -53,12 +53,12 @@ returns-clause-output_fault g c = c.put_scripts.ensures.puts.failed
 
 pub returns-clause-goes_on : goal.returns-clause-goes_on
 returns-clause-goes_on g c = λ known.
-    goes_on_then (g.H.Host.world c.args.host.now) (g.H.Host.world c.open.new.host) (g.H.Host.world c.put_scripts.new.host)
+    goes_on_then (g.H.Host.world c.args.host.now) (g.H.Host.world c.open_store.new.host) (g.H.Host.world c.put_scripts.new.host)
     (c.in_ok-store.ensures.goes_on known) (goes_on_none _ _ (c.put_scripts.ensures.puts.looks known))
 
 pub returns-clause-shows : goal.returns-clause-shows
 returns-clause-shows g c = λ caller same.
     showing_of g.H.Host.tells g.O.Sink.tells c.args.numbers.now caller c.args.user.now same (g.H.Host.world c.args.host.now)
-    (g.H.Host.world c.open.new.host) (g.H.Host.world c.put_scripts.new.host) (sink_at (g.O.Sink.content c.args.out.now) (g.O.Sink.outlet c.args.out.now))
+    (g.H.Host.world c.open_store.new.host) (g.H.Host.world c.put_scripts.new.host) (sink_at (g.O.Sink.content c.args.out.now) (g.O.Sink.outlet c.args.out.now))
     (sink_at (g.O.Sink.content c.put_scripts.new.out) (g.O.Sink.outlet c.put_scripts.new.out)) c.in_ok-store.store c.in_ok-store.ensures.opened c.in-None.ensures
     c.put_scripts.ensures.puts.looks c.put_scripts.result c.put_scripts.ensures.puts.comes c.put_scripts.ensures.puts.puts

@@ -4,7 +4,7 @@ use Rattle.step_runs.proofs.AttemptLemmas.{recoveries_begin_nothing}
 use Rattle.memory_host.specs.Host.{memory_session, memory_world}
 use Rattle.spool_model.specs.declared.decided.Decided.{Decided}
 use Rattle.spool_model.specs.declared.number.TheConstants.{LAST_NUMBER}
-use Rattle.at_day.specs.Counting.{runs, waits, was_finished, was_interrupted, was_not_started, was_removed}
+use Rattle.at_day.specs.Counting.{is_running_row, is_waiting_row, was_finished, was_interrupted, was_not_started, was_removed}
 use Rattle.at_day.proofs.CountLemmas.{decided_few, rows_few}
 use Rattle.at_day.proofs.CountedLemmas.{counted}
 use Rattle.at_day.proofs.count_jobs.counted_within.Goals as goal
@@ -17,13 +17,13 @@ pub overflow_cast-result : goal.overflow_cast-result
 overflow_cast-result c =
     let rows = c.rows-rows.result.now in
     let few : length rows ≤ LAST_NUMBER = rows_few c.in_ok-store.store.table c.last.ensures.sound rows c.rows-rows.ensures.rows in
-    omega (arith, c.waiting.ensures, count_by-le-length waits rows)
+    omega (arith, c.waiting.ensures, count_by-le-length is_waiting_row rows)
 
 pub overflow_cast-result-2 : goal.overflow_cast-result-2
 overflow_cast-result-2 c =
     let rows = c.rows-rows.result.now in
     let few : length rows ≤ LAST_NUMBER = rows_few c.in_ok-store.store.table c.last.ensures.sound rows c.rows-rows.ensures.rows in
-    omega (arith, c.running.ensures, count_by-le-length runs rows)
+    omega (arith, c.running.ensures, count_by-le-length is_running_row rows)
 
 pub overflow_cast-result-3 : goal.overflow_cast-result-3
 overflow_cast-result-3 c =
@@ -47,7 +47,7 @@ pub overflow_cast-result-6 : goal.overflow_cast-result-6
 overflow_cast-result-6 c =
     let decided = c.decided-decided.result.now in
     let few : length decided ≤ LAST_NUMBER = decided_few c.in_ok-store.store.table c.last.ensures.sound decided c.decided-decided.ensures in
-    omega (arith, c.interrupted.ensures, count_by-le-length (λ (one : Decided). was_interrupted one.fate) decided)
+    omega (arith, c.interrupted_count.ensures, count_by-le-length (λ (one : Decided). was_interrupted one.fate) decided)
 
 pub returns-clause-unbegun : goal.returns-clause-unbegun
 returns-clause-unbegun c =
@@ -58,5 +58,5 @@ returns-clause-counts c =
     counted (memory_session c.args.host.now) (memory_session c.recover.new.host) (memory_world c.args.host.now)
     (memory_world c.recover.new.host) c.in_ok-store.store (c.in_ok-store.ensures.recovered refl)
     c.rows-rows.result.now c.rows-rows.ensures.rows c.decided-decided.result.now c.decided-decided.ensures
-    (record { last = c.last.result; pending = c.waiting.result; running = c.running.result; removed = c.removed.result; finished = c.finished.result; not_started = c.not_started.result; interrupted = c.interrupted.result })
-    c.last.ensures.last c.waiting.ensures c.running.ensures c.removed.ensures c.finished.ensures c.not_started.ensures c.interrupted.ensures
+    (record { last = c.last.result; pending = c.waiting.result; running = c.running.result; removed = c.removed.result; finished = c.finished.result; not_started = c.not_started.result; interrupted = c.interrupted_count.result })
+    c.last.ensures.last c.waiting.ensures c.running.ensures c.removed.ensures c.finished.ensures c.not_started.ensures c.interrupted_count.ensures

@@ -12,8 +12,8 @@ returns-clause-outside c = c.counts.ensures.left.outside
 
 pub returns-clause-day : goal.returns-clause-day
 returns-clause-day c = record {
-  between = c.each_event.new.host;
-  day = subst (λ (of : List EventReport). IsDayOf c.args.events.now of (first_machine c.args.host.now) c.each_event.new.host)
+  between = c.event_reports.new.host;
+  day = subst (λ (of : List EventReport). IsDayOf c.args.events.now of (first_machine c.args.host.now) c.event_reports.new.host)
       (sym c.from.ensures) c.in_ok-reports.ensures.day;
   counted = c.counts.ensures;
 }

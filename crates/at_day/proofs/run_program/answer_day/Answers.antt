@@ -12,12 +12,12 @@ pub returns-clause-day : goal.returns-clause-day
 returns-clause-day g c = rw c.of.ensures
     (day_said g.O.Sink.tells
     (sink_at (g.O.Sink.content c.args.out.now) (g.O.Sink.outlet c.args.out.now))
-    (sink_at (g.O.Sink.content c.carry_out-cause.new.out) (g.O.Sink.outlet c.carry_out-cause.new.out))
-    c.carry_out-cause.result (request_of (map string_bytes c.args.words.now)) c.say_cause.result c.say_cause.ensures.same_or_memory
-    c.carry_out-cause.ensures.day)
+    (sink_at (g.O.Sink.content c.make_run-cause.new.out) (g.O.Sink.outlet c.make_run-cause.new.out))
+    c.make_run-cause.result (request_of (map string_bytes c.args.words.now)) c.say_cause.result c.say_cause.ensures.same_or_memory
+    c.make_run-cause.ensures.day)
 
 pub returns-clause-says : goal.returns-clause-says
 returns-clause-says g c = rw c.of.ensures
     (line_said (codes "atday") (sink_at (g.E.Sink.content c.args.err.now) (g.E.Sink.outlet c.args.err.now))
     (sink_at (g.E.Sink.content c.say_cause.new.err) (g.E.Sink.outlet c.say_cause.new.err)) g.E.Sink.tells
-    c.carry_out-cause.result c.say_cause.result c.say_cause.ensures.said)
+    c.make_run-cause.result c.say_cause.result c.say_cause.ensures.said)

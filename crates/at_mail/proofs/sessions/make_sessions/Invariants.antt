@@ -1,7 +1,7 @@
 use Rattle.std.proofs.Common.{◌≡◌, List, length}
 use Rattle.std.specs.Prelude.{None}
 use Rattle.at_mail.specs.Making.{MakesSessions}
-use Rattle.at_mail.specs.Outcomes.{PostItem, last_outcome}
+use Rattle.at_mail.specs.Outcomes.{PostItem, last_session_outcome}
 use Rattle.at_mail.specs.Program.{mail_outside, work_with}
 use Rattle.at_mail.proofs.sessions.make_sessions.Given as goal
 
@@ -13,5 +13,5 @@ invariant-loop-place g l = record {
   makes : MakesSessions (mail_outside g.H.Host g.R.Readings g.E.Sink l.fn.host l.fn.readings l.fn.err).tells
       (work_with l.fn.post (mail_outside g.H.Host g.R.Readings g.E.Sink l.fn.host l.fn.readings l.fn.err))
       items (work_with l.post (mail_outside g.H.Host g.R.Readings g.E.Sink l.host l.readings l.err));
-  goes_on : last_outcome items ≡ None;
+  goes_on : last_session_outcome items ≡ None;
 }

@@ -6,5 +6,5 @@ pub returns : goal.returns
 returns g c = (
   wait_at (g.H.Host.session c.args.host.now) (g.H.Host.world c.args.host.now) (g.R.Readings.answers c.rest.new.self) (g.R.Readings.readers c.rest.new.self),
   record { clock = record { known = c.rest.ensures.known; readers = c.rest.ensures.same }; spool = refl },
-  record { spool = c.look.ensures; clock = refl },
+  record { spool = c.look_at_jobs.ensures; clock = refl },
 )

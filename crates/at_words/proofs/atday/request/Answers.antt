@@ -16,4 +16,4 @@ returns-in_err-matches c =
 
 pub returns : goal.returns
 returns c =
-    asks_taken atday_app atday_asked (map string_bytes c.args.words.now) _ c.in_ok-command.ensures c.in_ok-matches.matches c.asked.result c.in_ok-matches.ensures c.asked.ensures
+    asks_taken atday_app atday_asked (map string_bytes c.args.words.now) _ c.in_ok-command.ensures c.in_ok-matches.matches c.tool_request.result c.in_ok-matches.ensures c.tool_request.ensures

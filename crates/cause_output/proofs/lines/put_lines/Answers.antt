@@ -5,7 +5,7 @@ use Rattle.cause_output.proofs.lines.put_lines.Goals as goal
 
 pub returns-in_err-put-clause-puts : goal.returns-in_err-put-clause-puts
 returns-in_err-put-clause-puts g c =
-    stopped_at_line g.O.Sink.tells g.L.Line.line c.args.lines.now c.loop-line.line-index c.line-item.result
+    stopped_at_line g.O.Sink.tells g.L.PrintedLine.line c.args.lines.now c.loop-line.line-index c.line-item.result
     (sink_at (g.O.Sink.content c.args.out.now) (g.O.Sink.outlet c.args.out.now))
     (sink_at (g.O.Sink.content c.loop-line.out) (g.O.Sink.outlet c.loop-line.out))
     (sink_at (g.O.Sink.content c.put.new.out) (g.O.Sink.outlet c.put.new.out)) tt c.loop-line-test.true c.line-item.is
@@ -16,7 +16,7 @@ pub loop-line-preserved : goal.loop-line-preserved
 loop-line-preserved g c = record {
   made_as = search rules;
   puts =
-      one_more g.O.Sink.tells g.L.Line.line c.args.lines.now c.loop-line.line-index c.line-item.result
+      one_more g.O.Sink.tells g.L.PrintedLine.line c.args.lines.now c.loop-line.line-index c.line-item.result
       (sink_at (g.O.Sink.content c.args.out.now) (g.O.Sink.outlet c.args.out.now))
       (sink_at (g.O.Sink.content c.loop-line.out) (g.O.Sink.outlet c.loop-line.out))
       (sink_at (g.O.Sink.content c.put.new.out) (g.O.Sink.outlet c.put.new.out)) tt c.loop-line-test.true c.line-item.is

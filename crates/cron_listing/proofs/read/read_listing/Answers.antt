@@ -36,7 +36,7 @@ returns-in-Ok g c =
     let same : to_z w64 (of_z w64 c.now-now.result) ≡ c.now-now.result = to_z-of_z w64 c.now-now.result fits in
     gives_text g.R.Readings.tells g.I.Inputs.tells c.args.zone.now c.args.request.now
     (read_at g.R.Readings g.I.Inputs c.args.readings.now c.args.inputs.now) (read_at g.R.Readings g.I.Inputs c.now-now.new.self c.read_entries.new.inputs)
-    c.in-Ok.entries (c.minute_at-from.result + 1) c.text_of.result
+    c.in-Ok.entries (c.minute_at-from.result + 1) c.crontab_listing_text.result
     (record {
       now = c.now-now.result;
       range = subst IsClockSecond same (c.is_clock_second.ensures.fact.0 c.if-not-is_clock_second.false);
@@ -45,4 +45,4 @@ returns-in-Ok g c =
           c.as_str.ensures c.in-Ok.ensures.reads;
     })
     (ap (λ (minute : ℕ). minute + 1) (c.minute_at-from.ensures.value ∙ ap minute_at same))
-    (subst (λ (entries : List CronEntry). GivesText c.args.zone.now (c.minute_at-from.result + 1) c.args.request.now.count entries c.text_of.result) c.as_slice.ensures c.text_of.ensures)
+    (subst (λ (entries : List CronEntry). GivesText c.args.zone.now (c.minute_at-from.result + 1) c.args.request.now.count entries c.crontab_listing_text.result) c.as_slice.ensures c.crontab_listing_text.ensures)

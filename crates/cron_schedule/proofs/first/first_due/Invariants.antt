@@ -1,11 +1,11 @@
 use Rattle.std.proofs.Common.{◌≤◌, ◌+◌, ◌-◌}
-use Rattle.cron_schedule.specs.Schedule.{IsIdle}
+use Rattle.cron_schedule.specs.Schedule.{IsNotDueWithin}
 use Rattle.cron_schedule.proofs.first.first_due.Given as goal
 
 abbrev pub invariant-loop-minute : goal.invariant-loop-minute
 invariant-loop-minute l = record {
   late : l.from ≤ l.minute;
-  idle : IsIdle l.zone l.entry l.from l.minute;
+  idle : IsNotDueWithin l.zone l.entry l.from l.minute;
 }
 
 abbrev pub decreases-loop-minute : goal.decreases-loop-minute

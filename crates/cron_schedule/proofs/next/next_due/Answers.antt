@@ -8,7 +8,7 @@ loop-found-init c = found_none c.args.zone.now c.args.entry.now c.args.from _ _ 
 pub loop-found-preserved : goal.loop-found-preserved
 loop-found-preserved c =
     found_more c.args.zone.now c.args.entry.now c.args.from c.loop-found.now c.end_of_search-end.result c.loop-found._found c.in-Some.minute
-    c.loop-found.minutes.items c.add.new.minutes.items c.in_ok-next.next c.loop-found.invariant c.in_ok-next.ensures c.in-Some.is c.in_ok-add-in-Some.ensures
+    c.loop-found.minutes.items c.add_due_minute.new.minutes.items c.in_ok-next.next c.loop-found.invariant c.in_ok-next.ensures c.in-Some.is c.in_ok-add_due_minute-in-Some.ensures
 
 pub returns-in-None : goal.returns-in-None
 returns-in-None c =

@@ -14,10 +14,10 @@ replace-requires-clause-certain g c = λ known.
 
 pub returns-clause-files : goal.returns-clause-files
 returns-clause-files g c = λ known.
-    placing_named c.mark_temporary_name.result c.mark_name.result c.mark_text.result c.args.minute c.mark_temporary_name.ensures c.mark_name.ensures c.mark_text.ensures
+    placing_named c.mark_temporary_name.result c.mark_name.result c.cron_mark_text.result c.args.minute c.mark_temporary_name.ensures c.mark_name.ensures c.cron_mark_text.ensures
     (g.H.Host.world c.args.host.now) (g.H.Host.world c.replace.new.host) (c.replace.ensures.files known)
 
 pub returns-clause-placed : goal.returns-clause-placed
 returns-clause-placed g c = λ known.
-    placed_named c.mark_temporary_name.result c.mark_name.result c.mark_text.result c.args.minute c.mark_temporary_name.ensures c.mark_name.ensures c.mark_text.ensures
+    placed_named c.mark_temporary_name.result c.mark_name.result c.cron_mark_text.result c.args.minute c.mark_temporary_name.ensures c.mark_name.ensures c.cron_mark_text.ensures
     c.replace.result (g.H.Host.world c.args.host.now).now.folder (g.H.Host.world c.replace.new.host).now.folder (c.replace.ensures.placed known)

@@ -4,7 +4,7 @@ use Rattle.clock_range.specs.ClockRange.{minute_at}
 use Rattle.cron_text.specs.declared.entry.CronEntry.{CronEntry}
 use Rattle.cron_session.specs.Leaving.{CronsTo}
 use Rattle.cron_session.specs.declared.report.CronEnd.{CronEnd}
-use Rattle.cron_session.specs.inside.Working.{Works, end_of_session}
+use Rattle.cron_session.specs.inside.Working.{CronWorks, end_of_cron_session}
 use Rattle.cron_session.proofs.SessionLemmas.{cron_of_session, distinct_of_session}
 use Rattle.cron_session.proofs.session.cron_session.Goals as goal
 
@@ -14,7 +14,7 @@ of_distinct-requires g c =
     c.numbers-2-1.given.0.items (λ same. search (rules, same, c.new-numbers.ensures.items))
     (λ first last done did.
     (let works : (now : ℤ) → c.minute_at-minute.result ≡ minute_at now →
-    Works g.H.Host.tells (record { context = c.args.context.now; zone = c.args.zone.now; entries = c.as_slice-entries.result.now; now = now })
+    CronWorks g.H.Host.tells (record { context = c.args.context.now; zone = c.args.zone.now; entries = c.as_slice-entries.result.now; now = now })
     (record { session = g.H.Host.session first; world = g.H.Host.world first }) (record { session = g.H.Host.session last; world = g.H.Host.world last })
     c.numbers-2-1.given.0.items done = search (rules, did) in
     works c.args.now (c.minute_at-minute.ensures.value ∙ ap minute_at (to_z-of_z w64 c.args.now c.ranges.now)))) c.in_session-worked.result c.in_session-worked.ensures.ends
@@ -24,12 +24,12 @@ returns g c =
     let ended : CronsTo g.H.Host.tells g.H.Host.alone (record { context = c.args.context.now; zone = c.args.zone.now; entries = c.as_slice-entries.result.now; now = c.args.now })
     (record { session = g.H.Host.session c.args.host.now; world = g.H.Host.world c.args.host.now })
     (record { session = g.H.Host.session c.in_session-worked.new.host; world = g.H.Host.world c.in_session-worked.new.host })
-    (end_of_session c.in_session-worked.result) c.numbers-2-1.given.0.items =
+    (end_of_cron_session c.in_session-worked.result) c.numbers-2-1.given.0.items =
     cron_of_session g.H.Host _ _ _ _ _ (record { context = c.args.context.now; zone = c.args.zone.now; entries = c.as_slice-entries.result.now; now = c.args.now })
     c.numbers-2-1.given.0.items (λ same. search (rules, same, c.new-numbers.ensures.items))
     (λ first last done did.
     (let works : (now : ℤ) → c.minute_at-minute.result ≡ minute_at now →
-    Works g.H.Host.tells (record { context = c.args.context.now; zone = c.args.zone.now; entries = c.as_slice-entries.result.now; now = now })
+    CronWorks g.H.Host.tells (record { context = c.args.context.now; zone = c.args.zone.now; entries = c.as_slice-entries.result.now; now = now })
     (record { session = g.H.Host.session first; world = g.H.Host.world first }) (record { session = g.H.Host.session last; world = g.H.Host.world last })
     c.numbers-2-1.given.0.items done = search (rules, did) in
     works c.args.now (c.minute_at-minute.ensures.value ∙ ap minute_at (to_z-of_z w64 c.args.now c.ranges.now)))) c.in_session-worked.result c.in_session-worked.ensures.ends in
@@ -41,5 +41,5 @@ returns g c =
     (record { session = g.H.Host.session c.in_session-worked.new.host; world = g.H.Host.world c.in_session-worked.new.host }) end c.of_distinct.result) (sym c.end_of.ensures)
     (subst (λ (numbers : List ℕ). CronsTo g.H.Host.tells g.H.Host.alone (record { context = c.args.context.now; zone = c.args.zone.now; entries = c.as_slice-entries.result.now; now = c.args.now })
     (record { session = g.H.Host.session c.args.host.now; world = g.H.Host.world c.args.host.now })
-    (record { session = g.H.Host.session c.in_session-worked.new.host; world = g.H.Host.world c.in_session-worked.new.host }) (end_of_session c.in_session-worked.result) numbers)
+    (record { session = g.H.Host.session c.in_session-worked.new.host; world = g.H.Host.world c.in_session-worked.new.host }) (end_of_cron_session c.in_session-worked.result) numbers)
     (sym c.of_distinct.ensures) ended))

@@ -1,11 +1,11 @@
 use Rattle.std.proofs.Common.{rules}
 use Rattle.std.specs.Fn.{CalledAtMut}
-use Rattle.host_session.specs.Work.{IsBegun}
+use Rattle.host_session.specs.Work.{IsSessionBegun}
 use Rattle.host_session.proofs.session.in_session.Goals as goal
 
 pub work-answer-requires : goal.work-answer-requires
 work-answer-requires g c =
-    let begun : IsBegun g.H.Host c.args.host.now c.enter.new.self = record {
+    let begun : IsSessionBegun g.H.Host c.args.host.now c.enter.new.self = record {
       inside = c.in_ok-enter.ensures.enters.inside;
       children = c.in_ok-enter.ensures.enters.children;
       counts = c.in_ok-enter.ensures.enters.counts;
@@ -15,7 +15,7 @@ work-answer-requires g c =
 
 pub leave-requires : goal.leave-requires
 leave-requires g c =
-    let begun : IsBegun g.H.Host c.args.host.now c.enter.new.self = record {
+    let begun : IsSessionBegun g.H.Host c.args.host.now c.enter.new.self = record {
       inside = c.in_ok-enter.ensures.enters.inside;
       children = c.in_ok-enter.ensures.enters.children;
       counts = c.in_ok-enter.ensures.enters.counts;

@@ -16,4 +16,4 @@ the_one bytes user mail begins (Err place) read = tt
 pub returns-clause-only : goal.returns-clause-only
 returns-clause-only c = λ user mail begins.
     subst (λ (found : Option JobHeader). IfSome found (λ it. (it.user ≡ user) × (it.mail ≡ mail))) (sym c.ok.ensures.value)
-    (the_one c.args.bytes.now user mail begins c.read.result c.read.ensures)
+    (the_one c.args.bytes.now user mail begins c.read_header.result c.read_header.ensures)

@@ -16,4 +16,4 @@ returns c =
     sym (c.year_digits.ensures ∙ ap (λ z. decimal (nat_abs z)) (to_z-of_z w16 civil.year fits)
     ∙ decimal-year civil.year c.requires.year.0) in
     let year = digits ∙ four_items c.year_digits.result (search rules) in
-    rw (weekday, month, year, c.first_place.ensures) refl
+    rw (weekday, month, year, c.day_column.ensures) refl

@@ -25,8 +25,8 @@ returns-in_err-hundredths-clause-none c =
     rw c.from_residual.ensures
     (λ load spelled. c.in_err-hundredths.ensures.none spelled.hundredths (rw after (fraction-load text load spelled)))
 
-pub number-requires-clause-each : goal.number-requires-clause-each
-number-requires-clause-each c =
+pub number_of_digits-requires-clause-each : goal.number_of_digits-requires-clause-each
+number_of_digits-requires-clause-each c =
     rw (c.split_at.ensures.front, c.digit_count-count.ensures) (list_all-prefix is_ascii_digit c.args.text.now)
 
 pub returns-clause-some : goal.returns-clause-some
@@ -42,5 +42,5 @@ returns-clause-some c =
       few = omega (arith, counted);
       digits = rw (parts.front, c.digit_count-count.ensures) (list_all-prefix is_ascii_digit c.args.text.now);
       fraction = c.in_ok-hundredths.ensures.some;
-      value = rw c.number.ensures.value refl;
+      value = rw c.number_of_digits.ensures.value refl;
     }

@@ -22,14 +22,14 @@ pub loop-number-preserved : goal.loop-number-preserved
 loop-number-preserved g c = record {
   inside = search rules;
   looks = λ known. c.in_ok-job.ensures.looks known ∙ c.loop-number.invariant.looks known;
-  numbers = number_more c.args.numbers.now c.loop-number.number-index _ c.loop-number.news.items c.keep.new.news.items c.in_ok-job.job c.loop-number-test.true (item_at c.args.numbers.now c.loop-number.number-index _ c.loop-number-test.true)
-      c.loop-number.invariant.numbers c.in_ok-keep.ensures c.in_ok-job.ensures.number;
-  can = one_more IsNotedJob c.loop-number.news.items c.keep.new.news.items c.in_ok-job.job c.loop-number.invariant.can c.in_ok-job.ensures.can c.in_ok-keep.ensures;
+  numbers = number_more c.args.numbers.now c.loop-number.number-index _ c.loop-number.news.items c.keep_job.new.news.items c.in_ok-job.job c.loop-number-test.true (item_at c.args.numbers.now c.loop-number.number-index _ c.loop-number-test.true)
+      c.loop-number.invariant.numbers c.in_ok-keep_job.ensures c.in_ok-job.ensures.number;
+  can = one_more IsNotedJob c.loop-number.news.items c.keep_job.new.news.items c.in_ok-job.job c.loop-number.invariant.can c.in_ok-job.ensures.can c.in_ok-keep_job.ensures;
   noted = λ known table current.
-      one_more (IsNotedFrom (reading (g.H.Host.world c.args.host.now)) table) c.loop-number.news.items c.keep.new.news.items c.in_ok-job.job (c.loop-number.invariant.noted known table current)
+      one_more (IsNotedFrom (reading (g.H.Host.world c.args.host.now)) table) c.loop-number.news.items c.keep_job.new.news.items c.in_ok-job.job (c.loop-number.invariant.noted known table current)
       (subst (λ (world : World). IsNotedFrom (reading world) table c.in_ok-job.job) (c.loop-number.invariant.looks known)
       (c.in_ok-job.ensures.noted known table (subst (λ (world : World). IsCurrent c.args.store.now world.now.folder table) (sym (c.loop-number.invariant.looks known)) current)))
-      c.in_ok-keep.ensures;
+      c.in_ok-keep_job.ensures;
 }
 
 pub returns-clause-numbers : goal.returns-clause-numbers

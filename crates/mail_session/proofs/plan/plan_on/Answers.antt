@@ -8,7 +8,7 @@ use Rattle.mail_notes.specs.Lines.{notes_text}
 use Rattle.mail_notes.specs.Names.{mail_file}
 use Rattle.mail_notes.specs.declared.note.NotedJob.{NotedJob}
 use Rattle.mail_session.specs.News.{IsNotedFrom, noting_of}
-use Rattle.mail_session.specs.Reading.{AreRead}
+use Rattle.mail_session.specs.Reading.{IsReadBook}
 use Rattle.mail_session.specs.Stale.{stale_names}
 use Rattle.mail_session.proofs.PlanLemmas.{gives_notes, plan_for}
 use Rattle.mail_session.proofs.plan.plan_on.Goals as goal
@@ -20,16 +20,16 @@ news_of-requires-clause-current g c = λ known.
 
 pub returns-clause-plans : goal.returns-clause-plans
 returns-clause-plans g c =
-    let read : AreRead c.in_ok-text.field-0.text.items c.in_ok-text.field-0.book = c.in_ok-text.ensures.notes in
-    let text : c.add_news.new.text.items ≡ c.in_ok-text.field-0.text.items ++ notes_text (noting_of c.in_ok-news.news.items) =
-    c.in_ok-add_news.ensures
+    let read : IsReadBook c.in_ok-text.field-0.text.items c.in_ok-text.field-0.book = c.in_ok-text.ensures.notes in
+    let text : c.add_note_lines.new.text.items ≡ c.in_ok-text.field-0.text.items ++ notes_text (noting_of c.in_ok-news.news.items) =
+    c.in_ok-add_note_lines.ensures
     ∙ ap (λ (news : List NotedJob). c.in_ok-text.field-0.text.items ++ notes_text (noting_of news)) c.as_slice.ensures.value in
     let opened : IsTrue g.H.Host.tells → g.H.Host.world c.news_of.new.host ≡ g.H.Host.world c.args.host.now =
     λ known. c.in_ok-news.ensures.looks known ∙ c.in_ok-text.ensures.looks known in
     record {
       notes = read.notes;
       plan_for = plan_for c.args.store.now.table
-          (record { news = c.in_ok-news.news; dues = c.in_ok-dues.dues; text = c.add_news.new.text; stale = c.in_ok-stale.stale })
+          (record { news = c.in_ok-news.news; dues = c.in_ok-dues.dues; text = c.add_note_lines.new.text; stale = c.in_ok-stale.stale })
           c.in_ok-text.field-0.text.items c.in_ok-text.field-0.book read c.in_ok-news.ensures.numbers c.in_ok-dues.ensures text;
       plan_in = λ known table current. record {
         gives = gives_notes (finite.get (reading (g.H.Host.world c.args.host.now)) mail_file) c.in_ok-text.field-0.text.items read.notes

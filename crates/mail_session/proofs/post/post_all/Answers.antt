@@ -1,6 +1,6 @@
 use Rattle.std.proofs.Common.{◌≡◌, ◌+◌, ◌++◌, ◌∷◌, [], List, arith, drop, length, subst, sym, take, take_all}
 use Rattle.std.specs.Prelude.{Err, Ok}
-use Rattle.mail_session.specs.declared.due.Due.{Due}
+use Rattle.mail_session.specs.declared.due.NoticeDue.{NoticeDue}
 use Rattle.mail_session.specs.Posting.{Posts}
 use Rattle.mail_session.proofs.PostLemmas.{all_of, posts_at, posts_longer, posts_none, posts_then, take_one}
 use Rattle.mail_session.proofs.post.post_all.Goals as goal
@@ -13,7 +13,7 @@ loop-due-init g c =
 pub returns-in_err-post : goal.returns-in_err-post
 returns-in_err-post g c =
     posts_at _ _ _ _ _ _ _ _ _ _ _ _ _ c.in_err-post.field-0.0 c.from_residual.result c.from_residual.ensures.1
-    (subst (λ (dues : List Due). Posts c.args.program.now g.H.Host.tells (g.H.Host.session c.args.host.now) (g.H.Host.session c.post.new.host)
+    (subst (λ (dues : List NoticeDue). Posts c.args.program.now g.H.Host.tells (g.H.Host.session c.args.host.now) (g.H.Host.session c.post.new.host)
     (g.H.Host.world c.args.host.now) (g.H.Host.world c.post.new.host) dues c.args.text.now.items c.post.new.text.items
     c.args.kids.now.items c.post.new.kids.items c.args.sent.now.items c.post.new.sent.items (Err c.in_err-post.field-0.0))
     (all_of c.args.dues.now c.loop-due.due-index c.due-item.result c.loop-due-test.true c.due-item.is)
@@ -27,7 +27,7 @@ returns-in_err-post g c =
 
 pub loop-due-preserved : goal.loop-due-preserved
 loop-due-preserved g c =
-    subst (λ (dues : List Due). Posts c.args.program.now g.H.Host.tells (g.H.Host.session c.args.host.now) (g.H.Host.session c.post.new.host)
+    subst (λ (dues : List NoticeDue). Posts c.args.program.now g.H.Host.tells (g.H.Host.session c.args.host.now) (g.H.Host.session c.post.new.host)
     (g.H.Host.world c.args.host.now) (g.H.Host.world c.post.new.host) dues c.args.text.now.items c.post.new.text.items
     c.args.kids.now.items c.post.new.kids.items c.args.sent.now.items c.post.new.sent.items (Ok tt))
     (sym (take_one c.args.dues.now c.loop-due.due-index c.due-item.result c.loop-due-test.true c.due-item.is))
@@ -39,7 +39,7 @@ loop-due-preserved g c =
 pub returns : goal.returns
 returns g c =
     let whole : c.loop-due.due-index ≡ length c.args.dues.now = omega arith in
-    subst (λ (dues : List Due). Posts c.args.program.now g.H.Host.tells (g.H.Host.session c.args.host.now) (g.H.Host.session c.loop-due.host)
+    subst (λ (dues : List NoticeDue). Posts c.args.program.now g.H.Host.tells (g.H.Host.session c.args.host.now) (g.H.Host.session c.loop-due.host)
     (g.H.Host.world c.args.host.now) (g.H.Host.world c.loop-due.host) dues c.args.text.now.items c.loop-due.text.items
     c.args.kids.now.items c.loop-due.kids.items c.args.sent.now.items c.loop-due.sent.items (Ok tt))
     (take_all c.loop-due.due-index c.args.dues.now (omega arith)) c.loop-due.invariant

@@ -19,8 +19,8 @@ returns-in_err-place_notes g c =
     (g.H.Host.session c.place_notes.new.host) (g.H.Host.world c.place_notes.new.host) c.in_err-place_notes.field-0.0
     c.in_err-place_notes.ensures.inside c.in_err-place_notes.ensures.files)
 
-pub hand_over-requires-clause-held : goal.hand_over-requires-clause-held
-hand_over-requires-clause-held g c = λ known.
+pub send_notice-requires-clause-held : goal.send_notice-requires-clause-held
+send_notice-requires-clause-held g c = λ known.
     notice_held c.args.number c.args.script.now c.args.text.now (g.H.Host.world c.args.host.now) (g.H.Host.world c.place_notice.new.host) (g.H.Host.world c.place_notes.new.host)
     (c.in_ok-place_notice.ensures.files known) (c.in_ok-place_notes.ensures.files known)
 
@@ -28,5 +28,5 @@ pub returns : goal.returns
 returns g c =
     sent_whole g.H.Host.tells (g.H.Host.session c.args.host.now) (g.H.Host.world c.args.host.now) c.args.number c.args.script.now c.args.text.now
     (g.H.Host.session c.place_notice.new.host) (g.H.Host.world c.place_notice.new.host) c.in_ok-place_notice.ensures.inside c.in_ok-place_notice.ensures.files
-    (g.H.Host.session c.place_notes.new.host) (g.H.Host.session c.hand_over.new.host) (g.H.Host.world c.place_notes.new.host) (g.H.Host.world c.hand_over.new.host) c.hand_over.result
-    c.in_ok-place_notes.ensures.inside c.in_ok-place_notes.ensures.files c.hand_over.ensures
+    (g.H.Host.session c.place_notes.new.host) (g.H.Host.session c.send_notice.new.host) (g.H.Host.world c.place_notes.new.host) (g.H.Host.world c.send_notice.new.host) c.send_notice.result
+    c.in_ok-place_notes.ensures.inside c.in_ok-place_notes.ensures.files c.send_notice.ensures

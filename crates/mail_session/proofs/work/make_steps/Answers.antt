@@ -1,7 +1,7 @@
 use Rattle.std.proofs.Common.{List, ℕ, subst}
 use Rattle.std.specs.Prelude.{Err, Ok}
 use Rattle.mail_notes.specs.declared.note.NotedJob.{NotedJob}
-use Rattle.mail_session.specs.declared.due.Due.{Due}
+use Rattle.mail_session.specs.declared.due.NoticeDue.{NoticeDue}
 use Rattle.mail_session.specs.Noting.{Notes}
 use Rattle.mail_session.specs.Posting.{Posts}
 use Rattle.mail_session.proofs.MakeLemmas.{ask_wants, note_stops, steps_made}
@@ -34,6 +34,6 @@ returns g c =
     (subst (λ (news : List NotedJob). Notes g.H.Host.tells (g.H.Host.session c.ask_kids.new.host) (g.H.Host.session c.note_news.new.host) (g.H.Host.world c.ask_kids.new.host) (g.H.Host.world c.note_news.new.host)
     news c.as_slice-2.result.now (Ok tt)) c.as_slice.ensures.value c.in_ok-note_news.ensures))
     (g.H.Host.session c.post_all.new.host) (g.H.Host.world c.post_all.new.host) c.post_all.new.sent.items c.post_all.new.text.items c.post_all.new.kids.items c.post_all.result
-    (subst (λ (dues : List Due). Posts c.args.program.now g.H.Host.tells (g.H.Host.session c.note_news.new.host) (g.H.Host.session c.post_all.new.host)
+    (subst (λ (dues : List NoticeDue). Posts c.args.program.now g.H.Host.tells (g.H.Host.session c.note_news.new.host) (g.H.Host.session c.post_all.new.host)
     (g.H.Host.world c.note_news.new.host) (g.H.Host.world c.post_all.new.host) dues c.args.plan.now.text.items c.post_all.new.text.items
     c.ask_kids.new.kids.items c.post_all.new.kids.items c.args.sent.now.items c.post_all.new.sent.items c.post_all.result) c.as_slice-3.ensures.value c.post_all.ensures)

@@ -3,7 +3,7 @@ use Rattle.clap.specs.Faults.{is_simple_and_free}
 use Rattle.clap.proofs.OnLiterals.{clap_on_literals}
 use Rattle.at_words.specs.Commands.{bare_app}
 use Rattle.at_words.proofs.AskLemmas.{asks_fails, asks_taken, no_words, with_name}
-use Rattle.mail_trim.specs.Words.{rows_asked, trim_app, trim_asked}
+use Rattle.mail_trim.specs.Words.{trim_rows_asked, trim_app, trim_asked}
 use Rattle.mail_trim.proofs.words.ask_for_a_trim.Goals as goal
 
 pub parsed-requires : goal.parsed-requires
@@ -15,10 +15,10 @@ returns-then-is_empty c = sym (ap trim_asked (no_words string_bytes c.args.words
 
 pub returns-in_err-matches : goal.returns-in_err-matches
 returns-in_err-matches c =
-    with_name trim_app rows_asked string_bytes c.args.words.now _ (sym c.is_empty.ensures ∙ c.if-is_empty.false)
-    (asks_fails trim_app rows_asked (map string_bytes c.args.words.now) _ c.in_ok-command.ensures _ c.from_residual-in_err-matches.result c.in_err-matches.ensures c.from_residual-in_err-matches.ensures.1)
+    with_name trim_app trim_rows_asked string_bytes c.args.words.now _ (sym c.is_empty.ensures ∙ c.if-is_empty.false)
+    (asks_fails trim_app trim_rows_asked (map string_bytes c.args.words.now) _ c.in_ok-command.ensures _ c.from_residual-in_err-matches.result c.in_err-matches.ensures c.from_residual-in_err-matches.ensures.1)
 
 pub returns : goal.returns
 returns c =
-    with_name trim_app rows_asked string_bytes c.args.words.now c.asked.result (sym c.is_empty.ensures ∙ c.if-is_empty.false)
-    (asks_taken trim_app rows_asked (map string_bytes c.args.words.now) _ c.in_ok-command.ensures c.in_ok-matches.matches c.asked.result c.in_ok-matches.ensures c.asked.ensures)
+    with_name trim_app trim_rows_asked string_bytes c.args.words.now c.is_trim_asked.result (sym c.is_empty.ensures ∙ c.if-is_empty.false)
+    (asks_taken trim_app trim_rows_asked (map string_bytes c.args.words.now) _ c.in_ok-command.ensures c.in_ok-matches.matches c.is_trim_asked.result c.in_ok-matches.ensures c.is_trim_asked.ensures)

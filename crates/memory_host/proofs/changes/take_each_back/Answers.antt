@@ -5,8 +5,8 @@ use Rattle.memory_host.proofs.changes.take_each_back.Goals as goal
 
 pub loop-change-preserved : goal.loop-change-preserved
 loop-change-preserved c = record {
-  certain = λ name. c.take_back.ensures.certain name ∙ c.loop-change.invariant.certain name;
-  places = λ name. c.take_back.ensures.places name ∙ c.loop-change.invariant.places name;
+  certain = λ name. c.undo_change.ensures.certain name ∙ c.loop-change.invariant.certain name;
+  places = λ name. c.undo_change.ensures.places name ∙ c.loop-change.invariant.places name;
   now = λ name. each_step c.args.changes.now c.loop-change.change-index c.change-item.result c.loop-change-test.true c.change-item.is (certain_in c.args.held.now) (now_in c.args.held.now) name _ _ _
-      (c.take_back.ensures.now name) (c.loop-change.invariant.certain name) (c.loop-change.invariant.now name);
+      (c.undo_change.ensures.now name) (c.loop-change.invariant.certain name) (c.loop-change.invariant.now name);
 }

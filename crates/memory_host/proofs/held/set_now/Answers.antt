@@ -5,7 +5,7 @@ use Rattle.memory_host.proofs.TableLemmas.{put-same_certain, put-places}
 use Rattle.memory_host.proofs.held.set_now.Goals as goal
 
 pub returns-in-Some-clause-certain : goal.returns-in-Some-clause-certain
-returns-in-Some-clause-certain c = put-same_certain c.args.name.now _ c.args.held.now c.put_held.new.held c.put_held.ensures (ap certain_part c.in-Some.ensures)
+returns-in-Some-clause-certain c = put-same_certain c.args.name.now _ c.args.held.now c.set_entry.new.held c.set_entry.ensures (ap certain_part c.in-Some.ensures)
 
 pub returns-in-Some-clause-places : goal.returns-in-Some-clause-places
-returns-in-Some-clause-places c = put-places c.args.name.now _ c.args.held.now c.put_held.new.held c.put_held.ensures (ap is_some c.in-Some.ensures)
+returns-in-Some-clause-places c = put-places c.args.name.now _ c.args.held.now c.set_entry.new.held c.set_entry.ensures (ap is_some c.in-Some.ensures)

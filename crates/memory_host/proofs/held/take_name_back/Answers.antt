@@ -5,13 +5,13 @@ use Rattle.memory_host.proofs.TableLemmas.{put-now, put-same_certain, put-places
 use Rattle.memory_host.proofs.held.take_name_back.Goals as goal
 
 pub returns-in-Some-clause-now : goal.returns-in-Some-clause-now
-returns-in-Some-clause-now c = λ other. put-now c.args.name.now _ c.args.held.now c.put_held.new.held c.put_held.ensures other ∙ put_at-own c.args.name.now _ (certain_in c.args.held.now) (now_in c.args.held.now) (ap certain_part c.in-Some.ensures) other
+returns-in-Some-clause-now c = λ other. put-now c.args.name.now _ c.args.held.now c.set_entry.new.held c.set_entry.ensures other ∙ put_at-own c.args.name.now _ (certain_in c.args.held.now) (now_in c.args.held.now) (ap certain_part c.in-Some.ensures) other
 
 pub returns-in-Some-clause-certain : goal.returns-in-Some-clause-certain
-returns-in-Some-clause-certain c = put-same_certain c.args.name.now _ c.args.held.now c.put_held.new.held c.put_held.ensures (ap certain_part c.in-Some.ensures)
+returns-in-Some-clause-certain c = put-same_certain c.args.name.now _ c.args.held.now c.set_entry.new.held c.set_entry.ensures (ap certain_part c.in-Some.ensures)
 
 pub returns-in-Some-clause-places : goal.returns-in-Some-clause-places
-returns-in-Some-clause-places c = put-places c.args.name.now _ c.args.held.now c.put_held.new.held c.put_held.ensures (ap is_some c.in-Some.ensures)
+returns-in-Some-clause-places c = put-places c.args.name.now _ c.args.held.now c.set_entry.new.held c.set_entry.ensures (ap is_some c.in-Some.ensures)
 
 pub returns-in_default-clause-now : goal.returns-in_default-clause-now
-returns-in_default-clause-now c = none-now c.args.held.now c.args.name.now (sym c.kept_of.ensures ∙ c.in_default.is)
+returns-in_default-clause-now c = none-now c.args.held.now c.args.name.now (sym c.held_entry.ensures ∙ c.in_default.is)

@@ -1,5 +1,5 @@
 use Rattle.std.proofs.Common.{◌≡◌, drop, subst, arith, length-drop}
-use Rattle.record_lines.specs.Lines.{IsBadLine, IsFirstBadLine, IsGoodLine}
+use Rattle.record_lines.specs.Lines.{HasBadFirstLine, IsFirstBadLine, IsGoodLine}
 use Rattle.record_lines.proofs.FileLemmas.{good_more, range_left}
 use Rattle.record_lines.proofs.reader.read_lines.Goals as goal
 
@@ -13,7 +13,7 @@ returns-in_default-clause-damaged g c offset same =
       records = loop.records.items;
       before = loop.invariant.1;
       inside = c.loop-offset-test.true;
-      bad = subst (IsBadLine spells legal loop.records.items) (range_left c.args.bytes.now loop.offset) (c.in_default.ensures.bad loop.records.items loop.invariant.2);
+      bad = subst (HasBadFirstLine spells legal loop.records.items) (range_left c.args.bytes.now loop.offset) (c.in_default.ensures.bad loop.records.items loop.invariant.2);
     })
 
 pub loop-offset-preserved : goal.loop-offset-preserved
@@ -25,8 +25,8 @@ loop-offset-preserved g c =
     let good : IsGoodLine spells legal loop.records.items (drop loop.offset c.args.bytes.now) first.one first.length =
     subst (λ rest. IsGoodLine spells legal loop.records.items rest first.one first.length) (range_left c.args.bytes.now loop.offset) (c.in-Some.ensures.good loop.records.items loop.invariant.2) in
     let counted = good.counted in
-    rw c.in_ok-keep.ensures.records (
+    rw c.in_ok-keep_record.ensures.records (
       omega (arith, length-drop loop.offset c.args.bytes.now),
       good_more spells legal c.args.bytes.now loop.offset loop.records.items first.one first.length loop.invariant.1 good,
-      c.in_ok-keep.ensures.keeper loop.records.items loop.invariant.2 good.may,
+      c.in_ok-keep_record.ensures.keeper loop.records.items loop.invariant.2 good.may,
     )

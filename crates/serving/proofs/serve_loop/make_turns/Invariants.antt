@@ -2,7 +2,7 @@ use Rattle.std.proofs.Common.{◌≡◌, List, length, false}
 use Rattle.cause_output.specs.Sinks.{sink_at}
 use Rattle.daemon_turn.specs.Kids.{AreChildren, KeepsChildren}
 use Rattle.host_calls.specs.Session.{IsOutside, KeepsCounts}
-use Rattle.serving.specs.Items.{Item}
+use Rattle.serving.specs.Items.{TurnItem}
 use Rattle.serving.specs.Serves.{serve_at}
 use Rattle.cause_output.specs.Outside.{telling}
 use Rattle.serving.specs.inside.Progressing.{HasServed}
@@ -17,7 +17,7 @@ invariant-loop-turn g l = record {
   readers_made : (g.R.Readings.readers l.readings).made_as ≡ (g.R.Readings.readers l.fn.readings).made_as;
   out_made : (g.O.Sink.outlet l.out).made_as ≡ (g.O.Sink.outlet l.fn.out).made_as;
   errors_made : (g.E.Sink.outlet l.err).made_as ≡ (g.E.Sink.outlet l.fn.err).made_as;
-  items : List Item;
+  items : List TurnItem;
   all : length items ≡ l._turn;
   has : HasServed (telling g.H.Host.tells g.H.Host.alone g.R.Readings.tells false g.O.Sink.tells g.E.Sink.tells) l.once items l.progress
       (serve_at (g.H.Host.session l.fn.host) (g.H.Host.world l.fn.host) l.fn.daemon (g.R.Readings.answers l.fn.readings) (g.R.Readings.readers l.fn.readings))

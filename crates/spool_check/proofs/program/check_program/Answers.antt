@@ -7,8 +7,8 @@ use Rattle.spool_check.proofs.program.check_program.Goals as goal
 
 pub returns-clause-ends : goal.returns-clause-ends
 returns-clause-ends g c = record {
-  cause = c.carry_out-cause.result;
-  does = c.carry_out-cause.ensures.does;
-  says = subst (λ (final : Cause). IsSaid (codes "atcheck") g.E.Sink.tells c.carry_out-cause.result (stream_at g.E.Sink c.args.err.now).sink (stream_at g.E.Sink c.say_cause.new.err).sink final)
+  cause = c.check_by_words-cause.result;
+  does = c.check_by_words-cause.ensures.does;
+  says = subst (λ (final : Cause). IsSaid (codes "atcheck") g.E.Sink.tells c.check_by_words-cause.result (stream_at g.E.Sink c.args.err.now).sink (stream_at g.E.Sink c.say_cause.new.err).sink final)
       (sym (ap (λ (status : Status). status.cause) c.of.ensures)) c.say_cause.ensures.said;
 }

@@ -14,8 +14,8 @@ returns-in-Ok-clause-saves g c = λ tells.
     let old = folder_at g.G.Host c.args.to.now in
     let new = folder_at g.G.Host c.leave.new.self in
     filled_writes (reading (g.H.Host.world c.args.from.now)) old new
-    (visit_made old new (g.G.Host.world c.enter.new.self) (g.G.Host.world c.fill-filled.new.to) c.enter.ensures.goes_on c.enter.ensures.alone c.leave.ensures.goes_on c.leave.ensures.alone)
-    (λ told. c.fill-filled.ensures.files tells told)
+    (visit_made old new (g.G.Host.world c.enter.new.self) (g.G.Host.world c.fill_target-filled.new.to) c.enter.ensures.goes_on c.enter.ensures.alone c.leave.ensures.goes_on c.leave.ensures.alone)
+    (λ told. c.fill_target-filled.ensures.files tells told)
     (λ told. record { empty = c.in-Ok.ensures.empty told; salvage = c.in-Ok.ensures.salvaged tells told })
 
 pub returns-in-Err-clause-saves : goal.returns-in-Err-clause-saves
@@ -23,7 +23,7 @@ returns-in-Err-clause-saves g c = λ tells.
     let old = folder_at g.G.Host c.args.to.now in
     let new = folder_at g.G.Host c.leave.new.self in
     unfilled_writes (reading (g.H.Host.world c.args.from.now)) old new
-    (visit_made old new (g.G.Host.world c.enter.new.self) (g.G.Host.world c.fill-filled.new.to) c.enter.ensures.goes_on c.enter.ensures.alone c.leave.ensures.goes_on c.leave.ensures.alone)
-    c.in-Err.fault c.stopped_by.result c.stopped_by.ensures
-    (λ told. c.fill-filled.ensures.files tells told)
+    (visit_made old new (g.G.Host.world c.enter.new.self) (g.G.Host.world c.fill_target-filled.new.to) c.enter.ensures.goes_on c.enter.ensures.alone c.leave.ensures.goes_on c.leave.ensures.alone)
+    c.in-Err.fault c.error_of_salvage.result c.error_of_salvage.ensures
+    (λ told. c.fill_target-filled.ensures.files tells told)
     (λ told is. c.in-Err.ensures.refused told (ap Err is))

@@ -1,6 +1,6 @@
 use Rattle.std.proofs.Common.{◌≡◌, take}
 use Rattle.std.specs.Prelude.{Ok}
-use Rattle.cause_output.specs.Putting.{PutsLines, lines_of}
+use Rattle.cause_output.specs.Putting.{PutsLines, joined_lines}
 use Rattle.cause_output.specs.Sinks.{sink_at}
 use Rattle.listing_text.specs.Cause.{fault_line_of}
 use Rattle.spool_check.proofs.tell.put_faults.Given as goal
@@ -8,6 +8,6 @@ use Rattle.spool_check.proofs.tell.put_faults.Given as goal
 abbrev pub invariant-loop-fault : goal.invariant-loop-fault
 invariant-loop-fault g l = record {
   made_as : (g.O.Sink.outlet l.out).made_as ≡ (g.O.Sink.outlet l.fn.out).made_as;
-  puts : PutsLines g.O.Sink.tells (lines_of fault_line_of (take l.fault-index l.faults))
+  puts : PutsLines g.O.Sink.tells (joined_lines fault_line_of (take l.fault-index l.faults))
       (sink_at (g.O.Sink.content l.fn.out) (g.O.Sink.outlet l.fn.out)) (sink_at (g.O.Sink.content l.out) (g.O.Sink.outlet l.out)) (Ok tt);
 }

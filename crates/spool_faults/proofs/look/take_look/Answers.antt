@@ -9,7 +9,7 @@ use Rattle.start_journal.specs.declared.mark.Mark.{Mark}
 use Rattle.start_journal.specs.Journals.{journal_file}
 use Rattle.start_journal.specs.Taken.{journal_faults, marks_of}
 use Rattle.spool_faults.specs.Faults.{bound_by, has_header, jobs_faults}
-use Rattle.spool_faults.specs.inside.Finding.{AreDecided, AreFirst}
+use Rattle.spool_faults.specs.inside.Finding.{AreDecidedNumbers, AreFirstFiles}
 use Rattle.spool_faults.proofs.JobFaults.{all_noted, folder_noted}
 use Rattle.spool_faults.proofs.Planned.{marks_writable}
 use Rattle.spool_faults.proofs.look.take_look.Goals as goal
@@ -21,14 +21,14 @@ returns-clause-writable g c =
 pub returns-clause-faults : goal.returns-clause-faults
 returns-clause-faults g c = λ tells.
     let files = reading (g.H.Host.world c.args.host.now) in
-    let last = c.number_in-number.result in
+    let last = c.sequence_number-number.result in
     let journal = c.in_ok-journal.journal in
     let taken = c.as_slice-6.result.now in
     let listing : g.H.Host.world c.names.new.self ≡ g.H.Host.world c.args.host.now = c.in_ok-names.ensures.looks tells in
     let first : g.H.Host.world c.content_among.new.host ≡ g.H.Host.world c.args.host.now = c.in_ok-sequence.ensures.looks tells ∙ listing in
     let world : g.H.Host.world c.content_among-2.new.host ≡ g.H.Host.world c.args.host.now = c.in_ok-journal.ensures.looks tells ∙ first in
     let number : last ≡ last_in (finite.get files sequence_file) =
-    c.number_in-number.ensures ∙ ap last_in (c.in_ok-sequence.ensures.content tells ∙ ap (λ (now : World). finite.get (reading now) c.sequence_name.result) listing ∙ ap (finite.get files) c.sequence_name.ensures) in
+    c.sequence_number-number.ensures ∙ ap last_in (c.in_ok-sequence.ensures.content tells ∙ ap (λ (now : World). finite.get (reading now) c.sequence_name.result) listing ∙ ap (finite.get files) c.sequence_name.ensures) in
     let held : journal ≡ finite.get files journal_file =
     c.in_ok-journal.ensures.content tells ∙ ap (λ (now : World). finite.get (reading now) c.journal_name.result) first ∙ ap (finite.get files) c.journal_name.ensures in
     folder_noted files last journal c.args.faults.now.items c.note_jobs.new.faults.items number held
@@ -50,13 +50,13 @@ returns-clause-look g c = λ tells.
     let marks : c.in_ok-marks.marks.items ≡ marks_of taken = c.in_ok-marks.ensures ∙ ap marks_of (c.as_slice-3.ensures.value ∙ sym c.as_slice-6.ensures.value) in
     record {
       number =
-          c.number_in-number.ensures ∙ ap last_in (c.in_ok-sequence.ensures.content tells ∙ ap (λ (now : World). finite.get (reading now) c.sequence_name.result) listing ∙ ap (finite.get files) c.sequence_name.ensures);
+          c.sequence_number-number.ensures ∙ ap last_in (c.in_ok-sequence.ensures.content tells ∙ ap (λ (now : World). finite.get (reading now) c.sequence_name.result) listing ∙ ap (finite.get files) c.sequence_name.ensures);
       journal =
           c.in_ok-journal.ensures.content tells ∙ ap (λ (now : World). finite.get (reading now) c.journal_name.result) first ∙ ap (finite.get files) c.journal_name.ensures;
       names = c.in_ok-names.ensures.listed tells;
       marks = c.in_ok-marks.ensures ∙ ap marks_of (c.as_slice-3.ensures.value ∙ c.in_ok-taken.ensures.marks);
-      decided = subst (λ list. AreDecided list c.in_ok-decided.decided) c.as_slice-4.ensures.value c.in_ok-decided.ensures;
+      decided = subst (λ list. AreDecidedNumbers list c.in_ok-decided.decided) c.as_slice-4.ensures.value c.in_ok-decided.ensures;
       firsts =
-          subst (λ (list : List Mark). AreFirst (filter has_header (job_files list (finite.entries files))) c.in_ok-firsts.firsts) (sym marks)
-          (subst (λ (now : World). AreFirst (filter has_header (job_files (marks_of taken) (finite.entries (reading now)))) c.in_ok-firsts.firsts) world (c.in_ok-firsts.ensures.firsts tells));
+          subst (λ (list : List Mark). AreFirstFiles (filter has_header (job_files list (finite.entries files))) c.in_ok-firsts.firsts) (sym marks)
+          (subst (λ (now : World). AreFirstFiles (filter has_header (job_files (marks_of taken) (finite.entries (reading now)))) c.in_ok-firsts.firsts) world (c.in_ok-firsts.ensures.firsts tells));
     }

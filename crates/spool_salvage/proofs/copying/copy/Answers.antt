@@ -1,6 +1,6 @@
 use Rattle.std.specs.Prelude.{Ok}
 use Rattle.spool_salvage.specs.declared.fault.SalvageFault.TheVariants.{FromFailed, ToFailed, NotEmpty}
-use Rattle.spool_salvage.specs.Faults.{IsOfTarget}
+use Rattle.spool_salvage.specs.Faults.{IsTargetFault}
 use Rattle.whole_file.specs.Temporary.{temporary_file}
 use Rattle.spool_salvage.proofs.FaultLemmas.{calls_unless, no_fault, no_other, source_not_empty, source_not_target, target_not_empty, target_not_source, unmoved}
 use Rattle.spool_salvage.proofs.FillLemmas.{placing_alone}
@@ -17,12 +17,12 @@ returns-in_err-bytes-clause-other g c =
 
 pub returns-clause-from : goal.returns-clause-from
 returns-clause-from g c =
-    calls_unless FromFailed (g.H.Host.session c.args.from.now) (g.H.Host.session c.bytes_of.new.from) (Ok c.in_ok-bytes.bytes) c.put.result
-    c.in_ok-bytes.ensures.inside (no_fault FromFailed IsOfTarget c.put.result target_not_source c.put.ensures.of)
+    calls_unless FromFailed (g.H.Host.session c.args.from.now) (g.H.Host.session c.bytes_of.new.from) (Ok c.in_ok-bytes.bytes) c.place_whole.result
+    c.in_ok-bytes.ensures.inside (no_fault FromFailed IsTargetFault c.place_whole.result target_not_source c.place_whole.ensures.of)
 
 pub returns-clause-other : goal.returns-clause-other
-returns-clause-other g c = no_fault NotEmpty IsOfTarget c.put.result target_not_empty c.put.ensures.of
+returns-clause-other g c = no_fault NotEmpty IsTargetFault c.place_whole.result target_not_empty c.place_whole.ensures.of
 
 pub returns-clause-files : goal.returns-clause-files
 returns-clause-files g c = λ tells.
-    placing_alone temporary_file c.args.name.now c.as_slice.result.now (g.G.Host.world c.args.to.now) (g.G.Host.world c.put.new.to) (c.put.ensures.files tells)
+    placing_alone temporary_file c.args.name.now c.as_slice.result.now (g.G.Host.world c.args.to.now) (g.G.Host.world c.place_whole.new.to) (c.place_whole.ensures.files tells)

@@ -24,21 +24,21 @@ pub returns-in_err-survey-clause-files : goal.returns-in_err-survey-clause-files
 returns-in_err-survey-clause-files g c = λ tells told.
     changes_none (IsSalvaging (reading (g.H.Host.world c.args.from.now)) (g.G.Host.world c.args.to.now).now.folder) (g.G.Host.world c.args.to.now)
 
-pub fill-requires-clause-plan : goal.fill-requires-clause-plan
-fill-requires-clause-plan g c = λ tells.
+pub fill_target-requires-clause-plan : goal.fill_target-requires-clause-plan
+fill_target-requires-clause-plan g c = λ tells.
     subst (λ (files : Files). IsPlanOf files c.in_ok-survey.survey.plan.names.items c.in_ok-survey.survey.plan.journal.items c.in_ok-survey.survey.plan.sequence.items)
     (sym (c.in_ok-survey.ensures.leaves tells).same) (c.in_ok-survey.ensures.plan tells)
 
 pub returns-clause-leaves : goal.returns-clause-leaves
 returns-clause-leaves g c = λ tells.
-    subst (λ (world : World). LeavesFolder (g.H.Host.world c.args.from.now) world) (sym (c.fill.ensures.looks tells)) (c.in_ok-survey.ensures.leaves tells)
+    subst (λ (world : World). LeavesFolder (g.H.Host.world c.args.from.now) world) (sym (c.fill_target.ensures.looks tells)) (c.in_ok-survey.ensures.leaves tells)
 
 pub returns-clause-files : goal.returns-clause-files
 returns-clause-files g c = λ tells told.
-    subst (λ (files : Files). ChangesFiles (IsSalvaging files (g.G.Host.world c.args.to.now).now.folder) (g.G.Host.world c.args.to.now) (g.G.Host.world c.fill.new.to))
-    (c.in_ok-survey.ensures.leaves tells).same (c.fill.ensures.files tells told)
+    subst (λ (files : Files). ChangesFiles (IsSalvaging files (g.G.Host.world c.args.to.now).now.folder) (g.G.Host.world c.args.to.now) (g.G.Host.world c.fill_target.new.to))
+    (c.in_ok-survey.ensures.leaves tells).same (c.fill_target.ensures.files tells told)
 
 pub returns-clause-salvaged : goal.returns-clause-salvaged
 returns-clause-salvaged g c = λ tells told.
-    subst (λ (files : Files). OnOk c.fill.result (HasSalvage files (g.G.Host.world c.args.to.now).now.folder (g.G.Host.world c.fill.new.to).now.folder))
-    (c.in_ok-survey.ensures.leaves tells).same (c.fill.ensures.salvaged tells told)
+    subst (λ (files : Files). OnOk c.fill_target.result (HasSalvage files (g.G.Host.world c.args.to.now).now.folder (g.G.Host.world c.fill_target.new.to).now.folder))
+    (c.in_ok-survey.ensures.leaves tells).same (c.fill_target.ensures.salvaged tells told)

@@ -1,5 +1,5 @@
 use Rattle.std.proofs.Common.{[], take, arith}
-use Rattle.spool_store.specs.inside.JobRows.{numbered, numbers_after}
+use Rattle.spool_store.specs.inside.JobRows.{rows_by_number, surveyed_numbers}
 use Rattle.spool_store.specs.inside.SurveyedJobs.{file_surveyed, files_surveyed}
 use Rattle.spool_store.proofs.RisingLemmas.{fresh, rising_all, rising_more, rising_none}
 use Rattle.spool_store.proofs.SurveyLemmas.{answer_fault, so_far_damage, surveyed_after, surveyed_at, surveyed_inside}
@@ -16,10 +16,10 @@ returns-in_err-row c = λ marks tells.
     let rows = c.loop-file.rows.items in
     let rising = c.loop-file.invariant marks tells in
     answer_fault _ _ c.in_err-row.field-0.0 c.from_residual-in_err-row.result c.from_residual-in_err-row.ensures.1
-    (so_far_damage c.args.last marks files place (numbered rows) (file_surveyed file) c.in_err-row.field-0.0
+    (so_far_damage c.args.last marks files place (rows_by_number rows) (file_surveyed file) c.in_err-row.field-0.0
     (surveyed_inside c.args.surveyed.now place c.loop-file-test.true)
     (surveyed_at c.args.surveyed.now place file c.loop-file-test.true c.file-item.is) rising.so_far
-    (c.in_err-row.ensures (numbers_after [] (take place files)) marks
+    (c.in_err-row.ensures (surveyed_numbers [] (take place files)) marks
     (fresh marks (take place files) rows c.loop-file.above file.job.number rising.so_far.rows_are rising.below (omega arith)) tells))
 
 pub loop-file-preserved : goal.loop-file-preserved
@@ -29,12 +29,12 @@ loop-file-preserved c = λ marks tells.
     let place = c.loop-file.file-index in
     let rows = c.loop-file.rows.items in
     let rising = c.loop-file.invariant marks tells in
-    rising_more c.args.last marks files place c.loop-file.above rows c.add.new.rows.items (file_surveyed file) c.in_ok-row.row
+    rising_more c.args.last marks files place c.loop-file.above rows c.add_row.new.rows.items (file_surveyed file) c.in_ok-row.row
     (surveyed_inside c.args.surveyed.now place c.loop-file-test.true)
     (surveyed_at c.args.surveyed.now place file c.loop-file-test.true c.file-item.is) rising (omega arith)
-    (c.in_ok-row.ensures (numbers_after [] (take place files)) marks
+    (c.in_ok-row.ensures (surveyed_numbers [] (take place files)) marks
     (fresh marks (take place files) rows c.loop-file.above file.job.number rising.so_far.rows_are rising.below (omega arith)) tells)
-    c.in_ok-add.ensures
+    c.in_ok-add_row.ensures
 
 pub returns : goal.returns
 returns c = λ marks tells.

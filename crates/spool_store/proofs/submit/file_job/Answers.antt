@@ -4,7 +4,7 @@ use Rattle.host_calls.specs.Folder.{Folder}
 use Rattle.host_calls.specs.World.{World}
 use Rattle.whole_file.specs.Others.{ChangesFiles}
 use Rattle.whole_file.specs.Placing.{IsPlaced, IsPlacing}
-use Rattle.sequence_file.specs.Drawing.{EachGives}
+use Rattle.sequence_file.specs.Drawing.{EachGivesNumber}
 use Rattle.job_name.specs.JobName.{SpellsJobName}
 use Rattle.spool_store.proofs.DrawnFolders.{each_gives}
 use Rattle.spool_store.proofs.SubmitLemmas.{draw_failed, placed_new_form, placing_done}
@@ -16,7 +16,7 @@ draw-requires-clause-last g c = λ tells.
     let next = (c.requires.current tells).2 in
     let last = (c.requires.current tells).1.last in
     let same : last ≡ c.args.job.now.number - 1 = omega (arith, next.number_is) in
-    subst (λ number. EachGives number folder) same (each_gives folder (c.requires.current tells).1 next.current.shows)
+    subst (λ number. EachGivesNumber number folder) same (each_gives folder (c.requires.current tells).1 next.current.shows)
 
 pub returns-in_err-draw-clause-files : goal.returns-in_err-draw-clause-files
 returns-in_err-draw-clause-files g c = λ tells kept table next.

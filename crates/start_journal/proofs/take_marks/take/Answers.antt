@@ -10,11 +10,11 @@ loop-place-preserved c =
     let so_far = marks_of c.loop-place.marks.items in
     let found = c.legal_mark-mark.ensures so_far c.loop-place.invariant.tell in
     record {
-      marks = marks_step c.loop-place.place c.as_chunks.result.0.now c.loop-place.marks.items c.keep.new.marks.items _ c.legal_mark-mark.result _ c.loop-place-test.true c.loop-place.invariant.marks c.in_ok-keep.ensures.marks found;
-      faults = faults_step c.args.bound c.loop-place.place c.loop-place.free c.closed-free.result c.as_chunks.result.0.now c.loop-place.marks.items c.keep.new.marks.items c.loop-place.faults.items c.note.new.faults.items _ c.legal_mark-mark.result c.fault_of-fault.result _ c.loop-place-test.true c.loop-place.invariant.faults c.in_ok-keep.ensures.marks found c.in_ok-note.ensures (c.fault_of-fault.ensures.fault so_far c.loop-place.invariant.tell) (c.closed-free.ensures.closed c.loop-place.free);
-      tell = lives_step c.loop-place.marks.items c.keep.new.marks.items c.loop-place.place _ c.legal_mark-mark.result c.keep.new.lives c.in_ok-keep.ensures.marks found (c.in_ok-keep.ensures.lives so_far c.loop-place.invariant.tell);
+      marks = marks_step c.loop-place.place c.as_chunks.result.0.now c.loop-place.marks.items c.keep_taken.new.marks.items _ c.legal_mark-mark.result _ c.loop-place-test.true c.loop-place.invariant.marks c.in_ok-keep_taken.ensures.marks found;
+      faults = faults_step c.args.bound c.loop-place.place c.loop-place.free c.closed-free.result c.as_chunks.result.0.now c.loop-place.marks.items c.keep_taken.new.marks.items c.loop-place.faults.items c.push_offset.new.faults.items _ c.legal_mark-mark.result c.slot_fault-fault.result _ c.loop-place-test.true c.loop-place.invariant.faults c.in_ok-keep_taken.ensures.marks found c.in_ok-push_offset.ensures (c.slot_fault-fault.ensures.fault so_far c.loop-place.invariant.tell) (c.closed-free.ensures.closed c.loop-place.free);
+      tell = lives_step c.loop-place.marks.items c.keep_taken.new.marks.items c.loop-place.place _ c.legal_mark-mark.result c.keep_taken.new.lives c.in_ok-keep_taken.ensures.marks found (c.in_ok-keep_taken.ensures.lives so_far c.loop-place.invariant.tell);
       few = omega (arith, c.loop-place.invariant.few, c.closed-free.ensures.few);
-      near = c.in_ok-keep.ensures.near c.loop-place.invariant.near;
+      near = c.in_ok-keep_taken.ensures.near c.loop-place.invariant.near;
     }
 
 pub returns-clause-marks : goal.returns-clause-marks

@@ -2,7 +2,7 @@ use Rattle.std.specs.Prelude.{All}
 use Rattle.std.proofs.Common.{◌≡◌, ◌*◌, ◌≤◌, ◌++◌, [], drop}
 use Rattle.start_journal.specs.Journals.{nothing_read}
 use Rattle.start_journal.specs.Lifecycles.{TellLifecycles}
-use Rattle.start_journal.specs.Taken.{IsNear, marks_of, slot_faults, taken_from}
+use Rattle.start_journal.specs.Taken.{IsSlotWithinFile, marks_of, slot_faults, taken_from}
 use Rattle.start_journal.proofs.take_marks.take.Given as goal
 
 abbrev pub invariant-loop-place : goal.invariant-loop-place
@@ -12,5 +12,5 @@ invariant-loop-place l = record {
       ≡ slot_faults l.bound 0 nothing_read l.slots;
   tell : TellLifecycles (marks_of l.marks.items) l.lives;
   few : l.free ≤ l.place;
-  near : All IsNear l.marks.items;
+  near : All IsSlotWithinFile l.marks.items;
 }

@@ -12,7 +12,7 @@ returns-in-Err-clause-meant c =
 
 pub returns-in-Err-parse-clause-meant : goal.returns-in-Err-parse-clause-meant
 returns-in-Err-parse-clause-meant c =
-    rw (c.misspelled-in-Err-parse.ensures, c.place_of.ensures) (record {
+    rw (c.misspelled-in-Err-parse.ensures, c.token_place.ensures) (record {
       time = spec_stopped c.args.text.now c.args.now c.args.zone.now c.as_slice-placed.result.now c.in-Ok.placed.items c.in-Err-parse.fault.token
           c.as_slice-placed.ensures.value c.in-Ok.ensures.tokens c.in-Ok.ensures.only_these c.in-Err-parse.ensures.fault;
       comes = inl refl;

@@ -2,7 +2,7 @@ use Rattle.std.proofs.Common.{◌≡◌, ◌∙◌, ◌++◌, ◌+◌, ◌<◌, 
 use Rattle.std.specs.List.{All}
 use Rattle.record_lines.specs.Lines.{AreLegalAfter, CanBeSpelled}
 use Rattle.accounts.specs.Lines.{SpellsRecord}
-use Rattle.accounts.specs.Records.{MayCome}
+use Rattle.accounts.specs.Records.{IsRecordAllowed}
 use Rattle.accounts.specs.Standings.{IsLedgerOf}
 use Rattle.accounts.specs.Observing.{AreNews, IsObserved, WouldPass, known_in}
 use Rattle.accounts.proofs.AccountLemmas.{grown}
@@ -12,7 +12,7 @@ use Rattle.accounts.proofs.account.Account.observe.Goals as goal
 pub returns-then-old-new-gt-MAX_RECORDS-clause-full : goal.returns-then-old-new-gt-MAX_RECORDS-clause-full
 returns-then-old-new-gt-MAX_RECORDS-clause-full c same table live done =
     let old = c.as_slice-old.result.now in
-    let in_turn : AreLegalAfter MayCome [] old = subst (AreLegalAfter MayCome []) (sym c.as_slice-old.ensures.value) c.self.invariant.in_turn in
+    let in_turn : AreLegalAfter IsRecordAllowed [] old = subst (AreLegalAfter IsRecordAllowed []) (sym c.as_slice-old.ensures.value) c.self.invariant.in_turn in
     let ledger : IsLedgerOf old c.add_records.new.ledger = c.in_ok-add_records.ensures [] c.new-ledger.ensures in_turn in
     let are : AreNews old table c.in_ok-news.news.items = c.in_ok-news.ensures.are old (known_in table) ledger (c.in_ok-jobs.ensures table live done) in
     let kept : old ≡ c.args.self.now = cc in
@@ -26,9 +26,9 @@ pub invariant_of-self-2 : goal.invariant_of-self-2
 invariant_of-self-2 c =
     let old = c.as_slice-old.result.now in
     let new = c.as_slice-new.result.now in
-    let in_turn : AreLegalAfter MayCome [] old = subst (AreLegalAfter MayCome []) (sym c.as_slice-old.ensures.value) c.self.invariant.in_turn in
+    let in_turn : AreLegalAfter IsRecordAllowed [] old = subst (AreLegalAfter IsRecordAllowed []) (sym c.as_slice-old.ensures.value) c.self.invariant.in_turn in
     let ledger : IsLedgerOf old c.add_records.new.ledger = c.in_ok-add_records.ensures [] c.new-ledger.ensures in_turn in
-    let may : AreLegalAfter MayCome old new = subst (AreLegalAfter MayCome old) (sym c.as_slice-new.ensures.value) (c.in_ok-news.ensures.in_turn old ledger) in
+    let may : AreLegalAfter IsRecordAllowed old new = subst (AreLegalAfter IsRecordAllowed old) (sym c.as_slice-new.ensures.value) (c.in_ok-news.ensures.in_turn old ledger) in
     let whole : IsLedgerOf (old ++ new) c.add_records-2.new.ledger = c.in_ok-add_records-2.ensures old ledger may in
     grown old new c.extend_from_slice.new.self.items c.in_ok-totals.totals.items
     (c.in_ok-extend_from_slice.ensures.items ∙ ap (λ records. records ++ new) (sym c.as_slice-old.ensures.value)) in_turn may
@@ -37,7 +37,7 @@ invariant_of-self-2 c =
 pub returns-clause-observed : goal.returns-clause-observed
 returns-clause-observed c table live done =
     let old = c.as_slice-old.result.now in
-    let in_turn : AreLegalAfter MayCome [] old = subst (AreLegalAfter MayCome []) (sym c.as_slice-old.ensures.value) c.self.invariant.in_turn in
+    let in_turn : AreLegalAfter IsRecordAllowed [] old = subst (AreLegalAfter IsRecordAllowed []) (sym c.as_slice-old.ensures.value) c.self.invariant.in_turn in
     let ledger : IsLedgerOf old c.add_records.new.ledger = c.in_ok-add_records.ensures [] c.new-ledger.ensures in_turn in
     let are : AreNews old table c.in_ok-news.news.items = c.in_ok-news.ensures.are old (known_in table) ledger (c.in_ok-jobs.ensures table live done) in
     let kept : old ≡ c.args.self.now = cc in
@@ -51,7 +51,7 @@ returns-clause-observed c table live done =
 pub returns-clause-spelled : goal.returns-clause-spelled
 returns-clause-spelled c can table sound live done letters =
     let old = c.as_slice-old.result.now in
-    let in_turn : AreLegalAfter MayCome [] old = subst (AreLegalAfter MayCome []) (sym c.as_slice-old.ensures.value) c.self.invariant.in_turn in
+    let in_turn : AreLegalAfter IsRecordAllowed [] old = subst (AreLegalAfter IsRecordAllowed []) (sym c.as_slice-old.ensures.value) c.self.invariant.in_turn in
     let ledger : IsLedgerOf old c.add_records.new.ledger = c.in_ok-add_records.ensures [] c.new-ledger.ensures in_turn in
     let are : AreNews old table c.in_ok-news.news.items = c.in_ok-news.ensures.are old (known_in table) ledger (c.in_ok-jobs.ensures table live done) in
     let kept : old ≡ c.args.self.now = cc in

@@ -1,15 +1,15 @@
 use Rattle.std.proofs.Common.{◌∙◌, sym, ap}
-use Rattle.accounts.specs.Standings.{standing_after}
+use Rattle.accounts.specs.Standings.{record_state_after}
 use Rattle.accounts.proofs.StandingLemmas.{none_more, stand_more}
 use Rattle.accounts.proofs.ledger.LedgerKeeperAccountRecord.add.Goals as goal
 
 pub returns-in_ok-insert : goal.returns-in_ok-insert
 returns-in_ok-insert c before stand may =
     stand_more before c.args.next.now c.args.self.now.standings c.insert.new.self c.in-Some.standing stand may
-    (ap (λ at. standing_after at c.args.next.now.event) (sym c.get.ensures.value) ∙ sym c.standing_after-standing.ensures ∙ c.in-Some.is)
+    (ap (λ at. record_state_after at c.args.next.now.event) (sym c.get.ensures.value) ∙ sym c.record_state_after-standing.ensures ∙ c.in-Some.is)
     c.in_ok-insert.ensures.updates.0
 
 pub returns-in_default : goal.returns-in_default
 returns-in_default c before stand may =
     absurd (none_more before c.args.next.now c.args.self.now.standings stand may
-    (ap (λ at. standing_after at c.args.next.now.event) (sym c.get.ensures.value) ∙ sym c.standing_after-standing.ensures ∙ c.in_default.is))
+    (ap (λ at. record_state_after at c.args.next.now.event) (sym c.get.ensures.value) ∙ sym c.record_state_after-standing.ensures ∙ c.in_default.is))

@@ -1,10 +1,10 @@
 use Rattle.std.proofs.Common.{◌∙◌, sym, ap}
-use Rattle.accounts.specs.Standings.{may_follow}
+use Rattle.accounts.specs.Standings.{event_may_follow}
 use Rattle.accounts.proofs.StandingLemmas.{may_decided}
 use Rattle.accounts.proofs.ledger.LedgerKeeperAccountRecord.allows.Goals as goal
 
 pub returns : goal.returns
 returns c before stand =
-    let told = may_decided before c.args.next.now c.args.self.now.standings c.may_follow.result stand
-    (c.may_follow.ensures ∙ ap (λ at. may_follow at c.args.next.now.event) c.get.ensures.value) in
+    let told = may_decided before c.args.next.now c.args.self.now.standings c.event_may_follow.result stand
+    (c.event_may_follow.ensures ∙ ap (λ at. event_may_follow at c.args.next.now.event) c.get.ensures.value) in
     ((λ is. told ∙ is), (λ may. sym told ∙ may))

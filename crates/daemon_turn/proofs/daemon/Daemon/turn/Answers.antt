@@ -16,15 +16,15 @@ returns g c =
     subst (λ (was : DaemonState). TurnsTo g.H.Host.tells g.H.Host.alone at
     (record { session = g.H.Host.session c.args.host.now; world = g.H.Host.world c.args.host.now; daemon = was })
     (record { session = g.H.Host.session c.in_session-worked.new.host; world = g.H.Host.world c.in_session-worked.new.host; daemon = now })
-    c.report.result.end c.report.result.steps) c.self.view_is
+    c.turn_report.result.end c.turn_report.result.steps) c.self.view_is
     (subst (λ (end : TurnEnd). TurnsTo g.H.Host.tells g.H.Host.alone at
     (record { session = g.H.Host.session c.args.host.now; world = g.H.Host.world c.args.host.now; daemon = daemon })
     (record { session = g.H.Host.session c.in_session-worked.new.host; world = g.H.Host.world c.in_session-worked.new.host; daemon = now })
-    end c.report.result.steps) (sym (c.report.ensures.end ∙ c.end_of_session.ensures))
+    end c.turn_report.result.steps) (sym (c.turn_report.ensures.end ∙ c.end_of_session.ensures))
     (subst (TurnsTo g.H.Host.tells g.H.Host.alone at
     (record { session = g.H.Host.session c.args.host.now; world = g.H.Host.world c.args.host.now; daemon = daemon })
     (record { session = g.H.Host.session c.in_session-worked.new.host; world = g.H.Host.world c.in_session-worked.new.host; daemon = now })
-    (end_of_session c.in_session-worked.result)) (sym c.report.ensures.steps)
+    (end_of_session c.in_session-worked.result)) (sym c.turn_report.ensures.steps)
     (turn_of_session g.H.Host _ _ _ _ _ at daemon now refl refl
     (subst (λ (is : DaemonState). AreChildren (g.H.Host.session c.args.host.now).children is.kids) (sym c.self.view_is) c.requires.children) c.self.invariant _
     (λ same. (search (rules, same, c.replace.ensures.value), search (rules, same, c.new-2.ensures.items)))

@@ -6,7 +6,7 @@ use Rattle.spool_model.specs.declared.turn_step.TurnStep.{TurnStep}
 use Rattle.daemon_turn.specs.inside.Making.{MakesAll}
 use Rattle.daemon_turn.specs.inside.Turned.{MakesTurn}
 use Rattle.daemon_turn.proofs.MakeLemmas.{may_forget_all, nothing_made}
-use Rattle.daemon_turn.specs.inside.Waiting.{AreWaiting}
+use Rattle.daemon_turn.specs.inside.Waiting.{ArePendingNumbers}
 use Rattle.daemon_turn.proofs.TurnedLemmas.{launches_as, may_go_on, order_waiting, stopped_deciding, stopped_starting, turned}
 use Rattle.daemon_turn.proofs.turning.Turning.make_turn.Goals as goal
 
@@ -23,7 +23,7 @@ start_all-requires-clause-may g c =
 
 pub start_all-requires-clause-waiting : goal.start_all-requires-clause-waiting
 start_all-requires-clause-waiting g c =
-    subst (λ (numbers : List ℕ). AreWaiting c.in_ok-store.store.table numbers) (sym c.as_slice-2.ensures.value)
+    subst (λ (numbers : List ℕ). ArePendingNumbers c.in_ok-store.store.table numbers) (sym c.as_slice-2.ensures.value)
     (order_waiting g.H.Host.tells (g.H.Host.session c.args.host.now) (g.H.Host.world c.args.host.now) c.args.store c.args.self.now.kids.items c.args.plan.now.order.items c.requires.may c.requires.waiting
     (g.H.Host.session c.decide.new.host) (g.H.Host.world c.decide.new.host) c.decide.new.self.kids.items c.args.self.now.steps.items c.decide.new.self.steps.items c.requires.none
     c.in_ok-store.store c.in_ok-store.ensures)

@@ -17,22 +17,22 @@ returns-in_err-reserve-2 g c =
 
 pub returns-in_err-store : goal.returns-in_err-store
 returns-in_err-store g c =
-    launched_not g.H.Host.tells (g.H.Host.session c.args.host.now) (g.H.Host.session c.hand_over.new.host) (g.H.Host.session c.hand_over.new.host)
-    (g.H.Host.world c.args.host.now) (g.H.Host.world c.hand_over.new.host) (g.H.Host.world c.hand_over.new.host)
+    launched_not g.H.Host.tells (g.H.Host.session c.args.host.now) (g.H.Host.session c.start_job.new.host) (g.H.Host.session c.start_job.new.host)
+    (g.H.Host.world c.args.host.now) (g.H.Host.world c.start_job.new.host) (g.H.Host.world c.start_job.new.host)
     c.args.store c.args.number c.args.second c.args.self.now.kids.items c.args.self.now.steps.items c.in_err-store.field-0.0 c.reserve.new.self.items c.reserve-2.new.self.items
     c.from_residual-in_err-store.result c.from_residual-in_err-store.ensures.1 c.reserve.ensures.items c.reserve-2.ensures.items
     (unhanded_at _ _ _ _ _ _ _ _ _ _ (to_z-of_z w64 c.args.second c.ranges.second) c.in_err-store.ensures)
 
 pub make_all-requires : goal.make_all-requires
 make_all-requires g c =
-    may_end g.H.Host.tells (g.H.Host.session c.args.host.now) (g.H.Host.session c.hand_over.new.host) (g.H.Host.world c.args.host.now) (g.H.Host.world c.hand_over.new.host)
+    may_end g.H.Host.tells (g.H.Host.session c.args.host.now) (g.H.Host.session c.start_job.new.host) (g.H.Host.world c.args.host.now) (g.H.Host.world c.start_job.new.host)
     c.args.store c.in_ok-store.store c.args.number c.args.second c.requires.may.legal c.requires.may.current
     (handed_at _ _ _ _ _ _ _ _ _ _ c.in_ok-store.child None (to_z-of_z w64 c.args.second c.ranges.second) c.in-None.is c.in_ok-store.ensures)
 
 pub returns-in-Some : goal.returns-in-Some
 returns-in-Some g c =
-    launched g.H.Host.tells (g.H.Host.session c.args.host.now) (g.H.Host.session c.hand_over.new.host) (g.H.Host.session c.hand_over.new.host)
-    (g.H.Host.world c.args.host.now) (g.H.Host.world c.hand_over.new.host) (g.H.Host.world c.hand_over.new.host)
+    launched g.H.Host.tells (g.H.Host.session c.args.host.now) (g.H.Host.session c.start_job.new.host) (g.H.Host.session c.start_job.new.host)
+    (g.H.Host.world c.args.host.now) (g.H.Host.world c.start_job.new.host) (g.H.Host.world c.start_job.new.host)
     c.args.store c.args.number c.args.second c.args.self.now.kids.items c.args.self.now.steps.items c.in_ok-store.store c.in-Some.child c.push_reserved-in-Some.new.self.items c.push_reserved.new.self.items
     (handed_at _ _ _ _ _ _ _ _ _ _ c.in_ok-store.child (Some c.in-Some.child) (to_z-of_z w64 c.args.second c.ranges.second) c.in-Some.is c.in_ok-store.ensures)
     (report_at _ _ _ _ _ _ (to_z-of_z w64 c.args.second c.ranges.second) c.reserve-2.ensures.items c.push_reserved.ensures.items)
@@ -40,8 +40,8 @@ returns-in-Some g c =
 
 pub returns-in-None : goal.returns-in-None
 returns-in-None g c =
-    launched_none g.H.Host.tells (g.H.Host.session c.args.host.now) (g.H.Host.session c.hand_over.new.host) (g.H.Host.session c.make_all.new.host)
-    (g.H.Host.world c.args.host.now) (g.H.Host.world c.hand_over.new.host) (g.H.Host.world c.make_all.new.host)
+    launched_none g.H.Host.tells (g.H.Host.session c.args.host.now) (g.H.Host.session c.start_job.new.host) (g.H.Host.session c.make_all.new.host)
+    (g.H.Host.world c.args.host.now) (g.H.Host.world c.start_job.new.host) (g.H.Host.world c.make_all.new.host)
     c.args.store c.args.number c.args.second c.args.self.now.kids.items c.args.self.now.steps.items c.in_ok-store.store c.make_all.new.self.kids.items c.push_reserved.new.self.items c.make_all.new.self.steps.items c.make_all.result
     (handed_at _ _ _ _ _ _ _ _ _ _ c.in_ok-store.child None (to_z-of_z w64 c.args.second c.ranges.second) c.in-None.is c.in_ok-store.ensures)
     (ap (λ kids. kids.items) c.make_all.ensures.kids ∙ c.reserve.ensures.items)

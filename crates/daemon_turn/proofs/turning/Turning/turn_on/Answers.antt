@@ -1,14 +1,14 @@
 use Rattle.std.proofs.Common.{subst, sym}
 use Rattle.std.specs.Prelude.{Ok}
-use Rattle.daemon_turn.specs.Kids.{AreByNumber}
+use Rattle.daemon_turn.specs.Kids.{AreKidsByNumber}
 use Rattle.daemon_turn.specs.Starting.{turn_of}
 use Rattle.daemon_turn.proofs.PlanLemmas.{clock_same}
 use Rattle.daemon_turn.proofs.WaitLemmas.{order_waits}
 use Rattle.daemon_turn.proofs.WorkLemmas.{asked_itself, done_same, fault_same, ordered_kids, unplanned}
 use Rattle.daemon_turn.proofs.turning.Turning.turn_on.Goals as goal
 
-pub make_plan-requires-clause-ordered : goal.make_plan-requires-clause-ordered
-make_plan-requires-clause-ordered g c = subst AreByNumber (sym c.as_slice.ensures.value) c.requires.may.ordered
+pub turn_plan-requires-clause-ordered : goal.turn_plan-requires-clause-ordered
+turn_plan-requires-clause-ordered g c = subst AreKidsByNumber (sym c.as_slice.ensures.value) c.requires.may.ordered
 
 pub returns-in_err-plan : goal.returns-in_err-plan
 returns-in_err-plan g c = λ before are.

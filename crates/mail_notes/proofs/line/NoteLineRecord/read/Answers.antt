@@ -1,12 +1,12 @@
 use Rattle.std.proofs.Common.{◌∙◌}
-use Rattle.mail_notes.specs.Notes.{number_of}
+use Rattle.mail_notes.specs.Notes.{number_of_note}
 use Rattle.mail_notes.proofs.LineLemmas.{digits_part, none_spelled}
 use Rattle.mail_notes.proofs.WritingLemmas.{fits_of}
 use Rattle.mail_notes.proofs.line.NoteLineRecord.read.Goals as goal
 
 pub returns-in_err-number-clause-none : goal.returns-in_err-number-clause-none
 returns-in_err-number-clause-none c = rw c.from_residual.ensures (λ note spelled.
-    c.in_err-number.ensures.none (number_of note) (fits_of note spelled.of) (c.split_at.ensures.front ∙ digits_part c.args.line.now note spelled))
+    c.in_err-number.ensures.none (number_of_note note) (fits_of note spelled.of) (c.split_at.ensures.front ∙ digits_part c.args.line.now note spelled))
 
 pub returns-clause-none : goal.returns-clause-none
 returns-clause-none c =

@@ -10,8 +10,8 @@ use Rattle.mail_session.proofs.mailer.Post.session.Goals as goal
 pub end_of_session-requires : goal.end_of_session-requires
 end_of_session-requires g c = reads_of_session g.H.Host _ _ _ _ _ c.in_session-worked.result c.in_session-worked.ensures.ends (λ first last done did. search (rules, did))
 
-pub report-requires : goal.report-requires
-report-requires g c =
+pub mail_report-requires : goal.mail_report-requires
+mail_report-requires g c =
     let post : PostState = record { program = c.as_slice-program.result.now; kids = c.self.inside.kids.items } in
     let now : PostState = record { program = c.as_slice-program.result.now; kids = c.in_session-worked.new.work.2.now.items } in
     distinct_of_session g.H.Host _ _ _ _ _ post now refl
@@ -26,15 +26,15 @@ returns g c =
     let stands : PostsTo g.H.Host.tells g.H.Host.alone
     (record { session = g.H.Host.session c.args.host.now; world = g.H.Host.world c.args.host.now; post = post })
     (record { session = g.H.Host.session c.in_session-worked.new.host; world = g.H.Host.world c.in_session-worked.new.host; post = now })
-    c.report.result.end c.report.result.sent =
+    c.mail_report.result.end c.mail_report.result.sent =
     subst (λ (end : TurnEnd). PostsTo g.H.Host.tells g.H.Host.alone
     (record { session = g.H.Host.session c.args.host.now; world = g.H.Host.world c.args.host.now; post = post })
     (record { session = g.H.Host.session c.in_session-worked.new.host; world = g.H.Host.world c.in_session-worked.new.host; post = now })
-    end c.report.result.sent) (sym (c.report.ensures.end ∙ c.end_of_session.ensures))
+    end c.mail_report.result.sent) (sym (c.mail_report.ensures.end ∙ c.end_of_session.ensures))
     (subst (PostsTo g.H.Host.tells g.H.Host.alone
     (record { session = g.H.Host.session c.args.host.now; world = g.H.Host.world c.args.host.now; post = post })
     (record { session = g.H.Host.session c.in_session-worked.new.host; world = g.H.Host.world c.in_session-worked.new.host; post = now })
-    (end_of_session c.in_session-worked.result)) (sym c.report.ensures.sent)
+    (end_of_session c.in_session-worked.result)) (sym c.mail_report.ensures.sent)
     (post_of_session g.H.Host _ _ _ _ _ post now refl
     (subst (λ (is : PostState). AreChildren (g.H.Host.session c.args.host.now).children is.kids) (sym c.self.view_is) c.requires.children) _
     (λ same. (search (rules, same), search (rules, same, c.new-sent.ensures.items)))
@@ -47,7 +47,7 @@ returns g c =
       post =
           record { program = c.self.inside.program.items; kids = c.in_session-worked.new.work.2.now.items };
     })
-    c.report.result.end c.report.result.sent) c.self.view_is
+    c.mail_report.result.end c.mail_report.result.sent) c.self.view_is
     (subst (λ (program : List ℕ). PostsTo g.H.Host.tells g.H.Host.alone
     (record {
       session = g.H.Host.session c.args.host.now;
@@ -61,4 +61,4 @@ returns g c =
       post =
           record { program = program; kids = c.in_session-worked.new.work.2.now.items };
     })
-    c.report.result.end c.report.result.sent) c.as_slice-program.ensures.value stands)
+    c.mail_report.result.end c.mail_report.result.sent) c.as_slice-program.ensures.value stands)

@@ -4,7 +4,7 @@ use Rattle.memory_host.specs.Host.{progress_of, world_of}
 use Rattle.memory_host.specs.Plan.{next_start_fails}
 use Rattle.memory_host.specs.declared.past_call.PastCall.TheVariants.{HandedOver}
 use Rattle.memory_host.specs.inside.Faults.{AreFaultsPlanned}
-use Rattle.memory_host.specs.inside.Kin.{AreKin}
+use Rattle.memory_host.specs.inside.Kin.{AreChildrenAsPlanned}
 use Rattle.memory_host.specs.inside.Story.{with_next}
 use Rattle.memory_host.proofs.ChildLemmas.{is_new, kin_failed, kin_started}
 use Rattle.memory_host.proofs.FaultLemmas.{faults_start_failed, faults_started, start_fails, start_fine, start_progress}
@@ -21,7 +21,7 @@ invariant_of-self-then-fails c =
       faults = subst (λ next. AreFaultsPlanned next host.fuses.items host.file_faults c.saturating_add-self.result host.taken)
           (sym (start_progress at _ _ _ c.next-self.ensures.call c.next-self.ensures.since_reboot (ap length waits ∙ length-append host.waits.items (c.plan-asks.result.asks ∷ []))))
           (faults_start_failed at host.fuses.items host.file_faults host.start_faults host.taken host.faults _ c.saturating_add-self.ensures (sym c.next_start_fails-fails.ensures ∙ c.if-fails.true));
-      kin = subst (AreKin host.plan.children host.asked.items c.push_reserved.new.self.items) (sym c.reserve.ensures.items)
+      kin = subst (AreChildrenAsPlanned host.plan.children host.asked.items c.push_reserved.new.self.items) (sym c.reserve.ensures.items)
           (kin_failed host.plan.children host.asked.items host.waits.items c.push_reserved.new.self.items host.children.items c.plan-asks.result.asks host.kin waits asks);
     }
 
@@ -51,7 +51,7 @@ invariant_of-self-2 c =
       faults = subst (λ next. AreFaultsPlanned next host.fuses.items host.file_faults host.start_faults host.taken)
           (sym (start_progress at _ _ _ c.next-self.ensures.call c.next-self.ensures.since_reboot (ap length waits ∙ length-append host.waits.items (c.plan-asks.result.asks ∷ []))))
           (faults_started at host.fuses.items host.file_faults host.start_faults host.taken host.faults);
-      kin = subst (AreKin host.plan.children host.asked.items c.push_reserved.new.self.items) (sym (c.push_reserved-2.ensures.items ∙ ap (λ l. l ++ record { id = c.next_start-id.result } ∷ []) c.reserve.ensures.items))
+      kin = subst (AreChildrenAsPlanned host.plan.children host.asked.items c.push_reserved.new.self.items) (sym (c.push_reserved-2.ensures.items ∙ ap (λ l. l ++ record { id = c.next_start-id.result } ∷ []) c.reserve.ensures.items))
           (kin_started host.plan.children host.asked.items host.waits.items c.push_reserved.new.self.items host.children.items c.plan-asks.result.asks _ host.kin waits asks c.next_start-id.ensures);
     }
 

@@ -1,5 +1,5 @@
 use Rattle.std.proofs.Common.{sym, ap, subst, ◌∙◌}
-use Rattle.memory_host.specs.Past.{Story}
+use Rattle.memory_host.specs.Past.{CallLog}
 use Rattle.memory_host.specs.inside.Story.{state_of}
 use Rattle.host_calls.specs.Folder.{IsHeldAt, names_of}
 use Rattle.memory_host.proofs.PastLemmas.{number_known, script_more, known_handed, known_next}
@@ -13,7 +13,7 @@ bytes-requires c =
 pub invariant_of-self-2 : goal.invariant_of-self-2
 invariant_of-self-2 c =
     let s = c.self.inside in
-    let story : Story = record { opening = s.opening.entries; calls = s.calls.items } in
+    let story : CallLog = record { opening = s.opening.entries; calls = s.calls.items } in
     known_next _ story _ _ s.names s.bodies _ c.push_reserved-2.ensures.items c.reserve.ensures.items
     (known_handed (state_of story) s.names s.names s.bodies s.bodies s.handed.items c.self.invariant c.args.number c.number-body.result c.args.nice c.args.started c.push_reserved.new.self.items
     (script_more s.handed.items c.reserve-2.new.self.items c.push_reserved.new.self.items c.args.number _ _ c.args.nice c.args.started c.reserve-2.ensures.items c.push_reserved.ensures.items

@@ -6,7 +6,7 @@ use Rattle.std.proofs.lemmas.Map.Iter.{iter_end}
 use Rattle.std.proofs.lemmas.List.{map-append}
 use Rattle.memory_host.specs.Past.{nothing, with_files, with_folder, with_new_file}
 use Rattle.memory_host.specs.inside.Story.{Opens}
-use Rattle.memory_host.specs.inside.Known.{IsKnown}
+use Rattle.memory_host.specs.inside.Known.{IsStateKept}
 use Rattle.host_calls.specs.Folder.{settled}
 use Rattle.memory_host.proofs.OpenLemmas.{opens, known_nothing, known_opened, with_files-push}
 use Rattle.memory_host.proofs.PastLemmas.{known_settled}
@@ -18,20 +18,20 @@ loop-name-init c = known_nothing c.new-names.result c.new-bodies.result c.new-na
 pub loop-name-preserved : goal.loop-name-preserved
 loop-name-preserved c =
     let so_far = with_files (map deref_pair c.loop-name.yielded) nothing in
-    subst (λ at. IsKnown at c.make_file.new.names c.make_file.new.bodies [])
+    subst (λ at. IsStateKept at c.add_file.new.names c.add_file.new.bodies [])
     (sym (ap (λ files. with_files files nothing) (map-append deref_pair c.loop-name.yielded ((c.in-Some.name, c.in-Some.bytes) ∷ []))
     ∙ with_files-push (map deref_pair c.loop-name.yielded) (c.in-Some.name.now, c.in-Some.bytes.now) nothing))
-    (subst (λ bytes. IsKnown (with_new_file c.in-Some.name.now bytes so_far) c.make_file.new.names c.make_file.new.bodies []) c.as_slice.ensures
-    (c.in_ok-make_file.ensures so_far [] c.loop-name.invariant))
+    (subst (λ bytes. IsStateKept (with_new_file c.in-Some.name.now bytes so_far) c.add_file.new.names c.add_file.new.bodies []) c.as_slice.ensures
+    (c.in_ok-add_file.ensures so_far [] c.loop-name.invariant))
 
 pub invariant_of-result : goal.invariant_of-result
 invariant_of-result c =
     let all : map deref_pair c.loop-name.yielded ≡ c.files.inside.inner.entries = search (rules, iter_end) in
     let files : List (List ℕ × List ℕ) = c.files.inside.inner.entries in
     known_opened files c.new.result.items c.sync.new.self c.settle.new.self c.new-2.result.items c.new.ensures.items
-    (subst (IsKnown (with_folder (settled (with_files files nothing).folder) (with_files files nothing)) c.sync.new.self c.settle.new.self) (sym c.new-2.ensures.items)
+    (subst (IsStateKept (with_folder (settled (with_files files nothing).folder) (with_files files nothing)) c.sync.new.self c.settle.new.self) (sym c.new-2.ensures.items)
     (known_settled (with_files files nothing) c.loop-name.names c.sync.new.self c.loop-name.bodies c.settle.new.self []
-    (subst (λ l. IsKnown (with_files l nothing) c.loop-name.names c.loop-name.bodies []) all c.loop-name.invariant)
+    (subst (λ l. IsStateKept (with_files l nothing) c.loop-name.names c.loop-name.bodies []) all c.loop-name.invariant)
     c.sync.ensures.now c.sync.ensures.certain c.sync.ensures.pending c.settle.ensures.list))
 
 pub returns : goal.returns

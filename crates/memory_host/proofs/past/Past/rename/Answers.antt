@@ -1,4 +1,4 @@
-use Rattle.memory_host.specs.Past.{Story}
+use Rattle.memory_host.specs.Past.{CallLog}
 use Rattle.memory_host.specs.inside.Story.{state_of}
 use Rattle.memory_host.proofs.TableLemmas.{kept_either}
 use Rattle.memory_host.proofs.PastLemmas.{known_next, known_renamed, known_same}
@@ -10,7 +10,7 @@ change-requires-clause-places c = λ name touched. kept_either c.reserve-3.new.s
 pub invariant_of-self-2 : goal.invariant_of-self-2
 invariant_of-self-2 c =
     let s = c.self.inside in
-    let story : Story = record { opening = s.opening.entries; calls = s.calls.items } in
+    let story : CallLog = record { opening = s.opening.entries; calls = s.calls.items } in
     known_next _ story _ _ c.change.new.self s.bodies s.handed.items c.push_reserved.ensures.items c.reserve.ensures.items
     (known_renamed (state_of story) c.reserve-3.new.self c.change.new.self s.bodies s.bodies s.handed.items
     (known_same (state_of story) c.reserve-2.new.self c.reserve-3.new.self s.bodies s.bodies s.handed.items

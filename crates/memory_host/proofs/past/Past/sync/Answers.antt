@@ -1,5 +1,5 @@
 use Rattle.std.proofs.Common.{sym, subst}
-use Rattle.memory_host.specs.Past.{Story}
+use Rattle.memory_host.specs.Past.{CallLog}
 use Rattle.memory_host.specs.inside.Story.{state_of}
 use Rattle.host_calls.specs.Folder.{IsHeldAt, names_of}
 use Rattle.memory_host.proofs.PastLemmas.{number_known, known_next, known_synced}
@@ -13,6 +13,6 @@ sync-requires c =
 pub invariant_of-self-2 : goal.invariant_of-self-2
 invariant_of-self-2 c =
     let s = c.self.inside in
-    let story : Story = record { opening = s.opening.entries; calls = s.calls.items } in
+    let story : CallLog = record { opening = s.opening.entries; calls = s.calls.items } in
     known_next _ story _ _ s.names c.sync.new.self s.handed.items c.push_reserved.ensures.items c.reserve.ensures.items
     (known_synced (state_of story) s.names s.names s.bodies c.sync.new.self s.handed.items c.self.invariant c.number-number.result c.sync.ensures.list c.sync.ensures.unsettled)

@@ -1,7 +1,7 @@
 use Rattle.std.proofs.Common.{sym, length, subst}
-use Rattle.memory_host.specs.Past.{Story, after_call}
+use Rattle.memory_host.specs.Past.{CallLog, after_call}
 use Rattle.memory_host.specs.inside.Story.{state_of}
-use Rattle.memory_host.specs.inside.Known.{IsKnown}
+use Rattle.memory_host.specs.inside.Known.{IsStateKept}
 use Rattle.memory_host.specs.declared.past_call.PastCall.TheVariants.{Written}
 use Rattle.host_calls.specs.Folder.{IsHeldAt, names_of, reading_of}
 use Rattle.host_calls.specs.World.{IsWithinFile}
@@ -22,9 +22,9 @@ write-requires-clause-range c =
 pub invariant_of-self-2 : goal.invariant_of-self-2
 invariant_of-self-2 c =
     let s = c.self.inside in
-    let story : Story = record { opening = s.opening.entries; calls = s.calls.items } in
+    let story : CallLog = record { opening = s.opening.entries; calls = s.calls.items } in
     known_next _ story _ _ s.names c.write.new.self s.handed.items c.push_reserved.ensures.items c.reserve.ensures.items
-    (subst (λ bytes. IsKnown (after_call (Written c.number-number.result c.args.offset bytes) (state_of story)) s.names c.write.new.self s.handed.items) (sym c.in_ok-copy.ensures)
+    (subst (λ bytes. IsStateKept (after_call (Written c.number-number.result c.args.offset bytes) (state_of story)) s.names c.write.new.self s.handed.items) (sym c.in_ok-copy.ensures)
     (known_written (state_of story) s.names s.names s.bodies c.write.new.self s.handed.items c.self.invariant c.number-number.result c.args.offset c.args.bytes.now
     (number_known (state_of _) c.self.inside.names c.self.inside.bodies c.self.inside.handed.items c.self.invariant c.args.name.now c.number-number.result
     (subst (λ story. IsHeldAt (names_of (state_of story).folder) c.args.name.now c.number-number.result) (sym c.self.view_is) c.number-number.ensures.held))

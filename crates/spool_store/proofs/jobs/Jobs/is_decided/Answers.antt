@@ -2,7 +2,7 @@ use Rattle.std.proofs.Common.{true, false, sym, ap, subst, ◌≡◌, ◌∙◌,
 use Rattle.std.specs.Prelude.{IsSome}
 use Rattle.std.proofs.lemmas.Bool.Decides.{eqb_tells}
 use Rattle.spool_model.specs.declared.entry.Entry.TheVariants.{Done}
-use Rattle.spool_store.specs.Listed.{entry_in}
+use Rattle.spool_store.specs.Listed.{entry_under}
 use Rattle.spool_store.specs.Rows.{decided_entry}
 use Rattle.spool_store.proofs.Edits.{test_from}
 use Rattle.spool_store.proofs.Listing.{decided_is_done, done_is_decided}
@@ -16,7 +16,7 @@ returns-in-Some c =
       λ test. (
         done.fate,
         decided_is_done c.self.inside.last c.self.inside.rows.items c.self.inside.decided.items c.self.inside.last_batch c.args.self.now c.self.view_is c.self.invariant.listed c.args.number (Done done.fate)
-            (ap (entry_in (map decided_entry c.self.inside.decided.items)) (sym (eqb-true done.number c.args.number test))
+            (ap (entry_under (map decided_entry c.self.inside.decided.items)) (sym (eqb-true done.number c.args.number test))
             ∙ found_at decided_entry c.self.inside.decided.items _ c.decided_place.result done c.deref.ensures.value (test_from _ c.self.invariant.listed.decided_rise) c.in-Some.ensures.lookup.3),
       ),
       λ is. elim (eqb_tells done.number c.args.number) [

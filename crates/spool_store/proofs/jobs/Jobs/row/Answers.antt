@@ -1,6 +1,6 @@
 use Rattle.std.proofs.Common.{sym, ap, subst, ◌∙◌, refl, map}
 use Rattle.std.specs.Prelude.{IsSome}
-use Rattle.spool_store.specs.Listed.{IsLive, entry_in}
+use Rattle.spool_store.specs.Listed.{IsLive, entry_under}
 use Rattle.spool_store.specs.Rows.{row_entry}
 use Rattle.spool_store.proofs.Edits.{test_from}
 use Rattle.spool_store.proofs.Listing.{live_has_row, row_is_live}
@@ -16,7 +16,7 @@ pub returns-then-row-number-clause-found : goal.returns-then-row-number-clause-f
 returns-then-row-number-clause-found c =
     let row = c.in_ok-row.row.now in
     row_is_live c.self.inside.last c.self.inside.rows.items c.self.inside.decided.items c.self.inside.last_batch c.args.self.now c.self.view_is c.args.number (row_entry row).1
-    (ap (entry_in (map row_entry c.self.inside.rows.items)) (sym c.if-row-number.true)
+    (ap (entry_under (map row_entry c.self.inside.rows.items)) (sym c.if-row-number.true)
     ∙ found_at row_entry c.self.inside.rows.items _ c.row_place.result row c.deref.ensures.value (test_from _ c.self.invariant.listed.live_rise) c.in_ok-row.ensures.lookup.3)
 
 pub returns-else-row-number-clause-absent : goal.returns-else-row-number-clause-absent

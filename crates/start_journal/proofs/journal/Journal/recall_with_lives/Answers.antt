@@ -11,4 +11,4 @@ returns-in-None-clause-journal g c = λ tells.
     (sym (ap (map.get (reading (g.H.Host.world c.args.host.now))) c.journal_name.ensures) ∙ sym (c.in_ok-bytes.ensures.content tells) ∙ c.in-None.is) c.new.ensures.items
 
 pub returns-in-Some-clause-drawn : goal.returns-in-Some-clause-drawn
-returns-in-Some-clause-drawn g c = answer_drawn c.args.last _ c.read.result c.read.ensures.journal
+returns-in-Some-clause-drawn g c = answer_drawn c.args.last _ c.read_marks.result c.read_marks.ensures.journal

@@ -1,5 +1,0 @@
-use Rattle.later_sessions.proofs.CronLemmas.{cron_sessions_pass}
-use Rattle.later_sessions.proofs.laws.cron_sessions_pass.Goals as goal
-
-pub returns : goal.returns
-returns c = cron_sessions_pass

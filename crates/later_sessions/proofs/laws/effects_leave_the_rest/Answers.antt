@@ -1,5 +1,0 @@
-use Rattle.later_sessions.proofs.EffectRestLemmas.{effects_leave_the_rest}
-use Rattle.later_sessions.proofs.laws.effects_leave_the_rest.Goals as goal
-
-pub returns : goal.returns
-returns c = effects_leave_the_rest
