@@ -1,15 +1,13 @@
 """What crates.txt and the first lines of the crates say: read by docs/tools/pages and docs/tools/pictures.
 
 The first lines of a crate are the first two sentences of src/lib.rt (of src/main.rt, where there is no lib.rt): what it
-does, and what it promises. docs/tools/first_lines.txt has them for crates whose own first lines are not of this form
-yet; `docs/tools/pages --move CRATE ..` puts them there. A line that is in the crate too is refused."""
+does, and what it promises."""
 import glob
 import os
 import re
 import subprocess
 
 TOP = os.path.normpath(os.path.join(os.path.dirname(os.path.abspath(__file__)), '..', '..'))
-WAITING = os.path.join(TOP, 'docs', 'tools', 'first_lines.txt')
 
 
 def text_of(*path):
@@ -39,11 +37,6 @@ def crates():
     return [crate for _, members in groups() for crate in members]
 
 
-def waiting():
-    """The first lines that stand in docs/tools/first_lines.txt."""
-    return dict(line.split(': ', 1) for line in text_of('docs', 'tools', 'first_lines.txt').splitlines() if line)
-
-
 def root_of(crate):
     """The file with a crate's first lines."""
     paths = [os.path.join(TOP, 'crates', crate, 'src', name) for name in ('lib.rt', 'main.rt')]
@@ -60,9 +53,9 @@ def own_lines(crate):
     return ' '.join(words)
 
 
-def first_lines(crate, listed):
+def first_lines(crate):
     """What a crate does, and what it promises."""
-    said = re.split(r'(?<=\.) (?=[A-Z`])', listed.get(crate) or own_lines(crate))
+    said = re.split(r'(?<=\.) (?=[A-Z`])', own_lines(crate))
     return said[0].rstrip('.'), ' '.join(said[1:2]).rstrip('.')
 
 

@@ -1,4 +1,4 @@
-//! Who may use `at`: the lists at.allow and at.deny.
+//! `at.allow` and `at.deny`: who may use `at`. Whether a user may is a function of the two lists.
 #![tactic(auto)]
 
 mod lists;

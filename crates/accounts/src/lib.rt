@@ -1,5 +1,5 @@
-//! The account of a spool: the records of its jobs (a job was seen, started, or closed), their lines, what is new of them
-//! by the table of jobs, and their totals for each owner.
+//! `.ACC`, the account of jobs: its records, what is new of a job table, the totals of each owner. What is new of a
+//! table is exact, and so are the totals.
 #![tactic(auto)]
 
 mod account;

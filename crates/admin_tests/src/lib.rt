@@ -1,5 +1,4 @@
-//! The programs of an administrator over folders in memory, beside what scenarios say: what a crash leaves of a salvage and
-//! of a file of accounts, a target that holds a spool, many jobs and many records; files of accounts.
+//! Tests of the checker, salvages and accounts.
 #![tactic(auto)]
 
 #[cfg(test)]

@@ -79,12 +79,15 @@ AccountRefusalLeaves _ old new = ⊥
 -- What is left in the folder and put on the output, by the cause: all of the text where it is done, a prefix of it where the
 -- put failed or found no memory, and else nothing.
 abbrev pub AccountLeaves : Bool → Bool → World → World → SinkAt → SinkAt → Cause → Type 0
-AccountLeaves show tells old new was now Done = (text : List ℕ) × IsAccounted show old new text × (tells ≡ true → IsPut text was now)
-AccountLeaves show tells old new was now OutputFault = (text : List ℕ) × IsAccounted show old new text × (tells ≡ true → IsCut text was now)
+AccountLeaves show tells old new was now Done = (text : List ℕ) × IsAccounted show old new text ×
+    (tells ≡ true → IsPut text was now)
+AccountLeaves show tells old new was now OutputFault = (text : List ℕ) × IsAccounted show old new text ×
+    (tells ≡ true → IsCut text was now)
 AccountLeaves show tells old new was now Memory = tells ≡ true →
     IsSilent was now ⊎ ((text : List ℕ) × IsAccounted show old new text × IsPutInPart text was now)
 AccountLeaves show tells old new was now FileFault = tells ≡ true → IsSilent was now
-AccountLeaves show tells old new was now (Refused refusal) = AccountRefusalLeaves refusal old new × (tells ≡ true → IsSilent was now)
+AccountLeaves show tells old new was now (Refused refusal) = AccountRefusalLeaves refusal old new ×
+    (tells ≡ true → IsSilent was now)
 AccountLeaves show tells old new was now (Damaged damage) = IsSpoolOrAccountDamage (reading old) damage × IsLeftAlone old new
     × (tells ≡ true → IsSilent was now)
 AccountLeaves show tells old new was now Busy = (new ≡ old) × (tells ≡ true → IsSilent was now)

@@ -1,5 +1,5 @@
-//! Accounts: a session that counts what became of the jobs of each user and queue, in a file of the spool folder beside
-//! the store's.
+//! The program of ataccount: a session that brings `.ACC` up to date, and prints totals. Each image has the old account
+//! or the new one.
 //!
 //! Its definitions are what a reader of `account_program` believes. In the order in which to read them:
 //! 1. `Names` and `Words`: the files of accounts, and what the words ask for

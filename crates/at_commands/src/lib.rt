@@ -1,4 +1,5 @@
-//! The tools themselves: what the words of `at`, `batch`, `atq`, `atrm` and `atd` ask for, done.
+//! The commands `at`, `batch`, `atq`, `atrm` and `atd`: dispatch, sessions, output. Status, effect and output are
+//! exact, to the byte.
 #![tactic(auto)]
 
 mod cause;

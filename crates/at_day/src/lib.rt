@@ -1,5 +1,7 @@
-//! Days: events on one machine, one after the other, and what they leave. And the program: all tools, and the days that
-//! are made from a number.
+//! Simulated runs of commands, turns and reboots in memory, their outcomes and counts; the program with `atday`. The
+//! headline holds for every list of events, with any plan of failures.
+//!
+//! And the program: all tools, and the days that are made from a number.
 #![tactic(auto)]
 
 mod count_jobs;

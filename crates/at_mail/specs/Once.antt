@@ -24,7 +24,8 @@ notice_numbers given = map (λ handed. handed.number) (filter is_notice given)
 
 -- each image of the folder has a whole file of notes
 abbrev pub HasWholeNotes : Folder → Type 0
-HasWholeNotes folder = (image : Files) → IsImage folder image → (notes : List Note) × GivesNotes (finite.get image mail_file) notes
+HasWholeNotes folder = (image : Files) → IsImage folder image → (notes : List Note) ×
+    GivesNotes (finite.get image mail_file) notes
 
 -- a session of mail, whatever its end, by a post that keeps what it will
 pub record IsMailSession (old new : World) : Type 0 where
@@ -89,5 +90,6 @@ SessionsAreEvents = (old new : PostSpool) (end : TurnEnd) (sent : List ℕ) → 
 
 -- and the sessions of the program are events, one after another
 abbrev pub ProgramsAreEvents : Type 0
-ProgramsAreEvents = (tells : Telling) (items : List PostItem) (first last : WorkAt PostSpool) → tells.files ≡ true → tells.alone ≡ true →
+ProgramsAreEvents = (tells : Telling) (items : List PostItem) (first last : WorkAt PostSpool) → tells.files ≡ true →
+    tells.alone ≡ true →
     MakesSessions tells first items last → MailEvents first.spool.world last.spool.world

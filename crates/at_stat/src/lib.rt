@@ -1,5 +1,5 @@
-//! What became of jobs: `atstat` prints a line for each job that is asked for, and waits for their ends where that is
-//! asked for.
+//! The program of atstat: lines of jobs, and waits for their ends. The lines are those of the table that the last look
+//! found; a look changes nothing.
 //!
 //! Without JOB the lines are those of the live jobs that the caller sees, in the order of `atq`, and then those of the jobs
 //! that are done, by number; with `-q` those of the live jobs of that queue alone, running or waiting. `-w` looks at the

@@ -1,6 +1,8 @@
-//! The words of `at`, `batch`, `atq`, `atrm`, `atd` and `atday`, read as what they ask for. Each tool's
-//! words are read by `clap` as one simple command. What a program of one command needs to read its own words so is
-//! public: the command, its arguments, and what the words say of each.
+//! The words of a command line, read by `clap`, as the request of `at`, `batch`, `atq`, `atrm`, `atd` or `atday`. The
+//! request is a function of the words.
+//!
+//! Each tool's words are read by `clap` as one simple command. What a program of one command needs to read its own
+//! words so is public: the command, its arguments, and what the words say of each.
 #![tactic(auto)]
 
 mod arguments;

@@ -1,4 +1,4 @@
-//! Blanks of a line: spaces and tabs, and what stands between those at its ends.
+//! Spaces and tabs at the ends of a line. Both functions are exact.
 #![tactic(auto)]
 
 mod line;

@@ -1,6 +1,5 @@
-//! What a tool takes from the process that called it, as functions of texts: which tool the words name, the variables of a
-//! job, the caller's user number and entry in the table of users, the rule of a zone, the place of the spool, and who may
-//! use at by the lists of the machine.
+//! What the launcher takes from its caller, as functions of texts: tool, variables, user, zone, spool, the machine's
+//! lists. A job's environment is that of the process, with three variables set.
 #![tactic(auto)]
 
 mod digits;

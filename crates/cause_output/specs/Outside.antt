@@ -49,7 +49,8 @@ pub record OutsideAt : Type 0 where
   pub out : Outlet
   pub err : Outlet
 
-abbrev pub outside_at : {H R I O E : Type 0} → host.Ghosts H → readings.Ghosts R → inputs.Ghosts I → sink.Ghosts O → sink.Ghosts E →
+abbrev pub outside_at : {H R I O E : Type 0} → host.Ghosts H → readings.Ghosts R → inputs.Ghosts I → sink.Ghosts O →
+    sink.Ghosts E →
     H → R → I → O → E → OutsideAt
 outside_at h r i o e host readings inputs out err = record {
   tells = telling h.tells h.alone r.tells i.tells o.tells e.tells;

@@ -1,5 +1,7 @@
-//! What every tool has: who calls it, why it stops, and what it puts and says: lines one after another, the line of a
-//! cause, and that of the end of a turn. The name of the tool is handed in.
+//! What all tools share: callers, causes, lines of output, the line of a cause, the end of a turn. Lines are written in
+//! order: all, or a prefix after a fault.
+//!
+//! The name of the tool is handed in.
 #![tactic(auto)]
 
 mod caller;

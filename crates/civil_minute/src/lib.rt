@@ -1,4 +1,5 @@
-//! Civil time by the minute: what a minute is called in a zone, and which minute a time means.
+//! Time zones, civil dates and times, and the minute that a time means. A time means one minute, or has one reason why
+//! it has none.
 #![tactic(auto)]
 
 mod civil;

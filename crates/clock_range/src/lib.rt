@@ -1,4 +1,5 @@
-//! The range of the clock: the seconds and minutes of the years 1970 to 9998 in UTC.
+//! The seconds and minutes that a clock may show: the years 1970 to 9998. A second of the range has a minute of the
+//! range.
 #![tactic(auto)]
 
 mod range;

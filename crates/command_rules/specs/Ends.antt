@@ -91,5 +91,6 @@ pub record CommandEnds (Notes : Cause → (List ℕ → Type 0) → SinkAt → S
 
 -- the output of a command fails where the sink does that it goes to: that for errors of a submission, else the other
 abbrev pub FailsToPrint : Asked → Outlet → Outlet → Outlet → Outlet → Type 0
-FailsToPrint (Ok (request.Submit queue mail file when)) out_old out_new err_old err_new = Rose err_old.sink_faults err_new.sink_faults
+FailsToPrint (Ok (request.Submit queue mail file when)) out_old out_new err_old err_new =
+    Rose err_old.sink_faults err_new.sink_faults
 FailsToPrint _ out_old out_new err_old err_new = Rose out_old.sink_faults out_new.sink_faults

@@ -19,7 +19,8 @@ use Rattle.cause_output.specs.Sinks.{SinkAt}
 use Rattle.command_rules.specs.Verdict.{verdict_of}
 
 -- the command ended so, on a host that tells its files and is alone
-pub record EndsExposed (Notes : Cause → (List ℕ → Type 0) → SinkAt → SinkAt → Type 0) (asked : Asked) (caller : Caller) (tells : Telling)
+pub record EndsExposed (Notes : Cause → (List ℕ → Type 0) → SinkAt → SinkAt → Type 0) (asked : Asked)
+    (caller : Caller) (tells : Telling)
     (before after : Holding) (cause : Cause) : Type 0 where
   pub ends : CommandEnds Notes asked caller tells before after cause
   pub files : tells.files ≡ true
@@ -29,7 +30,8 @@ module _ (Notes : Cause → (List ℕ → Type 0) → SinkAt → SinkAt → Type
   -- What is not refused on a folder that shows a table, and meets no fault of the outside, is done or finds no memory.
   abbrev pub WhatIsAllowedIsDone : Type 0
   WhatIsAllowedIsDone = (asked : Asked) (caller : Caller) (tells : Telling) (before after : Holding) (cause : Cause) →
-      (known : EndsExposed Notes asked caller tells before after cause) → (table : JobTable) → shown_by (reading before.spool) ≡ Ok table →
+      (known : EndsExposed Notes asked caller tells before after cause) → (table : JobTable) →
+      shown_by (reading before.spool) ≡ Ok table →
       verdict_of asked caller known.ends.found (Ok table) ≡ None → cause ≢ FileFault → cause ≢ InputFault → cause ≢ OutputFault →
       cause ≢ Busy → (cause ≡ Done) ⊎ (cause ≡ Memory)
 

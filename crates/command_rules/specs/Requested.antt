@@ -93,7 +93,8 @@ RequestPrints (request.Make count) caller table text = text ≡ []
 -- The text is what the command prints where it is done, on the table that the folder shows.
 abbrev pub IsAskedText : Asked → Caller → Found → Result JobTable Damage → List ℕ → Type 0
 IsAskedText (Ok asked) caller found shown text =
-    (table : JobTable) × (shown ≡ Ok table) × (verdict_of (Ok asked) caller found shown ≡ None) × RequestPrints asked caller table text
+    (table : JobTable) × (shown ≡ Ok table) × (verdict_of (Ok asked) caller found shown ≡ None) ×
+    RequestPrints asked caller table text
 IsAskedText (Err fault) caller found shown text = ⊥
 
 -- the number that a submission draws on what the folder shows

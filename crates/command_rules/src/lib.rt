@@ -1,5 +1,5 @@
-//! What a command answers: its checks and their order, the verdict, the steps of a request, what is printed and said,
-//! and what is left in the spool, by its cause.
+//! What a command is to do: checks in order, verdict, steps, texts, what is left. A refusal changes nothing; a crash
+//! leaves a prefix of the steps.
 //!
 //! Its definitions are what a reader of `command` believes, and not what runs. In the order in which to read them:
 //! 1. `Sinks` of cause_output: what is put on a sink, whole, as a prefix, or not at all

@@ -40,7 +40,8 @@ IsOfText bytes (Ok entries) = (length bytes ≤ MAX_CRONTAB) × SpellsCrontab by
 IsOfText bytes (Err stopped) = StopsText bytes stopped.cause
 
 -- the file gave a text, which answers so
-pub record GaveText (tells : Bool) (path : List ℕ) (old new : InputAt) (result : Result (List CronEntry) CommandError) : Type 0 where
+pub record GaveText (tells : Bool) (path : List ℕ) (old new : InputAt)
+    (result : Result (List CronEntry) CommandError) : Type 0 where
   pub bytes : List ℕ
   pub reads : ReadsFile tells path bytes old new
   pub of_text : IsOfText bytes result

@@ -1,4 +1,4 @@
-//! The crontab of a file: read, and its entries, or why there are none.
+//! Reads a crontab from its file. The file is read once; the entries are those of its text, or there is a reason.
 #![tactic(auto)]
 
 mod read;

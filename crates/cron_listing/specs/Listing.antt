@@ -21,7 +21,8 @@ pub record ShowsMinute (zone : Zone) (command : List ℕ) (minute : ℕ) (line :
 -- the text has a line for each of the minutes, in order
 pub data AreMinuteLines (zone : Zone) (command : List ℕ) : List ℕ → List ℕ → Type 0 where
   no_line : AreMinuteLines zone command [] []
-  line_more : (minutes text line : List ℕ) (minute : ℕ) → AreMinuteLines zone command minutes text → ShowsMinute zone command minute line
+  line_more : (minutes text line : List ℕ) (minute : ℕ) → AreMinuteLines zone command minutes text →
+      ShowsMinute zone command minute line
       → AreMinuteLines zone command (minutes ++ minute ∷ []) (text ++ line)
 
 -- what an entry without a minute has in place of a date

@@ -43,7 +43,8 @@ abbrev pub listing_telling : {R I O : Type 0} → readings.Ghosts R → inputs.G
 listing_telling r i o = telling false false r.tells i.tells o.tells false
 
 -- The clock answered a second in its range, and the file was read, with this result.
-pub record HasReadCrontab (clock input : Bool) (request : NextRequest) (old new : ReadAt) (result : Result (List CronEntry) CommandError)
+pub record HasReadCrontab (clock input : Bool) (request : NextRequest) (old new : ReadAt)
+    (result : Result (List CronEntry) CommandError)
     : Type 0 where
   pub now : ℤ
   pub range : IsClockSecond now

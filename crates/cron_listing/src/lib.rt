@@ -1,4 +1,4 @@
-//! The next minutes at which the entries of a crontab are due, as a listing.
+//! The program of `atcron --next`: the next minutes of each entry. No spool is read or changed.
 //!
 //! Its definitions are what a reader of `next_program` believes. In the order in which to read them:
 //! 1. `Words`: what the words ask for

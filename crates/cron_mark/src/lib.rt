@@ -1,4 +1,4 @@
-//! The mark of a crontab: the last minute whose entries were submitted, in a file of the spool folder beside the store's.
+//! `.CRON`, the minute whose entries were submitted last: its text and damage. Minute and damage are exact.
 #![tactic(auto)]
 
 mod names;

@@ -1,4 +1,4 @@
-//! What a crontab has done at a minute: whether an entry is due, and the commands of its job.
+//! Whether an entry of a crontab is due at a minute, and the commands of its job. Both are exact.
 #![tactic(auto)]
 
 mod commands;

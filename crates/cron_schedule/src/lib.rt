@@ -1,4 +1,4 @@
-//! When an entry of a crontab is due next: the minutes from one on, in order.
+//! The search for the next minutes at which an entry of a crontab is due. No due minute is left out.
 //!
 //! Its definitions are what a reader of `next_due` believes, and stand in `Schedule`.
 #![tactic(auto)]

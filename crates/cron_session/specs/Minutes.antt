@@ -35,7 +35,8 @@ pub record SetsMark (cron : Cron) (old new : World) : Type 0 where
   pub table : JobTable
   pub jobs : List Job
   pub are : AreToSubmit cron (reading old) table jobs
-  pub marked : (image : Files) → IsImage new.now.folder image → finite.get image mark_file ≡ Some (cron_mark_text (minute_of cron))
+  pub marked : (image : Files) → IsImage new.now.folder image →
+      finite.get image mark_file ≡ Some (cron_mark_text (minute_of cron))
 
 -- What passes: a session that ended so, and accepted these numbers; one that a crash cut off, after the mark was set or
 -- before its first job; or anything else that keeps the mark.

@@ -1,4 +1,4 @@
-//! The text of a crontab: which entries its lines spell, and which line is the first bad one.
+//! The text of a crontab: its entries, or its first bad line. A text has one reading.
 #![tactic(auto)]
 
 mod crontab;

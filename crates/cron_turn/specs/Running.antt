@@ -46,7 +46,8 @@ pub data EndsAfter (tells : Telling) (caller : Caller) (path : List ℕ) (turns 
       → EndsAfter tells caller path turns count rest last new cause
 
 -- how the program works on a crontab: its sessions, and why there are no more
-pub record RunsSessions (tells : Telling) (caller : Caller) (request : CronRequest) (old new : WorkAt CronAt) (cause : Cause) : Type 0 where
+pub record RunsSessions (tells : Telling) (caller : Caller) (request : CronRequest) (old new : WorkAt CronAt)
+    (cause : Cause) : Type 0 where
   pub items : List CronItem
   pub rest : Option ℕ
   pub last : WorkAt CronAt

@@ -22,7 +22,8 @@ abbrev pub cron_of_item : Caller → CronItem → Cron
 cron_of_item caller item = record { context = caller.context; zone = caller.zone; entries = item.entries; now = item.now }
 
 -- The session of the item was made: at the second that the clock answered, on the entries that the file spelled then.
-pub record IsSessionMade (tells : Telling) (caller : Caller) (path : List ℕ) (item : CronItem) (old new : WorkAt CronAt) : Type 0 where
+pub record IsSessionMade (tells : Telling) (caller : Caller) (path : List ℕ) (item : CronItem)
+    (old new : WorkAt CronAt) : Type 0 where
   pub now : IsClockSecond item.now
   pub clock : ReadsClock tells.clock item.now old.clock new.clock
   pub input : ReadsFile tells.input path item.bytes old.input new.input

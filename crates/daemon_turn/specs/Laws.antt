@@ -28,7 +28,8 @@ TurnsAreDone = (tells alone : Bool) (at : TurnInput) (old new : DaemonAt) (end :
 -- where the reading shows a table, it shows one after a turn too
 abbrev pub ReadingsStayGood : Type 0
 ReadingsStayGood = (tells alone : Bool) (at : TurnInput) (old new : DaemonAt) (end : TurnEnd) (steps : List TurnStep) →
-    TurnsTo tells alone at old new end steps → tells ≡ true → alone ≡ true → IsGood (reading old.world) → IsGood (reading new.world)
+    TurnsTo tells alone at old new end steps → tells ≡ true → alone ≡ true → IsGood (reading old.world) →
+    IsGood (reading new.world)
 
 -- each image of each moment shows a table, and so does each that the end leaves
 pub record StaysGood (old new : DaemonAt) : Type 0 where

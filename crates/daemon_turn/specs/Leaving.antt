@@ -98,7 +98,8 @@ IfNoTableRead Memory none = Unit {0}
 
 -- A turn. Of every host: its session is over, its children stay and the kids are some of them, by number; the limit and
 -- the interval stay; why it ended so. Of a host that tells its files and is alone: what it leaves.
-pub record TurnsTo (tells alone : Bool) (at : TurnInput) (old new : DaemonAt) (end : TurnEnd) (steps : List TurnStep) : Type 0 where
+pub record TurnsTo (tells alone : Bool) (at : TurnInput) (old new : DaemonAt) (end : TurnEnd)
+    (steps : List TurnStep) : Type 0 where
   pub outside : IsOutside new.session
   pub counts : KeepsCounts old.session new.session
   pub kept : KeepsChildren old.session.children new.session.children

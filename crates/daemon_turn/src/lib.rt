@@ -1,5 +1,5 @@
-//! One turn of the daemon: what is left of jobs that nobody watches is given up, the children are asked, and the
-//! jobs that are due are started.
+//! One turn of the daemon (interrupted jobs, ended children, starts, forgotten numbers), and what the daemon keeps
+//! between turns. All steps of a turn are made, or a prefix; each start is durable before its script starts.
 #![tactic(auto)]
 
 mod ask_all;

@@ -1,5 +1,6 @@
-//! The events of a day on one machine: commands, turns of the daemon, and reboots. And days that are made from a number:
-//! so many events, and the plan of the host over which they go.
+//! The events of a simulated run, what each reports, and runs made from a number. Whether an event may come is exact.
+//!
+//! And days that are made from a number: so many events, and the plan of the host over which they go.
 #![tactic(auto)]
 
 mod event;

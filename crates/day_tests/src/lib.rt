@@ -1,6 +1,4 @@
-//! Days and commands, tried in memory: a made day with each call failing, the machine stopping, each lock taken; and what
-//! no scenario writes down: many jobs, long commands, how often commands are read, and the folder that a
-//! program names first.
+//! Tests of simulated runs with each call failing and each lock taken; many jobs, long commands.
 #![tactic(auto)]
 
 #[cfg(test)]

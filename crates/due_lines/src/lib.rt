@@ -1,4 +1,5 @@
-//! The line of due jobs: pending jobs, kept in order of minute, then number, as jobs come and go.
+//! Two sorted lists of pending jobs, of the batch queues and of the others, as jobs come and go. Each list has exactly
+//! its pending jobs, by minute, then number.
 #![tactic(auto)]
 
 mod due;

@@ -59,7 +59,8 @@ pub record IsEventWhole (are_steps : JobTable → List Step → Bool) (old new :
 -- an event that was acknowledged made all of its steps
 abbrev pub AcknowledgedEventsAreWhole : Type 0
 AcknowledgedEventsAreWhole = (are_steps : JobTable → List Step → Bool) (effect : Effect) (old new : World) →
-    IsEffectOf true (λ table steps. are_steps table steps ≡ true) effect → TakesEffect effect old new → IsEventWhole are_steps old new
+    IsEffectOf true (λ table steps. are_steps table steps ≡ true) effect → TakesEffect effect old new →
+    IsEventWhole are_steps old new
 
 -- events pass after others
 abbrev pub EventsPassOn : Type 0

@@ -20,7 +20,8 @@ pub record IsShownAsBefore (start : Moment) (image : Files) (handed : List Hande
   pub as_many : handed ≡ start.handed
 
 -- the image shows the table after a prefix of the steps, and since the start no more was handed over than it hands over
-pub record IsShownAlong (table : JobTable) (steps : List Step) (start : Moment) (image : Files) (handed : List Handed) : Type 0 where
+pub record IsShownAlong (table : JobTable) (steps : List Step) (start : Moment) (image : Files)
+    (handed : List Handed) : Type 0 where
   pub prefix : List Step
   pub is_prefix : IsPrefix prefix steps
   pub shows : Shows image (after_steps table prefix)

@@ -1,6 +1,8 @@
-//! The headline: what the events of a host come to, whatever they are of: commands, turns of the daemon, crashes. Each
-//! image shows the table after their steps, no script is handed over twice, and none before its start survives every
-//! crash.
+//! The effects of commands, turns and crashes, one after another, and the main theorem (the headline) over them. No
+//! script starts twice; recovery shows all steps of what was acknowledged.
+//!
+//! Each image shows the table after their steps, no script is handed over twice, and none before its start survives
+//! every crash.
 //!
 //! Its definitions are what a reader of the promise believes, and not what runs. In the order in which to read them:
 //! 1. `Effects`: what one event does to a host (`Effect`, `TakesEffect`, `IsEffectOf`), one after another (`PassFrom`)

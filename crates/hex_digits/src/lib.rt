@@ -1,5 +1,5 @@
-//! Numbers in hexadecimal digits of a fixed count, as the formats of the spool have them: `0` to `9`
-//! and `a` to `f`, the greatest place first, with leading zeros.
+//! Numbers in a fixed count of hexadecimal digits: reader and writer. Both are exact, and eight digits spell a number
+//! in one way.
 #![tactic(auto)]
 
 mod digit;

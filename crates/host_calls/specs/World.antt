@@ -76,7 +76,8 @@ pub record LeavesOnly (P : Files → List Handed → Type 0) (old new : World) :
   pub each : AllMoments (HasEachImage P) more
 
 -- the world after a call, by the call's answer: a call that failed has done nothing to the folder or a part
-abbrev pub Outcome : {T : Type 0} → (Folder → Folder → Type 0) → (Folder → Folder → Type 0) → World → World → Result T HostFault → Type 0
+abbrev pub Outcome : {T : Type 0} → (Folder → Folder → Type 0) → (Folder → Folder → Type 0) → World → World →
+    Result T HostFault → Type 0
 Outcome done part old new (Ok value) = done old.now.folder new.now.folder
 Outcome done part old new (Err Failed) = (new.now.folder ≡ old.now.folder) ⊎ part old.now.folder new.now.folder
 Outcome done part old new (Err Memory) = new ≡ old
@@ -90,7 +91,8 @@ abbrev pub WithinCall : (Folder → Folder → Type 0) → Moment → Files → 
 WithinCall done start image handed = IsWithin done start.folder image × (handed ≡ start.handed)
 
 -- one call that changes the folder and hands nothing over
-pub record FileCall {T : Type 0} (done part : Folder → Folder → Type 0) (old new : World) (result : Result T HostFault) : Type 0 where
+pub record FileCall {T : Type 0} (done part : Folder → Folder → Type 0) (old new : World)
+    (result : Result T HostFault) : Type 0 where
   pub outcome : Outcome done part old new result
   pub handed : new.now.handed ≡ old.now.handed
   pub asked : new.asked ≡ old.asked
@@ -115,7 +117,8 @@ StartOutcome number name nice old new (Err NoStart) = HandsOver number name nice
 StartOutcome number name nice old new (Err NoMemory) = new ≡ old
 
 -- a start: the folder stays, and at most one script more is handed over, in one moment
-pub record StartCall {T : Type 0} (number : ℕ) (name : List ℕ) (nice : ℕ) (old new : World) (result : Result T StartFault) : Type 0 where
+pub record StartCall {T : Type 0} (number : ℕ) (name : List ℕ) (nice : ℕ) (old new : World)
+    (result : Result T StartFault) : Type 0 where
   pub outcome : StartOutcome number name nice old new result
   pub folder : new.now.folder ≡ old.now.folder
   pub asked : new.asked ≡ old.asked

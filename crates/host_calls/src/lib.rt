@@ -1,5 +1,5 @@
-//! The outside as the programs see it: a spool folder, a clock, inputs and sinks, each as a trait,
-//! and the small types that their calls speak of.
+//! Traits of the outside (directory of files, clock and load, inputs, sinks) and their small types. Each call is
+//! specified at every moment inside it, also by what a crash leaves then.
 #![tactic(auto)]
 
 mod bytes;

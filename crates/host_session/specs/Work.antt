@@ -43,7 +43,8 @@ pub record IsEntryRefused {H : Type 0} (g : Ghosts H) (fault : EnterFault) (old 
   pub quiet : LeavesToOthers g old new
 
 -- The session began, the work was done once, between these two hosts, and the session ended.
-pub record IsDoneInside {H F T : Type 0} (g : Ghosts H) (calls : Calls H F T) (work left : F) (old new : H) (answer : T) : Type 0 where
+pub record IsDoneInside {H F T : Type 0} (g : Ghosts H) (calls : Calls H F T) (work left : F) (old new : H)
+    (answer : T) : Type 0 where
   pub first : H
   pub last : H
   pub begun : IsSessionBegun g old first

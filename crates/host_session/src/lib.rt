@@ -1,5 +1,4 @@
-//! Work within a session of a host: the session is begun before it, and ended after it; and how one ends that recovers
-//! the store and works on it.
+//! Runs work in a session of a host: takes the lock, works, releases it. The lock is released, whatever the work does.
 #![tactic(auto)]
 
 mod ends;

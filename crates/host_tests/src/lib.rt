@@ -1,4 +1,4 @@
-//! The outside in memory does what was planned, and what stands beside a witness is called as he is told.
+//! Tests of the outside in memory and of a witnessed host.
 #![tactic(auto)]
 
 #[cfg(test)]

@@ -1,4 +1,4 @@
-//! What is listed of the live jobs, and their scripts.
+//! Lists the jobs that a user may see, and prints their scripts. The lines are exact, by minute, then number.
 #![tactic(auto)]
 
 mod lines;

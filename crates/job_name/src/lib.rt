@@ -1,4 +1,5 @@
-//! The name of a job's file: the queue, the number and the minute of the job, by place.
+//! The names of job files: queue, number and minute, in the new form and the old one. A job has one name in each form,
+//! and a name one job.
 #![tactic(auto)]
 
 mod job;

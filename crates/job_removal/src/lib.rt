@@ -1,4 +1,4 @@
-//! Removals: the jobs of some numbers are taken back, and then what is too much of done jobs is forgotten.
+//! Removes jobs, then forgets surplus finished numbers. A crash leaves a prefix of these steps.
 #![tactic(auto)]
 
 mod removal;

@@ -1,5 +1,5 @@
-//! The text of a job: a shell script that says whose it is, sets up what its caller had, and then
-//! has the commands.
+//! The texts of jobs: header, umask, variables, directory, commands; checks, writer, reader of headers. The text means
+//! its context and commands, by the shell's rules of quoting.
 #![tactic(auto)]
 
 mod checks;

@@ -1,5 +1,5 @@
-//! What became of a job: how far the job of a number has come, as a function of the number and the table, which numbers
-//! are asked for, and the line of each, as text or as a JSON object.
+//! What became of the job of a number: how far it has come, and its line, as text or as a JSON object. Both are
+//! functions of the number and the job table.
 //!
 //! Its definitions, in the order in which to read them:
 //! 1. `Stages`: how far the job of a number has come

@@ -1,5 +1,7 @@
-//! Runs the tool by its name on the caller's spool; prints help, version and hints; one `atd` a spool; requests an
-//! `atd` after a submission. The exit status is that of a cause.
+//! The program of all tools: runs the tool by its name on the caller's spool. The exit status is that of a cause; that of
+//! atstat may be a job's.
+//!
+//! It prints help, version and hints; keeps one `atd` a spool; and requests an `atd` after a submission.
 #![tactic(auto)]
 
 mod after_submission;

@@ -1,4 +1,4 @@
-//! What a tool takes from the process that called it, and what it says of itself, by examples from outside.
+//! Tests of caller_environment and tool_help.
 #![tactic(auto)]
 
 #[cfg(test)]

@@ -1,5 +1,6 @@
-//! What the tools print: the lines of jobs, dates, and the line that says why a command failed,
-//! with the exit status that goes with it. Each text is exact to the byte.
+//! Every printed line, date, cause and exit status. Each text is exact to the byte.
+//!
+//! Each text is exact to the byte.
 #![tactic(auto)]
 
 mod cause;

@@ -1,4 +1,5 @@
-//! The one-minute load that a load text tells.
+//! The one-minute load in the text of `/proc/loadavg`, in hundredths. The value is that of the first field, or there is
+//! none.
 #![tactic(auto)]
 
 mod load;

@@ -1,6 +1,7 @@
-//! What events do beside the table of jobs: notices of mail, and the sessions of mail and of crontabs among them. The
-//! headline of the scripts of jobs goes on by each of them, and each leaves alone what the others go by.
+//! Events beside those of jobs: notices of mail, and the sessions of mail and of crontabs. The headline holds of all of
+//! them together, and a session of one kind leaves what the others rest on.
 //!
+//! In the order in which to read its definitions:
 //! 1. `LaterEffects`: what one event does to a host on which notices are handed over too
 //! 2. `EffectLaws`: the headline of what of it is of jobs (`LaterEventsHandOnce`), that a session of mail goes on
 //!    beside it, and that commands and turns leave alone what is beside the store (`EffectsLeaveTheRest`)

@@ -69,7 +69,8 @@ SendsNotice of (Dropped number) given = given ≡ []
 abbrev pub SendsNotices : Mailing → List Note → List Handed → Type 0
 SendsNotices of [] given = given ≡ []
 SendsNotices of (note ∷ later) given =
-    (first : List Handed) × (rest : List Handed) × SendsNotice of note first × SendsNotices of later rest × (given ≡ first ++ rest)
+    (first : List Handed) × (rest : List Handed) × SendsNotice of note first × SendsNotices of later rest ×
+    (given ≡ first ++ rest)
 
 -- The last note is that a notice was sent which was not handed over yet, and the image has it; the notes before have
 -- handed over these.

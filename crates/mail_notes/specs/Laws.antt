@@ -35,7 +35,8 @@ NotesAreMadeAfter = (of : Mailing) (notes first later : List Note) (given more :
 abbrev pub NotesAreStoppedAfter : Type 0
 NotesAreStoppedAfter = (of : Mailing) (notes first later next : List Note) (given more : List Handed)
     (questions others : List Asked) (start middle end : World) →
-    AreNotesMade of notes first given questions start middle → AreNotesStopped of (notes ++ first) later next more others middle end →
+    AreNotesMade of notes first given questions start middle →
+    AreNotesStopped of (notes ++ first) later next more others middle end →
     AreNotesStopped of notes (first ++ later) next (given ++ more) (questions ++ others) start end
 
 -- a name is that of a notice exactly where its number is read of it

@@ -14,7 +14,8 @@ use Rattle.mail_notes.specs.Notes.{IsNotesPrefix}
 
 -- The image holds the notes and a prefix of the new ones after them, other files are left alone, and since the start no
 -- more was handed over than that prefix hands over.
-pub record IsAlongNotes (of : Mailing) (notes new_ones : List Note) (start : Moment) (image : Files) (handed : List Handed) : Type 0 where
+pub record IsAlongNotes (of : Mailing) (notes new_ones : List Note) (start : Moment) (image : Files)
+    (handed : List Handed) : Type 0 where
   pub prefix : List Note
   pub is_prefix : IsNotesPrefix prefix new_ones
   pub alone : LeavesOthers IsMailName start.folder image
@@ -30,7 +31,8 @@ pub record HoldsNotesAlone (notes : List Note) (folder : Folder) : Type 0 where
 
 -- The new notes were made: each image holds them after the others, these scripts were handed over and these questions
 -- asked, and other files are left alone.
-pub record AreNotesMade (of : Mailing) (notes new_ones : List Note) (given : List Handed) (questions : List Asked) (old new : World)
+pub record AreNotesMade (of : Mailing) (notes new_ones : List Note) (given : List Handed) (questions : List Asked)
+    (old new : World)
     : Type 0 where
   pub leaves : LeavesOnly (IsAlongNotes of notes new_ones old.now) old new
   pub ready : HoldsNotesAlone (notes ++ new_ones) new.now.folder

@@ -55,7 +55,8 @@ StaleFilesAreOfMail = (kids : List Kid) (files : Files) → AreStaleFiles (stale
 -- notes that were made then post the session
 abbrev pub SessionsPost : Type 0
 SessionsPost = (of : Mailing) (notes new_ones : List Note) (given : List Handed) (questions : List Asked) (table : JobTable)
-    (start cleared end : World) → IsCleared notes table start cleared → AreNotesMade of notes new_ones given questions cleared end →
+    (start cleared end : World) → IsCleared notes table start cleared →
+    AreNotesMade of notes new_ones given questions cleared end →
     HasPosted of notes new_ones table start end
 
 -- and so do notes that were stopped, as far as they came

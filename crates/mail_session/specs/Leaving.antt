@@ -88,7 +88,8 @@ mailing_of post table notes steps = record { program = post.program; table = tab
 
 -- What the session handed over and asked, and the numbers of the scripts that were handed over, in order. The kids are
 -- those that stay, and after them the child of each start that gave one, under its number.
-pub record SessionHandsOver (made : List Note) (given : List Handed) (answers : List (Option Ending)) (of : Mailing) (sent : List ℕ)
+pub record SessionHandsOver (made : List Note) (given : List Handed) (answers : List (Option Ending)) (of : Mailing)
+    (sent : List ℕ)
     (old new : PostSpool) : Type 0 where
   pub handed : new.world.now.handed ≡ old.world.now.handed ++ given
   pub hands : SendsNotices of made given

@@ -37,7 +37,8 @@ MailPartEnds of notes part given old new (Ok done) = AreNotesMade of notes part.
 MailPartEnds of notes part given old new (Err fault) = AreNotesStopped of notes part.made part.next given [] old new
 
 -- these were handed over, and the kids are the children that came of them
-pub record SendsPart (of : Mailing) (notes : List Note) (part : MailPart) (old new : World) (result : Result (Unit {0}) HostFault) : Type 0
+pub record SendsPart (of : Mailing) (notes : List Note) (part : MailPart) (old new : World)
+    (result : Result (Unit {0}) HostFault) : Type 0
   where
     pub given : List Handed
     pub numbered : started_numbers given ≡ map (λ kid. kid.number) part.added
@@ -45,7 +46,8 @@ pub record SendsPart (of : Mailing) (notes : List Note) (part : MailPart) (old n
 
 -- What is due was noted after the notes of the text, or the first of it, by a file fault or want of memory, and the kids
 -- and the numbers of the notices that were handed over were added to those before.
-pub record Posts (program : List ℕ) (tells : Bool) (before after : Session) (old new : World) (dues : List NoticeDue) (was is : List ℕ)
+pub record Posts (program : List ℕ) (tells : Bool) (before after : Session) (old new : World) (dues : List NoticeDue)
+    (was is : List ℕ)
     (kids more : List Kid) (sent gone : List ℕ) (result : Result (Unit {0}) HostFault) : Type 0 where
   pub part : MailPart
   pub inside : IsInside after

@@ -29,7 +29,8 @@ pub record IsMailUntouched (start : Moment) (image : Files) (handed : List Hande
 
 -- The image holds the notes and a prefix of the new ones after them, and since the start this was handed over by them. A
 -- notice whose note is the last, and that was not handed over yet, is under its name.
-pub record HoldsPrefix (of : Mailing) (notes new_ones : List Note) (start : Moment) (image : Files) (handed : List Handed) : Type 0 where
+pub record HoldsPrefix (of : Mailing) (notes new_ones : List Note) (start : Moment) (image : Files)
+    (handed : List Handed) : Type 0 where
   pub prefix : List Note
   pub is_prefix : IsNotesPrefix prefix new_ones
   pub holds : HoldsNotes (map.get image mail_file) (notes ++ prefix)
@@ -39,7 +40,8 @@ pub record HoldsPrefix (of : Mailing) (notes new_ones : List Note) (start : Mome
 
 -- The image shows what an image of the start shows. It has the notes of that image, and nothing was handed over since; or
 -- it holds the notes and a prefix of the new ones, and what these hand over was handed over.
-pub record IsPosted (of : Mailing) (notes new_ones : List Note) (start : Moment) (image : Files) (handed : List Handed) : Type 0 where
+pub record IsPosted (of : Mailing) (notes new_ones : List Note) (start : Moment) (image : Files)
+    (handed : List Handed) : Type 0 where
   pub beside : ShowsBeside start.folder image
   pub mail : ((map.get image mail_file ≡ map.get beside.from mail_file) × (handed ≡ start.handed))
       ⊎ HoldsPrefix of notes new_ones start image handed

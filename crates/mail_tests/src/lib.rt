@@ -1,5 +1,6 @@
-//! Mail: notes and notices by examples from outside, and sessions and trims that calls and crashes cut off. Other examples of
-//! sessions are scenarios.
+//! Tests of notes, notices, sessions of mail, trims and the program.
+//!
+//! Other examples of sessions are scenarios.
 #![tactic(auto)]
 
 #[cfg(test)]

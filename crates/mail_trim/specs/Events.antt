@@ -12,7 +12,8 @@ use Rattle.mail_trim.specs.Leaving.{TrimLeaves, TrimsTo}
 
 -- no job that is over in the table of the old world lives in that of the new one
 abbrev pub NoneLivesAgain : World → World → Type 0
-NoneLivesAgain old new = (table later : JobTable) → Shows (reading old) table → Shows (reading new) later → NoJobLivesAgain table later
+NoneLivesAgain old new = (table later : JobTable) → Shows (reading old) table → Shows (reading new) later →
+    NoJobLivesAgain table later
 
 -- an event: a trim, whatever its end, or a session of mail or another event that leaves the notes alone
 pub data TrimEvent (old new : World) : Type 0 where
@@ -36,4 +37,5 @@ NoticesAreHandedOnceWithTrims = (first last : World) (starts : List World) → H
 
 -- a trim is an event, over a host that tells its files and is alone
 abbrev pub TrimsAreEvents : Type 0
-TrimsAreEvents = (before after : Session) (old new : World) (end : TurnEnd) → TrimsTo true true before after old new end → TrimEvent old new
+TrimsAreEvents = (before after : Session) (old new : World) (end : TurnEnd) →
+    TrimsTo true true before after old new end → TrimEvent old new

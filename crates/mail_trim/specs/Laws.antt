@@ -10,7 +10,8 @@ use Rattle.mail_trim.specs.Trimming.{is_live_in, trimmed}
 
 -- a job that is live in the later table was live in the first one, or its number was drawn since
 abbrev pub NoJobLivesAgain : JobTable → JobTable → Type 0
-NoJobLivesAgain table later = (number : ℕ) → is_live_in later number ≡ true → (is_live_in table number ≡ true) ⊎ (table.last < number)
+NoJobLivesAgain table later = (number : ℕ) → is_live_in later number ≡ true →
+    (is_live_in table number ≡ true) ⊎ (table.last < number)
 
 -- a job that is over never lives again by the steps of a table, of which each acceptance follows a draw
 abbrev pub StepsReviveNoJob : Type 0

@@ -22,7 +22,8 @@ use Rattle.mail_trim.specs.Trimming.{trimmed}
 
 -- The image shows the table, and holds the notes or those of them that stay. Other files are left alone, and nothing was
 -- handed over.
-pub record HoldsEither (table : JobTable) (notes : List Note) (start : Moment) (image : Files) (handed : List Handed) : Type 0 where
+pub record HoldsEither (table : JobTable) (notes : List Note) (start : Moment) (image : Files)
+    (handed : List Handed) : Type 0 where
   pub alone : LeavesOthers (IsEither mail_temp mail_file) start.folder image
   pub shows : Shows image table
   pub holds : HoldsNotes (finite.get image mail_file) notes ⊎ HoldsNotes (finite.get image mail_file) (trimmed table notes)

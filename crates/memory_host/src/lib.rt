@@ -1,4 +1,5 @@
-//! A spool folder in memory that fails and crashes as planned.
+//! The outside in memory: files, clock, inputs and children, with planned failures, a crash at any call, and reboots.
+//! Every clause of the traits holds, with content; a call fails exactly where its plan says.
 //!
 //! It keeps the files that it was made with and each call that changed them. What it runs on is kept
 //! beside, so that the time of a call grows with its own work and not with the calls before it.

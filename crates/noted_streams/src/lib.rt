@@ -1,5 +1,6 @@
-//! Sinks and readings that tell what was put and answered, as what stands below them said it. The record has no bytes:
-//! clauses alone read it.
+//! Sinks and clocks that record what was written and returned. The record is exact, without an assumption.
+//!
+//! The record has no bytes: clauses alone read it.
 #![tactic(auto)]
 
 mod noted_readings;

@@ -1,5 +1,7 @@
-//! What a process is handed: its words, its variables, who calls it, its umask and its standard streams; and the folder
-//! that some programs name first. And why a program could not begin.
+//! What a process is given: words, variables, caller, umask, standard streams, a directory as first word; startup
+//! errors. The umask is below 512, and each startup error has its text and status.
+//!
+//! And why a program could not begin.
 #![tactic(auto)]
 
 mod caller;

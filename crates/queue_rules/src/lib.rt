@@ -1,5 +1,5 @@
-//! The rules of queues: which are batch queues, how nice a job runs, which jobs are due and in which
-//! order, and when a batch job may start.
+//! The rules of queues: batch queues, due jobs, niceness, the order of starts. The order is that of the definition;
+//! each number in it is that of a ready job.
 #![tactic(auto)]
 
 mod laws;

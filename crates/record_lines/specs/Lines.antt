@@ -29,7 +29,8 @@ AreLegalAfter legal before [] = Unit {0}
 AreLegalAfter legal before (one ∷ later) = legal before one × AreLegalAfter legal (before ++ one ∷ []) later
 
 -- the file has these records
-pub record AreRecordLines {R : Type 0} (spells : List ℕ → R → Type 0) (legal : List R → R → Type 0) (bytes : List ℕ) (records : List R)
+pub record AreRecordLines {R : Type 0} (spells : List ℕ → R → Type 0) (legal : List R → R → Type 0) (bytes : List ℕ)
+    (records : List R)
     : Type 0 where
   pub spelled : AreSpelled spells bytes records
   pub in_turn : AreLegalAfter legal [] records

@@ -1,5 +1,5 @@
-//! Files of text records, a line each: one reader, which tells the first byte of the first bad line,
-//! and one writer, for any kind of record.
+//! Files of text records, one a line: reader and writer for any kind of record. A file is one list of records or has a
+//! first bad line, at an exact offset.
 #![tactic(auto)]
 
 mod keeper;

@@ -11,4 +11,5 @@ LastNumbersAreGiven = (content : Option (List ℕ)) (number : ℕ) → (last_in 
 
 -- and its damage is where the file breaks its form
 abbrev pub LastNumbersAreDamaged : Type 0
-LastNumbersAreDamaged = (content : Option (List ℕ)) (damage : Damage) → (last_in content ≡ Err damage) ↔ IsSequenceDamage content damage
+LastNumbersAreDamaged = (content : Option (List ℕ)) (damage : Damage) →
+    (last_in content ≡ Err damage) ↔ IsSequenceDamage content damage

@@ -1,4 +1,5 @@
-//! The sequence file of the spool: the last job number that was drawn.
+//! `.SEQ`, the last job number drawn: reading it and drawing the next. After a crash a number is drawn or not; Ok: it
+//! is drawn in each image.
 #![tactic(auto)]
 
 mod draw_number;

@@ -1,5 +1,5 @@
-//! The daemon at work: turns one after the other, with rests between them, what is printed and said of them, and how
-//! that ends.
+//! The daemon at work: turns with rests between them, their lines, its last line and status. At most the requested
+//! turns are made; output and status are exact.
 #![tactic(auto)]
 
 mod laws;

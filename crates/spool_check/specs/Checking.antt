@@ -81,7 +81,8 @@ WritesWhere false tells files old new cause = new ≡ old
 WritesWhere true tells files old new cause = tells ≡ true → Writes files old new cause
 
 -- What was done within a visit of the folder that is checked. It is left as it was, its faults are told, and the new folder is written.
-pub record Checks (salvage tells : Bool) (first last : World) (to_old to_new : FolderAt) (was is : StreamAt) (cause : Cause) : Type 0 where
+pub record Checks (salvage tells : Bool) (first last : World) (to_old to_new : FolderAt) (was is : StreamAt)
+    (cause : Cause) : Type 0 where
   pub leaves : tells ≡ true → LeavesFolder first last
   pub prints : tells ≡ true → was.tells ≡ true → PrintsFaultsBy cause (fault_lines (faults_of (reading first))) was.sink is.sink
   pub finds : tells ≡ true → FindsBy cause (faults_of (reading first))
@@ -100,7 +101,8 @@ ChecksAsRequested (Ok salvage) old new cause = IsChecked salvage old new cause
 ChecksAsRequested (Err fault) old new cause = (new ≡ old) × ((cause ≡ words_cause fault) ⊎ (cause ≡ Memory))
 
 -- How the checker ends: what it did, and the line of its cause, which is said under its name.
-pub record CheckEnds (asked : Result Bool WordsFault) (old new : FoldersAt) (err_old err_new : StreamAt) (final : Cause) : Type 0 where
+pub record CheckEnds (asked : Result Bool WordsFault) (old new : FoldersAt) (err_old err_new : StreamAt)
+    (final : Cause) : Type 0 where
   pub cause : Cause
   pub does : ChecksAsRequested asked old new cause
   pub says : IsSaid (codes "atcheck") err_old.tells cause err_old.sink err_new.sink final

@@ -1,4 +1,4 @@
-//! The checker: it tells every fault of a spool folder, and writes what is saved of it into a new folder.
+//! The program of atcheck: lines of all faults, salvage on request. Every fault is printed before anything is saved.
 //!
 //! Its definitions are what a reader of `check_program` believes. In the order in which to read them:
 //! 1. `Words`: what the words ask for

@@ -1,4 +1,5 @@
-//! What is damaged in a spool folder, all of it, and what can be saved of it.
+//! All faults of a spool, and the plan of what can be saved. The list is complete and in order; no job that was started
+//! is pending in what is saved.
 //!
 //! Its definitions are what a reader believes, and not what runs. In the order in which to read them:
 //! 1. `Faults`: all faults of a folder, in the order in which recovery looks for the first of them

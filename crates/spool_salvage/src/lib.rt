@@ -1,4 +1,5 @@
-//! Writing what is saved of a spool folder into another folder, a new one.
+//! Writes what is saved of a spool into a new directory. At each moment the new directory shows no job or the saved
+//! table; the old one is unchanged.
 //!
 //! The journal comes first, then the files of jobs, each a copy, and the sequence file last. A folder without a sequence
 //! file shows no job, whatever else it has, so a crash on the way leaves a folder that shows no job, or all that is saved.

@@ -42,7 +42,8 @@ pub record WorksInside {H T : Type 0} (g : Ghosts H) (old new : H) (result : Res
 -- each call of it within a session is such work
 abbrev pub IsWork : {H F T : Type 0} → Ghosts H → Calls H F (Result T CommandError) → F → Type 0
 IsWork {H} {F} {T} g calls work =
-    (old new : H) (left : F) (result : Result T CommandError) → IsInside (g.session old) → CalledAtMut calls work old result left new →
+    (old new : H) (left : F) (result : Result T CommandError) → IsInside (g.session old) →
+    CalledAtMut calls work old result left new →
     WorksInside g old new result
 
 -- no session is on, no child was started, and nothing was handed over
@@ -58,13 +59,15 @@ pub record HasRisenIn {H : Type 0} (g : Ghosts H) (old new : H) (cause : Cause) 
   pub before_lock : StopsBeforeLock cause → g.session new ≡ g.session old
 
 -- the session could not begin, and so nothing was done
-pub record IsUnentered {H F T : Type 0} (g : Ghosts H) (work left : F) (old new : H) (result : Result T CommandError) : Type 0 where
+pub record IsUnentered {H F T : Type 0} (g : Ghosts H) (work left : F) (old new : H)
+    (result : Result T CommandError) : Type 0 where
   pub fault : EnterFault
   pub is : result ≡ Err (error_of (cause_of_entry fault))
   pub undone : IsWorkUndone g work left old new fault
 
 -- how the session ends: it could not begin, or the work was done in it
-abbrev pub EndsCommandSession : {H F T : Type 0} → Ghosts H → Calls H F (Result T CommandError) → F → F → H → H → Result T CommandError
+abbrev pub EndsCommandSession : {H F T : Type 0} → Ghosts H → Calls H F (Result T CommandError) → F → F → H → H →
+    Result T CommandError
     → Type 0
 EndsCommandSession g calls work left old new result =
     IsUnentered g work left old new result ⊎ IsDoneInside g calls work left old new result

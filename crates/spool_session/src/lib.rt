@@ -1,5 +1,5 @@
-//! The session of a command: its work between entering and leaving the spool, the lists of users, the recovery of the
-//! store, and which jobs the user may ask for.
+//! The session of a command: lists of users, recovery, checks of the jobs that it names. The work is done in one
+//! session; a refused user changes nothing.
 #![tactic(auto)]
 
 mod jobs;

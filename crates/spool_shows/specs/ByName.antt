@@ -49,7 +49,8 @@ ShowsDone marks number (Some entry) = (mark : Mark) × Contains marks mark × (d
 -- the entry of a number that is not decided: that of its file, none where it has none
 abbrev pub ShowsLive : List Mark → Files → ℕ → Option JobEntry → Type 0
 ShowsLive marks files number None = (file : JobFile) → IsJobFile marks files file → ¬ (file.job.number ≡ number)
-ShowsLive marks files number (Some entry) = (file : JobFile) × IsJobFile marks files file × (live_entry marks file ≡ (number, entry))
+ShowsLive marks files number (Some entry) = (file : JobFile) × IsJobFile marks files file ×
+    (live_entry marks file ≡ (number, entry))
 
 -- the entry of a number
 abbrev pub ShowsEntry : List Mark → Files → ℕ → Option JobEntry → Type 0

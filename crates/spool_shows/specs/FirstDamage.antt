@@ -91,7 +91,8 @@ pub data IsFirstDamage (files : Files) (damage : Damage) : Type 0 where
   -- of the sequence file
   of_sequence : IsSequenceDamage (map.get files sequence_file) damage → IsFirstDamage files damage
   -- of the journal, where the sequence file has none
-  of_journal : (last : ℕ) → GivesNumber (map.get files sequence_file) last → IsJournalDamage last (map.get files journal_file) damage
+  of_journal : (last : ℕ) → GivesNumber (map.get files sequence_file) last →
+      IsJournalDamage last (map.get files journal_file) damage
       → IsFirstDamage files damage
   -- of a job's file, where neither of them has one
   of_file : (last : ℕ) (marks : List Mark) → ReadAs files last marks → IsFileDamage last marks files damage

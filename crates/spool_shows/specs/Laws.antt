@@ -66,7 +66,8 @@ pub record HasMarks (files : Files) (marks : List Mark) : Type 0 where
 pub record AgreeOnJobs (one other : Files) : Type 0 where
   pub sequence : map.get other sequence_file ≡ map.get one sequence_file
   pub journal : map.get other journal_file ≡ map.get one journal_file
-  pub jobs : (marks : List Mark) → HasMarks one marks → (name : List ℕ) → counts marks name ≡ true → map.get other name ≡ map.get one name
+  pub jobs : (marks : List Mark) → HasMarks one marks → (name : List ℕ) → counts marks name ≡ true →
+      map.get other name ≡ map.get one name
 
 -- other files, among them those of decided numbers, count for nothing
 abbrev pub OtherFilesCountForNothing : Type 0

@@ -1,4 +1,5 @@
-//! What a spool folder shows: one job table or one damage, as a function of its files, and its laws.
+//! What the files of a spool mean: one job table or one damage. The meaning is a function of the files, equal to a
+//! relation by names.
 //!
 //! Its definitions are what a reader of the store believes, and not what runs. In the order in which to read them:
 //! 1. `JobFiles`: which files are of jobs and count, and where one is damaged

@@ -16,7 +16,8 @@ IsNoSpoolName name = ¬ (IsSpoolName name)
 
 -- a file beside the store's is placed: each image shows what the one of the start shows that it comes of
 abbrev pub PlacingsBesideShowTheSame : Type 0
-PlacingsBesideShowTheSame = (temp target bytes : List ℕ) (start : Folder) (image : Files) → IsNoSpoolName temp → IsNoSpoolName target →
+PlacingsBesideShowTheSame = (temp target bytes : List ℕ) (start : Folder) (image : Files) → IsNoSpoolName temp →
+    IsNoSpoolName target →
     (is : IsPlacing temp target bytes start image) → shown_by image ≡ shown_by is.alone.from
 
 -- files beside the store's are removed: so it does

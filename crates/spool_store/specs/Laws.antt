@@ -10,7 +10,8 @@ use Rattle.spool_store.specs.Listed.{ListsDecided, ListsLive}
 
 -- the rows of a table are its live rows, and as many as its live jobs
 abbrev pub RowsAreLive : Type 0
-RowsAreLive = (table : JobTable) (rows : List Row) → ListsLive table rows → (live_rows table ≡ rows) × (length rows ≡ live_count table)
+RowsAreLive = (table : JobTable) (rows : List Row) → ListsLive table rows → (live_rows table ≡ rows) ×
+    (length rows ≡ live_count table)
 
 -- the decided numbers of a table are its done ones, and as many
 abbrev pub DecidedAreDone : Type 0

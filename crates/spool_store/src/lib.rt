@@ -1,4 +1,5 @@
-//! The store of jobs: a spool folder seen as its job table, each step a call that any crash leaves whole.
+//! The store of jobs: recovery, submission, each step of a job, rows, scripts. A crash leaves a prefix of a call's
+//! steps; Ok: all of them are durable.
 #![tactic(auto)]
 
 mod changes;

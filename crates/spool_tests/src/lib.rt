@@ -1,6 +1,7 @@
-//! The spool's files and its store: what they hold by examples from outside, how little of a job is read, and a compaction
-//! of the journal, stopped at each host call in turn. What is proved of every crash stands in the crates of the calls;
-//! crashes of a submission, of a removal and of a turn, and what folders show, stand as scenarios.
+//! Tests of the files of a spool and of the store; a compaction stopped at each host call.
+//!
+//! What is proved of every crash stands in the crates of the calls; crashes of a submission, of a removal and of a
+//! turn, and what folders show, stand as scenarios.
 #![tactic(auto)]
 
 #[cfg(test)]

@@ -1,5 +1,7 @@
-//! The journal of starts and ends: which jobs were removed, started, ended, interrupted and forgotten,
-//! in their order. Each is one slot of the file `.JRN`.
+//! `.JRN`, the journal of starts and ends: marks, slots, compaction, damage. A crash leaves the marks before or after a
+//! call; an added mark is in each image.
+//!
+//! Each is one slot of the file `.JRN`.
 #![tactic(auto)]
 
 mod change;

@@ -1,5 +1,5 @@
-//! What became of jobs, over spools in memory, by examples from outside: each kind of line, each status, each refusal, the
-//! wait, and how many calls of the host a session has.
+//! Tests of job_states and at_stat over spools in memory: each kind of line, status and refusal; waits; how many calls of
+//! the host a session has.
 #![tactic(auto)]
 
 #[cfg(test)]

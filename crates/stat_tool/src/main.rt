@@ -1,5 +1,4 @@
-//! What became of jobs, over the real outside: the spool folder that `ATSPOOL` names, or the usual one, and the standard
-//! streams of the process.
+//! Main of atstat, without a launcher.
 #![tactic(auto)]
 
 use process_input::held_streams;

@@ -87,12 +87,14 @@ QuestionsMakeNoStep = (table : JobTable) (kept : Kept) (child : Child) (answer :
 -- steps that were made after a recovery are achieved
 abbrev pub MadeStepsAreAchieved : Type 0
 MadeStepsAreAchieved = (table : JobTable) (steps : List Step) (given : List Handed) (questions : List Asked) (kept : Kept)
-    (start middle end : World) → shown_by (reading start) ≡ Ok table → ChangesFiles (ShowsAsBefore start.now.folder) start middle →
+    (start middle end : World) → shown_by (reading start) ≡ Ok table →
+    ChangesFiles (ShowsAsBefore start.now.folder) start middle →
     KeepsOthers start.now.folder middle.now.folder → AreMade table steps given questions kept middle end →
     IsAchieved table steps start end
 
 -- steps that were stopped after a recovery are begun, with the next one
 abbrev pub StoppedStepsAreBegun : Type 0
 StoppedStepsAreBegun = (table : JobTable) (steps next : List Step) (given : List Handed) (questions : List Asked)
-    (start middle end : World) → shown_by (reading start) ≡ Ok table → ChangesFiles (ShowsAsBefore start.now.folder) start middle →
+    (start middle end : World) → shown_by (reading start) ≡ Ok table →
+    ChangesFiles (ShowsAsBefore start.now.folder) start middle →
     AreStopped table steps next given questions middle end → IsBegun table (steps ++ next) start end

@@ -1,5 +1,5 @@
-//! What the store, a turn and a command have in common: steps of the job table that are made on a folder, and what a
-//! crash leaves of them.
+//! What a sequence of steps does to a spool, whole or cut off by a crash or a fault. Sequences compose, and an
+//! undamaged directory stays undamaged.
 //!
 //! Its definitions are what a reader of these believes, and not what runs. In the order in which to read them:
 //! 1. `WithoutScripts`: the job table as a store keeps it

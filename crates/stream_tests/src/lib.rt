@@ -1,4 +1,4 @@
-//! The readings, inputs and sinks of the real outside, tried: what of them no clause says.
+//! Tests of the real clock, load, rests and streams.
 #![tactic(auto)]
 
 #[cfg(test)]

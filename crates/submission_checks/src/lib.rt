@@ -1,5 +1,5 @@
-//! All that comes before the session of a submission: the checks of what its caller has, the clock and the zone, the
-//! minute that its time means, its commands, and the text of its job.
+//! All checks of a submission before its session: caller, clock, zone, time, commands; and the text of the job. The
+//! first failing check decides, and nothing after it is read.
 #![tactic(auto)]
 
 mod commands;

@@ -1,4 +1,4 @@
-//! Texts as their formats spell them: digits, names, loads, times, scripts and files of records, by examples from outside.
+//! Tests of formats, times and files of records.
 #![tactic(auto)]
 
 #[cfg(test)]

@@ -16,13 +16,15 @@ pub data BeginsDate : List Token → Type 0 where
   number : (digits value : ℕ) → IsTrue (is_date_number digits value) → BeginsDate (token.Number digits value ∷ [])
   month_slash : (month_digits month : ℕ) → IsTrue (is_month_number month_digits month)
       → BeginsDate (token.Number month_digits month ∷ token.Slash ∷ [])
-  slash_day : (month_digits month digits day : ℕ) → IsTrue (is_month_number month_digits month) → IsTrue (is_day_number digits day)
+  slash_day : (month_digits month digits day : ℕ) → IsTrue (is_month_number month_digits month) →
+      IsTrue (is_day_number digits day)
       → BeginsDate (token.Number month_digits month ∷ token.Slash ∷ token.Number digits day ∷ [])
   slash_day_slash : (month_digits month digits day : ℕ) → IsTrue (is_month_number month_digits month)
       → IsTrue (is_day_number digits day)
       → BeginsDate (token.Number month_digits month ∷ token.Slash ∷ token.Number digits day ∷ token.Slash ∷ [])
   day_dot : (digits day : ℕ) → IsTrue (is_day_number digits day) → BeginsDate (token.Number digits day ∷ token.Dot ∷ [])
-  dot_month : (month_digits month digits day : ℕ) → IsTrue (is_month_number month_digits month) → IsTrue (is_day_number digits day)
+  dot_month : (month_digits month digits day : ℕ) → IsTrue (is_month_number month_digits month) →
+      IsTrue (is_day_number digits day)
       → BeginsDate (token.Number digits day ∷ token.Dot ∷ token.Number month_digits month ∷ [])
   dot_month_dot : (month_digits month digits day : ℕ) → IsTrue (is_month_number month_digits month)
       → IsTrue (is_day_number digits day)

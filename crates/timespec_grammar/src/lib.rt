@@ -1,4 +1,5 @@
-//! The times that `at` understands: what a list of tokens spells, or the token that stops it.
+//! The grammar of the times of `at`: what a list of tokens means. A time has one meaning; otherwise the first token
+//! that does not fit is reported.
 #![tactic(auto)]
 
 mod clock;

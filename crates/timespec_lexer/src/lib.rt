@@ -1,5 +1,5 @@
-//! The tokens of a time as `at` reads it: numbers, marks and keywords, with the places where they
-//! stand.
+//! The tokens of a time: numbers, marks and keywords, each with its position. A text has one list of tokens, or an
+//! error at an exact place.
 #![tactic(auto)]
 
 mod fault;

@@ -1,4 +1,4 @@
-//! What the tools say of themselves: their help, their version, and after a refusal what to do.
+//! The texts of `--help`, `--version` and hints. Each text is that of its specification.
 #![tactic(auto)]
 
 mod help;

@@ -1,4 +1,4 @@
-//! The times of `at -t`, which are spelled as those of `touch -t`.
+//! The times of `at -t`, spelled as for touch. Each text is one time or none.
 #![tactic(auto)]
 
 mod reader;

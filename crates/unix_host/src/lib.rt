@@ -1,5 +1,7 @@
-//! The real outside: a spool folder on a disk, the clock and the load of the machine, and the standard
-//! streams. Nothing here tells content, so what a file or a stream holds is trusted, and not proved.
+//! The real outside: a directory on a disk, its lock, clock, load, streams, child processes. Faults, counts, the
+//! session and the dirty state are proved; content is trusted.
+//!
+//! Nothing here tells content, so what a file or a stream holds is trusted, and not proved.
 #![tactic(auto)]
 
 mod absent;

@@ -1,4 +1,4 @@
-//! Values that commands speak of, by examples from outside: the table, queues, lists of users, minutes, lines and words.
+//! Tests of the table, queues, lists, minutes, lines and words.
 #![tactic(auto)]
 
 #[cfg(test)]

@@ -1,4 +1,5 @@
-//! Files that are replaced, read and removed whole, over any host.
+//! Places, replaces, reads and removes whole files. After a crash a replaced file is the old one or the new one; the
+//! new one is durable once placed.
 #![tactic(auto)]
 
 mod clear_file;

@@ -1,6 +1,8 @@
-//! A witness beside a host that tells nothing of its files, and beside inputs that tell nothing of their content. He is
-//! told each call with its answer, and passes the answer on or disputes it. What he knows of the files is then what the
-//! two of them tell.
+//! Wraps a host, or inputs, that say nothing of their content, with a witness who knows it and passes each answer on,
+//! or disputes it. The clauses of the traits hold for what the witness knows; a disputed call has failed.
+//!
+//! The witness sees each call with its answer, and passes the answer on or disputes it. What is known of the files is then
+//! what the two of them tell.
 #![tactic(auto)]
 
 mod counts;

@@ -52,13 +52,15 @@ one_event letter rest (Closed first) (Closed second) of_first of_second =
     ap Closed (one_closing first second (sym of_first.letter_is ∙ of_second.letter_is))
 
 -- eight digits and what stands after them
-pub eight : (digits rest text : List ℕ) → text ≡ digits ++ rest → length digits ≡ 8 → (take 8 text ≡ digits) × (drop 8 text ≡ rest)
+pub eight : (digits rest text : List ℕ) → text ≡ digits ++ rest → length digits ≡ 8 → (take 8 text ≡ digits) ×
+    (drop 8 text ≡ rest)
 eight digits rest text parted counted = (
   ap (take 8) parted ∙ take_at digits rest 8 counted,
   ap (drop 8) parted ∙ ap (λ count. drop count (digits ++ rest)) (sym counted) ∙ drop-append_seam digits rest,
 )
 
-pub one_record : (line : List ℕ) (first second : AccountRecord) → SpellsRecord line first → SpellsRecord line second → first ≡ second
+pub one_record : (line : List ℕ) (first second : AccountRecord) → SpellsRecord line first → SpellsRecord line second →
+    first ≡ second
 one_record line first second of_first of_second =
     let one = of_first.parted in
     let two = of_second.parted in

@@ -19,19 +19,22 @@ abbrev pub Finding : Type 0
 Finding = Option (List ℕ) → Option (List ℕ) → Found
 
 -- the steps of a request that the table does not refuse
-pub record AreWorkSteps (asked : ToolRequest) (caller : Caller) (found : Found) (table : JobTable) (steps : List Step) : Type 0 where
+pub record AreWorkSteps (asked : ToolRequest) (caller : Caller) (found : Found) (table : JobTable)
+    (steps : List Step) : Type 0 where
   pub none : table_verdict asked caller (Ok table) ≡ None
   pub steps_are : steps ≡ steps_of_request asked caller found table
 
 -- the steps of a request that the session does not refuse
-pub record AreUnrefusedSteps (asked : ToolRequest) (caller : Caller) (found : Found) (table : JobTable) (steps : List Step) : Type 0 where
+pub record AreUnrefusedSteps (asked : ToolRequest) (caller : Caller) (found : Found) (table : JobTable)
+    (steps : List Step) : Type 0 where
   pub none : spool_verdict asked caller found (Ok table) ≡ None
   pub steps_are : steps ≡ steps_of_request asked caller found table
 
 -- the text that is printed, of a request that the session does not refuse
 abbrev pub IsSessionText : ToolRequest → Caller → Found → Result JobTable Damage → List ℕ → Type 0
 IsSessionText asked caller found shown text =
-    (table : JobTable) × (shown ≡ Ok table) × (spool_verdict asked caller found shown ≡ None) × RequestPrints asked caller table text
+    (table : JobTable) × (shown ≡ Ok table) × (spool_verdict asked caller found shown ≡ None) ×
+    RequestPrints asked caller table text
 
 -- the line that is said, of such a request
 abbrev pub IsSessionLine : ToolRequest → Caller → Found → Result JobTable Damage → List ℕ → Type 0

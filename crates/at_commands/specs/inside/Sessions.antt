@@ -37,6 +37,7 @@ pub record ShowsInSession (tells alone output : Bool) (asked : ToolRequest) (cal
   pub prints : tells ≡ true → alone ≡ true → output ≡ true →
       PrintsBy (cause_in result) (IsSessionText asked caller (lists_alone carries.allow carries.deny) carries.shown) was is
 
-abbrev pub ShowsFor : Bool → Bool → Bool → ToolRequest → List ℕ → World → World → SinkAt → SinkAt → Result (Unit {0}) CommandError → Type 0
+abbrev pub ShowsFor : Bool → Bool → Bool → ToolRequest → List ℕ → World → World → SinkAt → SinkAt →
+    Result (Unit {0}) CommandError → Type 0
 ShowsFor tells alone output asked user old new was is result =
     (caller : Caller) → caller.context.user ≡ user → ShowsInSession tells alone output asked caller old new was is result

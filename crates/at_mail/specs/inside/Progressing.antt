@@ -13,7 +13,8 @@ rest_before zero = None
 rest_before (suc place) = Some rest_seconds
 
 -- a session was made and its end said, and the program comes to this by it
-pub record MakesOne (tells alone errors : Bool) (old new : PostSpool) (said_old said_new : SinkAt) (outcome : Option MailOutcome) : Type 0
+pub record MakesOne (tells alone errors : Bool) (old new : PostSpool) (said_old said_new : SinkAt)
+    (outcome : Option MailOutcome) : Type 0
   where
     pub item : PostItem
     pub posts : PostsTo tells alone old new item.end item.sent

@@ -25,8 +25,10 @@ sight_status request sight false = stopped_status StillRunning
 -- what was put of the text, by the status
 abbrev pub PutsStatesBy : StatRequest → Sight → List ℕ → Bool → SinkAt → SinkAt → ℕ → Option Cause → Type 0
 PutsStatesBy request sight text tells old new code None =
-    (sight.finished ≡ true) × (code ≡ done_code request.wait request.which sight.store.table) × (tells ≡ true → IsPut text old new)
-PutsStatesBy request sight text tells old new code (Some StillRunning) = (sight.finished ≡ false) × (tells ≡ true → IsPut text old new)
+    (sight.finished ≡ true) × (code ≡ done_code request.wait request.which sight.store.table) ×
+    (tells ≡ true → IsPut text old new)
+PutsStatesBy request sight text tells old new code (Some StillRunning) = (sight.finished ≡ false) ×
+    (tells ≡ true → IsPut text old new)
 PutsStatesBy request sight text tells old new code (Some OutputFault) = tells ≡ true → IsCut text old new
 PutsStatesBy request sight text tells old new code (Some Memory) = tells ≡ true → IsSilent old new
 PutsStatesBy request sight text tells old new code (Some _) = ⊥

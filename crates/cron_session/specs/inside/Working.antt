@@ -88,7 +88,8 @@ pub record SubmitsDue (tells : Bool) (before after : Session) (old new : World) 
       DueLeaves cron table numbers old new result
 
 -- The work of a session: a recovery, the mark, and the jobs that are due.
-pub record CronWorks (tells : Bool) (cron : Cron) (old new : CronAt) (numbers : List ℕ) (result : Result (Unit {0}) StoreFault) : Type 0
+pub record CronWorks (tells : Bool) (cron : Cron) (old new : CronAt) (numbers : List ℕ)
+    (result : Result (Unit {0}) StoreFault) : Type 0
   where
     pub inside : CallsInside fault.FileFault old.session new.session result
     pub unread : IfNoJobBegun (cron_end_after result) (numbers ≡ [])

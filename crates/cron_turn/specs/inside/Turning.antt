@@ -70,7 +70,8 @@ after_put end (Err sink.Failed) = Some cause.OutputFault
 after_put end (Err sink.Memory) = unless_memory end
 
 -- a session was made after which another may come, before which so many seconds are to be rested
-pub record ContinuesAfter (tells : Telling) (caller : Caller) (path : List ℕ) (next : Option ℕ) (old new : WorkAt CronAt) : Type 0 where
+pub record ContinuesAfter (tells : Telling) (caller : Caller) (path : List ℕ) (next : Option ℕ)
+    (old new : WorkAt CronAt) : Type 0 where
   pub item : CronItem
   pub made : IsSessionMade tells caller path item old new
   pub says : GoesOnSaying tells.errors item.end old.said new.said

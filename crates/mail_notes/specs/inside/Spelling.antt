@@ -48,7 +48,8 @@ one_job first second numbers of_first of_second texts =
     ∙ ap (job second.number second.file second.always) users
 
 -- the numbers and the rests of two lines, which are one
-same_digits : (first second : ℕ) (one two : List ℕ) → digits_of first ++ one ≡ digits_of second ++ two → digits_of first ≡ digits_of second
+same_digits : (first second : ℕ) (one two : List ℕ) → digits_of first ++ one ≡ digits_of second ++ two →
+    digits_of first ≡ digits_of second
 same_digits first second one two same = ap (take 8) same
 
 same_rests : (first second : ℕ) (one two : List ℕ) → digits_of first ++ one ≡ digits_of second ++ two → one ≡ two
@@ -57,7 +58,8 @@ same_rests first second one two same = ap (drop 8) same
 after_letter : (first second : Note) → note_text first ≡ note_text second → drop 2 (note_text first) ≡ drop 2 (note_text second)
 after_letter first second same = ap (drop 2) same
 
-letters : (first second : Note) → note_text first ≡ note_text second → get_or (note_text first) 0 0 ≡ get_or (note_text second) 0 0
+letters : (first second : Note) → note_text first ≡ note_text second →
+    get_or (note_text first) 0 0 ≡ get_or (note_text second) 0 0
 letters first second same = ap (λ (text : List ℕ). get_or text 0 0) same
 
 one_text : (first second : Note) (line : List ℕ) → SpellsNote line first → SpellsNote line second → note_text first

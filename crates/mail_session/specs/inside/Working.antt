@@ -42,7 +42,8 @@ abbrev pub steps_by : MailPlan → List Note
 steps_by plan = noting_of plan.news.items ++ notes_of plan.dues.items
 
 -- what is left where the notes were made, and where they were stopped, with these questions asked
-abbrev pub NotesMakingEnds : Mailing → List Note → MailPart → List Handed → List Asked → World → World → Result (Unit {0}) HostFault
+abbrev pub NotesMakingEnds : Mailing → List Note → MailPart → List Handed → List Asked → World → World →
+    Result (Unit {0}) HostFault
     → Type 0
 NotesMakingEnds of notes part given asked old new (Ok done) = AreNotesMade of notes part.made given asked old new
 NotesMakingEnds of notes part given asked old new (Err fault) = AreNotesStopped of notes part.made part.next given asked old new
@@ -119,7 +120,8 @@ ReadBy kids sent old new (Ok done) = ReadsNotices kids sent old new
 ReadBy kids sent old new (Err fault) = Unit {0}
 
 -- the session is posted so far, these were handed over, and the kids are the children that came of them
-pub record CarriesTo (of : Mailing) (notes : List Note) (table : JobTable) (kids : List Kid) (part : MailPart) (asked : List Asked)
+pub record CarriesTo (of : Mailing) (notes : List Note) (table : JobTable) (kids : List Kid) (part : MailPart)
+    (asked : List Asked)
     (start old new : World) (result : Result (Unit {0}) HostFault) : Type 0 where
   pub given : List Handed
   pub numbered : started_numbers given ≡ map (λ kid. kid.number) part.added

@@ -22,7 +22,8 @@ abbrev pub AreChildrenStarted : List Child → ℕ → Type 0
 AreChildrenStarted children starts = (child : Child) → Contains children child → child.id < starts
 
 -- what is kept of the children belongs to their plans
-pub record AreChildrenAsPlanned (plans : List ChildPlan) (asked : List Asked) (waits : List ℕ) (children : List Child) : Type 0 where
+pub record AreChildrenAsPlanned (plans : List ChildPlan) (asked : List Asked) (waits : List ℕ)
+    (children : List Child) : Type 0 where
   pub started : AreChildrenStarted children (length waits)
   pub questioned : All (λ one. one.child.id < length waits) asked
   pub waiting : AreWaits plans asked waits

@@ -52,6 +52,7 @@ pub record IsStateKept (at : State) (names : NameTable) (bodies : Bodies) (hande
 -- A file was made under the next number. Where there was no room, the folder is as before.
 abbrev pub MakesFile : {T E : Type 0} → List ℕ → List ℕ → NameTable → NameTable → Bodies → Bodies → Result T E → Type 0
 MakesFile name bytes names after bodies more (Ok value) =
-    (at : State) (handed : List Handed) → IsStateKept at names bodies handed → IsStateKept (with_new_file name bytes at) after more handed
+    (at : State) (handed : List Handed) → IsStateKept at names bodies handed →
+    IsStateKept (with_new_file name bytes at) after more handed
 MakesFile name bytes names after bodies more (Err fault) =
     (at : State) (handed : List Handed) → IsStateKept at names bodies handed → IsStateKept at after more handed

@@ -74,7 +74,8 @@ pub record Looks (old new : FolderAt) (faults : List Damage → Type 0) : Type 0
   pub found : old.tells ≡ true → faults (faults_of (reading visit.first))
 
 -- The faults were told, or their lines could not be put.
-pub record ReportsFaults (tells : Bool) (faults : List Damage) (old new : SinkAt) (result : Result Cause CommandError) : Type 0 where
+pub record ReportsFaults (tells : Bool) (faults : List Damage) (old new : SinkAt)
+    (result : Result Cause CommandError) : Type 0 where
   pub later : old.faults ≤ new.faults
   pub failed : cause_by result ≡ OutputFault → Rose old.faults new.faults
   pub verdict : IfOk result (λ cause. cause ≡ cause_of_faults faults)

@@ -44,7 +44,8 @@ copied names files name = if list_any (λ other. bytes_eq other name) names then
 
 -- of files of jobs, the image has copies of those with these names, and no other
 abbrev pub HasCopies : Files → List (List ℕ) → Files → Type 0
-HasCopies files names image = (name : List ℕ) (job : NamedJob) → job_named name ≡ Some job → map.get image name ≡ copied names files name
+HasCopies files names image = (name : List ℕ) (job : NamedJob) → job_named name ≡ Some job →
+    map.get image name ≡ copied names files name
 
 -- so has each image
 abbrev pub EachHasCopies : Files → List (List ℕ) → Folder → Type 0

@@ -48,7 +48,8 @@ HaveOneMore before mark after = (after ≡ before ++ mark ∷ []) ⊎ (after ≡
 -- all files but the journal read as before
 abbrev pub KeepsFiles : Folder → Folder → Type 0
 KeepsFiles old new =
-    (name : List ℕ) → ¬ (IsEither temporary_file journal_file name) → finite.get (reading_of new) name ≡ finite.get (reading_of old) name
+    (name : List ℕ) → ¬ (IsEither temporary_file journal_file name) →
+    finite.get (reading_of new) name ≡ finite.get (reading_of old) name
 
 -- The mark stands: each image shows the table, and what is kept is current with it, but for files of numbers
 -- that the last mark decides.

@@ -26,7 +26,8 @@ AreAscending numbers = IsStrictlySortedBy nat_cmp numbers
 
 -- There is no damage, and the rows and decided numbers, each in the order of their numbers, are the table
 -- that is shown, without scripts.
-pub record ListsTable (last : ℕ) (marks : List Mark) (files : List JobFile) (rows : List Row) (decided : List Decided) : Type 0 where
+pub record ListsTable (last : ℕ) (marks : List Mark) (files : List JobFile) (rows : List Row)
+    (decided : List Decided) : Type 0 where
   pub whole : damage_of_jobs last marks files ≡ None
   pub table : listed_table last rows decided (last_batch marks) ≡ without_scripts (table_shown last marks files)
   pub rows_rise : AreAscending (map (λ row. row.number) rows)
@@ -40,4 +41,5 @@ pub record ListsDrawn (last : ℕ) (rows : List Row) (decided : List Decided) : 
 
 -- there is no damage, and this is the table that is shown, without scripts
 abbrev pub IsTableShown : ℕ → List Mark → List JobFile → JobTable → Type 0
-IsTableShown last marks files table = (damage_of_jobs last marks files ≡ None) × (table ≡ without_scripts (table_shown last marks files))
+IsTableShown last marks files table = (damage_of_jobs last marks files ≡ None) ×
+    (table ≡ without_scripts (table_shown last marks files))
