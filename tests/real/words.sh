@@ -47,3 +47,10 @@ needs_atd() {
   spool=$PWD/probe call atd -s </dev/null
   [ "$status" = 0 ] || skip "atd does not serve yet"
 }
+
+# Whether the calls of a program can be told, and a program be killed at one of them.
+needs_strace() {
+  strace=$(command -v strace) || skip 'there is no strace'
+  "$strace" -o traced -y -e trace=fsync true 2>said || skip "strace cannot trace here: $(tail -n 1 said)"
+  here_is=$(pwd -P)
+}

@@ -64,14 +64,12 @@ case_account_to_a_closed_pipe() {
 
 # After each kill the account is as it was or as it is to be, and no count falls.
 case_account_that_is_killed() {
-  needs_disk; opened; measured
-  round=0
-  while [ $round -lt 20 ] || { [ $cut -lt 5 ] && [ $round -lt 400 ]; }; do
-    round=$((round + 1))
+  needs_disk; needs_strace; opened; measured
+  for round in $(seq 40); do
     with 'true' at -t 203001010000
     # (the job of the round before was seen)
     [ $((round % 3)) != 0 ] || call atrm $((round - 1)) </dev/null
-    killed /dev/null said ataccount "$spool"
+    killed_somehow "$round" /dev/null said ataccount "$spool"
     call ataccount "$spool" --show </dev/null
     [ "$status" = 0 ] || fail "after a kill: $(cat err)"
     [ ! -e "$spool/.ATMP" ] || fail 'a temporary file stays'

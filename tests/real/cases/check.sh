@@ -86,14 +86,13 @@ case_check_damages() {
 # A salvage that is killed leaves a folder without its last number, which shows no job, or the whole salvage; the next one
 # goes into a folder of its own.
 case_check_salvage_that_is_killed() {
-  needs_disk; day_of_jobs
+  needs_disk; needs_strace; day_of_jobs
   printf 0 >"$spool/.SEQ"; measured; span=$((span + 8))
   names="$(basename "$(file_of 2)") $(basename "$(file_of 3)")" marks='S00000001 E00000001 R00000004'
-  round=0 parts=0
+  parts=0
   # (a part of a salvage is one that has a file and no last number)
-  while [ $round -lt 20 ] || { [ $parts -lt 5 ] && [ $round -lt 300 ]; }; do
-    round=$((round + 1))
-    killed /dev/null said atcheck "$spool" "$PWD/new_$round" --salvage
+  for round in $(seq 40); do
+    killed_somehow "$round" /dev/null said atcheck "$spool" "$PWD/new_$round" --salvage
     if [ -e "new_$round/.SEQ" ]; then
       call atcheck "$PWD/new_$round" </dev/null; ended 0 '' ''
       saved "new_$round" 00000004 "$marks" "$names"

@@ -121,17 +121,15 @@ case_mail_refused() {
   [ ! -e "$spool" ] || fail 'a folder that is not there is made'
 }
 
-# Twenty kills of sessions that have notices to send: no job has two messages, and each that came is whole.
+# Kills of sessions that have notices to send: no job has two messages, and each that came is whole.
 case_mail_of_sessions_that_are_killed() {
-  needs_disk; needs_atd; delivering
-  cut=0 batch=-1
-  while [ $batch -lt 4 ] || { [ $cut -lt 5 ] && [ $batch -lt 40 ]; }; do
-    batch=$((batch + 1))
+  needs_disk; needs_strace; needs_atd; delivering; measured
+  for batch in $(seq 0 7); do
     # (a session takes longer on a busy machine)
-    span=$((80 << batch % 4))
+    span=$((10 << batch))
     for _ in $(seq 4); do with 'echo hi' at now; done
     posts; turns
-    for _ in $(seq 4); do killed /dev/null said atpost "$spool" --send "$PWD/deliver" --turns 1; done
+    for round in $(seq 6); do killed_somehow "$round" /dev/null said atpost "$spool" --send "$PWD/deliver" --turns 1; done
     posts; told
     [ ! -e "$spool/.MTMP" ] || fail 'a temporary file stays'
     [ "$(grep -c '^S ' "$spool/.MAIL")" = $(((batch + 1) * 4)) ] || fail "the notes are $(cat "$spool/.MAIL")"
@@ -146,18 +144,17 @@ case_mail_of_sessions_that_are_killed() {
 # Kills of trims while notices wait and a job lives: the notes are the old ones, or those that a trim keeps of them. Each notice
 # is sent by the next session, once.
 case_mail_of_trims_that_are_killed() {
-  needs_atd; delivering
+  needs_strace; needs_atd; delivering
   with 'true' at -t 203001010000; took 1
   measured
-  local round=0 old=0 new=0
-  while [ $round -lt 10 ] || { [ $cut -lt 5 ] || [ $old -lt 1 ] || [ $new -lt 1 ]; } && [ $round -lt 90 ]; do
-    round=$((round + 1))
+  local round old=0 new=0
+  for round in $(seq 20); do
     for _ in 1 2 3; do with 'echo hi' at now; done
     posts; turns
     cp "$spool/.MAIL" before
     awk 'NR == FNR { if ($1 != "N") done[$2]; next } !($2 in done)' before before >after
     cmp -s before after && [ $round -gt 1 ] && fail "round $round: there is nothing to trim"
-    bin=$door killed /dev/null said atpost "$spool" --trim
+    bin=$door killed_somehow "$round" /dev/null said atpost "$spool" --trim
     if cmp -s before "$spool/.MAIL"; then old=$((old + 1)); elif cmp -s after "$spool/.MAIL"; then new=$((new + 1)); else
       fail "round $round: the notes are $(cat "$spool/.MAIL"), before $(cat before)"
     fi

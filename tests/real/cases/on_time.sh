@@ -29,7 +29,6 @@ serves() {
 }
 counted_turns() { grep -cs 'flock(.*LOCK_EX.* = 0' calls; }
 awaits_turns() { for _ in $(seq 400); do [ "$(counted_turns)" -lt "$1" ] || return 0; sleep 0.05; done; fail "there are $(counted_turns) turns, not $1"; }
-needs_strace() { strace -o probe.calls true 2>/dev/null || skip 'strace does not trace here'; }
 
 # Waits twenty seconds at most, which no rest of a minute is, for what a job writes as it starts, in milliseconds since 1970.
 awaits_start() {

@@ -29,12 +29,6 @@ placed() { printf '%s\n' 'write .TMP' 'sync .TMP' "rename .TMP $1" 'sync folder'
 # A mark in the slot of the journal at this byte: it is certain before its gate opens, and the gate before the answer.
 marked() { printf '%s\n' "write .JRN at $(($1 + 1))" 'sync .JRN' "write .JRN at $1" 'sync .JRN'; }
 
-needs_strace() {
-  strace=$(command -v strace) || skip 'there is no strace'
-  "$strace" -o traced -y -e trace=fsync true 2>said || skip "strace cannot trace here: $(tail -n 1 said)"
-  here_is=$(pwd -P)
-}
-
 case_syncs_of_a_submission() {
   needs_strace; opened
   mapfile -t all < <(placed .SEQ; placed JOB)

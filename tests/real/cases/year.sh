@@ -80,15 +80,20 @@ case_account_split_refused() {
 case_account_split_that_is_killed() {
   needs_atd; doored; accounted 300 2; looks
   cp "$spool/.ACC" account
-  local round=0 old=0 new=0
-  while [ $round -lt 8 ] || { [ $old -lt 1 ] || [ $new -lt 1 ]; } && [ $round -lt 60 ]; do
+  local place first line round=0 old=0 new=0
+  read -r first <account
+  # (as soon as there is a second file, as soon as the account is replaced, and so many seconds after the second file came)
+  for place in next{,,,,,,,} replaced{,,,,,,,} 0.00{1,2,3,4,5,6,7,8,9} 0.0{1,2,3,4,5,6}; do
     round=$((round + 1))
     cp account "$spool/.ACC"; rm -rf "$spool.accounts"
     setsid env -i ATSPOOL="$spool" "$libexec/rotate" --now >/dev/null 2>&1 </dev/null &
     child=$!
     until [ -e "$spool.accounts/next" ] || ! kill -0 $child 2>/dev/null; do :; done
-    # (a step takes longer on a busy machine)
-    sleep "$(printf '0.%02d' $((RANDOM % (6 + round))))"
+    case $place in
+      next) ;;
+      replaced) until { read -r line <"$spool/.ACC"; [ "$line" != "$first" ]; } || ! kill -0 $child 2>/dev/null; do :; done ;;
+      *) sleep "$place" ;;
+    esac
     kill -9 -- -$child 2>/dev/null; wait $child 2>/dev/null
     # (cut off before the account was replaced, or after it)
     [ ! -e "$spool.accounts/next" ] || if cmp -s account "$spool/.ACC"; then old=$((old + 1)); else new=$((new + 1)); fi
@@ -105,16 +110,22 @@ case_account_split_that_is_killed() {
 case_account_split_whose_step_fails() {
   needs_strace; needs_atd; doored; accounted 5 1; looks
   cp "$spool/.ACC" account
-  for call in renameat,renameat2,rename fsync; do
-    for which in 1 2 3 4; do
-      rm -rf "$spool.accounts"; cp account "$spool/.ACC"
-      # (a program is ended as it comes back from the call)
-      strace -f -o /dev/null -e trace=$call -e inject=$call:signal=KILL:when=$which \
-        env -i ATSPOOL="$spool" "$libexec/rotate" --now >out 2>err </dev/null
-      rotates --now; ended 0 '' ''
-      cat "$spool".accounts/*.records "$spool/.ACC" | sort | cmp -s - <(sort account) || fail "$call, $which: a record is lost or there twice"
-    done
-  done
+  # (a program is ended as it comes back from its call of this number that takes this path)
+  while read -r calls which path; do
+    rm -rf "$spool.accounts"; cp account "$spool/.ACC"
+    "$strace" -f -o /dev/null ${path:+-P "$path"} -e trace="$calls" -e inject="$calls:signal=KILL:when=$which" \
+      env -i ATSPOOL="$spool" "$libexec/rotate" --now >out 2>err </dev/null && fail "$calls $which $path: no step failed"
+    rotates --now; ended 0 '' ''
+    cat "$spool".accounts/*.records "$spool/.ACC" | sort | cmp -s - <(sort account) || fail "$calls $which $path: a record is lost or there twice"
+  done <<STEPS
+fsync 1
+fsync 2
+fsync 3
+fsync 4
+rename,renameat,renameat2 1 $spool/.ATMP
+fsync 1 $spool
+rename,renameat,renameat2 1 $spool.accounts/next
+STEPS
 }
 
 # Both halves are on the disk before the account is replaced, and the new account is before the old half has its name.
