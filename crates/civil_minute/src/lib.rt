@@ -12,4 +12,4 @@ mod zone;
 pub use civil::{CivilMinute, civil_of};
 pub use fault::DateFault;
 pub use minute::{minute_of, minute_of_touch};
-pub use zone::{Zone, zone_of};
+pub use zone::{Zone, is_unreadable, zone_of};

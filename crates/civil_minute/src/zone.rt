@@ -2,7 +2,7 @@
 ghost use Rattle.std.specs.Prelude.{◌≡◌, ◌↔◌, [], IsOk, IfOk, IsTrue, unwrap_or};
 ghost use Rattle.std.specs.Option.{option_copied};
 ghost use Rattle.jiff.specs.Words.{plain_zone};
-ghost use Rattle.civil_minute.specs.Zone.{IsReadable, rules_of};
+ghost use Rattle.civil_minute.specs.Zone.{IsReadable, is_unreadable, rules_of};
 ghost use Rattle.civil_minute.specs.ZoneText.{IsZoneOf, NamesUtc};
 
 use jiff::tz::TimeZone;
@@ -43,6 +43,13 @@ fn names_utc(text: &str) -> bool
     ensures { IsTrue result ↔ NamesUtc text.now }
 {
     text.is_empty() || text == "UTC"
+}
+
+/// Whether TZ named no zone.
+pub fn is_unreadable(zone: &Zone) -> bool
+    ensures { result ≡ is_unreadable zone.now }
+{
+    matches!(zone, Zone::Unreadable)
 }
 
 /// The rules by which a zone that could be read tells the time.
