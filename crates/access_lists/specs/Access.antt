@@ -1,16 +1,13 @@
 -- Who may use `at`, by the lists at.allow and at.deny (XCU at, Description).
-use Rattle.std.specs.Prelude.{ℕ, Bool, false, not, ◌||◌, ◌==◌, List, Option, Some, None, codes}
-use Rattle.std.specs.List.{slice_split, list_any}
+use Rattle.std.specs.Prelude.{ℕ, Bool, false, not, ◌||◌, List, Option, Some, None, codes}
+use Rattle.std.specs.List.{list_any}
 use Rattle.std.specs.Str.{bytes_eq}
-use Rattle.blanks.specs.Blanks.{after_blanks, before_blanks}
+use Rattle.text_reader.specs.Blanks.{after_blanks, before_blanks}
+use Rattle.text_reader.specs.Lines.{lines_of}
 
 -- the name that a line tells: the line without the blanks at both its ends (own)
 abbrev pub name_in_list_line : List ℕ → List ℕ
 name_in_list_line line = before_blanks (after_blanks line)
-
--- the lines of a list: what stands between newlines or the ends of the text
-abbrev pub lines_of : List ℕ → List (List ℕ)
-lines_of list = slice_split (λ byte. byte == 10) list
 
 -- some line of the list tells the name
 abbrev pub is_listed : List ℕ → List ℕ → Bool

@@ -2,8 +2,8 @@
 ghost use Rattle.std.specs.Prelude.{◌≡◌, option_copied};
 ghost use Rattle.access_lists.specs.Access.{is_listed, may_use, name_in_list_line};
 
-use blanks::{after_blanks, before_blanks};
 use spool_model::UserName;
+use text_reader::{after_blanks, before_blanks};
 
 /// Whether the user may use `at`, given the texts of at.allow and at.deny where they exist.
 pub fn permits(user: &UserName, allow: Option<&[u8]>, deny: Option<&[u8]>) -> bool

@@ -1,8 +1,8 @@
 -- The table of users: a line has seven fields after colons, of which the first is the name, the third the number and the
 -- sixth the home directory (passwd(5)).
 use Rattle.std.specs.Prelude.{◌==◌, ◌&&◌, ℕ, Bool, false, List, Option, Some, None, find, option_and_then, unwrap_or}
-use Rattle.std.specs.List.{slice_split}
 use Rattle.std.specs.Str.{bytes_eq}
+use Rattle.text_reader.specs.Lines.{lines_of}
 use Rattle.caller_environment.specs.Fields.{field, user_number}
 
 -- the name of the line's user
@@ -25,10 +25,6 @@ has_user_number number line = is_number number (option_and_then user_number (fie
 -- the user of the line has this number and name
 abbrev pub is_user_named : ℕ → List ℕ → List ℕ → Bool
 is_user_named number name line = has_user_number number line && bytes_eq (name_in_user_line line) name
-
--- the lines of the table
-abbrev pub lines_of : List ℕ → List (List ℕ)
-lines_of table = slice_split (λ byte. byte == 10) table
 
 -- the first line of this number and name
 abbrev pub named_line : ℕ → List ℕ → List ℕ → Option (List ℕ)

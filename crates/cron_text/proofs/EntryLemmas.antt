@@ -2,13 +2,15 @@
 use Rattle.std.proofs.Common.{◌≡◌, ◌∙◌, ℕ, ◌==◌, ◌⊎◌, inl, inr, Bool, true, false, cond, List, [], ◌∷◌, ◌++◌, Option, Some, None, option_map, refl, sym, ap, subst, eqb-true}
 use Rattle.std.proofs.lemmas.Option.{none-some, same_Some}
 use Rattle.std.specs.List.{onto_first}
-use Rattle.blanks.specs.Blanks.{after_blanks, is_blank}
+use Rattle.text_reader.specs.Blanks.{after_blanks, is_blank}
 use Rattle.cron_text.specs.Entry.{BeginsWithField, IsBadLine, SpellsEntry, is_command, is_empty_or_comment, is_ignored}
 use Rattle.cron_text.specs.declared.entry.CronEntry.{CronEntry}
 use Rattle.cron_text.specs.declared.entry.Schedule.{Schedule}
 use Rattle.cron_text.specs.declared.field.Field.{Field}
-use Rattle.cron_text.specs.inside.Reader.{number_before, span_in, element_in, elements_in, field_in, first_in, schedule_in, line_in, entry_in_line, cron_entry, with_line}
-use Rattle.cron_text.proofs.OptionLemmas.{and_then_some, cond_some, cond_either, map_some}
+use Rattle.cron_text.specs.inside.Reader.{number_before, digit_before, span_in, element_in, elements_in, field_in, first_in, schedule_in, line_in, entry_in_line, cron_entry, with_line}
+use Rattle.text_reader.specs.Reading.{two_digits_in}
+use Rattle.text_reader.proofs.OptionLemmas.{and_then_some, cond_some}
+use Rattle.cron_text.proofs.OptionLemmas.{cond_either, map_some}
 use Rattle.cron_text.proofs.FieldLemmas.{field_complete}
 use Rattle.cron_text.proofs.FirstLemmas.{first_sound, first_complete}
 
@@ -53,7 +55,7 @@ entry_sound line entry e =
 
 -- a number sign begins no number, and so no pattern
 number_none : (rest : List ℕ) → number_before (35 ∷ rest) ≡ None
-unfolding number_before
+unfolding number_before digit_before two_digits_in
 number_none [] = refl
 number_none (byte ∷ rest) = refl
 

@@ -6,9 +6,11 @@ use Rattle.std.specs.Str.{bytes_eq}
 use Rattle.std.specs.Int.RustNames.{bit_or}
 use Rattle.cron_text.specs.Field.{SpellElements, SpellsField, AreBitsOf, asterisk, list}
 use Rattle.cron_text.specs.declared.field.Field.{Field}
-use Rattle.cron_text.specs.inside.Reader.{number_before, span_in, element_in, elements_in, elements_of, field_in, bits_between}
+use Rattle.cron_text.specs.inside.Reader.{number_before, digit_before, span_in, element_in, elements_in, elements_of, field_in, bits_between}
 use Rattle.cron_text.proofs.BitLemmas.{with_bits, with_bits-spans, bits_between-span, one_bits}
-use Rattle.cron_text.proofs.OptionLemmas.{cond_either, and_then_some, map_some}
+use Rattle.text_reader.specs.Reading.{two_digits_in}
+use Rattle.text_reader.proofs.OptionLemmas.{and_then_some}
+use Rattle.cron_text.proofs.OptionLemmas.{cond_either, map_some}
 use Rattle.cron_text.proofs.SpanLemmas.{element_sound, element_complete}
 
 -- the ranges that a list was read as
@@ -34,7 +36,7 @@ elements_complete low high bits (element ∷ elements) (span ∷ spans) spelled 
 
 -- an asterisk is no list
 no_list : (low high : ℕ) (spans : List (ℕ × ℕ)) → ¬ SpellElements low high (elements_of (codes "*")) spans
-unfolding elements_in element_in span_in number_before
+unfolding elements_in element_in span_in number_before digit_before two_digits_in
 no_list low high spans spelled = none-some _ (elements_complete low high 0 (elements_of (codes "*")) spans spelled)
 
 -- the field of an asterisk, and that of a list

@@ -6,12 +6,12 @@ use Rattle.std.proofs.Math.Seq.{drop-append_seam, take-append_seam}
 use Rattle.std.proofs.lemmas.List.Sums.{split_at_first, passes_at_first, take_while-cons}
 use Rattle.std.proofs.lemmas.List.{at_drop_more}
 use Rattle.std.specs.List.{position, position_or_len, after_first, take_while}
-use Rattle.blanks.specs.Blanks.{after_blanks, is_blank}
+use Rattle.text_reader.specs.Blanks.{after_blanks, is_blank}
 use Rattle.cron_text.specs.Entry.{BeginsWithField, has_no_blank}
 use Rattle.cron_text.specs.Field.{SpellsField}
 use Rattle.cron_text.specs.declared.field.Field.{Field}
 use Rattle.cron_text.specs.inside.Reader.{field_in, first_in}
-use Rattle.cron_text.proofs.OptionLemmas.{and_then_some, cond_some, same_pair}
+use Rattle.text_reader.proofs.OptionLemmas.{and_then_some, cond_some, same_pair}
 use Rattle.cron_text.proofs.FieldLemmas.{field_sound, field_complete}
 
 -- the byte is no blank

@@ -3,8 +3,9 @@ use Rattle.std.proofs.Common.{◌≡◌, ◌∙◌, ℕ, ◌+◌, ◌≤◌, ◌
 use Rattle.std.proofs.lemmas.List.Elements.{All-nil, All-cons, All-head, All-tail, All-same, All-weaker}
 use Rattle.std.proofs.lemmas.List.Splits.{slice_split-cons_yes, slice_split-cons_no}
 use Rattle.std.specs.List.{All, onto_first}
-use Rattle.blanks.specs.Blanks.{after_blanks, is_blank}
-use Rattle.cron_text.specs.Crontab.{AreCrontabLines, no_line, ignored, an_entry, SpellsCrontab, lines_of}
+use Rattle.text_reader.specs.Blanks.{after_blanks, is_blank}
+use Rattle.text_reader.specs.Lines.{lines_of}
+use Rattle.cron_text.specs.Crontab.{AreCrontabLines, no_line, ignored, an_entry, SpellsCrontab}
 use Rattle.cron_text.specs.Entry.{BeginsWithField, SpellsEntry}
 use Rattle.cron_text.specs.declared.entry.CronEntry.{CronEntry}
 use Rattle.cron_text.specs.declared.field.Field.{Field}

@@ -1,7 +1,8 @@
 -- The reader of a crontab reads its lines, one after another.
 use Rattle.std.proofs.Common.{◌≡◌, ◌∙◌, ℕ, ◌+◌, ◌≤◌, inl, inr, List, [], ◌∷◌, ◌++◌, length, drop, Option, Some, None, Result, Ok, Err, refl, sym, ap, subst, arith, append_assoc, append-nil}
 use Rattle.std.proofs.lemmas.List.{at_drop_all}
-use Rattle.cron_text.specs.Crontab.{AreCrontabLines, no_line, ignored, an_entry, lines_of, SpellsCrontab, IsFirstBad}
+use Rattle.text_reader.specs.Lines.{lines_of}
+use Rattle.cron_text.specs.Crontab.{AreCrontabLines, no_line, ignored, an_entry, SpellsCrontab, IsFirstBad}
 use Rattle.cron_text.specs.Entry.{IsBadLine, is_ignored}
 use Rattle.cron_text.specs.declared.entry.CronEntry.{CronEntry}
 use Rattle.cron_text.specs.inside.Reader.{lines_in, with_line}

@@ -6,18 +6,20 @@ use Rattle.std.proofs.lemmas.List.{nil_from_length}
 use Rattle.std.proofs.lemmas.Option.{none-some, same_Some}
 use Rattle.std.specs.Char.{is_ascii_digit}
 use Rattle.cron_text.specs.Field.{SpellsCronNumber, one_digit, two_digits, SpellsSpan, one_number, two_numbers, SpellsElement}
-use Rattle.cron_text.specs.inside.Reader.{number_before, range_to, range_from, span_in, element_in}
-use Rattle.cron_text.proofs.OptionLemmas.{cond_some, cond_either, cond_then, and_then_some}
+use Rattle.cron_text.specs.inside.Reader.{number_before, digit_before, range_to, range_from, span_in, element_in}
+use Rattle.text_reader.specs.Reading.{two_digits_in}
+use Rattle.text_reader.proofs.OptionLemmas.{cond_some, and_then_some}
+use Rattle.cron_text.proofs.OptionLemmas.{cond_then, or_some}
 
 -- a number and nothing after it
 pub number_alone : (text : List ℕ) (number : ℕ) → SpellsCronNumber text number → number_before text ≡ Some (number, [])
-unfolding number_before
+unfolding number_before digit_before two_digits_in
 number_alone text number (one_digit ones digit spelled value) = rw (spelled, digit, value)
 number_alone text number (two_digits tens ones first second spelled value) = rw (spelled, first, second, value)
 
 -- a number with a hyphen after it
 pub number_hyphen : (text : List ℕ) (number : ℕ) (rest : List ℕ) → SpellsCronNumber text number → number_before (text ++ 45 ∷ rest) ≡ Some (number, 45 ∷ rest)
-unfolding number_before
+unfolding number_before digit_before two_digits_in
 number_hyphen text number rest (one_digit ones digit spelled value) = rw (spelled, digit, value)
 number_hyphen text number rest (two_digits tens ones first second spelled value) = rw (spelled, first, second, value)
 
@@ -33,17 +35,17 @@ abbrev read : ℕ → List ℕ → Option (ℕ × List ℕ)
 read number rest = Some (number, rest)
 
 pub number_sound : (text rest : List ℕ) (number : ℕ) → number_before text ≡ Some (number, rest) → BeginsWithNumber text number rest
-unfolding number_before
+unfolding number_before digit_before two_digits_in
 number_sound [] rest number e = absurd (none-some _ e)
 number_sound (ones ∷ []) rest number e =
     let (digit, same) = cond_some _ _ _ e in
     let value : ones - 48 ≡ number = ap (λ p. p.0) same in
     let left : [] ≡ rest = ap (λ p. p.1) same in
     (ones ∷ [], one_digit ones digit refl (sym value), ap (λ r. ones ∷ r) left)
-number_sound (tens ∷ ones ∷ more) rest number e = go (cond_either _ _ _ _ e)
+number_sound (tens ∷ ones ∷ more) rest number e = go (or_some _ _ _ _ e)
   where
     go : ((is_ascii_digit tens && is_ascii_digit ones) ≡ true) × (IsRead ((tens - 48) * 10 + (ones - 48)) more number rest)
-        ⊎ ((is_ascii_digit tens && is_ascii_digit ones) ≡ false) × (cond (is_ascii_digit tens) (read (tens - 48) (ones ∷ more)) None ≡ read number rest)
+        ⊎ ((is_ascii_digit tens && is_ascii_digit ones) ≡ false) × (digit_before (tens ∷ ones ∷ more) ≡ read number rest)
         → BeginsWithNumber (tens ∷ ones ∷ more) number rest
     go (inl (digits, same)) =
         let both = and_parts _ _ digits in

@@ -1,16 +1,11 @@
 -- The text of a crontab (POSIX.1-2017, XCU crontab, Input Files: a text file of lines). That the last line may lack its
 -- newline, and that one bad line makes the whole text bad, is this project's own.
-use Rattle.std.specs.Prelude.{◌≡◌, ◌+◌, ◌==◌, ℕ, IsTrue, List, [], ◌∷◌, ◌++◌, length}
-use Rattle.std.specs.List.{slice_split}
+use Rattle.std.specs.Prelude.{◌≡◌, ◌+◌, ℕ, IsTrue, List, [], ◌∷◌, ◌++◌, length}
+use Rattle.text_reader.specs.Lines.{lines_of}
 use Rattle.cron_text.specs.Entry.{IsBadLine, SpellsEntry, is_ignored}
 use Rattle.cron_text.specs.declared.crontab.CronFault.{CronFault}
 use Rattle.cron_text.specs.declared.crontab.CronFault.TheVariants.{Bad, Memory}
 use Rattle.cron_text.specs.declared.entry.CronEntry.{CronEntry}
-
--- what stands between the newlines, or the ends of the text; the last of these is empty where the last line has its
--- newline, and so is ignored
-abbrev pub lines_of : List ℕ → List (List ℕ)
-lines_of text = slice_split (λ byte. byte == 10) text
 
 -- the lines that aren't ignored spell the entries, one each, in order
 pub data AreCrontabLines : List (List ℕ) → List CronEntry → Type 0 where

@@ -4,7 +4,7 @@
 -- field, and that a command has a byte and no zero byte, is this project's own.
 use Rattle.std.specs.Prelude.{◌≡◌, ◌==◌, ◌&&◌, ℕ, Bool, true, not, IsTrue, List, [], ◌∷◌, ◌++◌, length}
 use Rattle.std.specs.List.{list_all}
-use Rattle.blanks.specs.Blanks.{after_blanks, is_blank}
+use Rattle.text_reader.specs.Blanks.{after_blanks, is_blank}
 use Rattle.job_script.specs.Variables.{has_no_zero}
 use Rattle.cron_text.specs.Field.{SpellsField}
 use Rattle.cron_text.specs.declared.entry.CronEntry.{CronEntry}

@@ -7,9 +7,9 @@ ghost use Rattle.cron_text.specs.inside.Reader as Reader;
 
 use crate::CronEntry;
 use crate::entry::read_entry;
-use blanks::after_blanks;
 use std::alloc::{AllocError, Global};
 use std::marker::Model;
+use text_reader::after_blanks;
 
 /// The greatest length of a crontab.
 pub const MAX_CRONTAB: usize = 65_536;

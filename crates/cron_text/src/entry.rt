@@ -1,16 +1,17 @@
 //! An entry of a crontab: a line with five patterns and a command.
 ghost use Rattle.std.specs.Prelude.{◌≡◌, ◌<◌, ◌≤◌, IfOk, IfSome, length};
 ghost use Rattle.std.specs.List.{position};
-ghost use Rattle.blanks.specs.Blanks.{is_blank};
+ghost use Rattle.text_reader.specs.Blanks.{is_blank};
+ghost use Rattle.text_reader.specs.Reading.{read_view};
 ghost use Rattle.cron_text.specs.Entry.{is_command};
 ghost use Rattle.cron_text.specs.inside.Reader as Reader;
 
 use crate::Field;
 use crate::field::read_field;
-use blanks::after_blanks;
 use host_calls::Bytes;
 use job_script::is_without_zero;
 use std::alloc::{AllocError, Global};
+use text_reader::after_blanks;
 
 /// When a command is due, and the command as its line has it.
 #[derive(Drop)]
@@ -59,7 +60,7 @@ fn cron_entry(schedule: &Schedule, command: Bytes) -> CronEntry
 
 #[tactic(auto, unfolding(crate::specs::inside::Reader::line_in))]
 fn read_line(line: &[u8]) -> Option<(Schedule, &[u8])>
-    ensures { Reader.read_view result ≡ Reader.line_in line.now }
+    ensures { read_view result ≡ Reader.line_in line.now }
 {
     let (schedule, command) = read_schedule(line)?;
     is_command(command).then_some((schedule, command))
@@ -73,7 +74,7 @@ fn is_command(command: &[u8]) -> bool
 
 #[tactic(auto, unfolding(crate::specs::inside::Reader::schedule_in))]
 fn read_schedule(line: &[u8]) -> Option<(Schedule, &[u8])>
-    ensures { Reader.read_view result ≡ Reader.schedule_in line.now }
+    ensures { read_view result ≡ Reader.schedule_in line.now }
 {
     let (minute, rest) = read_first(0, 59, after_blanks(line))?;
     let (hour, rest) = read_first(0, 23, rest)?;
@@ -95,7 +96,7 @@ fn read_schedule(line: &[u8]) -> Option<(Schedule, &[u8])>
 fn read_first(low: u8, high: u8, text: &[u8]) -> Option<(Field, &[u8])>
     requires ordered { low ≤ high }
     requires small { high < 60 }
-    ensures { Reader.read_view result ≡ Reader.first_in low high text.now }
+    ensures { read_view result ≡ Reader.first_in low high text.now }
 {
     let (pattern, rest) = text.split_at(first_blank(text)?);
     let field = read_field(low, high, pattern)?;

@@ -1,7 +1,10 @@
 //! The patterns of an entry: an asterisk, or numbers and ranges of numbers between commas.
 ghost use Rattle.std.specs.Prelude.{◌≡◌, ◌<◌, ◌≤◌, IfSome};
+ghost use Rattle.text_reader.specs.Reading.{read_view};
 ghost use Rattle.cron_text.specs.Field.{IsSpanIn};
 ghost use Rattle.cron_text.specs.inside.Reader as Reader;
+
+use text_reader::read_two_digits;
 
 /// The numbers that a pattern holds: bit v is set where it holds v. `star` says that it is an
 /// asterisk.
@@ -72,12 +75,20 @@ fn read_span(text: &[u8]) -> Option<(u8, u8)>
 // The number of one or two digits that the text begins with, and the rest.
 #[tactic(auto, unfolding(crate::specs::inside::Reader::number_before))]
 fn read_number(text: &[u8]) -> Option<(u8, &[u8])>
-    ensures { Reader.read_view result ≡ Reader.number_before text.now }
+    ensures { read_view result ≡ Reader.number_before text.now }
+{
+    match read_two_digits(text) {
+        Some(read) => Some(read),
+        None => read_digit(text),
+    }
+}
+
+// The number of the one digit that the text begins with, and the rest.
+#[tactic(auto, unfolding(crate::specs::inside::Reader::digit_before))]
+fn read_digit(text: &[u8]) -> Option<(u8, &[u8])>
+    ensures { read_view result ≡ Reader.digit_before text.now }
 {
     match text {
-        [tens @ b'0'..=b'9', ones @ b'0'..=b'9', rest @ ..] => {
-            Some(((*tens - b'0') * 10 + (*ones - b'0'), rest))
-        }
         [ones @ b'0'..=b'9', rest @ ..] => Some((*ones - b'0', rest)),
         _ => None,
     }

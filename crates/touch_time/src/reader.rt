@@ -1,9 +1,11 @@
 //! The parts of a time, one after another. Each function reads the prefix of a slice, and gives the
 //! value and the rest.
 ghost use Rattle.std.specs.Prelude.{◌≡◌, ◌≤◌, IfSome};
+ghost use Rattle.text_reader.specs.Reading.{read_view};
 ghost use Rattle.touch_time.specs.inside.Reader as Reader;
 
 use crate::TouchTime;
+use text_reader::read_two_digits;
 
 /// A time and nothing after it.
 #[tactic(auto, unfolding(crate::specs::inside::Reader::read_touch))]
@@ -11,10 +13,10 @@ pub(crate) fn read_touch(text: &[u8]) -> Option<TouchTime>
     ensures { result ≡ Reader.read_touch text.now }
 {
     let (year, text) = read_year(text)?;
-    let (month, text) = read_number(text, 1, 12)?;
-    let (day, text) = read_number(text, 1, 31)?;
-    let (hour, text) = read_number(text, 0, 23)?;
-    let (minute, text) = read_number(text, 0, 59)?;
+    let (month, text) = read_within(text, 1, 12)?;
+    let (day, text) = read_within(text, 1, 31)?;
+    let (hour, text) = read_within(text, 0, 23)?;
+    let (minute, text) = read_within(text, 0, 59)?;
     if !is_seconds(text) {
         return None;
     }
@@ -30,7 +32,7 @@ pub(crate) fn read_touch(text: &[u8]) -> Option<TouchTime>
 // The length of the text tells how its year is spelled, since no two forms have the same.
 #[tactic(auto, unfolding(crate::specs::inside::Reader::read_year))]
 fn read_year(text: &[u8]) -> Option<(Option<u16>, &[u8])>
-    ensures { Reader.read_view result ≡ Reader.read_year text.now }
+    ensures { read_view result ≡ Reader.read_year text.now }
 {
     match text.len() {
         8 | 11 => Some((None, text)),
@@ -42,37 +44,32 @@ fn read_year(text: &[u8]) -> Option<(Option<u16>, &[u8])>
 
 #[tactic(auto, unfolding(crate::specs::inside::Reader::read_short_year))]
 fn read_short_year(text: &[u8]) -> Option<(Option<u16>, &[u8])>
-    ensures { Reader.read_view result ≡ Reader.read_short_year text.now }
+    ensures { read_view result ≡ Reader.read_short_year text.now }
 {
-    let (year, text) = read_number(text, 0, 99)?;
+    let (year, text) = read_within(text, 0, 99)?;
     let century = if year < 69 { 2000 } else { 1900 };
     Some((Some(century + u16::from(year)), text))
 }
 
 #[tactic(auto, unfolding(crate::specs::inside::Reader::read_full_year))]
 fn read_full_year(text: &[u8]) -> Option<(Option<u16>, &[u8])>
-    ensures { Reader.read_view result ≡ Reader.read_full_year text.now }
+    ensures { read_view result ≡ Reader.read_full_year text.now }
 {
-    let (century, text) = read_number(text, 0, 99)?;
-    let (year, text) = read_number(text, 0, 99)?;
+    let (century, text) = read_within(text, 0, 99)?;
+    let (year, text) = read_within(text, 0, 99)?;
     Some((Some(u16::from(century) * 100 + u16::from(year)), text))
 }
 
-#[tactic(auto, unfolding(crate::specs::inside::Reader::read_number))]
-fn read_number(text: &[u8], low: u8, high: u8) -> Option<(u8, &[u8])>
-    ensures value { Reader.read_view result ≡ Reader.read_number low high text.now }
+#[tactic(auto, unfolding(crate::specs::inside::Reader::read_within))]
+fn read_within(text: &[u8], low: u8, high: u8) -> Option<(u8, &[u8])>
+    ensures value { read_view result ≡ Reader.read_within low high text.now }
     ensures bound { IfSome result (λ read. read.0 ≤ 99) }
 {
-    match text {
-        [tens @ b'0'..=b'9', ones @ b'0'..=b'9', rest @ ..] => {
-            let number = (*tens - b'0') * 10 + (*ones - b'0');
-            if number < low || number > high {
-                return None;
-            }
-            Some((number, rest))
-        }
-        _ => None,
+    let (number, rest) = read_two_digits(text)?;
+    if number < low || number > high {
+        return None;
     }
+    Some((number, rest))
 }
 
 // No seconds, or a point and seconds.
@@ -82,7 +79,7 @@ fn is_seconds(text: &[u8]) -> bool
 {
     match text {
         [] => true,
-        [b'.', rest @ ..] => matches!(read_number(rest, 0, 60), Some((_, []))),
+        [b'.', rest @ ..] => matches!(read_within(rest, 0, 60), Some((_, []))),
         _ => false,
     }
 }

@@ -1,36 +1,26 @@
 -- What the reader gives at each part of the text; its lemmas show that it reads the spelling, and nothing else.
-use Rattle.std.specs.Prelude.{ℕ, ◌+◌, ◌-◌, ◌*◌, ◌^◌, ◌&&◌, ◌==◌, true, false, List, [], ◌∷◌, ◌++◌, length, take, drop, codes, Option, Some, None, option_map, option_and_then, Result, Ok, Err, nat_le, if◌then◌else◌}
+use Rattle.std.specs.Prelude.{ℕ, ◌+◌, ◌-◌, ◌^◌, ◌&&◌, ◌==◌, true, false, List, [], ◌∷◌, ◌++◌, length, take, drop, codes, Option, Some, None, option_map, Result, Ok, Err, nat_le, if◌then◌else◌}
 use Rattle.std.specs.List.{position}
 use Rattle.std.specs.Char.{is_ascii_digit}
 use Rattle.std.specs.Str.{bytes_eq}
 use Rattle.std.specs.Int.RustNames.{bit_or}
-use Rattle.std.specs.Borrow.{Bor}
-use Rattle.blanks.specs.Blanks.{after_blanks, is_blank}
+use Rattle.std.specs.Option.{option_or}
+use Rattle.text_reader.specs.Blanks.{after_blanks, is_blank}
+use Rattle.text_reader.specs.Reading.{Read, two_digits_in, ◌>>=◌}
 use Rattle.cron_text.specs.Entry.{is_command, is_ignored}
 use Rattle.cron_text.specs.Field as Field
 use Rattle.cron_text.specs.declared.entry.CronEntry.{CronEntry}
 use Rattle.cron_text.specs.declared.entry.Schedule.{Schedule}
 use Rattle.cron_text.specs.declared.field.Field as declared
 
--- a value and the text after it
-abbrev pub Read : Type 0 → Type 0
-Read A = Option (A × List ℕ)
-
--- what a function read, with the text that its reference points to
-abbrev pub read_view : {A : Type 0} → Option (A × Bor (List ℕ)) → Read A
-read_view r = option_map (λ p. (p.0, p.1.now)) r
-
-infixl 10 ◌>>=◌
-abbrev ◌>>=◌ : {A B : Type 0} → Option A → (A → Option B) → Option B
-o >>= f = option_and_then f o
+-- the number of the one digit that the text begins with
+unfoldable pub digit_before : List ℕ → Read ℕ
+digit_before [] = None
+digit_before (ones ∷ rest) = if is_ascii_digit ones then Some (ones - 48, rest) else None
 
 -- the number of one or two digits that the text begins with
 unfoldable pub number_before : List ℕ → Read ℕ
-number_before [] = None
-number_before (ones ∷ []) = if is_ascii_digit ones then Some (ones - 48, []) else None
-number_before (tens ∷ ones ∷ rest) =
-    if is_ascii_digit tens && is_ascii_digit ones then Some ((tens - 48) * 10 + (ones - 48), rest)
-    else (if is_ascii_digit tens then Some (tens - 48, ones ∷ rest) else None)
+number_before text = option_or (two_digits_in text) (digit_before text)
 
 -- the range from a number to the one that the text is
 unfoldable pub range_to : ℕ → List ℕ → Option (ℕ × ℕ)

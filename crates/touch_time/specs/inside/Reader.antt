@@ -1,42 +1,25 @@
 -- What the reader gives at each part of the text; its lemmas show that it reads the spelling, and nothing else.
-use Rattle.std.specs.Prelude.{ℕ, ◌+◌, ◌-◌, ◌*◌, ◌&&◌, ◌||◌, ◌==◌, Bool, true, false, List, [], ◌∷◌, length, Option, Some, None, option_map, option_and_then, nat_lt, nat_le, if◌then◌else◌}
-use Rattle.std.specs.Char.{is_ascii_digit}
-use Rattle.std.specs.Borrow.{Bor}
+use Rattle.std.specs.Prelude.{ℕ, ◌+◌, ◌*◌, ◌&&◌, ◌||◌, ◌==◌, Bool, true, false, List, [], ◌∷◌, length, Option, Some, None, nat_lt, nat_le, if◌then◌else◌}
+use Rattle.text_reader.specs.Reading.{Read, two_digits_in, ◌>>=◌}
 use Rattle.touch_time.specs.declared.touch.TouchTime.{TouchTime}
 
--- a value and the text after it
-abbrev pub Read : Type 0 → Type 0
-Read A = Option (A × List ℕ)
-
--- what a function read, with the text after the reference
-abbrev pub read_view : {A : Type 0} → Option (A × Bor (List ℕ)) → Read A
-read_view r = option_map (λ p. (p.0, p.1.now)) r
-
-infixl 10 ◌>>=◌
-abbrev ◌>>=◌ : {A B : Type 0} → Option A → (A → Option B) → Option B
-o >>= f = option_and_then f o
-
 -- a number from low to high, in two digits
-unfoldable pub read_number : ℕ → ℕ → List ℕ → Read ℕ
-read_number low high [] = None
-read_number low high (tens ∷ []) = None
-read_number low high (tens ∷ ones ∷ rest) =
-    if (is_ascii_digit tens && is_ascii_digit ones)
-    && (nat_le low ((tens - 48) * 10 + (ones - 48)) && nat_le ((tens - 48) * 10 + (ones - 48)) high)
-    then Some ((tens - 48) * 10 + (ones - 48), rest)
-    else None
+unfoldable pub read_within : ℕ → ℕ → List ℕ → Read ℕ
+read_within low high text = do
+  number ← two_digits_in text
+  if nat_le low number.0 && nat_le number.0 high then Some number else None
 
 -- a year by its last two digits
 unfoldable pub read_short_year : List ℕ → Read (Option ℕ)
 read_short_year text = do
-  year ← read_number 0 99 text
+  year ← read_within 0 99 text
   Some (Some ((if nat_lt year.0 69 then 2000 else 1900) + year.0), year.1)
 
 -- a year by all four
 unfoldable pub read_full_year : List ℕ → Read (Option ℕ)
 read_full_year text = do
-  century ← read_number 0 99 text
-  year ← read_number 0 99 century.1
+  century ← read_within 0 99 text
+  year ← read_within 0 99 century.1
   Some (Some (century.0 * 100 + year.0), year.1)
 
 -- a year, by the length of the whole text
@@ -54,16 +37,16 @@ is_last_number (Some read) = length read.1 == 0
 -- nothing, or a point and seconds
 unfoldable pub is_seconds : List ℕ → Bool
 is_seconds [] = true
-is_seconds (point ∷ rest) = (point == 46) && is_last_number (read_number 0 60 rest)
+is_seconds (point ∷ rest) = (point == 46) && is_last_number (read_within 0 60 rest)
 
 -- a time and nothing after it
 unfoldable pub read_touch : List ℕ → Option TouchTime
 read_touch text = do
   year ← read_year text
-  month ← read_number 1 12 year.1
-  day ← read_number 1 31 month.1
-  hour ← read_number 0 23 day.1
-  minute ← read_number 0 59 hour.1
+  month ← read_within 1 12 year.1
+  day ← read_within 1 31 month.1
+  hour ← read_within 0 23 day.1
+  minute ← read_within 0 59 hour.1
   if is_seconds minute.1
       then Some (record {
         year = year.0;

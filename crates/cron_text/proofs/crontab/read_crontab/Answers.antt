@@ -4,7 +4,7 @@ use Rattle.std.proofs.lemmas.Iterator.Splits.{YieldsList-from_slice_split}
 use Rattle.std.proofs.lemmas.List.{length_push}
 use Rattle.std.proofs.lemmas.List.Splits.{length-slice_split}
 use Rattle.std.proofs.lemmas.List.Sums.{count_by-le-length}
-use Rattle.cron_text.specs.Crontab.{lines_of}
+use Rattle.text_reader.specs.Lines.{lines_of}
 use Rattle.cron_text.proofs.ElementLemmas.{IsNextOf}
 use Rattle.cron_text.proofs.LineLemmas.{crontab_bad, crontab_sound, lines-bad, lines-end, lines-more}
 use Rattle.cron_text.proofs.crontab.read_crontab.Goals as goal

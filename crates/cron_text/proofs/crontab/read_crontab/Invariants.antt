@@ -1,5 +1,5 @@
 use Rattle.std.proofs.Common.{◌≡◌, [], length, drop}
-use Rattle.cron_text.specs.Crontab.{lines_of}
+use Rattle.text_reader.specs.Lines.{lines_of}
 use Rattle.cron_text.specs.inside.Reader.{lines_in}
 use Rattle.cron_text.proofs.crontab.read_crontab.Given as goal
 

@@ -1,9 +1,9 @@
 use Rattle.std.proofs.Common.{◌≡◌, length}
-use Rattle.blanks.specs.Blanks.{before_blanks}
-use Rattle.blanks.proofs.line.before_blanks.Given as goal
+use Rattle.text_reader.specs.Blanks.{after_blanks}
+use Rattle.text_reader.proofs.line.after_blanks.Given as goal
 
 abbrev pub invariant-loop-rest : goal.invariant-loop-rest
-invariant-loop-rest l = before_blanks l.rest ≡ before_blanks l.fn.line
+invariant-loop-rest l = after_blanks l.rest ≡ after_blanks l.fn.line
 
 abbrev pub decreases-loop-rest : goal.decreases-loop-rest
 decreases-loop-rest l = length l.rest

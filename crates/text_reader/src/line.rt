@@ -1,6 +1,6 @@
 //! A line without the blanks at its ends.
 ghost use Rattle.std.specs.Prelude.{◌≡◌};
-ghost use Rattle.blanks.specs.Blanks.{after_blanks, before_blanks};
+ghost use Rattle.text_reader.specs.Blanks.{after_blanks, before_blanks};
 
 /// The bytes from the first on that is no blank.
 pub fn after_blanks(line: &[u8]) -> &[u8]
