@@ -5,14 +5,17 @@ ghost use Rattle.std.specs.Char.{is_ascii_digit};
 ghost use Rattle.at_words.specs.Digits.{are_decimal_digits, fraction_of, limit_of, decimal_in, within};
 ghost use Rattle.at_words.specs.Numbers.{job_number};
 
+// The most digits of a job's number.
+const MOST_DIGITS: usize = 10;
+
 // The greatest whole part of a load.
 const MAX_WHOLE_LOAD: u32 = 999_999;
 
-/// The number of a job.
-pub fn job(text: &str) -> Option<u32>
-    ensures { result ≡ job_number text.now }
+/// The number of a job, from the least to the greatest.
+pub fn job(text: &str, least: u32, greatest: u32) -> Option<u32>
+    ensures { result ≡ job_number least greatest text.now }
 {
-    short(text, 10, 1, u32::MAX)
+    short(text, MOST_DIGITS, least, greatest)
 }
 
 /// The same as `number_within`, where the number is short.

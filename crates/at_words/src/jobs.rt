@@ -3,7 +3,7 @@ ghost use Rattle.std.specs.Prelude.{◌≡◌};
 ghost use Rattle.clap.specs.Walk.{texts};
 ghost use Rattle.at_words.specs.Answers.{Answers, or_usage};
 ghost use Rattle.at_words.specs.Asked.{filter_asked, letter_filter, some_numbers};
-ghost use Rattle.at_words.specs.Numbers.{numbers_of};
+ghost use Rattle.at_words.specs.Numbers.{numbers_between, numbers_of};
 ghost use Rattle.at_words.specs.Rows.{text_of};
 
 use crate::{Filter, Numbers, WordsFault, digits, queue};
@@ -43,9 +43,21 @@ pub fn one_or_more(alloc: Global, operands: &[&str]) -> Result<Numbers, WordsFau
 fn numbers(alloc: Global, operands: &[&str]) -> Result<Numbers, WordsFault>
     ensures { Answers (or_usage (numbers_of (texts operands.entry.now))) result }
 {
+    numbers_between(alloc, operands, 1, u32::MAX)
+}
+
+/// The numbers from the least to the greatest that these operands spell, each once.
+pub fn numbers_between(
+    alloc: Global,
+    operands: &[&str],
+    least: u32,
+    greatest: u32,
+) -> Result<Numbers, WordsFault>
+    ensures { Answers (or_usage (numbers_between least greatest (texts operands.entry.now))) result }
+{
     let mut numbers = Numbers::new(alloc);
     for operand in operands {
-        match digits::job(operand) {
+        match digits::job(operand, least, greatest) {
             Some(number) => numbers.push(alloc, number)?,
             None => return Err(WordsFault::Usage),
         }

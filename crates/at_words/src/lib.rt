@@ -24,13 +24,15 @@ mod tool_request;
 mod when;
 mod words;
 
-pub use arguments::{has_flag, parsed, value};
+pub use arguments::{has_flag, operands, parsed, value};
 pub use atd::turns_of;
 pub use atday::MAX_EVENTS;
-pub use builder::{bare_command, with_long, with_long_flag, with_value};
+pub use builder::{bare_command, with_flag, with_long, with_long_flag, with_operands, with_value};
 pub use fault::WordsFault;
 pub use filter::Filter;
+pub use jobs::numbers_between;
 pub use numbers::Numbers;
+pub use queue::queue_letter;
 pub use tool::{Tool, tool_of};
 pub use tool_request::ToolRequest;
 pub use when::When;
