@@ -36,7 +36,8 @@ fn refusal_of_job(store: &Store, user: &UserName, removing: bool, number: u32) -
     }
 }
 
-fn refusal_of_row(row: &Row, user: &UserName, removing: bool, number: u32) -> Option<Refusal>
+/// The refusal of a live job: it is another's, or runs where it is to be removed.
+pub fn refusal_of_row(row: &Row, user: &UserName, removing: bool, number: u32) -> Option<Refusal>
     ensures { result ≡ row_check user.now removing number (Some row.now) }
 {
     if !is_seen_by(row, user) {

@@ -7,6 +7,6 @@ mod lists;
 mod opening;
 mod session;
 
-pub use jobs::{is_seen_by, refusal_of_jobs};
+pub use jobs::{is_seen_by, refusal_of_jobs, refusal_of_row};
 pub use opening::open_store;
 pub use session::in_command_session;
