@@ -79,14 +79,7 @@ stops_risen tells caller path old new cause.InputFault (inl before) = record { i
 stops_risen tells caller path old new cause.InputFault (inr after) = absurd after.says
 stops_risen tells caller path old new cause.OutputFault (inl before) = absurd before
 stops_risen tells caller path old new cause.OutputFault (inr after) = record { input_fault = λ is. cc; output_fault = λ is. after.says.rose }
-stops_risen tells caller path old new cause.Memory stops = record { input_fault = λ is. cc; output_fault = λ is. cc }
-stops_risen tells caller path old new cause.Done stops = record { input_fault = λ is. cc; output_fault = λ is. cc }
-stops_risen tells caller path old new (cause.Refused refusal) stops = record { input_fault = λ is. cc; output_fault = λ is. cc }
-stops_risen tells caller path old new cause.FileFault stops = record { input_fault = λ is. cc; output_fault = λ is. cc }
-stops_risen tells caller path old new cause.Busy stops = record { input_fault = λ is. cc; output_fault = λ is. cc }
-stops_risen tells caller path old new (cause.Damaged damage) stops = record { input_fault = λ is. cc; output_fault = λ is. cc }
-stops_risen tells caller path old new cause.StillRunning stops = record { input_fault = λ is. cc; output_fault = λ is. cc }
-stops_risen tells caller path old new cause.Faulty stops = record { input_fault = λ is. cc; output_fault = λ is. cc }
+stops_risen tells caller path old new _ stops = record { input_fault = λ is. cc; output_fault = λ is. cc }
 
 rose_from : (old middle new : ℕ) → old ≤ middle → Rose middle new → Rose old new
 rose_from old middle new less rose = omega (arith, less, rose)

@@ -70,13 +70,12 @@ MayGoOn Memory = Unit {0}
 
 -- the session has a line: it was not done, and found no damage
 abbrev pub HasLine : CronEnd → Type 0
-HasLine Done = ⊥
-HasLine (Damaged damage) = ⊥
 HasLine Busy = Unit {0}
 HasLine FileFault = Unit {0}
 HasLine QueueFull = Unit {0}
 HasLine NumbersUsedUp = Unit {0}
 HasLine Memory = Unit {0}
+HasLine _ = ⊥
 
 -- what is said of a session after which another comes
 pub record GoesOnSaying (tells : Bool) (end : CronEnd) (old new : SinkAt) : Type 0 where

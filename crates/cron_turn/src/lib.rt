@@ -11,10 +11,10 @@
 
 mod item;
 mod laws;
+mod next_session;
 mod program;
-mod run;
 mod say;
-mod turn;
+mod sessions;
 mod words;
 
 pub use cron_session::{CRON_QUEUE, CronEnd, CronReport, cron_session};

@@ -3,12 +3,12 @@ ghost use Rattle.std.specs.Prelude.{◌≡◌, ◌<◌, map, string_bytes};
 ghost use Rattle.host_calls.specs.Session.{IsOutside};
 ghost use Rattle.listing_text.specs.Cause.{status_of};
 ghost use Rattle.cron_turn.specs.Outside.{StaysSo, run_at, cron_telling};
-ghost use Rattle.cron_turn.specs.Running.{RunsOrLacksMemory, CronRuns, HasRisenInTurns, WorksUnless, caller_refused, refused_zone};
+ghost use Rattle.cron_turn.specs.Running.{RunsOrLacksMemory, CronRuns, HasRisenInTurns, caller_refused, refused_zone};
 ghost use Rattle.cron_turn.specs.Words.{cron_asked};
 
-use crate::run::run_sessions;
 use crate::say::CRON_PROGRAM;
-use crate::words::{CronRequest, cron_request};
+use crate::sessions::make_cron_sessions;
+use crate::words::cron_request;
 use cause_output::{Caller, CommandError, cause_of_words, say_cause};
 use civil_minute::Zone;
 use host_calls::{Host, Inputs, Readings, Sink};
@@ -45,7 +45,7 @@ pub fn cron_program<H: Host, R: Readings, I: Inputs, E: Sink>(
     Status::of(say_cause(alloc, CRON_PROGRAM, cause, err))
 }
 
-// Does what the words ask for. The line of the cause is still to be said.
+// Does what the words ask for, unless the caller is refused. The line of the cause is still to be said.
 fn run_by_words<H: Host, R: Readings, I: Inputs, E: Sink>(
     alloc: Global,
     words: &[String],
@@ -65,35 +65,13 @@ fn run_by_words<H: Host, R: Readings, I: Inputs, E: Sink>(
         (run_at H.Host R.Readings I.Inputs E.Sink host.old readings.old inputs.old err.old)
         (run_at H.Host R.Readings I.Inputs E.Sink host.new readings.new inputs.new err.new) result }
 {
-    match cron_request(alloc, words) {
-        Ok(request) => run_unless_refused(alloc, &request, caller, host, readings, inputs, err),
-        Err(fault) => cause_of_words(fault),
-    }
-}
-
-// Makes the sessions, unless the caller is refused.
-fn run_unless_refused<H: Host, R: Readings, I: Inputs, E: Sink>(
-    alloc: Global,
-    request: &CronRequest,
-    caller: &Caller,
-    host: &mut H,
-    readings: &mut R,
-    inputs: &mut I,
-    err: &mut E,
-) -> Cause
-    requires outside { IsOutside (H.session host.old) }
-    requires umask { caller.now.context.umask < 512 }
-    ensures err_made { (E.outlet err.new).made_as ≡ (E.outlet err.old).made_as }
-    ensures stays { StaysSo (run_at H.Host R.Readings I.Inputs E.Sink host.old readings.old inputs.old err.old)
-        (run_at H.Host R.Readings I.Inputs E.Sink host.new readings.new inputs.new err.new) }
-    ensures works { WorksUnless (caller_refused caller.now)
-        (cron_telling H.Host R.Readings I.Inputs E.Sink) caller.now request.now
-        (run_at H.Host R.Readings I.Inputs E.Sink host.old readings.old inputs.old err.old)
-        (run_at H.Host R.Readings I.Inputs E.Sink host.new readings.new inputs.new err.new) result }
-{
+    let request = match cron_request(alloc, words) {
+        Ok(request) => request,
+        Err(fault) => return cause_of_words(fault),
+    };
     match caller_refusal(caller) {
         Some(cause) => cause,
-        None => run_sessions(alloc, request, caller, host, readings, inputs, err),
+        None => make_cron_sessions(alloc, &request, caller, host, readings, inputs, err),
     }
 }
 

@@ -14,7 +14,7 @@ use std::alloc::Global;
 pub(crate) const CRON_PROGRAM: &str = "atcron";
 
 // Says how a session ended, unless it is damage. Answers the cause for which no further one is made, if there is one.
-pub(crate) fn say_session_end<E: Sink>(alloc: Global, end: &CronEnd, err: &mut E) -> Option<Cause>
+pub(crate) fn say_cron_end<E: Sink>(alloc: Global, end: &CronEnd, err: &mut E) -> Option<Cause>
     ensures made_as { (E.outlet err.new).made_as ≡ (E.outlet err.old).made_as }
     ensures later { (E.outlet err.old).sink_faults ≤ (E.outlet err.new).sink_faults }
     ensures says { SaysSession E.tells end.now

@@ -7,7 +7,7 @@ use Rattle.cron_turn.specs.Items.{CronItem, rest_after_session}
 use Rattle.cron_turn.specs.Outside.{run_at, spool_at, cron_telling}
 use Rattle.cron_turn.proofs.ReadLemmas.{asked, stops_reading}
 use Rattle.cron_turn.proofs.RunLemmas.{turned}
-use Rattle.cron_turn.proofs.turn.make_session.Goals as goal
+use Rattle.cron_turn.proofs.next_session.next_cron_session.Goals as goal
 
 pub returns-in-Err-clause-turns : goal.returns-in-Err-clause-turns
 returns-in-Err-clause-turns g c =
@@ -38,8 +38,8 @@ returns-clause-turns g c =
     } in
     turned (cron_telling g.H.Host g.R.Readings g.I.Inputs g.E.Sink) c.args.caller.now c.args.path.now (Some c.rest_after_session.result) item
     (run_at g.H.Host g.R.Readings g.I.Inputs g.E.Sink c.args.host.now c.args.readings.now c.args.inputs.now c.args.err.now)
-    (run_at g.H.Host g.R.Readings g.I.Inputs g.E.Sink c.cron_session-report.new.host c.now-now.new.self c.read_entries.new.inputs c.say_session_end.new.err)
-    c.say_session_end.result
+    (run_at g.H.Host g.R.Readings g.I.Inputs g.E.Sink c.cron_session-report.new.host c.now-now.new.self c.read_entries.new.inputs c.say_cron_end.new.err)
+    c.say_cron_end.result
     (record {
       now = subst IsClockSecond same (c.is_clock_second.ensures.fact.0 c.if-not-is_clock_second.false);
       clock = record { known = c.now-now.ensures.known; readers = c.now-now.ensures.same };
@@ -51,5 +51,5 @@ returns-clause-turns g c =
           (spool_at g.H.Host c.args.host.now) (spool_at g.H.Host c.cron_session-report.new.host) c.cron_session-report.result.end c.cron_session-report.result.numbers)
           same c.cron_session-report.ensures;
     })
-    c.say_session_end.ensures.says
+    c.say_cron_end.ensures.says
     (ap Some (c.rest_after_session.ensures ∙ ap (rest_after_session c.cron_session-report.result.end) same))

@@ -8,7 +8,7 @@ ghost use Rattle.cron_turn.specs.Outside.{StaysSo, run_at, cron_telling};
 ghost use Rattle.cron_turn.specs.inside.Turning.{Turns};
 
 use crate::item::rest_after_session;
-use crate::say::say_session_end;
+use crate::say::say_cron_end;
 use cause_output::Caller;
 use clock_range::is_clock_second;
 use cron_input::read_entries;
@@ -18,7 +18,7 @@ use listing_text::{Cause, Refusal};
 use std::alloc::Global;
 
 // Rests before a session, if it is not the first.
-pub(crate) fn rest_before_session<R: Readings>(rest: Option<u32>, readings: &mut R)
+pub(crate) fn rest_before_cron_session<R: Readings>(rest: Option<u32>, readings: &mut R)
     ensures { RestsOn R.tells rest (clock_at R.Readings readings.old) (clock_at R.Readings readings.new) }
 {
     match rest {
@@ -29,7 +29,7 @@ pub(crate) fn rest_before_session<R: Readings>(rest: Option<u32>, readings: &mut
 
 // Makes one session on what the file has now. Answers the cause for which no further one is made, if there is one, and
 // keeps for how long to rest before it else.
-pub(crate) fn make_session<H: Host, R: Readings, I: Inputs, E: Sink>(
+pub(crate) fn next_cron_session<H: Host, R: Readings, I: Inputs, E: Sink>(
     alloc: Global,
     path: &str,
     caller: &Caller,
@@ -60,5 +60,5 @@ pub(crate) fn make_session<H: Host, R: Readings, I: Inputs, E: Sink>(
     };
     let report = cron_session(alloc, host, &caller.context, &caller.zone, &entries, now);
     *rest = Some(rest_after_session(&report.end, now));
-    say_session_end(alloc, &report.end, err)
+    say_cron_end(alloc, &report.end, err)
 }

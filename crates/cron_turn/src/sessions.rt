@@ -6,7 +6,7 @@ ghost use Rattle.job_script.specs.Check.{first_fault};
 ghost use Rattle.cron_turn.specs.Outside.{StaysSo, run_at, cron_telling};
 ghost use Rattle.cron_turn.specs.Running.{RunsSessions};
 
-use crate::turn::{make_session, rest_before_session};
+use crate::next_session::{next_cron_session, rest_before_cron_session};
 use crate::words::CronRequest;
 use cause_output::Caller;
 use host_calls::{Host, Inputs, Readings, Sink};
@@ -14,7 +14,7 @@ use listing_text::Cause;
 use std::alloc::Global;
 
 // Makes so many sessions, or as many as there are up to one that ends it, with a rest between each two.
-pub(crate) fn run_sessions<H: Host, R: Readings, I: Inputs, E: Sink>(
+pub(crate) fn make_cron_sessions<H: Host, R: Readings, I: Inputs, E: Sink>(
     alloc: Global,
     request: &CronRequest,
     caller: &Caller,
@@ -37,8 +37,8 @@ pub(crate) fn run_sessions<H: Host, R: Readings, I: Inputs, E: Sink>(
     let path = request.file.as_str();
     let mut rest = None;
     for _turn in 0..request.turns {
-        rest_before_session(rest, readings);
-        match make_session(alloc, path, caller, &mut rest, host, readings, inputs, err) {
+        rest_before_cron_session(rest, readings);
+        match next_cron_session(alloc, path, caller, &mut rest, host, readings, inputs, err) {
             Some(cause) => return cause,
             None => {}
         }
