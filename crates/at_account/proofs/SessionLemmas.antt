@@ -1,15 +1,13 @@
 -- How the program ends, by its session and what is put after it.
-use Rattle.std.proofs.Common.{◌≡◌, ◌∙◌, ℕ, Bool, true, List, [], ◌++◌, inl, inr, refl, sym, ap, subst, arith, append-nil}
+use Rattle.std.proofs.Common.{◌≡◌, ℕ, Bool, true, List, inl, inr, refl, sym, subst, arith}
 use Rattle.std.specs.Prelude.{Result, Ok, Err, IfErr}
 use Rattle.std.specs.Fn.{CalledAtMut}
-use Rattle.cause_output.specs.Causes.{cause_of_entry, cause_of_put}
+use Rattle.cause_output.specs.Causes.{cause_of_entry}
 use Rattle.cause_output.specs.declared.command_error.CommandError.{CommandError}
 use Rattle.cause_output.specs.Sinks.{IsSilent, SinkAt}
-use Rattle.host_calls.specs.Causes.{HasCause, Rose}
+use Rattle.cause_output.specs.Whole.{PutsWhole}
 use Rattle.host_calls.specs.declared.fault.EnterFault.{EnterFault}
 use Rattle.host_calls.specs.declared.fault.EnterFault.TheVariants as entry
-use Rattle.host_calls.specs.declared.fault.SinkFault.{SinkFault}
-use Rattle.host_calls.specs.declared.fault.SinkFault.TheVariants as sink
 use Rattle.host_calls.specs.declared.host.Host.{Ghosts}
 use Rattle.host_calls.specs.World.{World}
 use Rattle.host_session.specs.Work.{Calls}
@@ -20,7 +18,7 @@ use Rattle.spool_session.specs.Sessions.{EndsCommandSession, IsOfSession}
 use Rattle.whole_file.specs.Others.{ChangesFiles}
 use Rattle.whole_file.proofs.OthersLemmas.{changes_none}
 use Rattle.at_account.specs.Accounting.{IsAccounted, IsAccounting, AccountLeaves, MayEndAccount}
-use Rattle.at_account.specs.inside.Inside.{EndsInside, IsAccountingCause, PutsCounts, StopsInside}
+use Rattle.at_account.specs.inside.Inside.{EndsInside, IsAccountingCause, StopsInside}
 
 -- what stops the work may end the program, and comes within a session
 work_may_end : (cause : Cause) → IsAccountingCause cause → MayEndAccount cause
@@ -118,20 +116,9 @@ stopped_leaves show output old new at (Refused refusal) may is = (is, λ tells. 
 stopped_leaves show output old new at _ may is = absurd is
 
 -- the text was put, or not
-pub put_leaves : (show output : Bool) (old new : World) (was now : SinkAt) (text : List ℕ) (cause : Cause) → PutsCounts output text was now cause
+pub put_leaves : (show output : Bool) (old new : World) (was now : SinkAt) (text : List ℕ) (cause : Cause) → PutsWhole output text was now cause
     → IsAccounted show old new text → AccountLeaves show output old new was now cause
 put_leaves show output old new was now text Done puts done = (text, done, puts)
-put_leaves show output old new was now text OutputFault puts done = (text, done, puts)
+put_leaves show output old new was now text OutputFault puts done = (text, done, puts.1)
 put_leaves show output old new was now text Memory puts done = λ tells. inl (puts tells)
 put_leaves show output old new was now text cause puts done = absurd puts
-
--- an output fault comes only of a sink that failed
-pub put_failed : (put : Result (Unit {0}) SinkFault) (was now : ℕ) → HasCause sink.Failed was now put → cause_of_put put ≡ OutputFault → Rose was now
-put_failed (Ok value) was now has same = let impossible : Done ≡ OutputFault = same in cc
-put_failed (Err sink.Failed) was now has same = has.rose refl
-put_failed (Err sink.Memory) was now has same = let impossible : Memory ≡ OutputFault = same in cc
-
--- nothing is put of a text without a byte
-pub none_put : (tells : Bool) (text : List ℕ) (at : SinkAt) → text ≡ [] → PutsCounts tells text at at Done
-none_put tells text at none = λ known.
-    record { content = sym (append-nil at.content) ∙ ap (λ (bytes : List ℕ). at.content ++ bytes) (sym none); later = omega arith }

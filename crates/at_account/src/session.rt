@@ -13,12 +13,12 @@ ghost use Rattle.spool_session.specs.Sessions.{HasRisenIn, StaysQuiet};
 ghost use Rattle.whole_file.specs.Others.{ChangesFiles};
 ghost use Rattle.at_account.specs.Accounting.{IsAccounting, MayEndAccount};
 ghost use Rattle.at_account.specs.Names.{account_file};
-ghost use Rattle.at_account.specs.inside.Inside.{Accounts, Counts, EndsInside, IsAccountingCause, PutsCounts};
+ghost use Rattle.at_account.specs.inside.Inside.{Accounts, Counts, EndsInside, IsAccountingCause};
 
 use crate::file::{read_account, write_account};
 use crate::show::shown_counts;
 use accounts::{Account, AccountFault};
-use cause_output::{CommandError, cause_of_put};
+use cause_output::{CommandError, put_whole};
 use host_calls::{Bytes, Host, Sink};
 use listing_text::{Cause, Refusal};
 use spool_model::LAST_NUMBER;
@@ -45,25 +45,9 @@ pub(crate) fn account<H: Host, O: Sink>(
 {
     // The session is left before the text is put, so that a slow reader does not hold the lock.
     match in_command_session(alloc, host, &mut |host| account_inside(alloc, show, host)) {
-        Ok(text) => put_text(alloc, host, text.as_slice(), out),
+        Ok(text) => put_whole(alloc, host, text.as_slice(), out),
         Err(stopped) => stopped.cause,
     }
-}
-
-// Puts the text, at once, outside of a session; nothing where it is empty, so that a sink that fails is not asked for
-// nothing.
-fn put_text<H: Host, O: Sink>(alloc: Global, host: &H, text: &[u8], out: &mut O) -> Cause
-    requires { IsOutside (H.session host.now) }
-    ensures made_as { (O.outlet out.new).made_as ≡ (O.outlet out.old).made_as }
-    ensures output_fault { result ≡ Cause.OutputFault
-        → Rose (O.outlet out.old).sink_faults (O.outlet out.new).sink_faults }
-    ensures puts { PutsCounts O.tells text.now (sink_at (O.content out.old) (O.outlet out.old))
-        (sink_at (O.content out.new) (O.outlet out.new)) result }
-{
-    if text.is_empty() {
-        return Cause::Done;
-    }
-    cause_of_put(out.put(alloc, text))
 }
 
 // Counts what became of the jobs. What is to be shown is made before the file is replaced, so that want of memory for it

@@ -28,11 +28,12 @@ use Rattle.at_commands.specs.inside.Carrying.{AreUnrefusedSteps, Carries, Findin
 use Rattle.command_rules.specs.Requested.{RequestPrints, RequestSays, next_number, passes_of, scripts_of}
 use Rattle.command_rules.specs.Sessions.{IsNotOpened, IsStoreOpened}
 use Rattle.cause_output.specs.Sinks.{IsPut, NotesBy, PrintsBy, SinkAt, HasBytes}
+use Rattle.cause_output.specs.Whole.{PutsWhole}
+use Rattle.cause_output.proofs.PutLemmas.{part_of_cut}
 use Rattle.command_rules.specs.Verdict.{early_verdict, filter_check, first_refusal, jobs_check, spool_verdict, user_check, zone_check}
 use Rattle.civil_minute.specs.Zone.{is_unreadable}
 use Rattle.at_commands.proofs.EntryLemmas.{IsOfEntry}
 use Rattle.at_commands.specs.inside.Answering.{EndsPrinting, EndsRemoving}
-use Rattle.at_commands.specs.inside.Printing.{PutsWhole}
 use Rattle.at_commands.specs.inside.Session.{IsNoOutput, IsSpoolCause}
 use Rattle.at_commands.specs.inside.Sessions.{ListsInSession, ShowsInSession, lists_alone}
 use Rattle.command_rules.proofs.CheckLemmas.{refused_up_to}
@@ -308,7 +309,7 @@ module _ (files alone output : Bool) (which : Filter) (caller : Caller) (old new
       (λ known is_alone same. (cc))
   listing_put OutputFault text was is lists puts =
       listing_by OutputFault (carries_unsaid files alone (request.List which) caller lists_alone old new lists.carries) was is
-      (λ known is_alone tells_output. inr (text, lists.text, puts.1 tells_output))
+      (λ known is_alone tells_output. inr (text, lists.text, part_of_cut text was is (puts.1 tells_output)))
       (λ known is_alone same. (text, lists.text, puts.0))
   listing_put Memory text was is lists puts =
       listing_by Memory (carries_no_memory files alone (request.List which) caller lists_alone old new lists.carries) was is

@@ -1,6 +1,5 @@
 pub mod Answering
 pub mod Carrying
-pub mod Printing
 pub mod Saying
 pub mod Session
 pub mod Sessions

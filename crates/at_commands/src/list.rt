@@ -13,14 +13,14 @@ ghost use Rattle.command_rules.specs.Requested.{passes_of};
 ghost use Rattle.cause_output.specs.Sinks.{sink_at};
 ghost use Rattle.command_rules.specs.Verdict.{filter_check};
 ghost use Rattle.at_commands.specs.inside.Answering.{EndsPrinting};
-ghost use Rattle.at_commands.specs.inside.Printing.{PutsWhole};
 ghost use Rattle.spool_session.specs.Sessions.{ComesOfSession, HasRisenIn, StaysQuiet};
 ghost use Rattle.at_commands.specs.inside.Session.{IsNoOutput};
 ghost use Rattle.at_commands.specs.inside.Sessions.{ListsFor};
 
 use at_words::Filter;
+use cause_output::put_whole;
 use civil_minute::Zone;
-use command_rules::{Caller, CommandError, cause_of_put};
+use command_rules::{Caller, CommandError};
 use host_calls::{Bytes, Host, Sink};
 use job_listing::job_listing_text;
 use listing_text::{Cause, Refusal};
@@ -95,22 +95,6 @@ fn is_unreadable(zone: &Zone) -> bool
     ensures { result ≡ is_unreadable zone.now }
 {
     matches!(zone, Zone::Unreadable)
-}
-
-// Puts the text, at once, outside of a session; nothing where it is empty, so that a sink that fails is not asked for
-// nothing.
-fn put_whole<H: Host, O: Sink>(alloc: Global, host: &H, text: &[u8], out: &mut O) -> Cause
-    requires { IsOutside (H.session host.now) }
-    ensures made_as { (O.outlet out.new).made_as ≡ (O.outlet out.old).made_as }
-    ensures output_fault { result ≡ Cause.OutputFault
-        → Rose (O.outlet out.old).sink_faults (O.outlet out.new).sink_faults }
-    ensures puts { PutsWhole O.tells text.now (sink_at (O.content out.old) (O.outlet out.old))
-        (sink_at (O.content out.new) (O.outlet out.new)) result }
-{
-    if text.is_empty() {
-        return Cause::Done;
-    }
-    cause_of_put(out.put(alloc, text))
 }
 
 // The lines of the jobs.

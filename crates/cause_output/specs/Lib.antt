@@ -5,3 +5,4 @@ pub mod Putting
 pub mod Saying
 pub mod Sinks
 pub mod Steps
+pub mod Whole

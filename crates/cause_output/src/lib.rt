@@ -10,6 +10,7 @@ mod command_error;
 mod lines;
 mod put_cause;
 mod steps;
+mod whole;
 mod word_faults;
 
 pub use caller::Caller;
@@ -17,4 +18,5 @@ pub use cause_line::{cause_of_end, say_cause, say_end};
 pub use command_error::CommandError;
 pub use lines::{PrintedLine, put_lines};
 pub use put_cause::cause_of_put;
+pub use whole::put_whole;
 pub use word_faults::cause_of_words;

@@ -4,10 +4,10 @@ use Rattle.accounts.specs.declared.record.AccountRecord.{AccountRecord}
 use Rattle.accounts.specs.declared.account.TheConstants.{MAX_RECORDS}
 use Rattle.accounts.specs.Observing.{AreNews, WouldPass}
 use Rattle.cause_output.specs.declared.command_error.CommandError.{CommandError}
-use Rattle.cause_output.specs.Sinks.{IsCut, IsPut, IsSilent, SinkAt}
+use Rattle.cause_output.specs.Sinks.{SinkAt}
 use Rattle.host_calls.specs.World.{World, reading}
 use Rattle.listing_text.specs.declared.cause.Cause.{Cause}
-use Rattle.listing_text.specs.declared.cause.Cause.TheVariants.{Done, Refused, FileFault, OutputFault, Memory, Damaged}
+use Rattle.listing_text.specs.declared.cause.Cause.TheVariants.{Refused, FileFault, Memory, Damaged}
 use Rattle.listing_text.specs.declared.refusal.Refusal.TheVariants.{AccountsFull}
 use Rattle.spool_model.specs.JobTable.{JobTable}
 use Rattle.whole_file.specs.Others.{ChangesFiles}
@@ -61,13 +61,6 @@ StopsInside old new _ = ⊥
 abbrev pub EndsInside : Bool → World → World → Result (List ℕ) CommandError → Type 0
 EndsInside show old new (Ok text) = IsAccounted show old new text
 EndsInside show old new (Err stopped) = StopsInside old new stopped.cause
-
--- all of the text was put, a prefix of it, or nothing for want of memory
-abbrev pub PutsCounts : Bool → List ℕ → SinkAt → SinkAt → Cause → Type 0
-PutsCounts tells text old new Done = tells ≡ true → IsPut text old new
-PutsCounts tells text old new OutputFault = tells ≡ true → IsCut text old new
-PutsCounts tells text old new Memory = tells ≡ true → IsSilent old new
-PutsCounts tells text old new _ = ⊥
 
 -- what each image has and what is left, where the host tells its files and nobody else changes them
 pub record Accounts (files alone output show : Bool) (old new : World) (was now : SinkAt) (cause : Cause) : Type 0 where

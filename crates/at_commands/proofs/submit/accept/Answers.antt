@@ -1,4 +1,5 @@
-use Rattle.at_commands.proofs.PutLemmas.{accepted_put, put_failed}
+use Rattle.cause_output.proofs.WholeLemmas.{put_failed}
+use Rattle.at_commands.proofs.PutLemmas.{accepted_put}
 use Rattle.at_commands.proofs.submit.accept.Goals as goal
 
 pub returns-clause-output_fault : goal.returns-clause-output_fault
