@@ -7,14 +7,14 @@ use Rattle.listing_text.specs.Listing.{ShowsRow}
 use Rattle.spool_model.specs.declared.row.Row.{Row}
 use Rattle.job_listing.specs.inside.Lines.{ShowsRows}
 
-zip_push : {A B : Type 0} (R : A → B → Type 0) (xs : List A) (ys : List B) (x : A) (y : B) → AllZip R xs ys → R x y
+pub zip_push : {A B : Type 0} (R : A → B → Type 0) (xs : List A) (ys : List B) (x : A) (y : B) → AllZip R xs ys → R x y
     → AllZip R (xs ++ x ∷ []) (ys ++ y ∷ [])
 zip_push R [] [] x y zip is = (is, tt)
 zip_push R [] (other ∷ ys) x y zip is = absurd zip
 zip_push R (other ∷ xs) [] x y zip is = absurd zip
 zip_push R (one ∷ xs) (other ∷ ys) x y zip is = (zip.0, zip_push R xs ys x y zip.1 is)
 
-concat_push : (lines : List (List ℕ)) (line : List ℕ) → concat (lines ++ line ∷ []) ≡ concat lines ++ line
+pub concat_push : (lines : List (List ℕ)) (line : List ℕ) → concat (lines ++ line ∷ []) ≡ concat lines ++ line
 concat_push [] line = append-nil line
 concat_push (first ∷ lines) line = ap (λ (rest : List ℕ). first ++ rest) (concat_push lines line) ∙ sym (append_assoc first (concat lines) line)
 

@@ -1,2 +1,3 @@
+pub mod LinePut
 pub mod Scripts
 pub mod inside

@@ -7,4 +7,5 @@ mod rows;
 mod scripts;
 
 pub use listed::job_listing_text;
+pub use rows::sort_rows;
 pub use scripts::put_scripts;

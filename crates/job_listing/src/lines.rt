@@ -2,7 +2,9 @@
 ghost use Rattle.std.specs.Prelude.{All, IfOk, OnOk};
 ghost use Rattle.civil_minute.specs.Zone.{IsReadable};
 ghost use Rattle.clock_range.specs.ClockRange.{IsClockMinute};
-ghost use Rattle.job_listing.specs.inside.Lines.{IsLinePut, ShowsRows};
+ghost use Rattle.listing_text.specs.Listing.{ShowsRow};
+ghost use Rattle.job_listing.specs.LinePut.{IsLinePut};
+ghost use Rattle.job_listing.specs.inside.Lines.{ShowsRows};
 
 use civil_minute::{Zone, civil_of};
 use listing_text::{date_text, put_queue_line};
@@ -29,7 +31,7 @@ pub(crate) fn lines(alloc: Global, rows: &[Row], zone: &Zone) -> Result<Vec<u8>,
 fn put_row_line(alloc: Global, text: &mut Vec<u8>, row: &Row, zone: &Zone) -> Result<(), AllocError>
     requires zone { IsReadable zone.now }
     requires minute { IsClockMinute row.now.minute }
-    ensures { OnOk result (IsLinePut zone.now row.now text.old.items text.new.items) }
+    ensures { OnOk result (IsLinePut (ShowsRow zone.now row.now) text.old.items text.new.items) }
 {
     let civil = civil_of(alloc, row.minute, zone)?;
     put_queue_line(text, row, &date_text(&civil))

@@ -53,8 +53,8 @@ fn is_of(row: &Row, numbers: &[u32]) -> bool
     numbers.iter().any(|number| row.number == *number)
 }
 
-// Brings rows of different numbers in order by minute, then number.
-pub(crate) fn sort_rows(rows: &mut Vec<Row>)
+/// Brings rows of different numbers in order by minute, then number.
+pub fn sort_rows(rows: &mut Vec<Row>)
     requires { Differ (row_numbers rows.old.items) }
     ensures same { IsPermutation rows.old.items rows.new.items }
     ensures ordered { AllPairs IsListedBefore rows.new.items }

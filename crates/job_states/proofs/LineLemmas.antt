@@ -1,10 +1,11 @@
 -- The lines of numbers, one more at a time.
-use Rattle.std.proofs.Common.{◌≡◌, ℕ, ◌+◌, ◌<◌, List, [], ◌∷◌, ◌++◌, length, take, get_or, sym, ap, subst, ◌∙◌, append-nil, append_assoc}
+use Rattle.std.proofs.Common.{◌≡◌, ℕ, ◌+◌, ◌<◌, List, [], ◌∷◌, ◌++◌, length, take, get_or, sym, ap, subst, ◌∙◌}
 use Rattle.std.specs.Prelude.{Result, Ok, Err, IfOk, OnOk}
-use Rattle.std.specs.List.{AllZip, concat}
+use Rattle.std.specs.List.{AllZip}
 use Rattle.std.proofs.lemmas.List.{take_more}
 use Rattle.civil_minute.specs.declared.zone.Zone.{Zone}
 use Rattle.spool_model.specs.JobTable.{JobTable}
+use Rattle.job_listing.proofs.LineLemmas.{concat_push, zip_push}
 use Rattle.job_states.specs.declared.form.Form.{Form}
 use Rattle.job_states.specs.Reports.{IsReport, ShowsNumber}
 
@@ -17,17 +18,6 @@ if_ok (Err fault) P Q step is = tt
 pub on_ok : {T E : Type 0} → (result : Result T E) (P Q : Type 0) → (P → Q) → OnOk result P → OnOk result Q
 on_ok (Ok value) P Q step is = step is
 on_ok (Err fault) P Q step is = tt
-
-zip_push : {A B : Type 0} (R : A → B → Type 0) (xs : List A) (ys : List B) (x : A) (y : B) → AllZip R xs ys → R x y
-    → AllZip R (xs ++ x ∷ []) (ys ++ y ∷ [])
-zip_push R [] [] x y zip is = (is, tt)
-zip_push R [] (other ∷ ys) x y zip is = absurd zip
-zip_push R (other ∷ xs) [] x y zip is = absurd zip
-zip_push R (one ∷ xs) (other ∷ ys) x y zip is = (zip.0, zip_push R xs ys x y zip.1 is)
-
-concat_push : (lines : List (List ℕ)) (line : List ℕ) → concat (lines ++ line ∷ []) ≡ concat lines ++ line
-concat_push [] line = append-nil line
-concat_push (first ∷ lines) line = ap (λ (rest : List ℕ). first ++ rest) (concat_push lines line) ∙ sym (append_assoc first (concat lines) line)
 
 -- one number more has one line more
 pub one_more : (form : Form) (zone : Zone) (table : JobTable) (numbers : List ℕ) (index : ℕ) (or : ℕ) (text line more : List ℕ) → index < length numbers

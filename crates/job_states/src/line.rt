@@ -5,7 +5,9 @@ ghost use Rattle.civil_minute.specs.Zone.{IsReadable};
 ghost use Rattle.spool_store.specs.Stored.{IsRowInRange};
 ghost use Rattle.job_states.specs.Lines.{fate_text, live_line, text_line};
 ghost use Rattle.job_states.specs.Reports.{fate_line, live_text, word_line};
-ghost use Rattle.job_states.specs.inside.Putting.{IsLinePut, IsLiveLinePut};
+ghost use Rattle.job_listing.specs.LinePut.{IsLinePut};
+ghost use Rattle.job_states.specs.Reports.{IsLine};
+ghost use Rattle.job_states.specs.inside.Putting.{IsLiveLinePut};
 ghost use Rattle.job_states.specs.inside.Searching.{CanBeShown};
 
 use crate::object::{put_fate_object, put_live_object, put_word_object};
@@ -30,7 +32,7 @@ pub(crate) fn put_state_line(
 ) -> Result<(), AllocError>
     requires zone { IsReadable zone.now }
     requires shown { CanBeShown stage.now }
-    ensures { OnOk result (IsLinePut form zone.now number stage.now text.old.items text.new.items) }
+    ensures { OnOk result (IsLinePut (IsLine form zone.now number stage.now) text.old.items text.new.items) }
 {
     match stage {
         JobStage::Live(row) => put_live(alloc, text, row, form, zone),

@@ -1,10 +1,11 @@
 //! The numbers that are asked for.
-ghost use Rattle.std.specs.Prelude.{◌≡◌, ◌++◌, ◌&&◌, AllPairs, IfOk, IsPermutation, OnOk, filter, map};
-ghost use Rattle.listing_text.specs.Listing.{IsListedBefore, may_see};
-ghost use Rattle.queue_rules.specs.Order.{Differ, place_in_queue, row_numbers};
+ghost use Rattle.std.specs.Prelude.{◌≡◌, ◌&&◌, IfOk, filter, map};
+ghost use Rattle.listing_text.specs.Listing.{may_see};
+ghost use Rattle.queue_rules.specs.Order.{row_numbers};
 ghost use Rattle.job_states.specs.Reports.{AreAsked, AreLiveIn, is_in_queue};
 
 use at_words::Filter;
+use job_listing::sort_rows;
 use spool_model::{Decided, Row, UserName};
 use spool_session::is_seen_by;
 use spool_store::Store;
@@ -52,7 +53,7 @@ fn listed_live_numbers(
 ) -> Result<Vec<u32>, AllocError>
     ensures { IfOk result (λ numbers. AreLiveIn store.now.table user.now queue numbers.items) }
 {
-    let mut rows = seen_rows(alloc, store.rows(), user, queue)?;
+    let mut rows = rows_in_queue(alloc, store.rows(), user, queue)?;
     sort_rows(&mut rows);
     numbers_of_rows(alloc, &rows)
 }
@@ -64,7 +65,7 @@ fn numbers_of_rows(alloc: Global, rows: &[Row]) -> Result<Vec<u32>, AllocError>
 }
 
 // The rows that the user may see, of the queue where there is one.
-fn seen_rows(
+fn rows_in_queue(
     alloc: Global,
     rows: &[Row],
     user: &UserName,
@@ -87,20 +88,4 @@ pub fn is_in_queue(row: &Row, queue: Option<u8>) -> bool
         Some(letter) => row.queue == letter,
         None => true,
     }
-}
-
-// Brings rows of different numbers in order by minute, then number.
-fn sort_rows(rows: &mut Vec<Row>)
-    requires { Differ (row_numbers rows.old.items) }
-    ensures same { IsPermutation rows.old.items rows.new.items }
-    ensures ordered { AllPairs IsListedBefore rows.new.items }
-{
-    rows.sort_unstable_by_key(state_place);
-}
-
-// The place in the order.
-fn state_place(row: &Row) -> (u32, u32)
-    ensures { result ≡ place_in_queue row.now }
-{
-    (row.minute, row.number)
 }

@@ -1,5 +1,5 @@
 -- The lines of rows (own).
-use Rattle.std.specs.Prelude.{◌≡◌, ◌++◌, ℕ, List}
+use Rattle.std.specs.Prelude.{◌≡◌, ℕ, List}
 use Rattle.std.specs.List.{AllZip, concat}
 use Rattle.civil_minute.specs.declared.zone.Zone.{Zone}
 use Rattle.listing_text.specs.Listing.{ShowsRow}
@@ -10,9 +10,3 @@ pub record ShowsRows (zone : Zone) (rows : List Row) (text : List ℕ) : Type 0 
   pub lines : List (List ℕ)
   pub shown : AllZip (ShowsRow zone) rows lines
   pub joined : text ≡ concat lines
-
--- a line that shows the row was put after the old text
-pub record IsLinePut (zone : Zone) (row : Row) (old new : List ℕ) : Type 0 where
-  pub line : List ℕ
-  pub shown : ShowsRow zone row line
-  pub put : new ≡ old ++ line
