@@ -3,7 +3,7 @@ use Rattle.std.proofs.Common.{◌≡◌, ◌≤◌, ◌∙◌, ℕ, Bool, true, 
 use Rattle.std.specs.Prelude.{Option, Some, None, Result, Ok, Err}
 use Rattle.at_words.specs.declared.filter.Filter.{Filter}
 use Rattle.cause_output.specs.declared.command_error.CommandError.{CommandError}
-use Rattle.cause_output.specs.Outside.{ClockAt}
+use Rattle.cause_output.specs.Outside.{ClockAt, Telling}
 use Rattle.host_calls.specs.Causes.{Rose}
 use Rattle.host_calls.specs.Session.{IsLeft, IsOutside, Session}
 use Rattle.host_calls.specs.World.{TimePasses}
@@ -13,10 +13,10 @@ use Rattle.listing_text.specs.declared.cause.Cause.{Cause}
 use Rattle.listing_text.specs.declared.cause.Cause.TheVariants.{Busy, FileFault, Memory}
 use Rattle.step_runs.specs.Current.{Kept}
 use Rattle.at_stat.specs.Looking.{SpoolAt}
-use Rattle.at_stat.specs.Waiting.{ComesAfter, HasSeen, HasStopped, LooksAt, RestsBetween, StopsStatAfter, StopsWaiting, WaitAt, WaitTelling, Waits, at_first, at_later, no_more, once_more}
+use Rattle.at_stat.specs.Waiting.{ComesAfter, HasSeen, HasStopped, LooksAt, RestsBetween, StopsStatAfter, StopsWaiting, WaitAt, Waits, at_first, at_later, no_more, once_more}
 
 -- what is left alone from one moment to another
-pub record Frame (tells : WaitTelling) (old new : WaitAt) : Type 0 where
+pub record Frame (tells : Telling) (old new : WaitAt) : Type 0 where
   pub left : IsLeft old.spool.session new.spool.session
   pub goes_on : tells.files ≡ true → TimePasses old.spool.world new.spool.world
   pub readers : new.clock.readers ≡ old.clock.readers
@@ -24,14 +24,14 @@ pub record Frame (tells : WaitTelling) (old new : WaitAt) : Type 0 where
 same_left : (session : Session) → IsOutside session → IsLeft session session
 same_left session outside = record { outside = outside; children = refl; counts = no_counts session }
 
-pub no_frame : (tells : WaitTelling) (at : WaitAt) → IsOutside at.spool.session → Frame tells at at
+pub no_frame : (tells : Telling) (at : WaitAt) → IsOutside at.spool.session → Frame tells at at
 no_frame tells at outside = record {
   left = same_left at.spool.session outside;
   goes_on = λ known. goes_on_none at.spool.world at.spool.world refl;
   readers = refl;
 }
 
-frame_on : (tells : WaitTelling) (old middle new : WaitAt) → Frame tells old middle → Frame tells middle new → Frame tells old new
+frame_on : (tells : Telling) (old middle new : WaitAt) → Frame tells old middle → Frame tells middle new → Frame tells old new
 frame_on tells old middle new first second = record {
   left = record {
     outside = second.left.outside;
@@ -42,7 +42,7 @@ frame_on tells old middle new first second = record {
   readers = second.readers ∙ first.readers;
 }
 
-module _ (tells : WaitTelling) (user : List ℕ) (which : Filter) where
+module _ (tells : Telling) (user : List ℕ) (which : Filter) where
   look_frame : (old new : WaitAt) (result : Result Kept CommandError) → LooksAt tells user which old new result → Frame tells old new
   look_frame old new result look = record { left = look.spool.left; goes_on = look.spool.goes_on; readers = ap (λ (at : ClockAt). at.readers) look.clock }
 

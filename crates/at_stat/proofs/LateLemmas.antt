@@ -5,6 +5,7 @@ use Rattle.at_words.specs.declared.filter.Filter.{Filter}
 use Rattle.at_words.specs.declared.filter.Filter.TheVariants as filter
 use Rattle.cause_output.specs.Causes.{cause_in, cause_of_entry}
 use Rattle.cause_output.specs.declared.command_error.CommandError.{CommandError}
+use Rattle.cause_output.specs.Outside.{Telling}
 use Rattle.command_rules.specs.Checks.{check_of, is_earlier_check, of_lock}
 use Rattle.command_rules.specs.Sessions.{IsNotOpened, faults, is_damaged, lacks_memory, lists_fault, lists_lack_memory, refuses}
 use Rattle.command_rules.specs.Verdict.{first_refusal, live_row}
@@ -20,9 +21,9 @@ use Rattle.spool_model.specs.declared.row.Row.{Row}
 use Rattle.spool_model.specs.JobTable.{JobTable}
 use Rattle.spool_session.specs.Sessions.{IsOfSession}
 use Rattle.step_runs.specs.Current.{Kept}
-use Rattle.at_stat.specs.Checks.{number_check, numbers_check, owner_check, which_check}
+use Rattle.at_stat.specs.Checks.{named_check, numbers_check, owner_check, which_check}
 use Rattle.at_stat.specs.Looking.{LooksInside}
-use Rattle.at_stat.specs.Waiting.{HasStopped, LooksAt, StopsStatAfter, WaitAt, WaitTelling, at_first, at_later}
+use Rattle.at_stat.specs.Waiting.{HasStopped, LooksAt, StopsStatAfter, WaitAt, at_first, at_later}
 
 -- a refusal within a session
 abbrev IsLate : Option Refusal → Type 0
@@ -36,7 +37,7 @@ owner_late user number (Some row) = by_test (may_see user row) where
   by_test true = tt
   by_test false = refl
 
-number_late : (user : List ℕ) (table : JobTable) (number : ℕ) → IsLate (number_check user table number)
+number_late : (user : List ℕ) (table : JobTable) (number : ℕ) → IsLate (named_check user table number)
 number_late user table number = by_test (nat_le 1 number && nat_le number table.last) (owner_late user number (live_row table number)) where
   by_test : (drawn : Bool) → IsLate (owner_check user number (live_row table number))
       → IsLate (cond drawn (owner_check user number (live_row table number)) (Some (NoSuchJob number)))
@@ -45,9 +46,9 @@ number_late user table number = by_test (nat_le 1 number && nat_le number table.
 
 numbers_late : (user : List ℕ) (table : JobTable) (numbers : List ℕ) → IsLate (numbers_check user table numbers)
 numbers_late user table [] = tt
-numbers_late user table (number ∷ later) = by_first (number_check user table number) (number_late user table number) (numbers_late user table later) where
+numbers_late user table (number ∷ later) = by_first (named_check user table number) (number_late user table number) (numbers_late user table later) where
   by_first : (first : Option Refusal) → IsLate first → IsLate (numbers_check user table later)
-      → IsLate (first_refusal (first ∷ map (λ one. number_check user table one) later))
+      → IsLate (first_refusal (first ∷ map (λ one. named_check user table one) later))
   by_first None late others = others
   by_first (Some refusal) late others = late
 
@@ -81,7 +82,7 @@ not_opened_of_spool tells user old new cause (lacks_memory allow deny permits li
 not_opened_of_spool tells user old new cause (refuses allow deny refused lists same) = tt
 not_opened_of_spool tells user old new cause (is_damaged damage allow deny permits lists shows) = tt
 
-look_of_spool : (tells : WaitTelling) (user : List ℕ) (which : Filter) (old new : WaitAt) (stopped : CommandError)
+look_of_spool : (tells : Telling) (user : List ℕ) (which : Filter) (old new : WaitAt) (stopped : CommandError)
     → LooksAt tells user which old new (Err stopped) → IsOfSpool stopped.cause
 look_of_spool tells user which old new stopped look = elim look.spool.looks [
   | inl none ↦ subst IsOfSpool (sym (ap cause_in none.is)) (entry_of_spool none.fault)
@@ -91,14 +92,14 @@ look_of_spool tells user which old new stopped look = elim look.spool.looks [
   inside entered left (inl closed) = not_opened_of_spool tells.files user entered left stopped.cause closed
   inside entered left (inr denied) = subst IsOfSpool (sym denied.cause_is) tt
 
-after_of_spool : (tells : WaitTelling) (user : List ℕ) (wait : Option ℕ) (which : Filter) (seen : Kept) (start new : WaitAt) (stopped : CommandError)
+after_of_spool : (tells : Telling) (user : List ℕ) (wait : Option ℕ) (which : Filter) (seen : Kept) (start new : WaitAt) (stopped : CommandError)
     → StopsStatAfter tells user wait which seen start new stopped → IsOfSpool stopped.cause
 after_of_spool tells user None which seen start new stopped stops = absurd stops
 after_of_spool tells user (Some turns) which seen start new stopped (inl memory) = subst (λ (one : CommandError). IsOfSpool one.cause) (sym memory.1) tt
 after_of_spool tells user (Some turns) which seen start new stopped (inr stops) =
     look_of_spool tells user which stops.rested new stopped stops.stops
 
-pub stopped_of_spool : (tells : WaitTelling) (user : List ℕ) (wait : Option ℕ) (which : Filter) (old new : WaitAt) (stopped : CommandError)
+pub stopped_of_spool : (tells : Telling) (user : List ℕ) (wait : Option ℕ) (which : Filter) (old new : WaitAt) (stopped : CommandError)
     → HasStopped tells user wait which old new stopped → IsOfSpool stopped.cause
 stopped_of_spool tells user wait which old new stopped (at_first look) = look_of_spool tells user which old new stopped look
 stopped_of_spool tells user wait which old new stopped (at_later seen start look stops) = after_of_spool tells user wait which seen start new stopped stops

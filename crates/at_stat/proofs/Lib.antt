@@ -1,9 +1,7 @@
 mod CheckLemmas
-mod DigitLemmas
 mod EndLemmas
 mod FrameLemmas
 mod LateLemmas
 mod LookLemmas
-mod OperandLemmas
 mod SightLemmas
 mod UserLemmas

@@ -3,12 +3,13 @@ use Rattle.std.proofs.Common.{◌≡◌, ℕ, true, List, refl, subst, sym}
 use Rattle.std.specs.Prelude.{Option, Some, None, Result, Ok, Err}
 use Rattle.at_words.specs.declared.filter.Filter.{Filter}
 use Rattle.cause_output.specs.declared.command_error.CommandError.{CommandError}
+use Rattle.cause_output.specs.Outside.{Telling}
 use Rattle.step_runs.specs.Current.{Kept}
 use Rattle.at_stat.specs.declared.wait.Sight.{Sight}
-use Rattle.at_stat.specs.Waiting.{ComesAfter, HasSeen, LooksAt, StopsStatAfter, WaitAt, WaitTelling, at_later}
+use Rattle.at_stat.specs.Waiting.{ComesAfter, HasSeen, LooksAt, StopsStatAfter, WaitAt, at_later}
 use Rattle.at_stat.specs.inside.Sighting.{Awaits, Sees}
 
-module _ (tells : WaitTelling) (user : List ℕ) (wait : Option ℕ) (which : Filter) (old start new : WaitAt) (seen : Kept)
+module _ (tells : Telling) (user : List ℕ) (wait : Option ℕ) (which : Filter) (old start new : WaitAt) (seen : Kept)
     (first : LooksAt tells user which old start (Ok seen)) where
   -- the ends of jobs are waited for
   pub sees_after : (turns : ℕ) (result : Result Sight CommandError) → wait ≡ Some turns → Awaits tells user turns which seen start new result
@@ -23,7 +24,7 @@ module _ (tells : WaitTelling) (user : List ℕ) (wait : Option ℕ) (which : Fi
       at_later seen start first (subst (λ (one : Option ℕ). StopsStatAfter tells user one which seen start new stopped) (sym is) awaits)
 
 -- they are not
-pub sees_once : (tells : WaitTelling) (user : List ℕ) (wait : Option ℕ) (which : Filter) (old new : WaitAt) (seen : Kept)
+pub sees_once : (tells : Telling) (user : List ℕ) (wait : Option ℕ) (which : Filter) (old new : WaitAt) (seen : Kept)
     → LooksAt tells user which old new (Ok seen) → wait ≡ None → HasSeen tells user wait which old new seen true
 sees_once tells user wait which old new seen first is = record {
   seen = seen;

@@ -1,17 +1,17 @@
 -- Which jobs are refused, which are waited for, and the exit status of a job (own).
-use Rattle.std.specs.Prelude.{◌&&◌, ◌+◌, [], ◌∷◌, ℕ, Bool, List, Option, Some, None, filter, is_some, map, min, nat_le, if◌then◌else◌}
+use Rattle.std.specs.Prelude.{◌&&◌, ◌+◌, [], ◌∷◌, ℕ, Bool, List, Option, Some, None, false, filter, is_some, map, min, nat_le, if◌then◌else◌}
 use Rattle.std.specs.List.{list_any}
 use Rattle.at_words.specs.declared.filter.Filter.{Filter}
 use Rattle.at_words.specs.declared.filter.Filter.TheVariants.{All, Queue, Numbers}
 use Rattle.cause_output.specs.declared.caller.Caller.{Caller}
-use Rattle.command_rules.specs.Verdict.{first_refusal, live_row, user_check, zone_check}
+use Rattle.command_rules.specs.Verdict.{first_refusal, live_row, row_check, user_check, zone_check}
 use Rattle.host_calls.specs.declared.child.Ending.TheVariants.{Exit, Signal, NotStarted}
 use Rattle.job_states.specs.declared.stage.JobStage.{JobStage}
 use Rattle.job_states.specs.declared.stage.JobStage.TheVariants as stage
 use Rattle.job_states.specs.Reports.{is_in_queue}
 use Rattle.job_states.specs.Stages.{stage_of_number}
 use Rattle.listing_text.specs.declared.refusal.Refusal.{Refusal}
-use Rattle.listing_text.specs.declared.refusal.Refusal.TheVariants.{NoSuchJob, NotYours}
+use Rattle.listing_text.specs.declared.refusal.Refusal.TheVariants.{NoSuchJob}
 use Rattle.listing_text.specs.Listing.{may_see}
 use Rattle.queue_rules.specs.Order.{row_numbers}
 use Rattle.spool_model.specs.declared.fate.Fate.{Fate}
@@ -28,17 +28,17 @@ early_check caller = first_refusal (user_check caller.context ∷ zone_check cal
 -- the live job, if there is one, is another's
 abbrev pub owner_check : List ℕ → ℕ → Option Row → Option Refusal
 owner_check user number None = None
-owner_check user number (Some row) = if may_see user row then None else Some (NotYours number)
+owner_check user number (Some row) = row_check user false number (Some row)
 
 -- the number was never drawn, or is that of a live job of another
-abbrev pub number_check : List ℕ → JobTable → ℕ → Option Refusal
-number_check user table number =
+abbrev pub named_check : List ℕ → JobTable → ℕ → Option Refusal
+named_check user table number =
     if nat_le 1 number && nat_le number table.last then owner_check user number (live_row table number)
     else Some (NoSuchJob number)
 
 -- the first number of the list that is refused decides
 abbrev pub numbers_check : List ℕ → JobTable → List ℕ → Option Refusal
-numbers_check user table numbers = first_refusal (map (λ number. number_check user table number) numbers)
+numbers_check user table numbers = first_refusal (map (λ number. named_check user table number) numbers)
 
 -- only jobs that are named are refused
 abbrev pub which_check : List ℕ → JobTable → Filter → Option Refusal

@@ -3,7 +3,7 @@ use Rattle.std.specs.Prelude.{◌≡◌, ◌⊎◌, ℕ, Bool, true, false, List
 use Rattle.at_words.specs.declared.fault.WordsFault.{WordsFault}
 use Rattle.cause_output.specs.Causes.{error_of, words_cause}
 use Rattle.cause_output.specs.declared.caller.Caller.{Caller}
-use Rattle.cause_output.specs.Outside.{OutsideAt, no_inputs, no_sink, outside_at}
+use Rattle.cause_output.specs.Outside.{OutsideAt, Telling, no_inputs, no_sink, outside_at}
 use Rattle.cause_output.specs.Saying.{IsSaid}
 use Rattle.cause_output.specs.Sinks.{IsCut, IsPut, IsSilent, SinkAt}
 use Rattle.civil_minute.specs.declared.zone.Zone.{Zone}
@@ -24,7 +24,7 @@ use Rattle.at_stat.specs.Checks.{done_code, early_check}
 use Rattle.at_stat.specs.declared.program.TheConstants.{PROGRAM}
 use Rattle.at_stat.specs.declared.request.StatRequest.{StatRequest}
 use Rattle.at_stat.specs.declared.status.StatStatus.{StatStatus}
-use Rattle.at_stat.specs.Waiting.{HasSeen, HasStopped, WaitAt, WaitTelling, wait_at, wait_telling}
+use Rattle.at_stat.specs.Waiting.{HasSeen, HasStopped, WaitAt, wait_at, wait_telling}
 
 -- the status of a cause for which the program was not done
 abbrev pub stopped_status : Cause → StatStatus
@@ -38,7 +38,7 @@ stat_outside h r o host readings out = outside_at h r no_inputs o no_sink host r
 abbrev pub wait_of : OutsideAt → WaitAt
 wait_of at = wait_at at.session at.holds.spool at.holds.answers at.readers
 
-abbrev pub wait_tells : OutsideAt → WaitTelling
+abbrev pub wait_tells : OutsideAt → Telling
 wait_tells at = wait_telling at.tells.files at.tells.alone at.tells.clock
 
 -- the text has a line for each of the jobs that are asked for, on the table
@@ -51,7 +51,7 @@ abbrev pub IsTextFor : StatRequest → Caller → JobTable → List ℕ → Type
 IsTextFor request caller table text = IsText request caller.context.user caller.zone table text
 
 -- the sessions were made; this is what the last one saw, and whether each awaited job was done by then
-abbrev pub SeesLast : StatRequest → Caller → WaitTelling → WaitAt → WaitAt → Kept → Bool → Type 0
+abbrev pub SeesLast : StatRequest → Caller → Telling → WaitAt → WaitAt → Kept → Bool → Type 0
 SeesLast request caller tells old new kept finished =
     HasSeen tells caller.context.user request.wait request.which old new kept finished
 

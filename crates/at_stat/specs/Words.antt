@@ -1,12 +1,11 @@
 -- The words of the program: the flags -w and --json, the options --turns and -q, and numbers of jobs (own).
-use Rattle.std.specs.Prelude.{[], ◌∷◌, ℕ, Bool, true, false, List, Option, Some, None, Result, Ok, Err, codes, option_and_then, option_map}
+use Rattle.std.specs.Prelude.{[], ◌∷◌, ℕ, Bool, true, false, List, Option, Some, None, Result, Ok, Err, codes, option_map}
 use Rattle.clap.specs.Simple.{App}
 use Rattle.clap.specs.Walk.{Row, Text, first_of}
 use Rattle.at_words.specs.Answers.{named_asked, on_ok, or_bad_queue, or_usage}
 use Rattle.at_words.specs.Commands.{app_with, flag_rule, long_flag_rule, long_rule, operands_rule, value_rule}
 use Rattle.at_words.specs.Daemons.{turns_asked}
-use Rattle.at_words.specs.Digits.{decimal_in}
-use Rattle.at_words.specs.Numbers.{with_number}
+use Rattle.at_words.specs.Numbers.{numbers_between}
 use Rattle.at_words.specs.Queues.{queue_letter}
 use Rattle.at_words.specs.Rows.{is_set, operands_of}
 use Rattle.at_words.specs.declared.fault.WordsFault.{WordsFault}
@@ -16,7 +15,6 @@ use Rattle.at_words.specs.declared.filter.Filter.TheVariants.{All, Queue, Number
 use Rattle.job_states.specs.declared.form.Form as form
 use Rattle.job_states.specs.declared.form.Form.TheVariants.{Text as Lines, Json}
 use Rattle.spool_model.specs.declared.number.TheConstants.{LAST_NUMBER}
-use Rattle.at_stat.specs.declared.digits.TheConstants.{MOST_DIGITS}
 use Rattle.at_stat.specs.declared.request.StatRequest.{StatRequest}
 
 -- `atstat`
@@ -31,32 +29,18 @@ stat_app =
     ∷ []
     )
 
--- the number of a job, or 0, which no job has
-abbrev pub stat_number : List ℕ → Option ℕ
-stat_number text = decimal_in MOST_DIGITS 0 LAST_NUMBER text
-
--- the numbers with those that the texts spell, if each text spells one
-abbrev pub with_stat_numbers : List ℕ → List (List ℕ) → Option (List ℕ)
-with_stat_numbers numbers [] = Some numbers
-with_stat_numbers numbers (text ∷ others) =
-    option_and_then (λ number. with_stat_numbers (with_number numbers number) others) (stat_number text)
-
--- the numbers that the texts spell, each once, in the order in which they first come
-abbrev pub stat_numbers : List (List ℕ) → Option (List ℕ)
-stat_numbers texts = with_stat_numbers [] texts
-
 -- the jobs of a queue
-abbrev pub queue_asked : Text → Result Filter WordsFault
-queue_asked text = or_bad_queue (option_map Queue (queue_letter text))
+abbrev pub queue_filter : Text → Result Filter WordsFault
+queue_filter text = or_bad_queue (option_map Queue (queue_letter text))
 
--- the jobs of these numbers, or all
+-- the jobs of these numbers, from 0, which no job has, to the last one; or all
 abbrev pub numbers_asked : List Text → Result Filter WordsFault
 numbers_asked [] = Ok All
-numbers_asked (operand ∷ others) = on_ok Numbers (or_usage (stat_numbers (operand ∷ others)))
+numbers_asked (operand ∷ others) = on_ok Numbers (or_usage (numbers_between 0 LAST_NUMBER (operand ∷ others)))
 
 -- which jobs are asked for: those of a queue or those of numbers, and not both
 abbrev pub which_asked : Option Text → List Text → Result Filter WordsFault
-which_asked (Some text) [] = queue_asked text
+which_asked (Some text) [] = queue_filter text
 which_asked (Some text) (operand ∷ others) = Err Usage
 which_asked None operands = numbers_asked operands
 

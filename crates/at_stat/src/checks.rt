@@ -1,14 +1,14 @@
 //! Which jobs are refused, and the exit status of a job.
-ghost use Rattle.std.specs.Prelude.{◌≡◌, Some};
+ghost use Rattle.std.specs.Prelude.{◌≡◌};
 ghost use Rattle.command_rules.specs.Verdict.{live_row};
-ghost use Rattle.at_stat.specs.Checks.{code_of_fate, code_of_named, code_of_stage, done_code, number_check, numbers_check, owner_check, which_check};
+ghost use Rattle.at_stat.specs.Checks.{code_of_fate, code_of_named, code_of_stage, done_code, named_check, numbers_check, owner_check, which_check};
 
 use at_words::Filter;
 use host_calls::Ending;
 use job_states::{JobStage, stage_of};
 use listing_text::Refusal;
-use spool_model::{Fate, Row, UserName};
-use spool_session::is_seen_by;
+use spool_model::{Fate, UserName};
+use spool_session::refusal_of_row;
 use spool_store::Store;
 
 // The greatest exit status.
@@ -55,7 +55,7 @@ fn refusal_of_numbers(store: &Store, user: &UserName, numbers: &[u32]) -> Option
 
 // The refusal of a number that was never drawn, or of a job of another.
 fn refusal_of_number(store: &Store, user: &UserName, number: u32) -> Option<Refusal>
-    ensures { result ≡ number_check user.now store.now.table number }
+    ensures { result ≡ named_check user.now store.now.table number }
 {
     if number >= 1 && number <= store.last() {
         refusal_of_owner(store, user, number)
@@ -70,17 +70,7 @@ fn refusal_of_owner(store: &Store, user: &UserName, number: u32) -> Option<Refus
 {
     match store.row(number) {
         None => None,
-        Some(row) => refusal_of_row(row, user, number),
-    }
-}
-
-fn refusal_of_row(row: &Row, user: &UserName, number: u32) -> Option<Refusal>
-    ensures { result ≡ owner_check user.now number (Some row.now) }
-{
-    if is_seen_by(row, user) {
-        None
-    } else {
-        Some(Refusal::NotYours(number))
+        Some(row) => refusal_of_row(row, user, false, number),
     }
 }
 

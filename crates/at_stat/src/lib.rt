@@ -16,10 +16,8 @@
 
 mod awaited;
 mod checks;
-mod digits;
 mod look;
 mod program;
-mod put;
 mod request;
 mod show;
 mod status;

@@ -119,7 +119,7 @@ fn stat_for<H: Host, R: Readings, O: Sink>(
         return StatStatus::of(Cause::Refused(Refusal::BadZone));
     }
     match last_sight(alloc, user, request, host, readings) {
-        Ok(sight) => show_states(alloc, &sight, user, request, &caller.zone, out),
+        Ok(sight) => show_states(alloc, host, &sight, user, request, &caller.zone, out),
         Err(stopped) => StatStatus::of(stopped.cause),
     }
 }

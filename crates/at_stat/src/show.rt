@@ -3,32 +3,35 @@ ghost use Rattle.std.specs.Prelude.{◌≡◌, ◌⊎◌, IfOk, Some};
 ghost use Rattle.cause_output.specs.Sinks.{sink_at};
 ghost use Rattle.civil_minute.specs.Zone.{IsReadable};
 ghost use Rattle.host_calls.specs.Causes.{Rose};
+ghost use Rattle.host_calls.specs.Session.{IsOutside};
 ghost use Rattle.at_stat.specs.Stating.{HasCode, IsText};
 ghost use Rattle.at_stat.specs.inside.Putting.{IsWithoutText, PutsStatesBy, PutsStateLines, sight_status};
 
 use crate::StatStatus;
 use crate::checks::done_code;
-use crate::put::put_whole;
 use crate::request::StatRequest;
 use crate::wait::Sight;
+use cause_output::put_whole;
 use civil_minute::Zone;
-use host_calls::{Bytes, Sink};
+use host_calls::{Bytes, Host, Sink};
 use job_states::{asked_numbers, report_of};
 use listing_text::Cause;
 use spool_model::UserName;
 use spool_store::Store;
 use std::alloc::{AllocError, Global};
 
-// Puts the lines of the jobs that are asked for.
-pub(crate) fn show_states<O: Sink>(
+// Puts the lines of the jobs that are asked for. The session is over, so that a slow reader does not hold the lock.
+pub(crate) fn show_states<H: Host, O: Sink>(
     alloc: Global,
+    host: &H,
     sight: &Sight,
     user: &UserName,
     request: &StatRequest,
     zone: &Zone,
     out: &mut O,
 ) -> StatStatus
-    requires { IsReadable zone.now }
+    requires outside { IsOutside (H.session host.now) }
+    requires zone { IsReadable zone.now }
     ensures made_as { (O.outlet out.new).made_as ≡ (O.outlet out.old).made_as }
     ensures code { HasCode result }
     ensures output_fault { result.cause ≡ Some Cause.OutputFault
@@ -38,9 +41,8 @@ pub(crate) fn show_states<O: Sink>(
         ⊎ IsWithoutText O.tells (sink_at (O.content out.old) (O.outlet out.old))
         (sink_at (O.content out.new) (O.outlet out.new)) result }
 {
-    // The session is over, so that a slow reader does not hold the lock.
     match states_text(alloc, &sight.store, user, request, zone) {
-        Ok(text) => put_text(alloc, sight, request, text.as_slice(), out),
+        Ok(text) => put_text(alloc, host, sight, request, text.as_slice(), out),
         Err(_) => StatStatus::of(Cause::Memory),
     }
 }
@@ -61,13 +63,15 @@ fn states_text(
 }
 
 // Puts the text.
-fn put_text<O: Sink>(
+fn put_text<H: Host, O: Sink>(
     alloc: Global,
+    host: &H,
     sight: &Sight,
     request: &StatRequest,
     text: &[u8],
     out: &mut O,
 ) -> StatStatus
+    requires { IsOutside (H.session host.now) }
     ensures made_as { (O.outlet out.new).made_as ≡ (O.outlet out.old).made_as }
     ensures code { HasCode result }
     ensures output_fault { result.cause ≡ Some Cause.OutputFault
@@ -75,7 +79,7 @@ fn put_text<O: Sink>(
     ensures puts { PutsStatesBy request.now sight.now text.now O.tells (sink_at (O.content out.old) (O.outlet out.old))
         (sink_at (O.content out.new) (O.outlet out.new)) result.code result.cause }
 {
-    match put_whole(alloc, text, out) {
+    match put_whole(alloc, host, text, out) {
         Cause::Done => sight_status(sight, request),
         cause => StatStatus::of(cause),
     }

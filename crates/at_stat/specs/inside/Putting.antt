@@ -3,19 +3,12 @@ use Rattle.std.specs.Prelude.{◌≡◌, ℕ, Bool, true, false, List, Option, S
 use Rattle.cause_output.specs.Sinks.{IsCut, IsPut, IsSilent, SinkAt}
 use Rattle.civil_minute.specs.declared.zone.Zone.{Zone}
 use Rattle.listing_text.specs.declared.cause.Cause.{Cause}
-use Rattle.listing_text.specs.declared.cause.Cause.TheVariants.{Done, Memory, OutputFault, StillRunning}
+use Rattle.listing_text.specs.declared.cause.Cause.TheVariants.{Memory, OutputFault, StillRunning}
 use Rattle.at_stat.specs.Checks.{done_code}
 use Rattle.at_stat.specs.declared.request.StatRequest.{StatRequest}
 use Rattle.at_stat.specs.declared.status.StatStatus.{StatStatus}
 use Rattle.at_stat.specs.declared.wait.Sight.{Sight}
 use Rattle.at_stat.specs.Stating.{IsText, stopped_status}
-
--- all of the text was put, a prefix of it, or nothing for want of memory
-abbrev pub PutsWhole : Bool → List ℕ → SinkAt → SinkAt → Cause → Type 0
-PutsWhole tells text old new Done = tells ≡ true → IsPut text old new
-PutsWhole tells text old new OutputFault = tells ≡ true → IsCut text old new
-PutsWhole tells text old new Memory = tells ≡ true → IsSilent old new
-PutsWhole tells text old new _ = ⊥
 
 -- the status of what a last session saw
 abbrev pub sight_status : StatRequest → Sight → Bool → StatStatus

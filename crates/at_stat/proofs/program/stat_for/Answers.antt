@@ -3,7 +3,11 @@ use Rattle.at_stat.specs.Stating.{HasStatEnded, stat_outside, wait_of, wait_tell
 use Rattle.at_stat.specs.Waiting.{HasStopped, HasSeen}
 use Rattle.at_stat.specs.inside.Putting.{PutsStateLines}
 use Rattle.at_stat.proofs.EndLemmas.{ended_shown, ended_stopped, ended_without}
+use Rattle.at_stat.proofs.FrameLemmas.{seen_frame}
 use Rattle.at_stat.proofs.program.stat_for.Goals as goal
+
+pub show_states-requires-clause-outside : goal.show_states-requires-clause-outside
+show_states-requires-clause-outside g c = (seen_frame _ _ _ _ _ _ _ _ c.in-Ok.ensures).left.outside
 
 pub returns-in-Ok : goal.returns-in-Ok
 returns-in-Ok g c =
