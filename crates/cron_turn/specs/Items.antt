@@ -1,6 +1,7 @@
 -- The sessions of a crontab (own): the rest after each, and what is said of it.
 use Rattle.std.specs.Prelude.{◌≡◌, ◌≢◌, ◌⊎◌, ◌≤◌, ◌-◌, ◌%◌, ℕ, ℤ, Bool, true, List, codes, unsigned_abs}
 use Rattle.host_calls.specs.Causes.{Rose}
+use Rattle.host_session.specs.declared.rest.TheConstants.{LONGEST_REST, SHORT_REST}
 use Rattle.listing_text.specs.declared.cause.Cause.{Cause}
 use Rattle.listing_text.specs.declared.cause.Cause.TheVariants as cause
 use Rattle.listing_text.specs.declared.refusal.Refusal.TheVariants as refusal
@@ -9,7 +10,6 @@ use Rattle.cause_output.specs.Sinks.{IsCut, IsPut, IsSilent, SinkAt}
 use Rattle.cron_text.specs.declared.entry.CronEntry.{CronEntry}
 use Rattle.cron_session.specs.declared.report.CronEnd.{CronEnd}
 use Rattle.cron_session.specs.declared.report.CronEnd.TheVariants.{Done, Busy, FileFault, Damaged, QueueFull, NumbersUsedUp, Memory}
-use Rattle.cron_turn.specs.declared.item.TheConstants.{LONGEST_REST, SHORT_REST}
 
 -- A session: the clock's answer, what the file gave, the entries that it spells, and what the session reported.
 pub record CronItem : Type 0 where

@@ -4,13 +4,8 @@ ghost use Rattle.clock_range.specs.ClockRange.{IsClockSecond};
 ghost use Rattle.cron_turn.specs.Items.{cause_of_cron_end, rest_after_session};
 
 use cron_session::CronEnd;
+use host_session::{LONGEST_REST, SHORT_REST};
 use listing_text::{Cause, Refusal};
-
-/// The longest rest between two sessions, in seconds: one that was done is followed at the next full minute.
-pub const LONGEST_REST: u32 = 60;
-
-/// The rest after a session that was not done, in seconds.
-pub const SHORT_REST: u32 = 1;
 
 // The seconds of the rest after a session.
 pub(crate) fn rest_after_session(end: &CronEnd, now: i64) -> u32

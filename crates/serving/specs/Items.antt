@@ -3,10 +3,10 @@ use Rattle.std.specs.Prelude.{◌-◌, ◌%◌, ◌&&◌, ◌||◌, [], ◌∷�
 use Rattle.daemon_turn.specs.declared.kid.Kid.{Kid}
 use Rattle.daemon_turn.specs.declared.mode.Mode.{Mode}
 use Rattle.daemon_turn.specs.declared.mode.Mode.TheVariants.{Full, EndsOnly}
+use Rattle.host_session.specs.declared.rest.TheConstants.{LONGEST_REST, SHORT_REST}
 use Rattle.host_session.specs.declared.turn_end.TurnEnd.{TurnEnd}
 use Rattle.host_session.specs.declared.turn_end.TurnEnd.TheVariants.{Done, Busy, FileFault, Damaged, Memory}
 use Rattle.spool_model.specs.declared.turn_step.TurnStep.{TurnStep}
-use Rattle.serving.specs.declared.serve_loop.TheConstants.{LONGEST_REST, SHORT_REST}
 
 -- A turn of serving: the clock's answer, the load, if one was read, and what the turn reported.
 pub record TurnItem : Type 0 where

@@ -11,4 +11,4 @@ mod serve_loop;
 
 pub use laws::{serving_ends_well, small_servings};
 pub use outcome::ServeOutcome;
-pub use serve_loop::{LONGEST_REST, SHORT_REST, serve};
+pub use serve_loop::serve;

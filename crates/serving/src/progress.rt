@@ -7,9 +7,9 @@ ghost use Rattle.serving.specs.Outcomes.{end_outcome, kids_outcome, output_outco
 ghost use Rattle.serving.specs.inside.Progressing.{first_end_or, mode_by, outcome_if, rest_if};
 
 use crate::ServeOutcome;
-use crate::serve_loop::{LONGEST_REST, SHORT_REST};
 use daemon_turn::{Kid, Mode, TurnEnd};
 use host_calls::Readings;
+use host_session::{LONGEST_REST, SHORT_REST};
 use listing_text::Cause;
 
 // How far serving has come: how the first turn ended, the seconds of the rest before the next one, and whether a put on

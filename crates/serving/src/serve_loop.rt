@@ -18,12 +18,6 @@ use host_calls::{Host, Readings, Sink};
 use listing_text::{Cause, Status};
 use std::alloc::Global;
 
-/// The longest rest between two turns, in seconds: a turn that was done is followed at the next full minute.
-pub const LONGEST_REST: u32 = 60;
-
-/// The rest between two turns where the first was not done, or where it is served only until no kid is left.
-pub const SHORT_REST: u32 = 1;
-
 /// Makes turns, at most so many, with a rest between each two. Where `once` is set the first turn alone starts jobs, and
 /// the others come until no kid is left. What the turns did is printed on `out`, and why they ended said on `err`.
 pub fn serve<H: Host, R: Readings, O: Sink, E: Sink>(
