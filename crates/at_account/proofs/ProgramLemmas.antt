@@ -15,7 +15,7 @@ use Rattle.host_calls.specs.Session.{IsLeft, IsOutside, Session}
 use Rattle.host_calls.specs.World.{World}
 use Rattle.listing_text.specs.Cause.{cause_line_of}
 use Rattle.listing_text.specs.declared.cause.Cause.{Cause}
-use Rattle.listing_text.specs.declared.cause.Cause.TheVariants.{Done, Refused, FileFault, InputFault, OutputFault, Busy, Memory, Damaged, StillRunning, Faulty}
+use Rattle.listing_text.specs.declared.cause.Cause.TheVariants.{Done, Refused, FileFault, OutputFault, Busy, Memory, Damaged}
 use Rattle.whole_file.proofs.OthersLemmas.{changes_none}
 use Rattle.cause_output.specs.Outside.{OutsideAt}
 use Rattle.at_account.specs.Accounting.{Accounting, IsAccounting, AccountLeaves}
@@ -118,16 +118,8 @@ in_part line old new put = elim put [
 ]
 
 line_said : (tool : List ℕ) (old new : SinkAt) (cause : Cause) → SaysLine tool cause old new → EndsLine tool cause old new
-line_said tool old new Done says = says
 line_said tool old new Memory says = in_part (cause_line_of tool Memory) old new says
-line_said tool old new (Refused refusal) says = says
-line_said tool old new FileFault says = says
-line_said tool old new InputFault says = says
-line_said tool old new OutputFault says = says
-line_said tool old new Busy says = says
-line_said tool old new (Damaged damage) says = says
-line_said tool old new StillRunning says = says
-line_said tool old new Faulty says = says
+line_said tool old new _ says = says
 
 pub said_line : (tool : List ℕ) (tells : Bool) (cause : Cause) (old new : SinkAt) (final : Cause) → IsSaid tool tells cause old new final → tells ≡ true → EndsLine tool final old new
 said_line tool tells cause old new final said known = elim said [

@@ -11,7 +11,7 @@ use Rattle.job_listing.specs.Scripts.{ComesOfShowing, PutsScriptsBy}
 use Rattle.step_runs.specs.Attempts.{Achieves}
 use Rattle.step_runs.specs.Current.{IsCurrent, Kept}
 use Rattle.listing_text.specs.declared.cause.Cause.{Cause}
-use Rattle.listing_text.specs.declared.cause.Cause.TheVariants.{Done, Refused, FileFault, InputFault, OutputFault, Busy, Memory, Damaged, StillRunning, Faulty}
+use Rattle.listing_text.specs.declared.cause.Cause.TheVariants.{Done, Refused, FileFault, InputFault, OutputFault, Busy, Memory, Damaged}
 use Rattle.listing_text.specs.declared.refusal.Refusal.{Refusal}
 use Rattle.listing_text.specs.declared.refusal.Refusal.TheVariants.{BadUser, BadZone}
 use Rattle.listing_text.specs.Listing.{IsListing}
@@ -182,13 +182,7 @@ pub puts_after_lock : (tells : Bool) (text : List ℕ) (old new : SinkAt) (cause
 puts_after_lock tells text old new Done puts stops = stops
 puts_after_lock tells text old new OutputFault puts stops = stops
 puts_after_lock tells text old new Memory puts stops = stops
-puts_after_lock tells text old new (Refused refusal) puts stops = puts
-puts_after_lock tells text old new FileFault puts stops = puts
-puts_after_lock tells text old new InputFault puts stops = puts
-puts_after_lock tells text old new Busy puts stops = puts
-puts_after_lock tells text old new (Damaged damage) puts stops = puts
-puts_after_lock tells text old new StillRunning puts stops = puts
-puts_after_lock tells text old new Faulty puts stops = puts
+puts_after_lock tells text old new _ puts stops = puts
 
 -- no listing is asked for
 no_listing : (asks : Bool) → asks ≡ false → asks ≡ true → ⊥

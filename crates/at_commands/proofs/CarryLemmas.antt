@@ -9,7 +9,7 @@ use Rattle.at_words.specs.declared.tool_request.ToolRequest.{ToolRequest}
 use Rattle.host_calls.specs.World.{World, reading}
 use Rattle.step_runs.specs.Current.{Kept}
 use Rattle.listing_text.specs.declared.cause.Cause.{Cause}
-use Rattle.listing_text.specs.declared.cause.Cause.TheVariants.{Done, Refused, FileFault, InputFault, OutputFault, Busy, Memory, Damaged, StillRunning, Faulty}
+use Rattle.listing_text.specs.declared.cause.Cause.TheVariants.{Done, Refused, FileFault, OutputFault, Busy, Memory, Damaged}
 use Rattle.listing_text.specs.declared.refusal.Refusal.{Refusal}
 use Rattle.listing_text.specs.declared.refusal.Refusal.TheVariants.{NotAllowed}
 use Rattle.spool_model.specs.declared.step.Step.{Step}
@@ -46,12 +46,7 @@ ends_map A B all old new Memory ends = elim ends [
   | inl unbegun ↦ inl unbegun
   | inr begun ↦ inr (begun.0, begun.1, elim begun.2 [ inl are ↦ inl (all begun.0 begun.1 are) | inr none ↦ inr none ], begun.3)
 ]
-ends_map A B all old new (Refused refusal) ends = ends
-ends_map A B all old new (Damaged damage) ends = ends
-ends_map A B all old new InputFault ends = ends
-ends_map A B all old new Busy ends = ends
-ends_map A B all old new StillRunning ends = ends
-ends_map A B all old new Faulty ends = ends
+ends_map A B all old new _ ends = ends
 
 module _ (tells alone : Bool) (asked : ToolRequest) (caller : Caller) (finding : Finding) (old new : World) where
   -- what the folder holds

@@ -9,7 +9,7 @@ use Rattle.at_words.specs.declared.tool_request.ToolRequest.{ToolRequest}
 use Rattle.host_calls.specs.declared.damage.Damage.{Damage}
 use Rattle.host_calls.specs.World.{World, reading}
 use Rattle.listing_text.specs.declared.cause.Cause.{Cause}
-use Rattle.listing_text.specs.declared.cause.Cause.TheVariants.{Done, Refused, FileFault, InputFault, OutputFault, Busy, Memory, Damaged, StillRunning, Faulty}
+use Rattle.listing_text.specs.declared.cause.Cause.TheVariants.{Done, Refused, FileFault, InputFault, OutputFault, Busy, Memory, Damaged}
 use Rattle.listing_text.specs.declared.refusal.Refusal.{Refusal}
 use Rattle.listing_text.specs.Cause.{cause_line_of}
 use Rattle.spool_model.specs.declared.step.Step.{Step}
@@ -44,24 +44,13 @@ module _ (A B : List ℕ → Type 0) (all : (text : List ℕ) → A text → B t
   prints_map FileFault prints = part_map prints
   prints_map OutputFault prints = part_map prints
   prints_map Memory prints = part_map prints
-  prints_map (Refused refusal) prints = prints
-  prints_map InputFault prints = prints
-  prints_map Busy prints = prints
-  prints_map (Damaged damage) prints = prints
-  prints_map StillRunning prints = prints
-  prints_map Faulty prints = prints
+  prints_map _ prints = prints
 
   pub notes_map : (cause : Cause) → NotesBy cause A old new → NotesBy cause B old new
   notes_map Done notes = (notes.0, all notes.0 notes.1, notes.2)
   notes_map OutputFault notes = cut_map notes
   notes_map Memory notes = cut_map notes
-  notes_map FileFault notes = notes
-  notes_map (Refused refusal) notes = notes
-  notes_map InputFault notes = notes
-  notes_map Busy notes = notes
-  notes_map (Damaged damage) notes = notes
-  notes_map StillRunning notes = notes
-  notes_map Faulty notes = notes
+  notes_map _ notes = notes
 
 -- the verdict of a request whose early checks pass is that of its session
 alone : (verdict : Option Refusal) → first_refusal (verdict ∷ []) ≡ verdict
@@ -129,13 +118,7 @@ keeps_early None asked caller found shown cause is order =
       by_cause InputFault early none = late_input (spool_verdict asked caller found shown) (spool_late asked caller found shown)
       by_cause Memory early none = any_memory (spool_verdict asked caller found shown)
       by_cause (Refused refusal) early none = absurd none
-      by_cause Done early none = absurd early
-      by_cause FileFault early none = absurd early
-      by_cause OutputFault early none = absurd early
-      by_cause Busy early none = absurd early
-      by_cause (Damaged damage) early none = absurd early
-      by_cause StillRunning early none = absurd early
-      by_cause Faulty early none = absurd early
+      by_cause _ early none = absurd early
 
 -- and so how far the command came
 up_to_early : (early : Option Refusal) (asked : ToolRequest) (caller : Caller) (found : Found) (shown : Result JobTable Damage) (reached : Check) →
@@ -221,16 +204,8 @@ in_part line old new put = elim put [
 module _ (tool : List ℕ) (IsLine : List ℕ → Type 0) (old between new : SinkAt) where
   -- the line that was found
   line_said : (cause : Cause) → SaysLine tool cause between new → EndsLine tool cause between new
-  line_said Done says = says
   line_said Memory says = in_part (cause_line_of tool Memory) between new says
-  line_said (Refused refusal) says = says
-  line_said FileFault says = says
-  line_said InputFault says = says
-  line_said OutputFault says = says
-  line_said Busy says = says
-  line_said (Damaged damage) says = says
-  line_said StillRunning says = says
-  line_said Faulty says = says
+  line_said _ says = says
 
   -- what was said before a line that finds no memory
   notes_no_memory : (cause : Cause) → IsFailure cause → NotesBy cause IsLine old between → NotesBy Memory IsLine old between

@@ -14,7 +14,7 @@ use Rattle.step_runs.proofs.MadeLemmas.{no_steps_are_made}
 use Rattle.job_removal.specs.Removing.{AreRemoval, ComesOfRemoving, IsRemovalCause}
 use Rattle.job_listing.specs.Scripts.{IsOfShowing}
 use Rattle.listing_text.specs.declared.cause.Cause.{Cause}
-use Rattle.listing_text.specs.declared.cause.Cause.TheVariants.{Done, Refused, FileFault, InputFault, OutputFault, Busy, Memory, Damaged, StillRunning, Faulty}
+use Rattle.listing_text.specs.declared.cause.Cause.TheVariants.{Done, Refused, FileFault, OutputFault, Memory}
 use Rattle.listing_text.specs.declared.refusal.Refusal.{Refusal}
 use Rattle.listing_text.specs.Listing.{IsListing, may_see}
 use Rattle.spool_model.specs.declared.row.Row.{Row}
@@ -73,12 +73,7 @@ works_map A B table all old new Memory works = elim works [
   | inl same ↦ inl same
   | inr on ↦ inr (record { steps = on.steps; are = all on.steps on.are; legal = on.legal; run = on.run })
 ]
-works_map A B table all old new (Refused refusal) works = works
-works_map A B table all old new InputFault works = works
-works_map A B table all old new Busy works = works
-works_map A B table all old new (Damaged damage) works = works
-works_map A B table all old new StillRunning works = works
-works_map A B table all old new Faulty works = works
+works_map A B table all old new _ works = works
 
 module _ (tells alone : Bool) (asked : ToolRequest) (caller : Caller) (user : List ℕ) (same : caller.context.user ≡ user) (old middle new : World) (kept : Kept)
     (is_open : IsStoreOpened tells user old middle kept) where
@@ -174,14 +169,7 @@ removal_comes (Err stopped) comes = by_cause stopped.cause comes where
   by_cause : (cause : Cause) → IsRemovalCause cause → IsOfRemoval cause
   by_cause FileFault of_work = tt
   by_cause Memory of_work = tt
-  by_cause Done of_work = absurd of_work
-  by_cause (Refused refusal) of_work = absurd of_work
-  by_cause InputFault of_work = absurd of_work
-  by_cause OutputFault of_work = absurd of_work
-  by_cause Busy of_work = absurd of_work
-  by_cause (Damaged damage) of_work = absurd of_work
-  by_cause StillRunning of_work = absurd of_work
-  by_cause Faulty of_work = absurd of_work
+  by_cause _ of_work = absurd of_work
 
 -- Listings.
 

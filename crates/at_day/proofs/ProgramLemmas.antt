@@ -1,6 +1,6 @@
 -- How words of atday end, put together from the day that was made and the line of the cause.
 use Rattle.std.proofs.Common.{◌≡◌, ◌⊎◌, ◌++◌, ℕ, Bool, true, List, length, sym, ap, subst, ◌∙◌, refl, inl, inr, arith, append-nil}
-use Rattle.std.specs.Prelude.{Result, Ok, Err}
+use Rattle.std.specs.Prelude.{Result, Ok, Err, IsErrAnd}
 use Rattle.std.proofs.Math.Seq.{take-length}
 use Rattle.std.specs.List.{concat}
 use Rattle.at_words.specs.Answers.{Answers}
@@ -17,7 +17,7 @@ use Rattle.host_calls.specs.declared.fault.SinkFault.{SinkFault}
 use Rattle.host_calls.specs.declared.fault.SinkFault.TheVariants as sink
 use Rattle.listing_text.specs.Cause.{cause_line_of}
 use Rattle.listing_text.specs.declared.cause.Cause.{Cause}
-use Rattle.listing_text.specs.declared.cause.Cause.TheVariants.{Done, Refused, FileFault, InputFault, OutputFault, Busy, Memory, Damaged, StillRunning, Faulty}
+use Rattle.listing_text.specs.declared.cause.Cause.TheVariants.{Done, Refused, OutputFault, Memory}
 use Rattle.cause_output.specs.Saying.{IsSaid, SaysLine}
 use Rattle.cause_output.specs.Putting.{PutsLines}
 use Rattle.at_day.specs.declared.counts.Counts.{Counts}
@@ -58,8 +58,11 @@ day_put tells count counts old new (Err sink.Failed) comes puts = (
 day_put tells count counts old new (Err sink.Memory) comes puts = inr (record { counts = counts; comes = comes; puts = puts.puts })
 
 -- no memory was found before the first of them
-pub day_unput : (tells : Bool) (count : ℕ) (at : SinkAt) → PutsDay tells count at at (Err sink.Memory)
-day_unput tells count at = inl (λ known. silent at)
+pub day_stopped : (tells : Bool) (count : ℕ) (at : SinkAt) (result : Result (Unit {0}) SinkFault) → IsErrAnd result (λ why. why ≡ sink.Memory) →
+    PutsDay tells count at at result
+day_stopped tells count at (Ok done) is = absurd is
+day_stopped tells count at (Err why) is =
+    subst (λ (of : SinkFault). PutsDay tells count at at (Err of)) (sym is) (inl (λ known. silent at))
 
 -- What was asked for.
 
@@ -112,15 +115,7 @@ module _ (tool : List ℕ) (old new : SinkAt) where
 
   line_ends : (cause : Cause) → SaysLine tool cause old new → EndsLine tool cause old new
   line_ends Memory says = line_part says
-  line_ends Done says = says
-  line_ends (Refused refusal) says = says
-  line_ends FileFault says = says
-  line_ends InputFault says = says
-  line_ends OutputFault says = says
-  line_ends Busy says = says
-  line_ends (Damaged damage) says = says
-  line_ends StillRunning says = says
-  line_ends Faulty says = says
+  line_ends _ says = says
 
   pub line_said : (tells : Bool) (cause final : Cause) → IsSaid tool tells cause old new final → tells ≡ true →
       EndsLine tool final old new

@@ -120,7 +120,7 @@ sound_of : (between last : MemoryHost) (counts : Result Counts StoreFault) → H
     (table : JobTable) → Shows (reading (memory_world between)) table →
     CountsBy (memory_session between) (memory_session last) (memory_world between) counts → IsCountedOrMemory counts
 sound_of between last (Ok counts) quiet table shows by = tt
-sound_of between last (Err fault.Memory) quiet table shows by = tt
+sound_of between last (Err fault.Memory) quiet table shows by = refl
 sound_of between last (Err fault.FileFault) quiet table shows (inl rose) =
     absurd (no_rise (memory_session between).file_faults (memory_session last).file_faults quiet.file_faults rose)
 sound_of between last (Err fault.FileFault) quiet table shows (inr rose) =

@@ -5,52 +5,31 @@ ghost use Rattle.cause_output.specs.Sinks.{sink_at};
 ghost use Rattle.day_events.specs.Plans.{made_plan};
 ghost use Rattle.memory_host.specs.Host.{IsNew};
 ghost use Rattle.at_day.specs.MadeDays.{ComesTo, deny_alone, lacks_memory};
-ghost use Rattle.at_day.specs.Programs.{EndsMade};
-ghost use Rattle.at_day.specs.inside.Making.{AreLinesOfDay, IsCountedOrMemory, PutsDay};
+ghost use Rattle.at_day.specs.inside.Making.{IsCountedOrMemory, PutsDay};
 
 use crate::lines::day_lines;
 use crate::{Counts, day};
 use at_words::MAX_EVENTS;
 use cause_output::put_lines;
-use command_rules::{cause_of_put, deny_name};
+use command_rules::deny_name;
 use daemon_turn::TurnEnd;
 use day_events::{EventReport, Made, make_events};
-use host_calls::{Bytes, Sink, SinkFault};
+use host_calls::{Sink, SinkFault};
 use listing_text::Cause;
 use memory_host::{Files, MemoryHost, Plan};
 use spool_store::StoreFault;
 use std::alloc::{AllocError, Global};
 
-/// Makes the day of so many events, and prints what it comes to.
-pub(crate) fn tell_day<O: Sink>(alloc: Global, count: u32, out: &mut O) -> Cause
-    requires { count ≤ MAX_EVENTS }
-    ensures made_as { (O.outlet out.new).made_as ≡ (O.outlet out.old).made_as }
-    ensures ends { EndsMade O.tells count
-        (sink_at (O.content out.old) (O.outlet out.old)) (sink_at (O.content out.new) (O.outlet out.new)) result }
-{
-    cause_of_put(put_day(alloc, count, out))
-}
-
-// Makes the day, and puts the lines of what it comes to.
-fn put_day<O: Sink>(alloc: Global, count: u32, out: &mut O) -> Result<(), SinkFault>
+/// Makes the day of so many events, and puts the lines of what it comes to.
+pub(crate) fn put_day<O: Sink>(alloc: Global, count: u32, out: &mut O) -> Result<(), SinkFault>
     requires { count ≤ MAX_EVENTS }
     ensures made_as { (O.outlet out.new).made_as ≡ (O.outlet out.old).made_as }
     ensures puts { PutsDay O.tells count
         (sink_at (O.content out.old) (O.outlet out.old)) (sink_at (O.content out.new) (O.outlet out.new)) result }
 {
-    match made_lines(alloc, count) {
-        Ok(lines) => put_lines(alloc, lines.as_slice(), out),
-        Err(_) => Err(SinkFault::Memory),
-    }
-}
-
-// The lines of the made day of so many events.
-fn made_lines(alloc: Global, count: u32) -> Result<Vec<Bytes>, AllocError>
-    requires { count ≤ MAX_EVENTS }
-    ensures { IfOk result (λ lines. AreLinesOfDay count lines.items) }
-{
     let counts = made_day(alloc, count)?;
-    Ok(day_lines(alloc, count, &counts)?)
+    let lines = day_lines(alloc, count, &counts)?;
+    put_lines(alloc, lines.as_slice(), out)
 }
 
 // What the made day of so many events comes to. There is nothing to tell of a day that an event of it found no memory in.

@@ -12,11 +12,11 @@ ghost use Rattle.serving.specs.Outside.{EndsOutside};
 ghost use Rattle.at_day.specs.Programs.{EndsDay, EndsUnservedUnlessDay, MakesDay, asks_for_day, makes_days};
 ghost use Rattle.at_day.specs.inside.Making.{IsDayRequest};
 
-use crate::made_day::tell_day;
+use crate::made_day::put_day;
 use at_commands::{Caller, command};
 use at_words::{Tool, ToolRequest, request, tool_of};
 use cause_output::say_cause;
-use command_rules::cause_of_words;
+use command_rules::{cause_of_put, cause_of_words};
 use host_calls::{Host, Inputs, Readings, Sink};
 use listing_text::{Cause, Status};
 use std::alloc::Global;
@@ -111,7 +111,7 @@ fn make_run<O: Sink>(alloc: Global, words: &[String], out: &mut O) -> Cause
         (sink_at (O.content out.old) (O.outlet out.old)) (sink_at (O.content out.new) (O.outlet out.new)) result }
 {
     match request(alloc, words) {
-        Ok(asked) => tell_day(alloc, events_asked(asked), out),
+        Ok(asked) => cause_of_put(put_day(alloc, events_asked(asked), out)),
         Err(fault) => cause_of_words(fault),
     }
 }

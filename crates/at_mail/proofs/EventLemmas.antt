@@ -2,7 +2,7 @@
 use Rattle.std.proofs.Common.{◌≡◌, Bool, true, List, refl, subst}
 use Rattle.mail_session.specs.Leaving.{PostSpool, PostsTo}
 use Rattle.cause_output.specs.Outside.{Telling, WorkAt}
-use Rattle.at_mail.specs.Making.{MakesSessions, next_session, no_session}
+use Rattle.at_mail.specs.Making.{MakesMailSessions, next_session, no_session}
 use Rattle.at_mail.specs.Once.{MailEvent, MailEvents, ProgramsAreEvents, SessionsAreEvents, a_session, next_event, no_event}
 use Rattle.at_mail.specs.Outcomes.{PostItem}
 
@@ -17,7 +17,7 @@ module _ (tells : Telling) (first : WorkAt PostSpool) (files : tells.files ≡ t
       (subst (λ (is : Bool). PostsTo true is old new item.end item.sent) alone
       (subst (λ (is : Bool). PostsTo is tells.alone old new item.end item.sent) files posts))
 
-  all_events : (items : List PostItem) (last : WorkAt PostSpool) → MakesSessions tells first items last → MailEvents first.spool.world last.spool.world
+  all_events : (items : List PostItem) (last : WorkAt PostSpool) → MakesMailSessions tells first items last → MailEvents first.spool.world last.spool.world
   all_events _ _ no_session = no_event
   all_events _ _ (next_session before item last rested after makes goes_on rests session) =
       next_event last.spool.world after.spool.world (all_events before last makes)

@@ -14,7 +14,7 @@ use Rattle.host_session.specs.declared.turn_end.TurnEnd.{TurnEnd}
 use Rattle.host_session.specs.declared.turn_end.TurnEnd.TheVariants.{Done, Busy, FileFault, Damaged, Memory}
 use Rattle.mail_session.specs.Leaving.{PostSpool}
 use Rattle.cause_output.specs.Outside.{ClockAt, Rests, RestsBefore, RestsOn, Telling, WorkAt}
-use Rattle.at_mail.specs.Making.{IsSession, MakesSessions, next_session, no_session, rest_after_sessions, rest_seconds}
+use Rattle.at_mail.specs.Making.{IsSession, MakesMailSessions, next_session, no_session, rest_after_sessions, rest_seconds}
 use Rattle.at_mail.specs.Outcomes.{PostItem, last_session_outcome, session_outcome, outcome_or_done}
 use Rattle.at_mail.specs.declared.outcome.MailOutcome.{MailOutcome}
 use Rattle.at_mail.specs.declared.outcome.MailOutcome.TheVariants.{Own}
@@ -91,7 +91,7 @@ keeps_more tells item items first last rested after keeps rests session = record
 }
 
 module _ (tells : Telling) (first : WorkAt PostSpool) (outside : IsOutside first.spool.session) (children : AreChildren first.spool.session.children first.spool.post.kids) where
-  pub keeps_all : (items : List PostItem) (last : WorkAt PostSpool) → MakesSessions tells first items last → Keeps first last
+  pub keeps_all : (items : List PostItem) (last : WorkAt PostSpool) → MakesMailSessions tells first items last → Keeps first last
   keeps_all _ _ no_session = keeps_none first outside children
   keeps_all _ _ (next_session before item last rested after makes goes_on rests session) =
       keeps_more tells item before first last rested after (keeps_all before last makes) rests session
@@ -112,7 +112,7 @@ outcome_rose FileFault (Err put.Memory) old new failed comes = absurd (cc)
 outcome_rose (Damaged damage) (Err put.Memory) old new failed comes = absurd (cc)
 outcome_rose Memory (Err put.Memory) old new failed comes = absurd (cc)
 
-pub output_rose : (tells : Telling) (items : List PostItem) (first last : WorkAt PostSpool) → MakesSessions tells first items last → IsOutside first.spool.session
+pub output_rose : (tells : Telling) (items : List PostItem) (first last : WorkAt PostSpool) → MakesMailSessions tells first items last → IsOutside first.spool.session
     → AreChildren first.spool.session.children first.spool.post.kids → last_session_outcome items ≡ Some (Own cause.OutputFault) → Rose first.said.faults last.said.faults
 output_rose tells _ first _ no_session outside children comes = absurd (cc)
 output_rose tells _ first _ (next_session before item last rested after makes goes_on rests session) outside children comes =
@@ -125,9 +125,9 @@ output_rose tells _ first _ (next_session before item last rested after makes go
 
 -- One session more.
 
-module _ (tells : Telling) (items : List PostItem) (first last rested after : WorkAt PostSpool) (makes : MakesSessions tells first items last)
+module _ (tells : Telling) (items : List PostItem) (first last rested after : WorkAt PostSpool) (makes : MakesMailSessions tells first items last)
     (goes_on : last_session_outcome items ≡ None) (rests : RestsBefore tells.clock (rest_after_sessions items) last rested) (item : PostItem) (session : IsSession tells item rested after) where
-  pub makes_more : MakesSessions tells first (items ++ item ∷ []) after
+  pub makes_more : MakesMailSessions tells first (items ++ item ∷ []) after
   makes_more = next_session items item last rested after makes goes_on rests session
 
   -- it ended the program
@@ -141,7 +141,7 @@ module _ (tells : Telling) (items : List PostItem) (first last rested after : Wo
   }
 
 -- all were made
-pub ended_made : (tells : Telling) (items : List PostItem) (turns : ℕ) (first last : WorkAt PostSpool) → MakesSessions tells first items last → last_session_outcome items ≡ None
+pub ended_made : (tells : Telling) (items : List PostItem) (turns : ℕ) (first last : WorkAt PostSpool) → MakesMailSessions tells first items last → last_session_outcome items ≡ None
     → length items ≡ turns → HasMade tells turns first last (Own cause.Done)
 ended_made tells items turns first last makes goes_on all = record {
   items = items;

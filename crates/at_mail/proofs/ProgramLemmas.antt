@@ -21,7 +21,7 @@ use Rattle.host_session.specs.declared.turn_end.TurnEnd.TheVariants.{Done, Busy,
 use Rattle.mail_session.specs.PostState.{PostState, new_post}
 use Rattle.cause_output.specs.Outside.{OutsideAt, Telling, WorkAt}
 use Rattle.mail_session.specs.Leaving.{PostSpool}
-use Rattle.at_mail.specs.Making.{MakesSessions, next_session, no_session}
+use Rattle.at_mail.specs.Making.{MakesMailSessions, next_session, no_session}
 use Rattle.at_mail.specs.Outcomes.{PostItem, last_session_outcome, session_outcome, outcome_or_done, mail_program}
 use Rattle.at_mail.specs.Program.{PostsSessions, HasMadeNoSession, PostEnds, SaysMailOutcome, work_with}
 use Rattle.at_mail.specs.declared.outcome.MailOutcome.{MailOutcome}
@@ -101,7 +101,7 @@ session_other FileFault (Err put.Memory) is = cc
 session_other (Damaged damage) (Err put.Memory) is = cc
 session_other Memory (Err put.Memory) is = cc
 
-sessions_other : (tells : Telling) (items : List PostItem) (first last : WorkAt PostSpool) → MakesSessions tells first items last → last_session_outcome items ≡ Some (OfSession cause.OutputFault) → ⊥
+sessions_other : (tells : Telling) (items : List PostItem) (first last : WorkAt PostSpool) → MakesMailSessions tells first items last → last_session_outcome items ≡ Some (OfSession cause.OutputFault) → ⊥
 sessions_other tells _ first _ no_session is = cc
 sessions_other tells _ first _ (next_session before item last rested after makes goes_on rests session) is =
     session_other item.end item.said (sym (last_more before item) ∙ is)
@@ -118,7 +118,7 @@ session_output (Some outcome) is = ap Some is
 pub no_kids : (children : List Child) (program : List ℕ) → AreChildren children (new_post program).kids
 no_kids children program = record { each = λ kid is. absurd (let less : is.0 < 0 = is.1 in omega arith) }
 
-module _ (tells : Telling) (items : List PostItem) (first last : WorkAt PostSpool) (makes : MakesSessions tells first items last) (outside : IsOutside first.spool.session)
+module _ (tells : Telling) (items : List PostItem) (first last : WorkAt PostSpool) (makes : MakesMailSessions tells first items last) (outside : IsOutside first.spool.session)
     (children : AreChildren first.spool.session.children first.spool.post.kids) where
   rose_by : (errors : Bool) (outcome : MailOutcome) (new : SinkAt) (final : Cause) → outcome ≡ outcome_or_done (last_session_outcome items) → last.said.faults ≤ new.faults
       → SaysMailOutcome errors outcome last.said new final → final ≡ cause.OutputFault → Rose first.said.faults new.faults

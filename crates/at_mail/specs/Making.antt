@@ -21,11 +21,11 @@ pub record IsSession (tells : Telling) (item : PostItem) (old new : WorkAt PostS
   pub input : new.input ≡ old.input
 
 -- The sessions lead from the first state to this one: each begins where the one before it ended, after a rest.
-pub data MakesSessions (tells : Telling) (first : WorkAt PostSpool) : List PostItem → WorkAt PostSpool → Type 0 where
-  no_session : MakesSessions tells first [] first
+pub data MakesMailSessions (tells : Telling) (first : WorkAt PostSpool) : List PostItem → WorkAt PostSpool → Type 0 where
+  no_session : MakesMailSessions tells first [] first
   next_session : (before : List PostItem) (item : PostItem) (last rested after : WorkAt PostSpool)
-      → MakesSessions tells first before last
+      → MakesMailSessions tells first before last
       → last_session_outcome before ≡ None
       → RestsBefore tells.clock (rest_after_sessions before) last rested
       → IsSession tells item rested after
-      → MakesSessions tells first (before ++ item ∷ []) after
+      → MakesMailSessions tells first (before ++ item ∷ []) after

@@ -11,7 +11,7 @@ use Rattle.mail_notes.specs.declared.note.Note.{Note}
 use Rattle.mail_notes.specs.Names.{mail_file}
 use Rattle.mail_session.specs.Leaving.{GivesNotes, MailLeaves, PostSpool, PostsTo}
 use Rattle.cause_output.specs.Outside.{Telling, WorkAt}
-use Rattle.at_mail.specs.Making.{MakesSessions}
+use Rattle.at_mail.specs.Making.{MakesMailSessions}
 use Rattle.at_mail.specs.Outcomes.{PostItem}
 
 -- what was handed over is a notice: its script has no header of a job
@@ -92,4 +92,4 @@ SessionsAreEvents = (old new : PostSpool) (end : TurnEnd) (sent : List ℕ) → 
 abbrev pub ProgramsAreEvents : Type 0
 ProgramsAreEvents = (tells : Telling) (items : List PostItem) (first last : WorkAt PostSpool) → tells.files ≡ true →
     tells.alone ≡ true →
-    MakesSessions tells first items last → MailEvents first.spool.world last.spool.world
+    MakesMailSessions tells first items last → MailEvents first.spool.world last.spool.world

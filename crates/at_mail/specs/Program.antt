@@ -18,7 +18,7 @@ use Rattle.mail_session.specs.Leaving.{PostSpool}
 use Rattle.at_mail.specs.declared.outcome.MailOutcome.{MailOutcome}
 use Rattle.at_mail.specs.declared.outcome.MailOutcome.TheVariants.{OfSession, Own}
 use Rattle.at_mail.specs.declared.request.PostRequest.{PostRequest}
-use Rattle.at_mail.specs.Making.{MakesSessions}
+use Rattle.at_mail.specs.Making.{MakesMailSessions}
 use Rattle.at_mail.specs.Outcomes.{PostItem, last_session_outcome, outcome_or_done, mail_program}
 
 -- all that the program is handed: no inputs, and nothing to print on
@@ -48,7 +48,7 @@ pub record PostsSessions (turns : ℕ) (begun : PostState) (old new : OutsideAt)
   pub items : List PostItem
   pub last : WorkAt PostSpool
   pub few : length items ≤ turns
-  pub makes : MakesSessions old.tells (work_with begun old) items last
+  pub makes : MakesMailSessions old.tells (work_with begun old) items last
   pub stops : (length items ≡ turns) ⊎ IsSome (last_session_outcome items)
   pub session : new.session ≡ last.spool.session
   pub spool : new.holds.spool ≡ last.spool.world

@@ -8,7 +8,7 @@ ghost use Rattle.at_mail.specs.Words.{post_asked};
 
 use crate::outcomes::{MAIL_PROGRAM, say_mail_outcome};
 use crate::request::PostRequest;
-use crate::sessions::make_sessions;
+use crate::sessions::make_mail_sessions;
 use crate::words::mail_request;
 use cause_output::{cause_of_words, say_cause};
 use host_calls::{Host, Readings, Sink};
@@ -70,7 +70,7 @@ fn post_sessions<H: Host, R: Readings, E: Sink>(
 {
     match Post::new(alloc, request.program.as_str()) {
         Ok(mut post) => {
-            let outcome = make_sessions(alloc, &mut post, request.turns, host, readings, err);
+            let outcome = make_mail_sessions(alloc, &mut post, request.turns, host, readings, err);
             say_mail_outcome(alloc, outcome, err)
         }
         Err(_) => say_cause(alloc, MAIL_PROGRAM, Cause::Memory, err),

@@ -18,7 +18,7 @@ use std::alloc::Global;
 const REST: u32 = 20;
 
 // Makes sessions until one ends the program or all are made. Answers what it comes to.
-pub(crate) fn make_sessions<H: Host, R: Readings, E: Sink>(
+pub(crate) fn make_mail_sessions<H: Host, R: Readings, E: Sink>(
     alloc: Global,
     post: &mut Post,
     turns: u64,
@@ -34,8 +34,8 @@ pub(crate) fn make_sessions<H: Host, R: Readings, E: Sink>(
         (work_with post.new (mail_outside H.Host R.Readings E.Sink host.new readings.new err.new)) result }
 {
     for place in 0..turns {
-        rest_before_place(place, readings);
-        match next_session(alloc, post, host, err) {
+        rest_before_mail_session(place, readings);
+        match next_mail_session(alloc, post, host, err) {
             Some(outcome) => return outcome,
             None => {}
         }
@@ -44,7 +44,7 @@ pub(crate) fn make_sessions<H: Host, R: Readings, E: Sink>(
 }
 
 // Rests before the session of this place. There is no rest before the first.
-fn rest_before_place<R: Readings>(place: u64, readings: &mut R)
+fn rest_before_mail_session<R: Readings>(place: u64, readings: &mut R)
     ensures { RestsOn R.tells (rest_before place)
         (clock_at R.Readings readings.old) (clock_at R.Readings readings.new) }
 {
@@ -54,7 +54,7 @@ fn rest_before_place<R: Readings>(place: u64, readings: &mut R)
 }
 
 // Makes one session and says how it ended. Answers what the program comes to, where no further one is to be made.
-fn next_session<H: Host, E: Sink>(
+fn next_mail_session<H: Host, E: Sink>(
     alloc: Global,
     post: &mut Post,
     host: &mut H,

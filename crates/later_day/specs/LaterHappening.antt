@@ -84,5 +84,4 @@ IsUnreportedOnDay event old left =
 -- so of the event; a session reports it itself
 abbrev pub IsLaterUnreported : Later → LaterMachine → MemoryHost → Type 0
 IsLaterUnreported (Day event) old left = IsUnreportedOnDay event old left
-IsLaterUnreported Post old left = ⊥
-IsLaterUnreported (Cron context zone entries now) old left = ⊥
+IsLaterUnreported _ old left = ⊥

@@ -26,12 +26,7 @@ IsCaused cause.FileFault old new was is = Rose old.file_faults new.file_faults
 IsCaused cause.Busy old new was is = Rose old.taken new.taken
 IsCaused cause.OutputFault old new was is = Rose was.faults is.faults
 IsCaused cause.InputFault old new was is = ⊥
-IsCaused cause.Done old new was is = Unit {0}
-IsCaused (cause.Refused refusal) old new was is = Unit {0}
-IsCaused cause.Memory old new was is = Unit {0}
-IsCaused (cause.Damaged damage) old new was is = Unit {0}
-IsCaused cause.StillRunning old new was is = Unit {0}
-IsCaused cause.Faulty old new was is = Unit {0}
+IsCaused _ old new was is = Unit {0}
 
 abbrev pub IsCausedFor : ServeOutcome → Session → Session → SinkAt → SinkAt → Type 0
 IsCausedFor (OfTurn of) old new was is = IsCaused of old new was is

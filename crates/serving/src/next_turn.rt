@@ -52,7 +52,7 @@ pub(crate) fn next_turn<H: Host, R: Readings, O: Sink, E: Sink>(
         out_first (sink_at (O.content out.new) (O.outlet out.new))
         err_first (sink_at (E.content err.new) (E.outlet err.new)) result }
 {
-    progress.rest(readings);
+    progress.rest_before_turn(readings);
     let now = readings.now();
     if !is_clock_second(now) {
         return Some(ServeOutcome::Own(Cause::Refused(Refusal::BadClock)));

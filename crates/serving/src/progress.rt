@@ -45,7 +45,7 @@ impl Progress {
     }
 
     // Rests before the next turn. There is no rest before the first.
-    pub(crate) fn rest<R: Readings>(&self, readings: &mut R)
+    pub(crate) fn rest_before_turn<R: Readings>(&self, readings: &mut R)
         ensures { RestsOn R.tells (rest_if self.now.first self.now.rest)
             (clock_at R.Readings readings.old) (clock_at R.Readings readings.new) }
     {

@@ -161,7 +161,7 @@ pub saving_finds : (faults : List Damage) (cause : Cause) → IsSalvageCause cau
 saving_finds faults FileFault of = tt
 saving_finds faults Busy of = tt
 saving_finds faults Memory of = tt
-saving_finds faults (Refused refusal) of = tt
+saving_finds faults (Refused TargetNotEmpty) of = tt
 saving_finds faults _ of = absurd of
 
 -- What is put.
@@ -179,7 +179,7 @@ saving_prints : (lines : List ℕ) (old new : SinkAt) (cause : Cause) → IsSalv
 saving_prints lines old new FileFault of put = part_of_put lines old new put
 saving_prints lines old new Busy of put = part_of_put lines old new put
 saving_prints lines old new Memory of put = part_of_put lines old new put
-saving_prints lines old new (Refused refusal) of put = put
+saving_prints lines old new (Refused TargetNotEmpty) of put = put
 saving_prints lines old new _ of put = absurd of
 
 told_all : (faults : List Damage) (lines : List ℕ) (old new : SinkAt) (verdict : Cause) → verdict ≡ cause_of_faults faults → PrintsFaultsBy verdict lines old new → IsPut lines old new

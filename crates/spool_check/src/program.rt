@@ -69,32 +69,9 @@ fn check_by_words<H: Host, G: Host, O: Sink>(
         (folders_at H.Host G.Host O.Sink from.new to.new out.new) result }
 {
     match asks_to_salvage(alloc, words) {
-        Ok(salvage) => check_folder(alloc, salvage, from, to, out),
+        Ok(true) => cause_of_check(check_and_save(alloc, from, to, out)),
+        Ok(false) => cause_of_check(list_faults(alloc, from, out)),
         Err(fault) => cause_of_words(fault),
-    }
-}
-
-fn check_folder<H: Host, G: Host, O: Sink>(
-    alloc: Global,
-    salvage: bool,
-    from: &mut H,
-    to: &mut G,
-    out: &mut O,
-) -> Cause
-    requires from { IsOutside (H.session from.old) }
-    requires to { IsOutside (G.session to.old) }
-    ensures from { IsLeft (H.session from.old) (H.session from.new) }
-    ensures to { IsLeft (G.session to.old) (G.session to.new) }
-    ensures made_as { (O.outlet out.new).made_as ≡ (O.outlet out.old).made_as }
-    ensures risen { HasRisenInEither (folders_at H.Host G.Host O.Sink from.old to.old out.old)
-        (folders_at H.Host G.Host O.Sink from.new to.new out.new) result }
-    ensures checked { IsChecked salvage (folders_at H.Host G.Host O.Sink from.old to.old out.old)
-        (folders_at H.Host G.Host O.Sink from.new to.new out.new) result }
-{
-    if salvage {
-        cause_of_check(check_and_save(alloc, from, to, out))
-    } else {
-        cause_of_check(list_faults(alloc, from, out))
     }
 }
 

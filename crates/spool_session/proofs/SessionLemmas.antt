@@ -9,7 +9,7 @@ use Rattle.host_calls.specs.declared.host.Host.{Ghosts}
 use Rattle.host_session.proofs.SessionLemmas.{counts_on}
 use Rattle.host_session.specs.Work.{Calls, IsDoneInside, IsWorkUndone}
 use Rattle.listing_text.specs.declared.cause.Cause.{Cause}
-use Rattle.listing_text.specs.declared.cause.Cause.TheVariants.{Done, Refused, FileFault, InputFault, OutputFault, Busy, Memory, Damaged, StillRunning, Faulty}
+use Rattle.listing_text.specs.declared.cause.Cause.TheVariants.{Done, Refused, FileFault, InputFault, Busy}
 use Rattle.cause_output.specs.Causes.{cause_in, cause_of_entry, error_of}
 use Rattle.cause_output.specs.declared.command_error.CommandError.{CommandError}
 use Rattle.command_rules.specs.Checks.{check_of, place_of_check}
@@ -37,15 +37,8 @@ is_late place late early = grind (arith, nat_tests)
 
 never_before_lock_by : (cause : Cause) → IsOfSession cause → StopsBeforeLock cause → ⊥
 never_before_lock_by (Refused refusal) comes stops = is_late (place_of_check (check_of refusal)) comes stops
-never_before_lock_by FileFault comes stops = stops
-never_before_lock_by OutputFault comes stops = stops
-never_before_lock_by Memory comes stops = stops
-never_before_lock_by (Damaged damage) comes stops = stops
-never_before_lock_by Done comes stops = stops
 never_before_lock_by InputFault comes stops = comes
-never_before_lock_by Busy comes stops = stops
-never_before_lock_by StillRunning comes stops = stops
-never_before_lock_by Faulty comes stops = stops
+never_before_lock_by _ comes stops = stops
 
 never_before_lock : {T : Type 0} (result : Result T CommandError) → IfErr result ComesOfSession → StopsBeforeLock (cause_in result) → ⊥
 never_before_lock (Ok value) comes stops = stops

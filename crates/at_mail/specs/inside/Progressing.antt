@@ -4,7 +4,7 @@ use Rattle.cause_output.specs.Outside.{Telling, WorkAt}
 use Rattle.cause_output.specs.Sinks.{SinkAt}
 use Rattle.mail_session.specs.Leaving.{PostSpool, PostsTo}
 use Rattle.at_mail.specs.declared.outcome.MailOutcome.{MailOutcome}
-use Rattle.at_mail.specs.Making.{MakesSessions, rest_seconds}
+use Rattle.at_mail.specs.Making.{MakesMailSessions, rest_seconds}
 use Rattle.at_mail.specs.Outcomes.{PostItem, SaysMailEnd, last_session_outcome, session_outcome, outcome_or_done}
 
 -- the rest before the session of this place: none before the first one
@@ -25,6 +25,6 @@ pub record MakesOne (tells alone errors : Bool) (old new : PostSpool) (said_old 
 pub record HasMade (tells : Telling) (turns : ℕ) (first last : WorkAt PostSpool) (outcome : MailOutcome) : Type 0 where
   pub items : List PostItem
   pub few : length items ≤ turns
-  pub makes : MakesSessions tells first items last
+  pub makes : MakesMailSessions tells first items last
   pub stops : (length items ≡ turns) ⊎ IsSome (last_session_outcome items)
   pub comes : outcome ≡ outcome_or_done (last_session_outcome items)

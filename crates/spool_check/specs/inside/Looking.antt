@@ -9,7 +9,6 @@ use Rattle.host_calls.specs.Session.{Session}
 use Rattle.host_calls.specs.World.{reading}
 use Rattle.listing_text.specs.declared.cause.Cause.{Cause}
 use Rattle.listing_text.specs.declared.cause.Cause.TheVariants.{Refused, FileFault, OutputFault, Busy, Memory}
-use Rattle.listing_text.specs.declared.refusal.Refusal.{Refusal}
 use Rattle.listing_text.specs.declared.refusal.Refusal.TheVariants.{TargetNotEmpty}
 use Rattle.spool_faults.specs.Faults.{faults_of}
 use Rattle.spool_faults.specs.Listed.{LeavesFolder}
@@ -44,17 +43,12 @@ IsReportCause OutputFault = Unit {0}
 IsReportCause Memory = Unit {0}
 IsReportCause _ = ⊥
 
--- the refusal of a new folder that is a spool
-abbrev pub IsTargetRefusal : Refusal → Type 0
-IsTargetRefusal TargetNotEmpty = Unit {0}
-IsTargetRefusal _ = ⊥
-
--- the new folder could not be written
+-- the new folder could not be written, or is a spool
 abbrev pub IsSalvageCause : Cause → Type 0
 IsSalvageCause FileFault = Unit {0}
 IsSalvageCause Busy = Unit {0}
 IsSalvageCause Memory = Unit {0}
-IsSalvageCause (Refused refusal) = IsTargetRefusal refusal
+IsSalvageCause (Refused TargetNotEmpty) = Unit {0}
 IsSalvageCause _ = ⊥
 
 -- a fault of a file, or a lock that was taken, comes only where its count rose

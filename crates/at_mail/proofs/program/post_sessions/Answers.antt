@@ -6,8 +6,8 @@ use Rattle.at_mail.specs.inside.Progressing.{HasMade}
 use Rattle.at_mail.proofs.ProgramLemmas.{no_kids, posted_ends, unmade_ends}
 use Rattle.at_mail.proofs.program.post_sessions.Goals as goal
 
-pub make_sessions-outcome-requires-clause-children : goal.make_sessions-outcome-requires-clause-children
-make_sessions-outcome-requires-clause-children g c =
+pub make_mail_sessions-outcome-requires-clause-children : goal.make_mail_sessions-outcome-requires-clause-children
+make_mail_sessions-outcome-requires-clause-children g c =
     let same : c.in-Ok.post ≡ new_post c.args.request.now.program = c.in-Ok.ensures ∙ ap new_post c.as_str.ensures in
     subst (λ (post : PostState). AreChildren (g.H.Host.session c.args.host.now).children post.kids) (sym same)
     (no_kids (g.H.Host.session c.args.host.now).children c.args.request.now.program)
@@ -15,13 +15,13 @@ make_sessions-outcome-requires-clause-children g c =
 pub returns-in-Ok : goal.returns-in-Ok
 returns-in-Ok g c =
     let old = mail_outside g.H.Host g.R.Readings g.E.Sink c.args.host.now c.args.readings.now c.args.err.now in
-    let mid = mail_outside g.H.Host g.R.Readings g.E.Sink c.make_sessions-outcome.new.host c.make_sessions-outcome.new.readings c.make_sessions-outcome.new.err in
-    let new = mail_outside g.H.Host g.R.Readings g.E.Sink c.make_sessions-outcome.new.host c.make_sessions-outcome.new.readings c.say_mail_outcome.new.err in
+    let mid = mail_outside g.H.Host g.R.Readings g.E.Sink c.make_mail_sessions-outcome.new.host c.make_mail_sessions-outcome.new.readings c.make_mail_sessions-outcome.new.err in
+    let new = mail_outside g.H.Host g.R.Readings g.E.Sink c.make_mail_sessions-outcome.new.host c.make_mail_sessions-outcome.new.readings c.say_mail_outcome.new.err in
     let same : c.in-Ok.post ≡ new_post c.args.request.now.program = c.in-Ok.ensures ∙ ap new_post c.as_str.ensures in
-    posted_ends c.args.request.now c.make_sessions-outcome.new.post old mid new c.make_sessions-outcome.result c.say_mail_outcome.result c.requires.outside
-    (subst (λ (post : PostState). HasMade old.tells c.args.request.now.turns (work_with post old) (work_with c.make_sessions-outcome.new.post mid) c.make_sessions-outcome.result) same
-    c.make_sessions-outcome.ensures.makes)
-    refl refl refl refl c.say_mail_outcome.ensures.later (c.say_mail_outcome.ensures.made_as ∙ c.make_sessions-outcome.ensures.made) c.say_mail_outcome.ensures.says
+    posted_ends c.args.request.now c.make_mail_sessions-outcome.new.post old mid new c.make_mail_sessions-outcome.result c.say_mail_outcome.result c.requires.outside
+    (subst (λ (post : PostState). HasMade old.tells c.args.request.now.turns (work_with post old) (work_with c.make_mail_sessions-outcome.new.post mid) c.make_mail_sessions-outcome.result) same
+    c.make_mail_sessions-outcome.ensures.makes)
+    refl refl refl refl c.say_mail_outcome.ensures.later (c.say_mail_outcome.ensures.made_as ∙ c.make_mail_sessions-outcome.ensures.made) c.say_mail_outcome.ensures.says
 
 pub returns-in-Err : goal.returns-in-Err
 returns-in-Err g c =

@@ -15,7 +15,7 @@ use Rattle.serving.proofs.next_turn.next_turn.Goals as goal
 pub returns-then-not-is_clock_second-clause-proceeds : goal.returns-then-not-is_clock_second-clause-proceeds
 returns-then-not-is_clock_second-clause-proceeds g c items first out_first err_first has turns few =
     let was : ServeState = serve_at (g.H.Host.session c.args.host.now) (g.H.Host.world c.args.host.now) c.args.daemon.now (g.R.Readings.answers c.args.readings.now) (g.R.Readings.readers c.args.readings.now) in
-    let rested : ServeState = serve_at (g.H.Host.session c.args.host.now) (g.H.Host.world c.args.host.now) c.args.daemon.now (g.R.Readings.answers c.rest.new.readings) (g.R.Readings.readers c.rest.new.readings) in
+    let rested : ServeState = serve_at (g.H.Host.session c.args.host.now) (g.H.Host.world c.args.host.now) c.args.daemon.now (g.R.Readings.answers c.rest_before_turn.new.readings) (g.R.Readings.readers c.rest_before_turn.new.readings) in
     let after : ServeState = serve_at (g.H.Host.session c.args.host.now) (g.H.Host.world c.args.host.now) c.args.daemon.now (g.R.Readings.answers c.now-now.new.self) (g.R.Readings.readers c.now-now.new.self) in
     let fits : FitsSigned w64 c.now-now.result = search rules in
     let same : to_z w64 (of_z w64 c.now-now.result) ≡ c.now-now.result = to_z-of_z w64 c.now-now.result fits in
@@ -26,8 +26,8 @@ returns-then-not-is_clock_second-clause-proceeds g c items first out_first err_f
       out = λ is. (let yes : IsTrue c.is_clock_second.result = c.is_clock_second.ensures.fact.1 (subst IsClockSecond (sym same) is) in cc);
       rested = rested;
       rests = rests_after g.R.Readings.tells c.args.once (g.H.Host.session c.args.host.now) (g.H.Host.world c.args.host.now) c.args.daemon.now
-          (g.R.Readings.answers c.args.readings.now) (g.R.Readings.answers c.rest.new.readings) (g.R.Readings.readers c.args.readings.now) (g.R.Readings.readers c.rest.new.readings)
-          c.args.progress.now.rest items c.args.progress.now.first has.begun has.rest c.rest.ensures;
+          (g.R.Readings.answers c.args.readings.now) (g.R.Readings.answers c.rest_before_turn.new.readings) (g.R.Readings.readers c.args.readings.now) (g.R.Readings.readers c.rest_before_turn.new.readings)
+          c.args.progress.now.rest items c.args.progress.now.first has.begun has.rest c.rest_before_turn.ensures;
       known = c.now-now.ensures.known;
       readers = c.now-now.ensures.same;
       spool = refl;
@@ -36,7 +36,7 @@ returns-then-not-is_clock_second-clause-proceeds g c items first out_first err_f
 pub returns-then-not-report_turn-clause-proceeds : goal.returns-then-not-report_turn-clause-proceeds
 returns-then-not-report_turn-clause-proceeds g c items first out_first err_first has turns few =
     let was : ServeState = serve_at (g.H.Host.session c.args.host.now) (g.H.Host.world c.args.host.now) c.args.daemon.now (g.R.Readings.answers c.args.readings.now) (g.R.Readings.readers c.args.readings.now) in
-    let rested : ServeState = serve_at (g.H.Host.session c.args.host.now) (g.H.Host.world c.args.host.now) c.args.daemon.now (g.R.Readings.answers c.rest.new.readings) (g.R.Readings.readers c.rest.new.readings) in
+    let rested : ServeState = serve_at (g.H.Host.session c.args.host.now) (g.H.Host.world c.args.host.now) c.args.daemon.now (g.R.Readings.answers c.rest_before_turn.new.readings) (g.R.Readings.readers c.rest_before_turn.new.readings) in
     let after : ServeState = serve_at (g.H.Host.session c.turn-report.new.host) (g.H.Host.world c.turn-report.new.host) c.turn-report.new.self (g.R.Readings.answers c.load-load.new.self) (g.R.Readings.readers c.load-load.new.self) in
     let fits : FitsSigned w64 c.now-now.result = search rules in
     let same : to_z w64 (of_z w64 c.now-now.result) ≡ c.now-now.result = to_z-of_z w64 c.now-now.result fits in
@@ -46,12 +46,12 @@ returns-then-not-report_turn-clause-proceeds g c items first out_first err_first
     out_first (sink_at (g.O.Sink.content c.args.out.now) (g.O.Sink.outlet c.args.out.now)) err_first (sink_at (g.E.Sink.content c.args.err.now) (g.E.Sink.outlet c.args.err.now))
     has item rested after
     (rests_after g.R.Readings.tells c.args.once (g.H.Host.session c.args.host.now) (g.H.Host.world c.args.host.now) c.args.daemon.now
-    (g.R.Readings.answers c.args.readings.now) (g.R.Readings.answers c.rest.new.readings) (g.R.Readings.readers c.args.readings.now) (g.R.Readings.readers c.rest.new.readings)
-    c.args.progress.now.rest items c.args.progress.now.first has.begun has.rest c.rest.ensures)
+    (g.R.Readings.answers c.args.readings.now) (g.R.Readings.answers c.rest_before_turn.new.readings) (g.R.Readings.readers c.args.readings.now) (g.R.Readings.readers c.rest_before_turn.new.readings)
+    c.args.progress.now.rest items c.args.progress.now.first has.begun has.rest c.rest_before_turn.ensures)
     (served_by (telling g.H.Host.tells g.H.Host.alone g.R.Readings.tells false g.O.Sink.tells g.E.Sink.tells) c.args.once items c.args.progress.now.first item rested after c.mode.result
     (to_z w64 (of_z w64 c.now-now.result)) has.begun c.mode.ensures same range
-    (answers_turn g.R.Readings.tells item (g.R.Readings.answers c.rest.new.readings) (g.R.Readings.answers c.now-now.new.self) (g.R.Readings.answers c.load-load.new.self)
-    (g.R.Readings.readers c.rest.new.readings) (g.R.Readings.readers c.now-now.new.self) (g.R.Readings.readers c.load-load.new.self)
+    (answers_turn g.R.Readings.tells item (g.R.Readings.answers c.rest_before_turn.new.readings) (g.R.Readings.answers c.now-now.new.self) (g.R.Readings.answers c.load-load.new.self)
+    (g.R.Readings.readers c.rest_before_turn.new.readings) (g.R.Readings.readers c.now-now.new.self) (g.R.Readings.readers c.load-load.new.self)
     c.now-now.ensures.known c.now-now.ensures.same c.load-load.ensures.known c.load-load.ensures.made_as c.load-load.ensures.later c.load-load.ensures.cause)
     c.turn-report.ensures)
     (sink_at (g.O.Sink.content c.report_turn.new.out) (g.O.Sink.outlet c.report_turn.new.out)) (sink_at (g.E.Sink.content c.report_turn.new.err) (g.E.Sink.outlet c.report_turn.new.err))
@@ -60,7 +60,7 @@ returns-then-not-report_turn-clause-proceeds g c items first out_first err_first
 pub returns-clause-proceeds : goal.returns-clause-proceeds
 returns-clause-proceeds g c items first out_first err_first has =
     let was : ServeState = serve_at (g.H.Host.session c.args.host.now) (g.H.Host.world c.args.host.now) c.args.daemon.now (g.R.Readings.answers c.args.readings.now) (g.R.Readings.readers c.args.readings.now) in
-    let rested : ServeState = serve_at (g.H.Host.session c.args.host.now) (g.H.Host.world c.args.host.now) c.args.daemon.now (g.R.Readings.answers c.rest.new.readings) (g.R.Readings.readers c.rest.new.readings) in
+    let rested : ServeState = serve_at (g.H.Host.session c.args.host.now) (g.H.Host.world c.args.host.now) c.args.daemon.now (g.R.Readings.answers c.rest_before_turn.new.readings) (g.R.Readings.readers c.rest_before_turn.new.readings) in
     let after : ServeState = serve_at (g.H.Host.session c.turn-report.new.host) (g.H.Host.world c.turn-report.new.host) c.turn-report.new.self (g.R.Readings.answers c.load-load.new.self) (g.R.Readings.readers c.load-load.new.self) in
     let fits : FitsSigned w64 c.now-now.result = search rules in
     let same : to_z w64 (of_z w64 c.now-now.result) ≡ c.now-now.result = to_z-of_z w64 c.now-now.result fits in
@@ -70,12 +70,12 @@ returns-clause-proceeds g c items first out_first err_first has =
     out_first (sink_at (g.O.Sink.content c.args.out.now) (g.O.Sink.outlet c.args.out.now)) err_first (sink_at (g.E.Sink.content c.args.err.now) (g.E.Sink.outlet c.args.err.now))
     has item rested after
     (rests_after g.R.Readings.tells c.args.once (g.H.Host.session c.args.host.now) (g.H.Host.world c.args.host.now) c.args.daemon.now
-    (g.R.Readings.answers c.args.readings.now) (g.R.Readings.answers c.rest.new.readings) (g.R.Readings.readers c.args.readings.now) (g.R.Readings.readers c.rest.new.readings)
-    c.args.progress.now.rest items c.args.progress.now.first has.begun has.rest c.rest.ensures)
+    (g.R.Readings.answers c.args.readings.now) (g.R.Readings.answers c.rest_before_turn.new.readings) (g.R.Readings.readers c.args.readings.now) (g.R.Readings.readers c.rest_before_turn.new.readings)
+    c.args.progress.now.rest items c.args.progress.now.first has.begun has.rest c.rest_before_turn.ensures)
     (served_by (telling g.H.Host.tells g.H.Host.alone g.R.Readings.tells false g.O.Sink.tells g.E.Sink.tells) c.args.once items c.args.progress.now.first item rested after c.mode.result
     (to_z w64 (of_z w64 c.now-now.result)) has.begun c.mode.ensures same range
-    (answers_turn g.R.Readings.tells item (g.R.Readings.answers c.rest.new.readings) (g.R.Readings.answers c.now-now.new.self) (g.R.Readings.answers c.load-load.new.self)
-    (g.R.Readings.readers c.rest.new.readings) (g.R.Readings.readers c.now-now.new.self) (g.R.Readings.readers c.load-load.new.self)
+    (answers_turn g.R.Readings.tells item (g.R.Readings.answers c.rest_before_turn.new.readings) (g.R.Readings.answers c.now-now.new.self) (g.R.Readings.answers c.load-load.new.self)
+    (g.R.Readings.readers c.rest_before_turn.new.readings) (g.R.Readings.readers c.now-now.new.self) (g.R.Readings.readers c.load-load.new.self)
     c.now-now.ensures.known c.now-now.ensures.same c.load-load.ensures.known c.load-load.ensures.made_as c.load-load.ensures.later c.load-load.ensures.cause)
     c.turn-report.ensures)
     (sink_at (g.O.Sink.content c.report_turn.new.out) (g.O.Sink.outlet c.report_turn.new.out)) (sink_at (g.E.Sink.content c.report_turn.new.err) (g.E.Sink.outlet c.report_turn.new.err))

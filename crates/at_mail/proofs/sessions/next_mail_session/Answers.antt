@@ -1,4 +1,4 @@
-use Rattle.at_mail.proofs.sessions.next_session.Goals as goal
+use Rattle.at_mail.proofs.sessions.next_mail_session.Goals as goal
 
 pub returns-clause-makes : goal.returns-clause-makes
 returns-clause-makes g c = record {
