@@ -8,7 +8,7 @@ ghost use Rattle.accounts.specs.declared.record.AccountEvent.{AccountEvent};
 ghost use Rattle.accounts.specs.declared.record.Owner.{Owner};
 
 use crate::{AccountEvent, AccountRecord, Closing, Owner};
-use record_lines::LineRecord;
+use record_lines::{LineRecord, number_in};
 use spool_model::UserName;
 use std::alloc::AllocError;
 
@@ -28,7 +28,7 @@ impl LineRecord for AccountRecord {
             return None;
         }
         let (digits, owner) = rest.split_at(DIGITS);
-        let number = number_in(digits)?;
+        let number = job_number_in(digits)?;
         let event = event_in(*letter, owner)?;
         Some(AccountRecord { number, event })
     }
@@ -45,17 +45,17 @@ impl LineRecord for AccountRecord {
 }
 
 // The number that eight digits spell, at least 1.
-fn number_in(digits: &[u8]) -> Option<u32>
+fn job_number_in(digits: &[u8]) -> Option<u32>
     requires { length digits.now ≡ 8 }
     ensures some { IfSome result (λ number. 1 ≤ number) }
     ensures number { IfSome result (SpellsNumber digits.now) }
     ensures none { IfNone result ((number : ℕ) → 1 ≤ number → ¬ (SpellsNumber digits.now number)) }
 {
-    let number = hex_digits::read_hex(digits)?;
+    let number = number_in(digits)?;
     if number == 0 {
         return None;
     }
-    Some(number as u32)
+    Some(number)
 }
 
 // The letter of an event's line.

@@ -1,8 +1,7 @@
 //! The line of a note.
-ghost use Rattle.std.specs.Prelude.{◌≡◌, ◌<◌, ◌^◌, ◌==◌, ◌∷◌, ◌++◌, ℕ, List, IfSome, IfNone, OnOk, length};
+ghost use Rattle.std.specs.Prelude.{◌≡◌, ◌==◌, ◌∷◌, ◌++◌, ℕ, List, IfSome, IfNone, OnOk};
 ghost use Rattle.std.specs.List.{position};
-ghost use Rattle.hex_digits.specs.Digits.{digits_of};
-ghost use Rattle.mail_notes.specs.Lines.{Fits, IsJobFileName, IsFlag, IsNotedJobText, IsNoteText, SpellsNote, flag_byte, noted_job_text, letter_of_note, rest_text};
+ghost use Rattle.mail_notes.specs.Lines.{IsJobFileName, IsFlag, IsNotedJobText, IsNoteText, SpellsNote, flag_byte, noted_job_text, letter_of_note, rest_text};
 ghost use Rattle.mail_notes.specs.Notes.{number_of_note};
 ghost use Rattle.mail_notes.specs.inside.Spelling.{AreParts, one_note};
 ghost use Rattle.mail_notes.specs.declared.note.Note.{Note};
@@ -12,7 +11,7 @@ use crate::{Note, NotedJob};
 use hex_digits::digits_of;
 use host_calls::Name;
 use job_name::JobName;
-use record_lines::LineRecord;
+use record_lines::{LineRecord, number_in};
 use spool_model::UserName;
 use std::alloc::AllocError;
 
@@ -43,17 +42,6 @@ impl LineRecord for Note {
         write_rest(self, text)?;
         Ok(())
     }
-}
-
-// The number that eight digits spell.
-fn number_in(digits: &[u8]) -> Option<u32>
-    requires { length digits.now ≡ 8 }
-    ensures some { IfSome result (λ number. digits.now ≡ digits_of number) }
-    ensures fits { IfSome result Fits }
-    ensures none { IfNone result ((number : ℕ) → number < 16 ^ 8 → ¬ (digits.now ≡ digits_of number)) }
-{
-    let number = hex_digits::read_hex(digits)?;
-    Some(number as u32)
 }
 
 fn letter_of_note(note: &Note) -> u8

@@ -17,6 +17,8 @@ use crate::SalvageFault;
 use crate::fault::of_target;
 use host_calls::{Host, Name};
 use job_name::JobName;
+use sequence_file::sequence_name;
+use start_journal::journal_name;
 use std::alloc::Global;
 use whole_file::{place, temporary_name};
 
@@ -74,9 +76,9 @@ fn is_any_of_spool(names: &[Name]) -> bool
 fn is_of_spool(name: &[u8]) -> bool
     ensures { result ≡ is_of_spool name.now }
 {
-    name == b".SEQ".as_slice()
-        || name == b".JRN".as_slice()
-        || name == b".TMP".as_slice()
+    name == sequence_name().as_bytes()
+        || name == journal_name().as_bytes()
+        || name == temporary_name().as_bytes()
         || is_of_job(name)
 }
 

@@ -1,7 +1,7 @@
 use Rattle.std.proofs.Common.{subst, sym}
 use Rattle.hex_digits.specs.Digits.{SpellsNumber}
 use Rattle.hex_digits.proofs.EightDigits.{digits_spelled, spelled_eight}
-use Rattle.mail_notes.proofs.line.number_in.Goals as goal
+use Rattle.record_lines.proofs.number.number_in.Goals as goal
 
 pub returns-in_err-number-clause-none : goal.returns-in_err-number-clause-none
 returns-in_err-number-clause-none c = rw c.from_residual.ensures (λ number fits is. c.in_err-number.ensures.none number
