@@ -1,7 +1,7 @@
 //! Listings: `atq` and `at -l`.
 ghost use Rattle.std.specs.Prelude.{◌≡◌, ◌≢◌, IfErr, IfOk, IsTrue, true};
 ghost use Rattle.at_words.specs.declared.tool_request.ToolRequest.TheVariants as request;
-ghost use Rattle.civil_minute.specs.Zone.{IsReadable, is_unreadable};
+ghost use Rattle.civil_minute.specs.Zone.{IsReadable};
 ghost use Rattle.host_calls.specs.Causes.{Rose};
 ghost use Rattle.host_calls.specs.Session.{CallsInside, IsInside, IsOutside};
 ghost use Rattle.host_calls.specs.World.{TimePasses};
@@ -19,7 +19,7 @@ ghost use Rattle.at_commands.specs.inside.Sessions.{ListsFor};
 
 use at_words::Filter;
 use cause_output::put_whole;
-use civil_minute::Zone;
+use civil_minute::{Zone, is_unreadable};
 use command_rules::{Caller, CommandError};
 use host_calls::{Bytes, Host, Sink};
 use job_listing::job_listing_text;
@@ -89,12 +89,6 @@ fn list_for<H: Host, O: Sink>(
         Ok(text) => put_whole(alloc, host, text.as_slice(), out),
         Err(stopped) => stopped.cause,
     }
-}
-
-fn is_unreadable(zone: &Zone) -> bool
-    ensures { result ≡ is_unreadable zone.now }
-{
-    matches!(zone, Zone::Unreadable)
 }
 
 // The lines of the jobs.

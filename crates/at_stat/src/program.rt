@@ -1,7 +1,6 @@
 //! The program: what its words ask for, done.
 ghost use Rattle.std.specs.Prelude.{◌≡◌, ◌≤◌, IfSome, Ok, map, string_bytes};
 ghost use Rattle.cause_output.specs.Sinks.{sink_at};
-ghost use Rattle.civil_minute.specs.Zone.{is_unreadable};
 ghost use Rattle.host_calls.specs.Session.{IsOutside};
 ghost use Rattle.spool_model.specs.Users.{IsUserName};
 ghost use Rattle.at_stat.specs.Stating.{HasStatEnded, SaysCause, Stating, stat_outside};
@@ -13,7 +12,7 @@ use crate::show::show_states;
 use crate::wait::last_sight;
 use crate::words::stat_request;
 use cause_output::{Caller, cause_of_words, say_cause};
-use civil_minute::Zone;
+use civil_minute::is_unreadable;
 use host_calls::{Host, Readings, Sink};
 use listing_text::{Cause, Refusal};
 use spool_model::UserName;
@@ -122,10 +121,4 @@ fn stat_for<H: Host, R: Readings, O: Sink>(
         Ok(sight) => show_states(alloc, host, &sight, user, request, &caller.zone, out),
         Err(stopped) => StatStatus::of(stopped.cause),
     }
-}
-
-fn is_unreadable(zone: &Zone) -> bool
-    ensures { result ≡ is_unreadable zone.now }
-{
-    matches!(zone, Zone::Unreadable)
 }

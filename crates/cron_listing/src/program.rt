@@ -1,7 +1,6 @@
 //! The program: what its words ask for, done.
 ghost use Rattle.std.specs.Prelude.{◌≡◌, codes, map, string_bytes};
 ghost use Rattle.cause_output.specs.Sinks.{sink_at};
-ghost use Rattle.civil_minute.specs.Zone.{is_unreadable};
 ghost use Rattle.listing_text.specs.Cause.{status_of};
 ghost use Rattle.cron_listing.specs.Running.{IsListed, ListsOrLacksMemory, NextRuns, PutsListing, listing_at, listing_telling};
 ghost use Rattle.cron_listing.specs.Words.{next_asked};
@@ -9,7 +8,7 @@ ghost use Rattle.cron_listing.specs.Words.{next_asked};
 use crate::read::read_listing;
 use crate::words::{NextRequest, listing_request};
 use cause_output::{cause_of_put, cause_of_words, say_cause};
-use civil_minute::Zone;
+use civil_minute::{Zone, is_unreadable};
 use host_calls::{Inputs, Readings, Sink};
 use listing_text::{Cause, Refusal, Status};
 use std::alloc::Global;
@@ -83,12 +82,6 @@ fn list_unless<R: Readings, I: Inputs, O: Sink>(
         Ok(text) => put_listing(alloc, text.as_slice(), out),
         Err(stopped) => stopped.cause,
     }
-}
-
-fn is_unreadable(zone: &Zone) -> bool
-    ensures { result ≡ is_unreadable zone.now }
-{
-    matches!(zone, Zone::Unreadable)
 }
 
 // Puts the text, at once; nothing where it is empty, so that a sink that fails is not asked for nothing.

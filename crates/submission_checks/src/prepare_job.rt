@@ -4,14 +4,13 @@ ghost use Rattle.host_calls.specs.Causes.{HasCause};
 ghost use Rattle.host_calls.specs.Inputs.{AreReadAtMostOnce};
 ghost use Rattle.listing_text.specs.declared.cause.Cause.TheVariants as cause;
 ghost use Rattle.cause_output.specs.Causes.{error_of};
-ghost use Rattle.civil_minute.specs.Zone.{is_unreadable};
 ghost use Rattle.submission_checks.specs.Preparing.{Prepares};
 
 use crate::Submission;
 use crate::commands::read_commands;
 use crate::times::minute_meant;
 use at_words::When;
-use civil_minute::Zone;
+use civil_minute::{Zone, is_unreadable};
 use clock_range::is_clock_second;
 use command_rules::{Caller, CommandError};
 use host_calls::{Inputs, Readings};
@@ -51,10 +50,4 @@ pub fn prepare<R: Readings, I: Inputs>(
     let commands = read_commands(alloc, file, inputs)?;
     let script = write(alloc, &caller.context, mail, commands.as_slice())?;
     Ok(Submission { minute, script })
-}
-
-fn is_unreadable(zone: &Zone) -> bool
-    ensures { result ≡ is_unreadable zone.now }
-{
-    matches!(zone, Zone::Unreadable)
 }

@@ -12,7 +12,7 @@ returns-in_err-number-clause-none c = rw c.from_residual.ensures (λ number some
 pub returns-then-number-eq0-clause-none : goal.returns-then-number-eq0-clause-none
 returns-then-number-eq0-clause-none c number some spelled =
     let read = subst (λ bytes. SpellsNumber bytes c.in_ok-number.number) (sym c.in_ok-number.ensures.some)
-        (digits_spelled c.in_ok-number.number c.in_ok-number.ensures.fits) in
+    (digits_spelled c.in_ok-number.number c.in_ok-number.ensures.fits) in
     let same = one_number c.args.digits.now number c.in_ok-number.number spelled read in
     let zero = c.if-number-eq0.true in
     omega arith
@@ -20,4 +20,4 @@ returns-then-number-eq0-clause-none c number some spelled =
 pub returns-clause-number : goal.returns-clause-number
 returns-clause-number c =
     subst (λ bytes. SpellsNumber bytes c.in_ok-number.number) (sym c.in_ok-number.ensures.some)
-        (digits_spelled c.in_ok-number.number c.in_ok-number.ensures.fits)
+    (digits_spelled c.in_ok-number.number c.in_ok-number.ensures.fits)
