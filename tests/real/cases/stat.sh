@@ -191,10 +191,15 @@ case_door_stat() {
   knock atstat -w --turns 1 2; ended 8 $'2\twaiting\tTue Jan  1 00:00:00 2030\ta\t'"$me"$'\n' $'atstat: jobs still running\n'
   knock atstat 3; refused 1 'atstat: no such job 3'
   knock atstat --turns 2; refused 1 'atstat: usage'
-  # (as a script that submits, waits and goes on by the end)
+}
+
+# As a script that submits, waits and goes on by the end, which atd records in its next turn.
+case_long_stat_in_a_script() {
+  doored; opened
+  extra=(ATSPOOL="$spool" TZ=UTC)
   # shellcheck disable=SC2016
-  (exec env -i PATH=/usr/bin:/bin "${extra[@]}" timeout 60 "$door/atd" >served 2>served_said </dev/null) & daemon=$!
-  status=0; env -i PATH="$door:/usr/bin:/bin" "${extra[@]}" sh -c 'job=$(echo "exit 4" | at now 2>&1 | sed -n "s/^job \([0-9]*\) at .*/\1/p"); atstat -w --turns 30 "$job"' >out 2>err </dev/null || status=$?
-  ended 4 $'3\texit\t4\n' ''
+  (exec env -i PATH=/usr/bin:/bin "${extra[@]}" timeout 200 "$door/atd" >served 2>served_said </dev/null) & daemon=$!
+  status=0; env -i PATH="$door:/usr/bin:/bin" "${extra[@]}" sh -c 'job=$(echo "exit 4" | at now 2>&1 | sed -n "s/^job \([0-9]*\) at .*/\1/p"); atstat -w --turns 100 "$job"' >out 2>err </dev/null || status=$?
+  ended 4 $'1\texit\t4\n' ''
   kill "$daemon"; wait "$daemon" 2>/dev/null
 }
