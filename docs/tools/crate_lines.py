@@ -2,6 +2,7 @@
 
 The first lines of a crate are the first two sentences of src/lib.rt (of src/main.rt, where there is no lib.rt): what it
 does, and what it promises."""
+import functools
 import glob
 import os
 import re
@@ -57,6 +58,14 @@ def first_lines(crate):
     """What a crate does, and what it promises."""
     said = re.split(r'(?<=\.) (?=[A-Z`])', own_lines(crate))
     return said[0].rstrip('.'), ' '.join(said[1:2]).rstrip('.')
+
+
+@functools.cache
+def below(crate):
+    """The crates that a crate stands on, near and far."""
+    named = dict(crates())
+    near = [name for name in named[crate] if name in named]
+    return set(near).union(*map(below, near))
 
 
 def is_test(crate):
