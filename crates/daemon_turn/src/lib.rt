@@ -6,7 +6,7 @@ mod ask_all;
 mod daemon;
 mod decide;
 mod forget;
-mod hand_over;
+mod job_start;
 mod kid;
 mod kids;
 mod laws;

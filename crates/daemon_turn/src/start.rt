@@ -7,7 +7,7 @@ ghost use Rattle.daemon_turn.specs.inside.Going.{MayMakePart};
 ghost use Rattle.daemon_turn.specs.inside.Launching.{Launches};
 ghost use Rattle.daemon_turn.specs.inside.Waiting.{ArePendingNumbers};
 
-use crate::hand_over::start_job;
+use crate::job_start::start_job;
 use crate::{Kid, TurnStep, Turning};
 use host_calls::{Ending, Host};
 use spool_store::{Store, StoreFault};

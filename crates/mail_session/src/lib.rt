@@ -5,11 +5,11 @@
 mod ask;
 mod due;
 mod dues;
-mod hand_over;
 mod laws;
 mod line;
 mod mailer;
 mod news;
+mod notice_start;
 mod noting;
 mod places;
 mod plan;

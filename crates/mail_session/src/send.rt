@@ -5,7 +5,7 @@ ghost use Rattle.host_calls.specs.Session.{IsInside};
 ghost use Rattle.mail_notes.specs.Names.{mail_temp};
 ghost use Rattle.mail_session.specs.inside.Sending.{Sends};
 
-use crate::hand_over::send_notice;
+use crate::notice_start::send_notice;
 use crate::places::{place_notes, place_notice};
 use host_calls::{Child, Host, HostFault};
 use std::alloc::Global;

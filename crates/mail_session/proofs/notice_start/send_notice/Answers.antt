@@ -3,7 +3,7 @@ use Rattle.std.specs.Prelude.{IsSome}
 use Rattle.std.specs.FinMap as map
 use Rattle.host_calls.specs.World.{reading}
 use Rattle.mail_session.proofs.SendLemmas.{called_at, child_handed, memory_wanting, none_handed}
-use Rattle.mail_session.proofs.hand_over.send_notice.Goals as goal
+use Rattle.mail_session.proofs.notice_start.send_notice.Goals as goal
 
 pub start-requires-clause-held : goal.start-requires-clause-held
 start-requires-clause-held g c = λ known.

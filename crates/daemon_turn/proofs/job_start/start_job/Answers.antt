@@ -1,7 +1,7 @@
 use Rattle.std.proofs.Common.{w64}
 use Rattle.std.proofs.lemmas.Int.{to_z-of_z}
 use Rattle.daemon_turn.proofs.HandLemmas.{given_child, given_no_memory, given_none, held_now, made_at, not_started, started_lives}
-use Rattle.daemon_turn.proofs.hand_over.start_job.Goals as goal
+use Rattle.daemon_turn.proofs.job_start.start_job.Goals as goal
 
 pub script_file-name-requires : goal.script_file-name-requires
 script_file-name-requires g c = started_lives c.args.store.table c.in_ok-store.store.table c.args.number c.args.second c.requires.may.legal (made_at _ _ _ _ _ _ _ _ _ _ (to_z-of_z w64 c.args.second c.ranges.second) c.in_ok-store.ensures.makes).table_is

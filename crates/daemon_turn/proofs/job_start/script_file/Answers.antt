@@ -5,7 +5,7 @@ use Rattle.spool_store.specs.Listed.{IsLive}
 use Rattle.spool_store.specs.Scripts.{HoldsScript, IsLiveFileName}
 use Rattle.spool_store.proofs.StepCalls.{of_some}
 use Rattle.daemon_turn.proofs.HandLemmas.{and_some, and_there, is_there, named, script_is}
-use Rattle.daemon_turn.proofs.hand_over.script_file.Goals as goal
+use Rattle.daemon_turn.proofs.job_start.script_file.Goals as goal
 
 pub unwrap-name-requires : goal.unwrap-name-requires
 unwrap-name-requires c = is_there (IsLive c.args.store.now.table c.args.number) c.file.result c.file.ensures.absent c.requires
