@@ -1,3 +1,4 @@
 mod ChildLemmas
 mod FillLemmas
 mod PathLemmas
+mod PrefixLemmas

@@ -8,7 +8,7 @@ use Rattle.std.proofs.lemmas.Str.{IsUtf8-from_ascii}
 use Rattle.host_calls.specs.Names.{is_name_byte, are_name_bytes}
 
 -- a byte of a name is one of ASCII
-is_ascii : (byte : ℕ) → is_name_byte byte ≡ true → byte < 128
+pub is_ascii : (byte : ℕ) → is_name_byte byte ≡ true → byte < 128
 is_ascii byte is = grind (arith, nat_tests)
 
 -- each byte of a name is one of ASCII

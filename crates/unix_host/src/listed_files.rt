@@ -1,6 +1,9 @@
 //! Files in the byte order of their names.
-ghost use Rattle.std.specs.Prelude.{◌≡◌, Contains, IfSome, IfOk, IsPermutation, IsSorted, IsSortedByKey, map};
+ghost use Rattle.std.specs.Prelude.{◌≡◌, Contains, IfSome, IfOk, IsTrue, IsPermutation, IsSorted, IsSortedByKey, map, not};
+ghost use Rattle.std.specs.Ordering.{is_lt};
 ghost use Rattle.host_calls.specs.Folder.{name_cmp};
+ghost use Rattle.host_calls.specs.Names.{are_name_bytes};
+ghost use Rattle.unix_host.specs.inside.Prefixes.{prefix_number};
 
 use host_calls::Name;
 use std::alloc::{AllocError, Global};
@@ -30,9 +33,7 @@ impl ListedFiles {
         ensures { IfOk result (λ listed. IsPermutation found.now listed.files.items) }
     {
         let order = in_order(alloc, found)?;
-        let mut files = rows_of(alloc, &order)?;
-        // They are in order already where their prefixes differ, which this sort finds in one pass.
-        files.sort_unstable_by(|one, other| one.name.cmp(&other.name));
+        let files = rows_of(alloc, &order)?;
         Ok(ListedFiles {
             files,
             next: Cell::new(0),
@@ -74,30 +75,65 @@ impl ListedFiles {
     }
 }
 
+// A file beside the first sixteen bytes of its name, as a number that is less where they come before.
+#[derive(Clone, Copy)]
+struct Prefixed<'a> {
+    prefix: u128,
+    file: &'a Listed,
+    ghost of_name: { prefix ≡ prefix_number 16 file.now.name },
+    ghost name_bytes: { IsTrue (are_name_bytes file.now.name) },
+}
+
 // The files in the order of their names. A file is long, and lies anywhere: what is sorted are references, by the prefixes of
 // the names, which stand beside them.
-fn in_order<'a>(alloc: Global, files: &'a [Listed]) -> Result<Vec<(u128, &'a Listed)>, AllocError>
-    ensures { IfOk result (λ order. IsPermutation files.now (map (λ one. one.1.now) order.items)) }
+fn in_order<'a>(alloc: Global, files: &'a [Listed]) -> Result<Vec<Prefixed<'a>>, AllocError>
+    ensures found { IfOk result (λ order. IsPermutation files.now (map (λ one. one.file.now) order.items)) }
+    ensures ordered { IfOk result (λ order. IsSortedByKey (λ one. one.file.now.name) name_cmp order.items) }
 {
     let mut order = Vec::with_capacity(alloc, files.len())?;
     for file in files {
-        order.push((prefix_of(&file.name), file))?;
+        order.push(Prefixed {
+            prefix: prefix_of(&file.name),
+            file,
+        })?;
     }
-    order.sort_unstable_by_key(|one| one.0);
+    order.sort_unstable_by_key(|one| one.prefix);
+    sort_by_name(&mut order);
     Ok(order)
 }
 
-fn rows_of(alloc: Global, order: &[(u128, &Listed)]) -> Result<Vec<Listed>, AllocError>
-    ensures { IfOk result (λ files. files.items ≡ map (λ one. one.1.now) order.now) }
+// Sorts by names what is mostly in order already: all but names of equal prefixes are.
+fn sort_by_name(order: &mut [Prefixed<'_>])
+    ensures permutation { IsPermutation order.old order.new }
+    ensures ordered { IsSortedByKey (λ one. one.file.now.name) name_cmp order.new }
 {
-    order.iter().map(|one| *one.1).collect(alloc)
+    if order.is_sorted_by(|one, other| are_in_order(one, other)) {
+        return;
+    }
+    order.sort_unstable_by(|one, other| one.file.name.cmp(&other.file.name));
+}
+
+// Whether no name comes before the one that stands before it. Their bytes are compared only where their prefixes are equal.
+fn are_in_order(one: &Prefixed<'_>, other: &Prefixed<'_>) -> bool
+    ensures { result ≡ not (is_lt (name_cmp other.now.file.now.name one.now.file.now.name)) }
+{
+    one.prefix < other.prefix || other.file.name.cmp(&one.file.name).is_ge()
+}
+
+fn rows_of(alloc: Global, order: &[Prefixed<'_>]) -> Result<Vec<Listed>, AllocError>
+    ensures { IfOk result (λ files. files.items ≡ map (λ one. one.file.now) order.now) }
+{
+    order.iter().map(|one| *one.file).collect(alloc)
 }
 
 // The first sixteen bytes of a name, as a number that is less where they come before.
-fn prefix_of(name: &Name) -> u128 {
+fn prefix_of(name: &Name) -> u128
+    ensures number { result ≡ prefix_number 16 name.now }
+    ensures name_bytes { IsTrue (are_name_bytes name.now) }
+{
+    let bytes = name.as_bytes();
+    let count = bytes.len().min(16);
     let mut prefix = [0; 16];
-    for (place, byte) in prefix.iter_mut().zip(name.as_bytes()) {
-        *place = *byte;
-    }
+    prefix[..count].copy_from_slice(&bytes[..count]);
     u128::from_be_bytes(prefix)
 }
