@@ -22,7 +22,7 @@ use Rattle.spool_shows.proofs.ShownEntries.{passes_same}
 use Rattle.spool_shows.proofs.StepLaws.{by_name}
 use Rattle.step_runs.specs.Current.{HaveForms, is_new_form}
 use Rattle.spool_store.specs.declared.surveyed_job.SurveyedJob.{SurveyedJob}
-use Rattle.spool_store.specs.declared.survey.RecoveryScan.{RecoveryScan}
+use Rattle.spool_store.specs.declared.folder_scan.RecoveryScan.{RecoveryScan}
 use Rattle.spool_store.specs.inside.SurveyedJobs.{file_surveyed, files_surveyed, old_form_numbers}
 use Rattle.spool_store.specs.inside.Survey.{IsSurvey, is_decided_job, is_left_over}
 use Rattle.spool_store.specs.Stored.{AreInOldForm}

@@ -30,7 +30,7 @@ use Rattle.step_runs.specs.Calls.{ShowsAsBefore}
 use Rattle.step_runs.specs.Current.{HaveForms, IsCurrent, IsSpoolName, Kept}
 use Rattle.host_calls.specs.declared.store_fault.StoreFault.{StoreFault}
 use Rattle.host_calls.specs.declared.store_fault.StoreFault.TheVariants.{Damaged, FileFault, Memory}
-use Rattle.spool_store.specs.declared.survey.RecoveryScan.{RecoveryScan}
+use Rattle.spool_store.specs.declared.folder_scan.RecoveryScan.{RecoveryScan}
 use Rattle.host_calls.specs.Damages.{IfDamaged}
 use Rattle.host_calls.specs.StoreFaults.{IsReadingFault, store_fault_of}
 use Rattle.spool_store.specs.inside.Survey.{IsSurvey, is_left_over}

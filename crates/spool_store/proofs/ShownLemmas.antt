@@ -19,7 +19,7 @@ use Rattle.spool_shows.specs.Shown.{damage_of_jobs, shown_after_journal, shown_a
 use Rattle.host_calls.specs.declared.store_fault.StoreFault.{StoreFault}
 use Rattle.host_calls.specs.declared.store_fault.StoreFault.TheVariants.{Damaged}
 use Rattle.spool_store.specs.declared.surveyed_files.SurveyedFiles.{SurveyedFiles}
-use Rattle.spool_store.specs.declared.survey.RecoveryScan.{RecoveryScan}
+use Rattle.spool_store.specs.declared.folder_scan.RecoveryScan.{RecoveryScan}
 use Rattle.spool_store.specs.declared.surveyed_job.SurveyedJob.{SurveyedJob}
 use Rattle.host_calls.specs.Damages.{IfDamaged}
 use Rattle.host_calls.specs.StoreFaults.{IsFound}

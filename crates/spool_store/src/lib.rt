@@ -3,6 +3,7 @@
 #![tactic(auto)]
 
 mod changes;
+mod folder_scan;
 mod job_rows;
 mod jobs;
 mod laws;
@@ -15,7 +16,6 @@ mod steps;
 mod store;
 mod submit;
 mod surplus;
-mod survey;
 mod surveyed_files;
 mod surveyed_job;
 mod tables;

@@ -8,7 +8,7 @@ ghost use Rattle.host_calls.specs.Damages.{IfDamaged};
 ghost use Rattle.host_calls.specs.StoreFaults.{IsReadingFault};
 ghost use Rattle.spool_store.specs.Recovering.{Recovered, ShowsAsBeforeNewFormNames};
 
-use crate::survey::{RecoveryScan, scan_folder};
+use crate::folder_scan::{RecoveryScan, scan_folder};
 use crate::{Store, StoreFault};
 use host_calls::Host;
 use std::alloc::Global;

@@ -18,7 +18,7 @@ use Rattle.spool_shows.specs.Shown.{Shows}
 use Rattle.spool_store.specs.declared.surveyed_files.SurveyedFiles.{SurveyedFiles}
 use Rattle.spool_store.specs.declared.surveyed_files.Kind.{Kind}
 use Rattle.spool_store.specs.declared.surveyed_files.Kind.TheVariants.{Counts, LeftOver, Other}
-use Rattle.spool_store.specs.declared.survey.RecoveryScan.{RecoveryScan}
+use Rattle.spool_store.specs.declared.folder_scan.RecoveryScan.{RecoveryScan}
 use Rattle.spool_store.specs.inside.SurveyedJobs.{files_surveyed, job_of_name, old_form_numbers}
 
 -- a mark decides the number of the job, if there is one

@@ -1,4 +1,4 @@
-//! The survey of a settled folder, which changes nothing.
+//! The scan of a settled folder, which changes nothing.
 ghost use Rattle.std.specs.Prelude.{◌≡◌, Err, IfOk, IfErr, IsTrue};
 ghost use Rattle.host_calls.specs.Session.{CallsInside, IsInside};
 ghost use Rattle.host_calls.specs.World.{reading};

@@ -15,7 +15,7 @@ use Rattle.spool_store.proofs.ShownLemmas.{found_damage, is_survey, jobs_damage,
 use Rattle.spool_store.specs.Stored.{AreInOldForm}
 use Rattle.spool_store.proofs.RecoveryForms.{are_old_form}
 use Rattle.spool_store.proofs.RecoveryEntries.{is_stored, surveyed_named}
-use Rattle.spool_store.proofs.survey.scan_folder.Goals as goal
+use Rattle.spool_store.proofs.folder_scan.scan_folder.Goals as goal
 
 pub returns-in_err-number-clause-damaged : goal.returns-in_err-number-clause-damaged
 returns-in_err-number-clause-damaged g c = λ tells.
