@@ -1,25 +1,32 @@
 //! What happens in a scenario.
 use crate::Why;
-use crate::values::{load, none, number_word, second_word, text_word, two};
+use crate::values::{load, lookup, none, number_word, second_word, text_word, two};
 use std::alloc::{AllocError, Global};
+
+/// What a line calls, by all its words.
+#[derive(Clone, Copy)]
+pub enum Call {
+    /// A tool.
+    Run,
+    /// The program that counts jobs.
+    Account,
+    /// The program that shows what became of jobs.
+    Stat,
+    /// The program that mails ends of jobs.
+    Post,
+    /// The program of a crontab.
+    Cron,
+    /// The checker.
+    Check,
+    /// The same, after which the machine goes on in the folder of what was saved.
+    Salvage,
+}
 
 /// An event of a scenario.
 #[derive(Drop)]
 pub enum ScenarioEvent {
-    /// A call of a tool, with all its words.
-    Run(Vec<String>),
-    /// A call of the program that counts jobs, with all its words.
-    Account(Vec<String>),
-    /// A call of the program that shows what became of jobs, with all its words.
-    Stat(Vec<String>),
-    /// A call of the program that mails ends of jobs, with all its words.
-    Post(Vec<String>),
-    /// A call of the program of a crontab, with all its words.
-    Cron(Vec<String>),
-    /// A call of the checker, with all its words.
-    Check(Vec<String>),
-    /// The same, after which the machine goes on in the folder of what was saved.
-    Salvage(Vec<String>),
+    /// A call, with all its words.
+    Call(Call, Vec<String>),
     /// A new daemon without kids, with this limit of the load and this interval between batch starts.
     Daemon(u32, u32),
     /// One full turn of the daemon, at this second and with this load.
@@ -32,16 +39,22 @@ pub enum ScenarioEvent {
     Show,
 }
 
+static CALLS: [(&str, Call); 7] = [
+    ("run", Call::Run),
+    ("account", Call::Account),
+    ("stat", Call::Stat),
+    ("post", Call::Post),
+    ("cron", Call::Cron),
+    ("check", Call::Check),
+    ("salvage", Call::Salvage),
+];
+
 /// The event that a line says by its first word and the rest of its words.
 pub fn event_of(alloc: Global, word: &[u8], rest: &[Vec<u8>]) -> Result<ScenarioEvent, Why> {
+    if let Some(call) = lookup(&CALLS, word) {
+        return Ok(ScenarioEvent::Call(call, texts(alloc, rest)?));
+    }
     match word {
-        b"run" => Ok(ScenarioEvent::Run(texts(alloc, rest)?)),
-        b"account" => Ok(ScenarioEvent::Account(texts(alloc, rest)?)),
-        b"stat" => Ok(ScenarioEvent::Stat(texts(alloc, rest)?)),
-        b"post" => Ok(ScenarioEvent::Post(texts(alloc, rest)?)),
-        b"cron" => Ok(ScenarioEvent::Cron(texts(alloc, rest)?)),
-        b"check" => Ok(ScenarioEvent::Check(texts(alloc, rest)?)),
-        b"salvage" => Ok(ScenarioEvent::Salvage(texts(alloc, rest)?)),
         b"daemon" => {
             let (limit, interval) = two(rest)?;
             Ok(ScenarioEvent::Daemon(number_word(limit)?, number_word(interval)?))
@@ -51,14 +64,8 @@ pub fn event_of(alloc: Global, word: &[u8], rest: &[Vec<u8>]) -> Result<Scenario
             Ok(ScenarioEvent::Turn(second_word(now)?, load(read)?))
         }
         b"reboot" => reboot_event(rest),
-        b"counts" => {
-            none(rest)?;
-            Ok(ScenarioEvent::Counts)
-        }
-        b"show" => {
-            none(rest)?;
-            Ok(ScenarioEvent::Show)
-        }
+        b"counts" => none(rest).map(|()| ScenarioEvent::Counts),
+        b"show" => none(rest).map(|()| ScenarioEvent::Show),
         _ => Err(Why::NoSuchLine),
     }
 }

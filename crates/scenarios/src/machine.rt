@@ -4,7 +4,7 @@ ghost use Rattle.memory_host.specs.Host.{memory_session};
 ghost use Rattle.scenarios.specs.Machine.{HaveChildren};
 
 use crate::Why;
-use crate::event::ScenarioEvent;
+use crate::event::{Call, ScenarioEvent};
 use crate::printed::{counts_line, show_asked, show_handed, show_run, show_turn};
 use crate::settings::Settings;
 use crate::transcript::Transcript;
@@ -43,26 +43,42 @@ impl Machine {
     pub fn make(
         &mut self,
         alloc: Global,
-        event: ScenarioEvent,
+        event: &ScenarioEvent,
         settings: &Settings,
         transcript: &mut Transcript,
     ) -> Result<(), Why> {
         match event {
-            ScenarioEvent::Run(words) => Ok(self.run(alloc, &words, settings, transcript)?),
-            ScenarioEvent::Account(words) => Ok(self.account(alloc, &words, settings, transcript)?),
-            ScenarioEvent::Stat(words) => Ok(self.stat(alloc, &words, settings, transcript)?),
-            ScenarioEvent::Post(words) => Ok(self.post(alloc, &words, settings, transcript)?),
-            ScenarioEvent::Cron(words) => Ok(self.cron(alloc, &words, settings, transcript)?),
-            ScenarioEvent::Check(words) => Ok(self.check(alloc, &words, settings, transcript)?),
-            ScenarioEvent::Salvage(words) => Ok(self.salvage(alloc, &words, settings, transcript)?),
+            ScenarioEvent::Call(call, words) => {
+                Ok(self.call(alloc, *call, words, settings, transcript)?)
+            }
             ScenarioEvent::Daemon(limit, interval) => {
-                self.daemon = Daemon::new(alloc, limit, interval);
+                self.daemon = Daemon::new(alloc, *limit, *interval);
                 Ok(())
             }
-            ScenarioEvent::Turn(now, load) => self.turn(alloc, now, load, transcript),
-            ScenarioEvent::Reboot(pick, fuse) => Ok(self.reboot(alloc, pick, fuse, transcript)?),
+            ScenarioEvent::Turn(now, load) => self.turn(alloc, *now, *load, transcript),
+            ScenarioEvent::Reboot(pick, fuse) => Ok(self.reboot(alloc, *pick, *fuse, transcript)?),
             ScenarioEvent::Counts => Ok(self.counts(alloc, transcript)?),
             ScenarioEvent::Show => Ok(self.show(alloc, transcript)?),
+        }
+    }
+
+    // Calls a program, and prints how it ended.
+    fn call(
+        &mut self,
+        alloc: Global,
+        call: Call,
+        words: &[String],
+        settings: &Settings,
+        transcript: &mut Transcript,
+    ) -> Result<(), AllocError> {
+        match call {
+            Call::Run => self.run(alloc, words, settings, transcript),
+            Call::Account => self.account(alloc, words, settings, transcript),
+            Call::Stat => self.stat(alloc, words, settings, transcript),
+            Call::Post => self.post(alloc, words, settings, transcript),
+            Call::Cron => self.cron(alloc, words, settings, transcript),
+            Call::Check => self.check(alloc, words, settings, transcript),
+            Call::Salvage => self.salvage(alloc, words, settings, transcript),
         }
     }
 
@@ -105,16 +121,8 @@ impl Machine {
             &mut out,
             &mut err,
         );
-        let rested = readings.rested();
-        show_run(
-            alloc,
-            "run",
-            status.code,
-            out.content(),
-            err.content(),
-            rested,
-            transcript,
-        )
+        let (out, err, rested) = (out.content(), err.content(), readings.rested());
+        show_run(alloc, "run", status.code, out, err, rested, transcript)
     }
 
     // Counts the jobs, as the words ask for it.

@@ -17,19 +17,28 @@ pub struct Opening {
     plan: Plan,
 }
 
-/// Whether a line that begins with this word is one of the opening.
-pub fn is_opening_word(word: &[u8]) -> bool {
-    matches!(
-        word,
-        b"file"
-            | b"absent"
-            | b"child"
-            | b"failing-call"
-            | b"taken-call"
-            | b"failing-start"
-            | b"fuse"
-    )
+/// What a line of the opening sets.
+#[derive(Clone, Copy)]
+pub enum OpeningPart {
+    File,
+    Absent,
+    Child,
+    FailingCall,
+    TakenCall,
+    FailingStart,
+    Fuse,
 }
+
+/// The words of its lines.
+pub static PARTS: [(&str, OpeningPart); 7] = [
+    ("file", OpeningPart::File),
+    ("absent", OpeningPart::Absent),
+    ("child", OpeningPart::Child),
+    ("failing-call", OpeningPart::FailingCall),
+    ("taken-call", OpeningPart::TakenCall),
+    ("failing-start", OpeningPart::FailingStart),
+    ("fuse", OpeningPart::Fuse),
+];
 
 impl Opening {
     /// An empty list of users who may not use `at`, and no plan.
@@ -44,17 +53,16 @@ impl Opening {
         })
     }
 
-    /// Takes a line that begins with a word of the opening.
-    pub fn take(&mut self, alloc: Global, word: &[u8], rest: &[Vec<u8>]) -> Result<(), Why> {
-        match word {
-            b"file" => self.put_file(alloc, rest),
-            b"absent" => self.take_away(rest),
-            b"child" => self.add_child(alloc, rest),
-            b"failing-call" => self.add_failing(alloc, rest),
-            b"taken-call" => self.add_taken(alloc, rest),
-            b"failing-start" => self.add_failing_start(alloc, rest),
-            b"fuse" => self.set_fuse(rest),
-            _ => Err(Why::NoSuchLine),
+    /// Takes a line of the opening, without its first word.
+    pub fn take(&mut self, alloc: Global, part: OpeningPart, rest: &[Vec<u8>]) -> Result<(), Why> {
+        match part {
+            OpeningPart::File => self.put_file(alloc, rest),
+            OpeningPart::Absent => self.take_away(rest),
+            OpeningPart::Child => self.add_child(alloc, rest),
+            OpeningPart::FailingCall => self.add_failing(alloc, rest),
+            OpeningPart::TakenCall => self.add_taken(alloc, rest),
+            OpeningPart::FailingStart => self.add_failing_start(alloc, rest),
+            OpeningPart::Fuse => self.set_fuse(rest),
         }
     }
 

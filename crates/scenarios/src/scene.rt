@@ -1,11 +1,13 @@
 //! Scenarios as far as they were read.
+ghost use Rattle.std.specs.Prelude.{OnOk, IsSome};
+
 use crate::Why;
 use crate::event::{ScenarioEvent, event_of};
 use crate::machine::Machine;
-use crate::opening::{Opening, is_opening_word};
+use crate::opening::{Opening, PARTS};
 use crate::settings::Settings;
 use crate::transcript::Transcript;
-use crate::values::{one, text_word};
+use crate::values::{lookup, one, text_word};
 use crate::words::words_of_line;
 use std::alloc::Global;
 use std::mem;
@@ -102,30 +104,48 @@ impl Scene {
         if self.settings.take(alloc, word, rest)? {
             return Ok(());
         }
-        if !is_opening_word(word) {
-            let event = event_of(alloc, word, rest)?;
-            return self.make(alloc, event, transcript);
+        match lookup(&PARTS, word) {
+            Some(_) if self.machine.is_some() => Err(Why::Partial),
+            Some(opening) => self.opening.take(alloc, opening, rest),
+            None => self.take_event(alloc, word, rest, transcript),
         }
-        if self.machine.is_some() {
-            return Err(Why::Partial);
-        }
-        self.opening.take(alloc, word, rest)
     }
 
-    // Makes an event, the first one on the machine that the opening says.
+    // Makes the event that a line says, the first one on the machine that the opening says.
+    fn take_event(
+        &mut self,
+        alloc: Global,
+        word: &[u8],
+        rest: &[Vec<u8>],
+        transcript: &mut Transcript,
+    ) -> Result<(), Why> {
+        let event = event_of(alloc, word, rest)?;
+        let made = self.make(alloc, &event, transcript);
+        drop(event);
+        made
+    }
+
     fn make(
         &mut self,
         alloc: Global,
-        event: ScenarioEvent,
+        event: &ScenarioEvent,
         transcript: &mut Transcript,
     ) -> Result<(), Why> {
         if self.machine.is_none() {
-            let opening = mem::replace(&mut self.opening, Opening::new(alloc)?);
-            self.machine = Some(Machine::new(alloc, opening.host(alloc)?));
+            self.open(alloc)?;
         }
         match &mut self.machine {
             Some(machine) => machine.make(alloc, event, &self.settings, transcript),
             None => unreachable!(),
         }
+    }
+
+    // Makes the machine that the opening says.
+    fn open(&mut self, alloc: Global) -> Result<(), Why>
+        ensures { OnOk result (IsSome self.new.machine) }
+    {
+        let opening = mem::replace(&mut self.opening, Opening::new(alloc)?);
+        self.machine = Some(Machine::new(alloc, opening.host(alloc)?));
+        Ok(())
     }
 }

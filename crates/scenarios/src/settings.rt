@@ -2,7 +2,7 @@
 ghost use Rattle.std.specs.Prelude.{◌<◌, IfOk, vec_len};
 
 use crate::Why;
-use crate::values::{load, none, number_word, one, second_word, text_word, two, umask};
+use crate::values::{load, lookup, none, number_word, one, second_word, text_word, two, umask};
 use at_day::Caller;
 use civil_minute::{Zone, zone_of};
 use host_calls::Text;
@@ -25,6 +25,44 @@ pub struct Settings {
     ghost some_load: { 0 < vec_len loads },
     ghost umask: { caller.context.umask < 512 },
 }
+
+// What a line of the settings sets.
+#[derive(Clone, Copy)]
+enum Setting {
+    User,
+    Directory,
+    Umask,
+    NoVariables,
+    Variable,
+    Zone,
+    NoZone,
+    Now,
+    Load,
+    Input,
+    NoFile,
+    FailingInput,
+    FailingOut,
+    FailingErr,
+    SoundOutside,
+}
+
+static SETTINGS: [(&str, Setting); 15] = [
+    ("user", Setting::User),
+    ("directory", Setting::Directory),
+    ("umask", Setting::Umask),
+    ("no-variables", Setting::NoVariables),
+    ("variable", Setting::Variable),
+    ("zone", Setting::Zone),
+    ("no-zone", Setting::NoZone),
+    ("now", Setting::Now),
+    ("load", Setting::Load),
+    ("input", Setting::Input),
+    ("no-file", Setting::NoFile),
+    ("failing-input", Setting::FailingInput),
+    ("failing-out", Setting::FailingOut),
+    ("failing-err", Setting::FailingErr),
+    ("sound-outside", Setting::SoundOutside),
+];
 
 impl Settings {
     /// The user `ann` at home, on the first second of 2025, with nothing to read.
@@ -53,27 +91,34 @@ impl Settings {
 
     /// Takes a line, if it is one of the settings.
     pub fn take(&mut self, alloc: Global, word: &[u8], rest: &[Vec<u8>]) -> Result<bool, Why> {
-        Ok(
-            self.take_caller(alloc, word, rest)?
-                || self.take_input(alloc, word, rest)?
-                || self.take_output(word, rest)?,
-        )
+        match lookup(&SETTINGS, word) {
+            Some(setting) => {
+                self.set(alloc, setting, rest)?;
+                Ok(true)
+            }
+            None => Ok(false),
+        }
     }
 
-    // Takes a line that says who calls.
-    fn take_caller(&mut self, alloc: Global, word: &[u8], rest: &[Vec<u8>]) -> Result<bool, Why> {
-        let taken = match word {
-            b"user" => self.set_user(alloc, rest),
-            b"directory" => self.set_directory(alloc, rest),
-            b"umask" => self.set_umask(rest),
-            b"no-variables" => self.clear_variables(alloc, rest),
-            b"variable" => self.add_variable(alloc, rest),
-            b"zone" => self.set_zone(alloc, rest),
-            b"no-zone" => self.clear_zone(rest),
-            _ => return Ok(false),
-        };
-        taken?;
-        Ok(true)
+    // Takes a line of this setting, without its first word.
+    fn set(&mut self, alloc: Global, setting: Setting, rest: &[Vec<u8>]) -> Result<(), Why> {
+        match setting {
+            Setting::User => self.set_user(alloc, rest),
+            Setting::Directory => self.set_directory(alloc, rest),
+            Setting::Umask => self.set_umask(rest),
+            Setting::NoVariables => self.clear_variables(alloc, rest),
+            Setting::Variable => self.add_variable(alloc, rest),
+            Setting::Zone => self.set_zone(alloc, rest),
+            Setting::NoZone => self.clear_zone(rest),
+            Setting::Now => self.set_nows(alloc, rest),
+            Setting::Load => self.set_loads(alloc, rest),
+            Setting::Input => self.set_input(alloc, rest),
+            Setting::NoFile => self.clear_file(rest),
+            Setting::FailingInput => self.fail_inputs(rest),
+            Setting::FailingOut => self.fail_out(rest),
+            Setting::FailingErr => self.fail_err(rest),
+            Setting::SoundOutside => self.mend_outside(rest),
+        }
     }
 
     fn set_user(&mut self, alloc: Global, rest: &[Vec<u8>]) -> Result<(), Why> {
@@ -114,20 +159,6 @@ impl Settings {
         Ok(())
     }
 
-    // Takes a line that says what calls read.
-    fn take_input(&mut self, alloc: Global, word: &[u8], rest: &[Vec<u8>]) -> Result<bool, Why> {
-        let taken = match word {
-            b"now" => self.set_nows(alloc, rest),
-            b"load" => self.set_loads(alloc, rest),
-            b"input" => self.set_input(alloc, rest),
-            b"no-file" => self.clear_file(rest),
-            b"failing-input" => self.fail_inputs(rest),
-            _ => return Ok(false),
-        };
-        taken?;
-        Ok(true)
-    }
-
     fn set_nows(&mut self, alloc: Global, rest: &[Vec<u8>]) -> Result<(), Why> {
         self.nows = each(alloc, rest, second_word)?;
         Ok(())
@@ -155,21 +186,24 @@ impl Settings {
         Ok(())
     }
 
-    // Takes a line that says how calls write, or that all is sound.
-    fn take_output(&mut self, word: &[u8], rest: &[Vec<u8>]) -> Result<bool, Why> {
-        match word {
-            b"failing-out" => self.failing_out = Some(number_word(one(rest)?)?),
-            b"failing-err" => self.failing_err = Some(number_word(one(rest)?)?),
-            b"sound-outside" => {
-                none(rest)?;
-                self.is_file = true;
-                self.inputs_fail = false;
-                self.failing_out = None;
-                self.failing_err = None;
-            }
-            _ => return Ok(false),
-        }
-        Ok(true)
+    fn fail_out(&mut self, rest: &[Vec<u8>]) -> Result<(), Why> {
+        self.failing_out = Some(number_word(one(rest)?)?);
+        Ok(())
+    }
+
+    fn fail_err(&mut self, rest: &[Vec<u8>]) -> Result<(), Why> {
+        self.failing_err = Some(number_word(one(rest)?)?);
+        Ok(())
+    }
+
+    // From here on all that calls read and write is sound.
+    fn mend_outside(&mut self, rest: &[Vec<u8>]) -> Result<(), Why> {
+        none(rest)?;
+        self.is_file = true;
+        self.inputs_fail = false;
+        self.failing_out = None;
+        self.failing_err = None;
+        Ok(())
     }
 
     /// The clock and the load of a call.

@@ -21,6 +21,12 @@ pub fn two(words: &[Vec<u8>]) -> Result<(&[u8], &[u8]), Why> {
     }
 }
 
+/// What a word means, by a table of words.
+pub fn lookup<T: Copy>(table: &[(&str, T)], word: &[u8]) -> Option<T> {
+    let found = table.iter().find(|entry| entry.0.as_bytes() == word)?;
+    Some(found.1)
+}
+
 /// That there is no word.
 pub fn none(words: &[Vec<u8>]) -> Result<(), Why> {
     if words.is_empty() {
