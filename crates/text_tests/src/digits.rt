@@ -3,7 +3,7 @@ use hex_digits::{digit_of, digits_of, read_hex, write_hex};
 
 #[test]
 fn numbers_and_their_digits(rt: HostRuntime) {
-    for (digits, number) in [
+    for &(digits, number) in &[
         ("00001", 1),
         ("fffff", 1_048_575),
         ("01b968a0", 28_928_160),
@@ -12,7 +12,7 @@ fn numbers_and_their_digits(rt: HostRuntime) {
     ] {
         assert_eq!(rt; read_hex(digits.as_bytes()), Some(number), "{digits}");
     }
-    for bad in ["0000g", "0000F", "+0001", " 0001", "0x001", "00001\n"] {
+    for &bad in &["0000g", "0000F", "+0001", " 0001", "0x001", "00001\n"] {
         assert_eq!(rt; read_hex(bad.as_bytes()), None, "{bad}");
     }
 }

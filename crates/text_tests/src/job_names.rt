@@ -3,7 +3,7 @@ use job_name::JobName;
 
 #[test]
 fn first_submission(rt: HostRuntime) {
-    for (name, new_form) in [("a0000000101b968a0", true), ("a0000101b968a0", false)] {
+    for &(name, new_form) in &[("a0000000101b968a0", true), ("a0000101b968a0", false)] {
         let job = JobName::read(name.as_bytes()).expect(&rt, "a job");
         assert_eq!(rt; job.queue, b'a');
         assert_eq!(rt; job.number, 1);
@@ -16,7 +16,7 @@ fn first_submission(rt: HostRuntime) {
 
 #[test]
 fn names_at_the_edges_of_their_ranges(rt: HostRuntime) {
-    for good in [
+    for &good in &[
         "A0000100000000",
         "Zffffffbb3847f",
         "zfffff00000000",
@@ -27,7 +27,7 @@ fn names_at_the_edges_of_their_ranges(rt: HostRuntime) {
         let job = JobName::read(good.as_bytes()).expect(&rt, good);
         assert_eq!(rt; job.text().as_slice(), good.as_bytes());
     }
-    for bad in [
+    for &bad in &[
         "",
         "a0000101b968a",
         "a0000101b968a00",

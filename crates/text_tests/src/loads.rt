@@ -3,7 +3,7 @@ use load_reading::hundredths;
 
 #[test]
 fn the_first_field_is_read(rt: HostRuntime) {
-    for (text, load) in [
+    for &(text, load) in &[
         ("0.42 0.30 0.20 1/123 456\n", Some(42)),
         ("0.42", Some(42)),
         ("1.50\n", Some(150)),

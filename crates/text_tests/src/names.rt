@@ -3,7 +3,7 @@ use host_calls::Name;
 
 #[test]
 fn names_are_distinguished_from_other_bytes(rt: HostRuntime) {
-    for good in [
+    for &good in &[
         ".SEQ",
         ".TMP",
         "a0000101b968a0",
@@ -14,7 +14,7 @@ fn names_are_distinguished_from_other_bytes(rt: HostRuntime) {
     ] {
         assert!(rt; Name::of(good.as_bytes()).is_some(), "{good}");
     }
-    for bad in ["", ".", "..", "a/b", "a b", "a\n", "caf\u{e9}"] {
+    for &bad in &["", ".", "..", "a/b", "a b", "a\n", "caf\u{e9}"] {
         assert!(rt; Name::of(bad.as_bytes()).is_none(), "{bad}");
     }
     assert!(rt; Name::of(&[b'x'; 64]).is_some());

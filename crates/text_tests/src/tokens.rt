@@ -100,7 +100,7 @@ fn keywords_of_each_kind(rt: HostRuntime) {
 
 #[test]
 fn months_and_weekdays_by_number(rt: HostRuntime) {
-    for (short, long, token) in [
+    for &(short, long, token) in &[
         ("jan", "january", Month(1)),
         ("feb", "february", Month(2)),
         ("mar", "march", Month(3)),

@@ -32,7 +32,7 @@ fn spelled_times_are_read(rt: HostRuntime) -> Result<(), Fail> {
 
 #[test]
 fn other_texts_spell_none(rt: HostRuntime) {
-    for text in [
+    for &text in &[
         "",
         "0124081",
         "012408155",

@@ -36,7 +36,7 @@ fn dates_are_those_of_the_posix_locale(rt: HostRuntime) {
 // The first days of the months of 2025.
 #[test]
 fn months_and_weekdays_by_name(rt: HostRuntime) {
-    for (month, weekday, text) in [
+    for &(month, weekday, text) in &[
         (1, 3, "Wed Jan  1"),
         (2, 6, "Sat Feb  1"),
         (3, 6, "Sat Mar  1"),
@@ -72,7 +72,7 @@ fn an_accepted_job_is_said_with_its_date(rt: HostRuntime) -> Result<(), Fail> {
 #[test]
 fn a_listed_job_has_its_queue_or_an_equals_sign(rt: HostRuntime) -> Result<(), Fail> {
     let date = date_text(&NEW_YEAR);
-    for (number, queue, user, state, text) in [
+    for &(number, queue, user, state, text) in &[
         (
             1,
             b'c',
@@ -104,7 +104,7 @@ fn a_listed_job_has_its_queue_or_an_equals_sign(rt: HostRuntime) -> Result<(), F
 
 #[test]
 fn steps_of_a_turn(rt: HostRuntime) -> Result<(), Fail> {
-    for (step, text) in [
+    for &(step, text) in &[
         (TurnStepText::HandedOver(1), "job 1 handed over\n"),
         (TurnStepText::Ended(1, Ending::Exit(0)), "job 1 exit 0\n"),
         (
@@ -128,7 +128,7 @@ fn steps_of_a_turn(rt: HostRuntime) -> Result<(), Fail> {
 
 #[test]
 fn each_refusal_has_its_text(rt: HostRuntime) -> Result<(), Fail> {
-    for (refusal, line) in [
+    for &(refusal, line) in &[
         (Refusal::Usage, "at: usage\n"),
         (Refusal::NotAllowed, "at: not allowed\n"),
         (Refusal::Timespec { place: 0 }, "at: bad time at byte 0\n"),
@@ -168,7 +168,7 @@ fn each_cause_has_its_status_and_line(rt: HostRuntime) -> Result<(), Fail> {
         offset: 4,
         byte: Some(b'g'),
     };
-    for (cause, code, line) in [
+    for &(cause, code, line) in &[
         (Cause::Done, 0, ""),
         (Cause::Refused(Refusal::Past), 1, "atq: time is past\n"),
         (Cause::FileFault, 2, "atq: spool fault\n"),

@@ -4,7 +4,7 @@ use spool_model::UserName;
 
 #[test]
 fn users_and_lists(rt: HostRuntime) {
-    for (user, allow, deny, may) in [
+    for &(user, allow, deny, may) in &[
         ("ann", None, None, false),
         ("root", None, None, true),
         ("root", Some("bob"), Some("root"), true),

@@ -75,10 +75,10 @@ fn minutes_have_their_civil_times(rt: HostRuntime) -> Result<(), AllocError> {
 
 #[test]
 fn zone_texts_are_distinguished(rt: HostRuntime) -> Result<(), AllocError> {
-    for utc in [None, Some(""), Some("UTC")] {
+    for &utc in &[None, Some(""), Some("UTC")] {
         assert!(rt; matches!(zone_of(rt.alloc(), utc)?, Zone::Utc));
     }
-    for rule in [
+    for &rule in &[
         EASTERN,
         "CET-1CEST,M3.5.0,M10.5.0/3",
         "JST-9",
@@ -90,7 +90,7 @@ fn zone_texts_are_distinguished(rt: HostRuntime) -> Result<(), AllocError> {
             "{rule}"
         );
     }
-    for unreadable in ["Mars/Base", "utc", ":UTC", "EST5EDT", "EST", " "] {
+    for &unreadable in &["Mars/Base", "utc", ":UTC", "EST5EDT", "EST", " "] {
         assert!(rt;
             matches!(zone_of(rt.alloc(), Some(unreadable))?, Zone::Unreadable),
             "{unreadable}"
@@ -191,7 +191,7 @@ fn dates_mean_their_minutes(rt: HostRuntime) -> Result<(), AllocError> {
 #[test]
 fn touched_times_mean_their_minutes(rt: HostRuntime) {
     let february = 1_738_368_000;
-    for (text, now, want) in [
+    for &(text, now, want) in &[
         ("202501240815.60", NEW_YEAR, Some(Ok(28_961_775))),
         ("202501240815.61", NEW_YEAR, None),
         ("01240815", NEW_YEAR, Some(Ok(28_961_775))),

@@ -15,7 +15,7 @@ fn pending(user: UserName, number: u32, queue: u8, minute: u32) -> Row {
 
 #[test]
 fn queues_and_their_niceness(rt: HostRuntime) {
-    for (queue, batch, nice) in [
+    for &(queue, batch, nice) in &[
         (b'a', false, 0),
         (b'b', true, 2),
         (b'j', false, 18),
@@ -32,7 +32,7 @@ fn queues_and_their_niceness(rt: HostRuntime) {
 
 #[test]
 fn batch_starts_by_load_and_interval(rt: HostRuntime) {
-    for (load, last, now, may) in [
+    for &(load, last, now, may) in &[
         (Some(150), None, 1735689600, false),
         (Some(149), None, 1735689600, true),
         (None, None, 1735689600, false),

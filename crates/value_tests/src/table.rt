@@ -125,10 +125,10 @@ fn a_job_that_runs_keeps_its_text_and_its_second(rt: HostRuntime) -> Result<(), 
 
 #[test]
 fn user_names_are_distinguished_from_other_bytes(rt: HostRuntime) {
-    for good in ["ann", "a", "_apt", "x.y-z", "web$", "a+b@c", "7"] {
+    for &good in &["ann", "a", "_apt", "x.y-z", "web$", "a+b@c", "7"] {
         assert!(rt; UserName::of(good.as_bytes()).is_some(), "{good}");
     }
-    for bad in ["", "-ann", "a b", "a/b", "a\n", "a:b", "caf\u{e9}"] {
+    for &bad in &["", "-ann", "a b", "a/b", "a\n", "a:b", "caf\u{e9}"] {
         assert!(rt; UserName::of(bad.as_bytes()).is_none(), "{bad}");
     }
     assert!(rt; UserName::of(&[b'x'; 32]).is_some());

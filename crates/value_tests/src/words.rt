@@ -209,7 +209,7 @@ fn other_lines_are_refused(rt: HostRuntime) -> Result<(), Fail> {
 
 #[test]
 fn the_first_word_names_the_tool_before_the_second(rt: HostRuntime) -> Result<(), Fail> {
-    for (line, tool) in [
+    for &(line, tool) in &[
         ("/bin/at|atq", Some((Tool::At, 1))),
         ("./at_tool|atd", Some((Tool::Atd, 2))),
         ("at/|batch|x", Some((Tool::Batch, 2))),
