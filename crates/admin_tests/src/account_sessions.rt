@@ -95,7 +95,7 @@ fn beside(alloc: Global, count: u32) -> Result<(bool, Option<usize>), Fail> {
 // A pair takes 28 bytes, the three of the first job 39, and the new one 17.
 #[test]
 fn the_last_record_that_has_room(rt: HostRuntime) -> Result<(), Fail> {
-    for (count, is_refused, length) in [
+    for &(count, is_refused, length) in &[
         (99_999, false, 39 + 49_998 * 28 + 17),
         (100_000, true, 50_000 * 28),
         (100_001, true, 39 + 49_999 * 28),
@@ -143,7 +143,7 @@ fn cut_off(alloc: Global, fuse: u64, pick: u64) -> Result<(bool, bool), Fail> {
 #[test]
 fn a_file_of_accounts_is_the_old_one_or_the_new_one(rt: HostRuntime) -> Result<(), Fail> {
     for fuse in 1..17 {
-        for pick in [0, 1, u64::MAX] {
+        for &pick in &[0, 1, u64::MAX] {
             let (is_done, is_new) = cut_off(rt.alloc(), fuse, pick)?;
             let is_right = is_done == (fuse == 16) && (is_new || !is_done);
             assert!(rt; is_right, "fuse {fuse}, pick {pick}");

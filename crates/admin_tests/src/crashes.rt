@@ -35,7 +35,7 @@ fn cut_off(alloc: Global, fuse: u64, pick: u64) -> Result<(u8, bool), Fail> {
 }
 
 fn are_saved(to: &MemoryHost) -> Result<(), Fail> {
-    for name in ["a0000101b968a0", "a0000201b968a0"] {
+    for &name in &["a0000101b968a0", "a0000201b968a0"] {
         let bytes = to.reading(&named(name)?).ok_or("a job")?;
         (bytes == JOB).then_some(()).ok_or("the job's bytes")?;
     }
@@ -48,7 +48,7 @@ const CALLS: u64 = 18;
 #[test]
 fn the_sequence_file_comes_last(rt: HostRuntime) -> Result<(), Fail> {
     for fuse in 1..CALLS + 2 {
-        for pick in [0, 1, u64::MAX] {
+        for &pick in &[0, 1, u64::MAX] {
             let (code, stands) = cut_off(rt.alloc(), fuse, pick)?;
             assert_eq!(rt; code == 9, fuse == CALLS + 1, "fuse {fuse}, pick {pick}");
             assert!(rt; stands || code != 9, "fuse {fuse}, pick {pick}");

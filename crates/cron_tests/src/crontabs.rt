@@ -117,7 +117,7 @@ fn greatest_fields(rt: HostRuntime) -> Result<(), Fail> {
 
 #[test]
 fn all_minutes(rt: HostRuntime) -> Result<(), Fail> {
-    for (text, field) in [
+    for &(text, field) in &[
         (b"0-59 * * * * a", listed(1_152_921_504_606_846_975)),
         (b"*    * * * * a", any(1_152_921_504_606_846_975)),
     ] {

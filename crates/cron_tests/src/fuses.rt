@@ -101,7 +101,7 @@ fn is_done_so(answered: &Answered) -> bool {
 fn a_session_is_cut_off_at_each_call(rt: HostRuntime) -> Result<(), Fail> {
     let mut most = 0;
     for fuse in 1..60 {
-        for pick in [0, 1, u64::MAX] {
+        for &pick in &[0, 1, u64::MAX] {
             let (is_done, far) = cut_off(rt.alloc(), fuse, pick)?;
             assert!(rt; !is_done || far == 5, "fuse {fuse}, pick {pick}");
             assert!(rt; is_done || fuse < 59, "fuse {fuse}, pick {pick}");

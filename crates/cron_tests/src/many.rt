@@ -25,7 +25,7 @@ fn twenty_entries_of_one_minute(rt: HostRuntime) -> Result<(), Fail> {
     let given = sessions_of(ONE, table.as_slice(), &[NOW, NOW]);
     let last = b"a0000001401b9ebfe".as_slice();
     let next = b"a0000001501b9ebfe".as_slice();
-    for (names, jobs) in [((FIRST, last), (true, true)), ((last, next), (true, false))] {
+    for &(names, jobs) in &[((FIRST, last), (true, true)), ((last, next), (true, false))] {
         let left = left_by_ann(rt.alloc(), &given, None, names)?;
         assert_eq!(rt; left.code, 0);
         assert_eq!(rt; left.jobs, jobs);

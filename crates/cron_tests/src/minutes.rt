@@ -50,7 +50,7 @@ fn days_of_an_entry(rt: HostRuntime) -> Result<(), Fail> {
 fn numbers_that_no_field_holds(rt: HostRuntime) -> Result<(), Fail> {
     let entries = read(&rt, rt.alloc(), b"* * * * * x")?;
     let entry = entries.as_slice().first().ok_or("no entry")?;
-    for (minute, is_due) in [
+    for &(minute, is_due) in &[
         (0, true),
         (59, true),
         (60, false),

@@ -58,7 +58,7 @@ fn next_minutes(rt: HostRuntime) -> Result<(), Fail> {
 
 #[test]
 fn minutes_that_never_come(rt: HostRuntime) -> Result<(), Fail> {
-    for text in ["0 0 30 2 * x", "0 0 31 4,6,9,11 * x"] {
+    for &text in &["0 0 30 2 * x", "0 0 31 4,6,9,11 * x"] {
         let entries = read(&rt, rt.alloc(), text.as_bytes())?;
         let entry = entries.as_slice().first().ok_or("no entry")?;
         let found = next_due(rt.alloc(), entry, &Zone::Utc, MINUTE, 1)?;

@@ -33,7 +33,7 @@ fn of_length(alloc: Global, count: usize) -> Result<(u8, Option<usize>), Fail> {
 #[test]
 fn longest_commands(rt: HostRuntime) -> Result<(), Fail> {
     let longest = Some(CONTEXT.len() + 1_048_576);
-    for (count, wanted) in [(1_048_576, (0, longest)), (1_048_577, (1, None))] {
+    for &(count, wanted) in &[(1_048_576, (0, longest)), (1_048_577, (1, None))] {
         assert_eq!(rt; of_length(rt.alloc(), count)?, wanted);
     }
     Ok(())

@@ -30,7 +30,7 @@ const PICKS: [u64; 3] = [0, 1, u64::MAX];
 
 #[test]
 fn a_call_fails(rt: HostRuntime) -> Result<(), Fail> {
-    for part in [Part::Nothing, Part::All] {
+    for &part in &[Part::Nothing, Part::All] {
         let (places, broken) = failing_calls(&rt, rt.alloc(), part)?;
         kept_at_each(&rt, places, broken.as_slice());
     }

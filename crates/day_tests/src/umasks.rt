@@ -3,7 +3,7 @@ use process_input::umask_in;
 
 #[test]
 fn umasks(rt: HostRuntime) {
-    for (status, umask) in [
+    for &(status, umask) in &[
         ("Name:\tat\nUmask:\t0077\nState:\tR\n", Some(0o077)),
         ("Name:\tat\nUmask:\t0000\n", Some(0)),
         ("Umask:\t0022\n", None),

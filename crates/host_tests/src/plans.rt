@@ -59,7 +59,7 @@ fn open_host(rt: &impl Abort, alloc: Global, plan: Plan) -> MemoryHost
 fn a_file_that_was_never_synced_is_cut(rt: HostRuntime) {
     let alloc = rt.alloc();
     let a = name(&rt, "a");
-    for (pick, kept) in [
+    for &(pick, kept) in &[
         (0, b"".as_slice()),
         (5, b"\x05\x06\x07\x08\x09".as_slice()),
         (255, b"\xff\x00\x01".as_slice()),
@@ -79,7 +79,7 @@ fn a_pending_change_follows_its_bit(rt: HostRuntime) {
     let alloc = rt.alloc();
     let a = name(&rt, "a");
     let b = name(&rt, "b");
-    for (pick, at_a, at_b) in [
+    for &(pick, at_a, at_b) in &[
         (0, false, false),
         (1, true, false),
         (2, false, false),
@@ -133,7 +133,7 @@ fn a_written_range_is_uncertain(rt: HostRuntime) {
 fn a_failing_call_does_nothing_or_all(rt: HostRuntime) {
     let alloc = rt.alloc();
     let a = name(&rt, "a");
-    for (part, stays) in [(Part::Nothing, true), (Part::All, false)] {
+    for &(part, stays) in &[(Part::Nothing, true), (Part::All, false)] {
         let mut plan = no_plan(alloc);
         assert!(rt; plan.failing.push(alloc, Failing { call: 1, part }).is_ok());
         let mut host = open_host(&rt, alloc, plan);

@@ -64,7 +64,7 @@ fn a_notice_whose_start_failed(rt: HostRuntime) -> Result<(), Fail> {
     let alloc = rt.alloc();
     let mut failed: u64 = 0;
     for fuse in 0..60 {
-        for pick in [0, 1, u64::MAX] {
+        for &pick in &[0, 1, u64::MAX] {
             let children = handed_in_day(&rt, alloc, fuse, pick)?;
             assert!(rt; children.as_slice().len() <= 1, "fuse {fuse}, pick {pick}");
             if children.as_slice() == [false].as_slice() {
@@ -120,7 +120,7 @@ fn is_right(lines: &str) -> bool {
 #[test]
 fn no_minute_is_had_twice_in_a_day(rt: HostRuntime) -> Result<(), Fail> {
     for fuse in 0..60 {
-        for pick in [0, 1, u64::MAX] {
+        for &pick in &[0, 1, u64::MAX] {
             let lines = told_of_crons(&rt, rt.alloc(), fuse, pick)?;
             assert!(rt; is_right(lines.as_str()), "fuse {fuse}, pick {pick}");
             drop(lines);

@@ -77,7 +77,7 @@ fn is_fit(was_done: bool, first: u64, second: u64) -> bool {
 #[test]
 fn no_notice_is_handed_over_twice(rt: HostRuntime) -> Result<(), Fail> {
     for fuse in 1..60 {
-        for pick in [0, 1, u64::MAX] {
+        for &pick in &[0, 1, u64::MAX] {
             let is_sent = is_sent_once(&rt, rt.alloc(), fuse, pick)?;
             assert!(rt; is_sent, "fuse {fuse}, pick {pick}");
         }

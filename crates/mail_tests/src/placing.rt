@@ -67,7 +67,7 @@ fn two_sessions(alloc: Global, host: &mut MemoryHost) -> Result<Ended, AllocErro
 fn a_notice_that_is_not_placed_is_sent_by_the_next_session(rt: HostRuntime) -> Result<(), Fail> {
     let mut failed = 0;
     for call in 0..40 {
-        for part in [Part::Nothing, Part::All] {
+        for &part in &[Part::Nothing, Part::All] {
             let ended = with_a_failing_call(&rt, rt.alloc(), call, part)?;
             assert!(rt; ended.is_right, "call {call}");
             if !ended.was_done {
@@ -109,7 +109,7 @@ fn is_one_on(alloc: Global, pick: u64, host: &mut MemoryHost) -> Result<bool, Al
 #[test]
 fn the_notes_of_what_is_new_are_one_change(rt: HostRuntime) -> Result<(), Fail> {
     for fuse in 1..30 {
-        for pick in [0, 1, u64::MAX] {
+        for &pick in &[0, 1, u64::MAX] {
             let is_one = is_one_change(&rt, rt.alloc(), fuse, pick)?;
             assert!(rt; is_one, "fuse {fuse}, pick {pick}");
         }

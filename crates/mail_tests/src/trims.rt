@@ -157,7 +157,7 @@ fn one_is_sent(alloc: Global, host: &mut MemoryHost) -> Result<bool, AllocError>
 #[test]
 fn a_trim_is_cut_off_at_each_call(rt: HostRuntime) -> Result<(), Fail> {
     for fuse in 0..30 {
-        for pick in [0, 1, u64::MAX] {
+        for &pick in &[0, 1, u64::MAX] {
             let is_right = is_cut_off(&rt, rt.alloc(), fuse, pick)?;
             assert!(rt; is_right, "fuse {fuse}, pick {pick}");
         }

@@ -95,7 +95,7 @@ fn compared_over(rt: &HostRuntime, program: Beside, name: &str) -> Result<Compar
 
 #[test]
 fn no_answer_beside_the_commands_is_disputed(rt: HostRuntime) -> Result<(), Fail> {
-    for (program, name, without_files) in [
+    for &(program, name, without_files) in &[
         (Beside::Mail, "mail", 0),
         (Beside::Crontab, "crontab", 0),
         (Beside::Account, "account", 0),

@@ -8,7 +8,7 @@ use std::test::Fail;
 
 #[test]
 fn slots_of_marks(rt: HostRuntime) {
-    for (mark, slot) in [
+    for &(mark, slot) in &[
         (
             Mark::Started {
                 number: 1,
@@ -53,7 +53,7 @@ fn slots_of_marks(rt: HostRuntime) {
 #[test]
 fn slots_that_spell_no_mark(rt: HostRuntime) {
     assert!(rt; read_mark(b"+B00000000--000000003afe130dff.\n").is_some());
-    for slot in [
+    for &slot in &[
         b"-E00000001-x000000000000000000.\n",
         b"+S00000000a-000000000067748580.\n",
         b"+S000000011-000000000067748580.\n",

@@ -13,7 +13,7 @@ fn read(alloc: Global, content: &str) -> Result<Result<u32, SequenceFault>, Fail
 
 #[test]
 fn sequence_files_and_their_numbers(rt: HostRuntime) -> Result<(), Fail> {
-    for (content, number) in [
+    for &(content, number) in &[
         ("00000\n", 0),
         ("00001\n", 1),
         ("fffff\n", 1_048_575),
@@ -30,7 +30,7 @@ fn sequence_files_and_their_numbers(rt: HostRuntime) -> Result<(), Fail> {
 
 #[test]
 fn sequence_files_and_their_damage(rt: HostRuntime) -> Result<(), Fail> {
-    for (content, offset, byte) in [
+    for &(content, offset, byte) in &[
         ("0000g\n", 4, Some(b'g')),
         ("00001", 5, None),
         ("00001\n\n", 6, Some(b'\n')),
@@ -65,7 +65,7 @@ fn drawn(alloc: Global, content: &str) -> Result<Vec<u8>, Fail> {
 
 #[test]
 fn numbers_are_written_in_the_new_form(rt: HostRuntime) -> Result<(), Fail> {
-    for (before, content) in [
+    for &(before, content) in &[
         ("00000\n", "00000001\n"),
         ("fffff\n", "00100000\n"),
         ("fffffffe\n", "ffffffff\n"),

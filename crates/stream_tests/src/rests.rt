@@ -51,7 +51,7 @@ fn rested(rt: &HostRuntime, times: (u64, u64), speed: u32, seconds: u32) -> Resu
 // seconds, where the clock was set back or stands still.
 #[test]
 fn a_rest_ends_at_a_second_of_the_clock(rt: HostRuntime) -> Result<(), Fail> {
-    for (now, begin, speed, seconds, wanted) in [
+    for &(now, begin, speed, seconds, wanted) in &[
         (30_400, 30_400, 1, 30, 29_600),
         (30_400, 32_900, 1, 30, 27_100),
         (30_000, 30_000, 1, 30, 30_000),
@@ -95,7 +95,7 @@ fn a_rest_ends_where_a_watched_file_has_changed(rt: HostRuntime) -> Result<(), F
     let path = fresh_path(&rt, "watched")?;
     let sequence = named(&rt, ".SEQ");
     create_dir(&rt, path.as_str())?;
-    for (text, wanted) in [
+    for &(text, wanted) in &[
         (":", (9_600, 10_000)),
         ("echo 1 >\"$1/.SEQ\"", (1_000, 9_600)),
         (

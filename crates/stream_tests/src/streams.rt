@@ -42,7 +42,7 @@ fn the_first_bytes_of_a_file_are_read(rt: HostRuntime) -> Result<(), Fail> {
     let path = fresh_path(&rt, "input")?;
     line(&rt, "head -c 10000 /dev/zero >\"$1\"", path.as_str())?;
     let mut inputs = UnixInputs::make(rt.clone()?);
-    for (most, count) in [
+    for &(most, count) in &[
         (0, 0),
         (5, 5),
         (4096, 4096),
@@ -63,7 +63,7 @@ fn the_first_bytes_of_a_file_are_read(rt: HostRuntime) -> Result<(), Fail> {
 #[test]
 fn what_is_no_file_is_a_fault(rt: HostRuntime) -> Result<(), Fail> {
     let mut inputs = UnixInputs::make(rt.clone()?);
-    for path in ["/tmp/streams_of_nobody", "/tmp"] {
+    for &path in &["/tmp/streams_of_nobody", "/tmp"] {
         let answer = count_of(rt.alloc(), &mut inputs, path, 9);
         assert_eq!(rt; answer, Err(InputFault::Failed), "{path}");
     }
@@ -79,7 +79,7 @@ fn standard_input_is_read_part_by_part(rt: HostRuntime) -> Result<(), Fail> {
     drop(writer);
     let outside = Outside::at(&rt, Duration::ZERO, 0, &input);
     let mut inputs = UnixInputs::make(&outside);
-    for (most, wanted) in [(4, "echo"), (100, " hi\n"), (100, "")] {
+    for &(most, wanted) in &[(4, "echo"), (100, " hi\n"), (100, "")] {
         let bytes = inputs.standard(alloc, most).expect(&rt, "bytes");
         assert_eq!(rt; bytes.as_slice(), wanted.as_bytes());
     }

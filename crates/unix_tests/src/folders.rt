@@ -93,7 +93,7 @@ fn begins_where_it_is(rt: &HostRuntime, path: &str) -> Result<(bool, Vec<u8>), F
 #[test]
 fn a_folder_that_is_to_be_there_is_not_made(rt: HostRuntime) -> Result<(), Fail> {
     let path = fresh_spool(&rt, "absent")?;
-    for (made, begun, beside) in [(":", false, "0\n"), ("mkdir \"$1\"", true, "2\n")] {
+    for &(made, begun, beside) in &[(":", false, "0\n"), ("mkdir \"$1\"", true, "2\n")] {
         line(&rt, made, path.as_str())?;
         let (begins, count) = begins_where_it_is(&rt, path.as_str())?;
         assert!(rt;

@@ -41,7 +41,7 @@ fn a_folder_is_found_again(rt: HostRuntime) -> Result<(), Fail> {
     line(&rt, "mkdir \"$1\" && : >\"$1/job\"", path.as_str())?;
     let relative = path.as_str().strip_prefix("/tmp/").unwrap_or("");
     env::set_current_dir(&rt, "/tmp")?;
-    for (spool, folder) in [(relative, "/tmp"), (path.as_str(), path.as_str())] {
+    for &(spool, folder) in &[(relative, "/tmp"), (path.as_str(), path.as_str())] {
         let seen = seen_moving(&rt, spool, &[&[Names], &[Names]], "pwd -P")?;
         let wanted = line(&rt, TWICE, folder)?;
         assert_eq!(rt; seen.as_slice(), wanted.as_slice(), "{spool}");

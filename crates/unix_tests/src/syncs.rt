@@ -10,7 +10,7 @@ const MADE: &str = "mkdir -p \"$1/spool\" \"$1/spool.out\"; : >\"$1/spool/job\""
 #[test]
 fn a_sync_that_is_refused_is_a_fault(rt: HostRuntime) -> Result<(), Fail> {
     let calls = [Sync("job"), SyncNames, Settle];
-    for (device, wanted) in [
+    for &(device, wanted) in &[
         ("none", ";;;"),
         ("/spool/job", "!;;!;"),
         ("/spool", ";!;!;"),
