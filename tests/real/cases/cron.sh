@@ -64,6 +64,19 @@ case_cron_refused() {
   printf 0 >"$spool/.SEQ"; crons 1; refused 7 'atcron: .SEQ damaged at 1'
 }
 
+# Where its mark is ahead of the clock it says for how long it submits nothing.
+case_cron_of_a_mark_ahead() {
+  doored; opened
+  printf '* * * * * x\n' >table
+  extra=(ATSPOOL="$spool" TZ=UTC)
+  printf '%08x\n' $(($(date +%s) / 60 + 90)) >"$spool/.CRON"
+  knock atcron -f "$PWD/table" --turns 1
+  [ "$status" = 0 ] && grep -qxE "atcron: $spool/\.CRON is (89|90) minutes ahead of the clock, and atcron submits nothing until then" err \
+    || fail "status $status: $(cat err)"
+  printf '%08x\n' $(($(date +%s) / 60)) >"$spool/.CRON"
+  knock atcron -f "$PWD/table" --turns 1; ended 0 '' ''
+}
+
 # Three minutes with an atd beside it, the crontab replaced, cut in the middle, gone and back, and twenty kills: each minute
 # has its jobs at most once, and most have them.
 case_long_cron_of_three_minutes() {
