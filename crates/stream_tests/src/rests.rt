@@ -1,6 +1,6 @@
 //! Rests: those that last as long as they are asked for, and those that end at a second of the clock or at a change.
 use crate::outside::Outside;
-use crate::words::{clear, fresh_path, line, named};
+use crate::words::{clear, fresh_path, line, named, shell};
 use host_calls::{Name, Readings};
 use std::alloc::Global;
 use std::fs::{File, Files, create_dir};
@@ -130,5 +130,39 @@ fn a_rest_ends_while_it_lasts(rt: HostRuntime) -> Result<(), Fail> {
     let rested = time_of_rest(&rt, path.as_str(), &files)?;
     clear(&rt, path.as_str())?;
     assert!(rt; rested >= Duration::from_secs(1) && rested < Duration::from_secs(20));
+    Ok(())
+}
+
+// How many milliseconds two rests of ten seconds last beside a child of this process that runs this line of the shell.
+fn rested_beside(rt: &HostRuntime, text: &str) -> Result<(u128, u128), Fail> {
+    let (input, writer) = io::pipe(rt)?;
+    drop(writer);
+    let outside = Outside::at(rt, Duration::from_millis(30_400), 1, &input);
+    let mut readings = watching(&outside, rt.alloc(), "/nowhere", &[])?;
+    readings.now();
+    let mut child = shell(rt, text)?;
+    // It ends meanwhile, or goes on for longer than that.
+    line(rt, "sleep 0.5", "")?;
+    readings.rest(10);
+    let first = outside.rested.get();
+    readings.rest(10);
+    let second = outside.rested.get().saturating_sub(first);
+    child.kill()?;
+    child.wait()?;
+    Ok((first.as_millis(), second.as_millis()))
+}
+
+// The end of a child ends one rest after its first second, whatever its name is, and no other.
+#[test]
+fn the_end_of_a_child_ends_one_rest(rt: HostRuntime) -> Result<(), Fail> {
+    for &(text, wanted) in &[
+        ("sleep 5", (9_600, 10_000)),
+        (":", (1_000, 9_600)),
+        ("kill -9 $$", (1_000, 9_600)),
+        ("printf '(x) R 1' >/proc/self/comm; exit 3", (1_000, 9_600)),
+    ] {
+        let rested = rested_beside(&rt, text)?;
+        assert_eq!(rt; rested, wanted, "{text}");
+    }
     Ok(())
 }

@@ -1,7 +1,7 @@
 //! What the tests are written in. Each test has a path of its own.
 use host_calls::Name;
 use std::process;
-use std::process::{Abort, Command};
+use std::process::{Abort, Command, Processes};
 use std::test::Fail;
 
 /// What a line of the shell prints, whose `$1` is the path.
@@ -32,4 +32,14 @@ pub fn clear(rt: &HostRuntime, path: &str) -> Result<(), Fail> {
 
 pub fn named(rt: &impl Abort, text: &str) -> Name {
     Name::of(text.as_bytes()).expect(rt, "a name")
+}
+
+/// A child of this process that runs this line of the shell.
+pub fn shell(
+    rt: &HostRuntime,
+    text: &str,
+) -> Result<process::Child<<HostRuntime as Processes>::Started>, Fail> {
+    let mut shell = Command::new(rt.alloc(), "/bin/sh")?;
+    shell.args(["-c", text].as_slice())?;
+    Ok(shell.spawn(rt)?)
 }

@@ -2,7 +2,10 @@ pub mod Changes
 pub mod Found
 pub mod JobCommand
 pub mod LockByte
+pub mod Locks
 pub mod Paths
 pub mod Prefixes
+pub mod Rests
 pub mod Seconds
 pub mod Torn
+pub mod WatchedChildren

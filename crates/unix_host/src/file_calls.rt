@@ -1,19 +1,19 @@
 //! The changes of a folder themselves. Each is made only once the session knows of it, the byte of the lock says
-//! enough, and no listing is kept that would say what was before it.
+//! enough, no listing is kept that would say what was before it, and no file that was written to before is open.
 ghost use Rattle.std.specs.Prelude.{◌≡◌, ◌≤◌, IsTrue, None, string_bytes};
 ghost use Rattle.unix_host.specs.inside.Changes.{unsynced_left_by};
 ghost use Rattle.unix_host.specs.inside.LockByte.{amount_of};
 ghost use Rattle.unix_host.specs.inside.Paths.{file_in};
 ghost use Rattle.unix_host.specs.inside.Torn.{may_tear};
 
-use crate::files;
 use crate::locked::LockedFolder;
+use crate::synced::WrittenFile;
 use crate::torn::Torn;
 use host_calls::{HostFault, Name};
 use std::fs;
 use std::fs::{File, Files, OpenOptions, Permissions};
 use std::io::Write;
-use std::os::unix::fs::{FileExt, OpenOptionsExt, PermissionsExt};
+use std::os::unix::fs::{OpenOptionsExt, PermissionsExt};
 
 /// Makes a file.
 pub fn create_file<R: Files<File = File>>(
@@ -28,6 +28,7 @@ pub fn create_file<R: Files<File = File>>(
     requires torn { IsTrue (may_tear folder.now.changes.torn name.now) }
     requires known { amount_of (unsynced_left_by folder.now.changes) ≤ amount_of folder.now.lock.known }
     requires unlisted { folder.now.listing ≡ None }
+    requires closed { folder.now.written ≡ None }
 {
     let _ = name;
     let mut options = OpenOptions::new();
@@ -42,23 +43,22 @@ pub fn create_file<R: Files<File = File>>(
 }
 
 /// Writes over a range of a file.
-pub fn write_range<R: Files<File = File>>(
+pub fn write_range(
     folder: &LockedFolder,
-    rt: &R,
-    path: &str,
+    file: &WrittenFile,
     name: &Name,
     offset: u64,
     bytes: &[u8],
 ) -> Result<(), HostFault>
-    requires path { path.now ≡ file_in (string_bytes folder.now.paths.folder) name.now }
+    requires path { string_bytes file.now.path ≡ file_in (string_bytes folder.now.paths.folder) name.now }
     requires torn { IsTrue (may_tear folder.now.changes.torn name.now) }
     requires known { amount_of (unsynced_left_by folder.now.changes) ≤ amount_of folder.now.lock.known }
     requires unlisted { folder.now.listing ≡ None }
+    requires closed { folder.now.written ≡ None }
 {
+    let _ = folder;
     let _ = name;
-    let file = files::opened(rt, path, OpenOptions::new().write(true))?;
-    file.write_all_at(bytes, offset)
-        .map_err(|_| HostFault::Failed)
+    file.write(offset, bytes)
 }
 
 /// Gives a file another name.
@@ -76,6 +76,7 @@ pub fn move_name<R: Files>(
     requires torn { IsTrue (may_tear folder.now.changes.torn from.now) → folder.now.changes.torn ≡ Torn.Each }
     requires known { amount_of (unsynced_left_by folder.now.changes) ≤ amount_of folder.now.lock.known }
     requires unlisted { folder.now.listing ≡ None }
+    requires closed { folder.now.written ≡ None }
 {
     let _ = from;
     let _ = to;
@@ -93,6 +94,7 @@ pub fn remove_name<R: Files>(
     requires names { IsTrue folder.now.changes.names }
     requires known { amount_of (unsynced_left_by folder.now.changes) ≤ amount_of folder.now.lock.known }
     requires unlisted { folder.now.listing ≡ None }
+    requires closed { folder.now.written ≡ None }
 {
     let _ = name;
     fs::remove_file(rt, path).map_err(|_| HostFault::Failed)

@@ -4,7 +4,7 @@ ghost use Rattle.std.specs.Prelude.{◌≡◌, IfOk, length};
 use crate::files;
 use crate::files_left::FilesLeft;
 use crate::paths::Paths;
-use crate::synced::{Synced, sync_path};
+use crate::synced::{Synced, WrittenFile, sync_path};
 use host_calls::{HostFault, Name};
 use std::alloc::Global;
 use std::fs::{File, Files};
@@ -15,6 +15,22 @@ pub fn sync_file<'a, R: Files<File = File>>(rt: &R, path: &'a str) -> Result<Syn
 {
     files::length(rt, path)?;
     sync_path(rt, path)
+}
+
+/// Syncs the bytes of a file, which may be the one that is still open.
+pub fn sync_written<'a, R: Files<File = File>>(
+    rt: &R,
+    written: &'a Option<WrittenFile>,
+    path: &'a str,
+) -> Result<Synced<'a>, HostFault>
+    ensures path { IfOk result (λ synced. synced.path.now ≡ path.now) }
+{
+    if let Some(file) = written {
+        if file.is_at(path) {
+            return file.sync();
+        }
+    }
+    sync_file(rt, path)
 }
 
 /// Makes the bytes of each of these files certain, the last first.

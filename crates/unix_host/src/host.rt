@@ -234,9 +234,12 @@ impl<R: Runtime<File = File> + Processes> Host for UnixHost<R> {
     {
         // The name alone tells which job it is.
         let _ = number;
-        let folder = self.folder.as_ref().unwrap();
+        let folder = self.folder.as_mut().unwrap();
+        folder.close_written();
         // Room first, so that no child is lost that was started.
-        self.kids.reserve(1)?;
+        if let Err(_) = self.kids.reserve(1) {
+            return self.counts.start_call(Err(StartFault::Failed));
+        }
         let started = job::start(
             &self.rt,
             alloc,

@@ -1,5 +1,5 @@
 //! How a job is started, and how it ended.
-ghost use Rattle.std.specs.Prelude.{◌≡◌, ◌≢◌, ◌++◌, ◌<◌, ℕ, IfOk, OnOk, map, pos, string_bytes};
+ghost use Rattle.std.specs.Prelude.{◌≡◌, ◌↔◌, ◌⊎◌, ◌++◌, ◌<◌, ℕ, IfErr, IfOk, IsTrue, OnOk, map, pos, string_bytes};
 ghost use Rattle.std.specs.IoError.{error_kind};
 ghost use Rattle.std.specs.Path.{IsAbsolute};
 ghost use Rattle.std.specs.Process.{SameDir, SameEnv, command_args, command_program};
@@ -13,13 +13,19 @@ use std::alloc::{AllocError, Global};
 use std::io::ErrorKind;
 use std::os::unix::process::ExitStatusExt;
 use std::process::{Command, ExitStatus, Processes};
-use std::{io, process};
+use std::time::{Clock, Duration};
+use std::{io, process, thread};
 
 // Runs the script `$2` at the niceness `$1` with no environment, and puts what it writes into `$3`. Where that can't be made,
 // the script runs all the same: what it writes is lost, and standard error says which file it is.
 const LINE: &str = "{ command : >\"$3\"; } 2>/dev/null || \
     { printf '%s: no output file %s\\n' \"$0\" \"$3\" >&2; set -- \"$1\" \"$2\" /dev/null; }; \
     exec nice -n \"$1\" env -i /bin/sh \"$2\" >\"$3\" 2>&1 </dev/null";
+
+// How often a start is tried that finds no memory or no process, and how many milliseconds the system is given in between.
+const TRIES: u32 = 4;
+
+const PAUSE: u64 = 100;
 
 /// What a start asks for: the job by the name of its file, and how nice it is to be.
 #[derive(Clone, Copy)]
@@ -35,19 +41,44 @@ pub struct ChildProcess<R: Processes> {
     pub started_as: JobStart,
 }
 
-/// Starts a job of the folder with these paths.
-pub fn start<R: Processes>(
+/// Starts a job of the folder with these paths. Its mark is durable by then, so want of memory is a failed start too: the job
+/// has not begun, and the turn that goes on can say so.
+pub fn start<R: Processes + Clock>(
     rt: &R,
     alloc: Global,
     paths: &Paths,
     start: JobStart,
 ) -> Result<ChildProcess<R>, StartFault>
     ensures started_as { IfOk result (λ kid. kid.started_as ≡ start) }
+    ensures failed { IfErr result (λ fault. fault ≡ StartFault.Failed) }
+{
+    for _ in 1..TRIES {
+        match try_start(rt, alloc, paths, &start) {
+            Ok(kid) => return Ok(kid),
+            Err(error) => {
+                if !is_short(&error) {
+                    return Err(StartFault::Failed);
+                }
+            }
+        }
+        thread::sleep(rt, Duration::from_millis(PAUSE));
+    }
+    try_start(rt, alloc, paths, &start).map_err(|_| StartFault::Failed)
+}
+
+// Starts it once.
+fn try_start<R: Processes>(
+    rt: &R,
+    alloc: Global,
+    paths: &Paths,
+    start: &JobStart,
+) -> io::Result<ChildProcess<R>>
+    ensures started_as { IfOk result (λ kid. kid.started_as ≡ start.now) }
 {
     let script = paths.script(alloc, &start.name)?;
     let output = paths.output(alloc, &start.name)?;
     let command = command_of(alloc, start.nice, script.as_str(), output.as_str())?;
-    spawned(rt, command, paths, start)
+    spawned(rt, command, paths, *start)
 }
 
 // The child of this command.
@@ -56,7 +87,7 @@ fn spawned<R: Processes>(
     mut command: Command,
     paths: &Paths,
     start: JobStart,
-) -> Result<ChildProcess<R>, StartFault>
+) -> io::Result<ChildProcess<R>>
     requires { IsJobCommand start.nice (file_in (string_bytes paths.now.whole) start.name)
         (file_in (string_bytes paths.now.outputs) start.name) command }
     ensures started_as { IfOk result (λ kid. kid.started_as ≡ start) }
@@ -69,20 +100,15 @@ fn spawned<R: Processes>(
             process,
             started_as: start,
         }),
-        Err(error) => Err(start_fault_of(error)),
+        Err(error) => Err(error),
     }
 }
 
-// Nothing was started where the system found no memory for it.
-fn start_fault_of(error: io::Error) -> StartFault
-    ensures memory { error_kind error ≡ ErrorKind.OutOfMemory → result ≡ StartFault.Memory }
-    ensures failed { error_kind error ≢ ErrorKind.OutOfMemory → result ≡ StartFault.Failed }
+// Whether the system had no memory, or no room for one more process: that may pass.
+fn is_short(error: &io::Error) -> bool
+    ensures { IsTrue result ↔ (error_kind error.now ≡ ErrorKind.OutOfMemory ⊎ error_kind error.now ≡ ErrorKind.WouldBlock) }
 {
-    if error.kind() == ErrorKind::OutOfMemory {
-        StartFault::Memory
-    } else {
-        StartFault::Failed
-    }
+    matches!(error.kind(), ErrorKind::OutOfMemory | ErrorKind::WouldBlock)
 }
 
 // A shell would read a word that begins with a dash as options.

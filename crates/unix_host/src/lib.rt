@@ -6,6 +6,7 @@
 
 mod absent;
 mod changes;
+mod children;
 mod err;
 mod file_calls;
 mod file_syncs;
@@ -19,7 +20,9 @@ mod job;
 mod listed_files;
 mod listing;
 mod lock;
+mod lock_files;
 mod locked;
+mod locked_listing;
 mod make;
 mod naming;
 mod out;
@@ -40,4 +43,4 @@ pub use host::UnixHost;
 pub use inputs::UnixInputs;
 pub use out::UnixOut;
 pub use readings::UnixReadings;
-pub use waits::Waits;
+pub use waits::{WaitNotice, Waits};

@@ -1,6 +1,9 @@
-//! The lock of a spool folder, and the byte in its file that says whether anything is unsynced.
+//! The two locks of a session, and the byte beside the directory that says whether anything is unsynced.
 //!
-//! `SPOOL.lock` holds one byte, which is read and written only under the lock:
+//! A session holds the file `SPOOL.lock`, and the directory itself: whoever comes by another path, or after the file was
+//! removed, finds the directory locked. Both are had or neither, and only where both are still what their paths name.
+//!
+//! `SPOOL.lock` holds one byte, which is read and written only under the locks:
 //!
 //! - `c`: nothing of the folder is unsynced;
 //! - `n`: only changes of names are unsynced;
@@ -21,47 +24,79 @@
 //!   and no byte can say too little. This is why the byte itself is never synced. An old byte that says too
 //!   much costs syncs, and nothing else.
 //!
-//! What it doesn't cover: a program that changes the folder without this lock, and a copy of the folder that
-//! is put in its place with its lock file. Remove the lock file then.
+//! What it doesn't cover: a program that changes the folder without the locks; a copy of the folder that is put in its place
+//! with its lock file; and a second path to the folder, which has a lock file and a byte of its own.
 ghost use Rattle.std.specs.Prelude.{◌≡◌, ◌≤◌, OnOk, OnErr};
 ghost use Rattle.unix_host.specs.inside.Changes.{unsynced_left_by};
+ghost use Rattle.unix_host.specs.declared.lock_files.LockPlace.{LockPlace};
 ghost use Rattle.unix_host.specs.inside.LockByte.{amount_of, meaning_of};
 
 use crate::changes::Changes;
+use crate::lock_files::{BothLocks, LockFile, LockPlace, LockedFile, try_both};
+use crate::paths::Paths;
 use crate::unsynced::Unsynced;
-use crate::waits::{Waits, wait_for};
+use crate::waits::Waiting;
 use host_calls::{EnterFault, HostFault};
-use std::fs::{File, Files, OpenOptions, Permissions};
-use std::os::unix::fs::{FileExt, OpenOptionsExt, PermissionsExt};
+use std::fs::{File, Files, Permissions};
+use std::os::unix::fs::{FileExt, PermissionsExt};
 use std::time::Clock;
 
-/// A lock that is held, until it is let go or the process ends.
+/// Locks that are held, until they are let go or the process ends.
 #[derive(Drop)]
 pub struct Lock {
-    file: File,
+    beside: LockedFile,
+    within: LockedFile,
     known: Unsynced,
+    ghost places: { beside.place ≡ LockPlace.Beside },
+    ghost places_within: { within.place ≡ LockPlace.Within },
 }
 
 impl Lock {
-    /// Takes the lock, and waits so for it.
-    pub fn take<R: Files<File = File> + Clock>(
+    /// Takes both locks of a spool, and waits so for them. None where one of the paths names another file by then.
+    pub fn take<R: Files<File = File> + Clock + Eprint>(
         rt: &R,
-        path: &str,
-        waits: Waits,
-    ) -> Result<Lock, EnterFault> {
-        let mut options = OpenOptions::new();
-        options.read(true).write(true).create(true).mode(0o600);
-        let Ok(file) = options.open(rt, path) else {
-            return Err(EnterFault::Failed);
-        };
-        wait_for(rt, &file, waits)?;
-        let byte = byte_in(&file);
+        paths: &Paths,
+        waiting: &mut Waiting,
+    ) -> Result<Option<Lock>, EnterFault> {
+        let mut beside = LockFile::open(rt, paths, LockPlace::Beside)?;
+        let mut within = LockFile::open(rt, paths, LockPlace::Within)?;
+        for _ in 0..u64::MAX {
+            match try_both(beside, within)? {
+                BothLocks::Held(beside, within) => {
+                    let is_current = beside.is_named(rt, paths) && within.is_named(rt, paths);
+                    return Ok(if is_current {
+                        Some(Lock::of(beside, within))
+                    } else {
+                        None
+                    });
+                }
+                BothLocks::Taken(one, other) => {
+                    beside = one;
+                    within = other;
+                }
+            }
+            if !waiting.goes_on(rt, paths) {
+                break;
+            }
+        }
+        Err(EnterFault::Taken)
+    }
+
+    // The locks that are held, and what the byte says.
+    fn of(beside: LockedFile, within: LockedFile) -> Lock
+        requires beside { beside.place ≡ LockPlace.Beside }
+        requires within { within.place ≡ LockPlace.Within }
+    {
+        let byte = byte_in(&beside.file);
         if byte.is_none() {
             // It is new, and the umask may have taken the rights of the owner too.
-            let _ = file.set_permissions(Permissions::from_mode(0o600));
+            let _ = beside.file.set_permissions(Permissions::from_mode(0o600));
         }
-        let known = Unsynced::known_by(byte);
-        Ok(Lock { file, known })
+        Lock {
+            beside,
+            within,
+            known: Unsynced::known_by(byte),
+        }
     }
 
     /// What the byte says.
@@ -83,7 +118,7 @@ impl Lock {
         Ok(())
     }
 
-    /// Makes the byte say what may be unsynced, and lets the lock go.
+    /// Makes the byte say what may be unsynced, and lets the locks go.
     pub fn release(mut self, changes: &Changes) {
         let left = changes.left();
         if self.known != left {
@@ -91,8 +126,14 @@ impl Lock {
             // made. It is too little where another call of this session failed, whose mark is lost then.
             let _ = self.tell(left, changes);
         }
-        // The file is closed here in any case, and that alone frees the lock.
-        let _ = self.file.unlock();
+        let Lock {
+            beside,
+            within,
+            known: _,
+        } = self;
+        // The directory first, so that whoever has the file next finds it free.
+        drop(within.let_go());
+        drop(beside.let_go());
     }
 
     fn tell(&mut self, known: Unsynced, changes: &Changes) -> Result<(), HostFault>
@@ -100,7 +141,7 @@ impl Lock {
         ensures ok { OnOk result (self.new.known ≡ known) }
         ensures err { OnErr result (self.new.known ≡ self.old.known) }
     {
-        write_byte(&self.file, known.byte(), changes)?;
+        write_byte(&self.beside.file, known.byte(), changes)?;
         self.known = known;
         Ok(())
     }

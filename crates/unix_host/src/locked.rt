@@ -18,10 +18,10 @@ use crate::listing::Listing;
 use crate::lock::Lock;
 use crate::naming::Naming;
 use crate::paths::Paths;
-use crate::synced::sync_path;
+use crate::synced::{WrittenFile, sync_path};
 use crate::torn::Torn;
 use crate::unsynced::Unsynced;
-use crate::waits::Waits;
+use crate::waits::{Waiting, Waits};
 use crate::{file_calls, file_syncs, files};
 use host_calls::{EnterFault, HostFault, Name};
 use std::alloc::Global;
@@ -30,19 +30,25 @@ use std::fs::{File, Files};
 use std::rt::Runtime;
 use std::time::Clock;
 
+// How often a session enters anew that finds another directory, or another lock, by the time it has the locks.
+const ENTRIES: u32 = 100;
+
 /// A spool folder, its lock, and what of the folder may be unsynced.
 #[derive(Drop)]
 pub struct LockedFolder {
-    paths: Paths,
+    pub(crate) paths: Paths,
     lock: Lock,
     changes: Changes,
-    listing: Option<Listing>,
+    pub(crate) listing: Option<Listing>,
+    // What was written to last, until it is synced: the sync then needs no second open, which could fail.
+    written: Option<WrittenFile>,
     ghost known: { amount_of (unsynced_by changes) ≤ amount_of lock.known },
 }
 
 impl LockedFolder {
-    /// Takes the lock of the folder, which is made where it is absent, unless that is to be a fault.
-    pub fn enter<R: Files<File = File> + Env + Clock>(
+    /// Takes the locks of the folder, which is made where it is absent, unless that is to be a fault. It is entered anew where
+    /// its path names another one by the time they are had, as where it was replaced meanwhile.
+    pub fn enter<R: Files<File = File> + Env + Clock + Eprint>(
         rt: &R,
         alloc: Global,
         spool: &str,
@@ -54,15 +60,30 @@ impl LockedFolder {
         ensures left { IfOk result (λ folder. unsynced_left_by folder.changes ≡ folder.lock.known) }
         ensures unlisted { IfOk result (λ folder. folder.listing ≡ None) }
     {
-        let paths = files::enter_folder(rt, alloc, spool, absent, naming)?;
-        let lock = Lock::take(rt, paths.lock(), waits)?;
+        let mut waiting = Waiting::begun(waits);
+        for _ in 0..ENTRIES {
+            let paths = files::enter_folder(rt, alloc, spool, absent, naming)?;
+            if let Some(lock) = Lock::take(rt, &paths, &mut waiting)? {
+                return Ok(LockedFolder::locked(paths, lock));
+            }
+        }
+        Err(EnterFault::Taken)
+    }
+
+    // The folder as a session finds it that has just taken its locks.
+    fn locked(paths: Paths, lock: Lock) -> LockedFolder
+        ensures known { unsynced_by result.changes ≡ result.lock.known }
+        ensures left { unsynced_left_by result.changes ≡ result.lock.known }
+        ensures unlisted { result.listing ≡ None }
+    {
         let changes = Changes::after(&lock);
-        Ok(LockedFolder {
+        LockedFolder {
             paths,
             lock,
             changes,
             listing: None,
-        })
+            written: None,
+        }
     }
 
     /// Tells the next session what is left, and lets the lock go.
@@ -72,6 +93,7 @@ impl LockedFolder {
             lock,
             changes,
             listing: _,
+            written: _,
         } = self;
         lock.release(&changes);
     }
@@ -89,51 +111,6 @@ impl LockedFolder {
         ensures listing { self.new.listing ≡ self.old.listing }
     {
         self.changes = self.changes.failed();
-    }
-
-    /// The names of the plain files, in byte order: those of the kept listing, where there is one.
-    pub fn names<R: Files<File = File>>(
-        &mut self,
-        rt: &R,
-        alloc: Global,
-        most: usize,
-    ) -> Result<Vec<Name>, HostFault>
-        ensures order { IfOk result (λ names. IsSorted name_cmp names.items) }
-        ensures kept { IfOk result (λ names. IfSome self.old.listing (λ listing. names.items ≡ names_in listing)) }
-        ensures keeps { IfOk result (λ names. option_map names_in self.new.listing ≡ Some names.items) }
-        ensures changes { self.new.changes ≡ self.old.changes }
-    {
-        let listing = match self.listing.take() {
-            Some(listing) => listing,
-            None => files::list_files(rt, alloc, &self.paths, most)?,
-        };
-        let names = listing.names(alloc);
-        self.listing = Some(listing);
-        Ok(names?)
-    }
-
-    /// A file by the kept listing.
-    pub fn listed(&self, name: &Name) -> Option<&Listed>
-        ensures held { IfSome result (λ file. IfSome self.now.listing (λ listing.
-            Contains listing.listed.files.items file.now)) }
-        ensures named { IfSome result (λ file. file.now.name ≡ name.now) }
-    {
-        match &self.listing {
-            Some(listing) => listing.find(name),
-            None => None,
-        }
-    }
-
-    /// What a listed file has from an offset on, or `most` bytes of it, if the kept listing tells.
-    pub fn first_bytes(&self, file: &Listed, offset: u64, most: usize) -> Option<&[u8]>
-        ensures whole { IfSome result (λ bytes. length bytes.now ≡ count_from file.now.length offset most) }
-        ensures kept { IfSome result (λ bytes. IfSome self.now.listing (λ listing.
-            bytes.now ≡ listed_bytes listing file.now offset most)) }
-    {
-        match &self.listing {
-            Some(listing) => listing.bytes_of(file, offset, most),
-            None => None,
-        }
     }
 
     /// Makes a file that was not there.
@@ -173,7 +150,17 @@ impl LockedFolder {
         let path = self.paths.file(alloc, name)?;
         let next = self.changes.written(name);
         self.prepare(next)?;
-        file_calls::write_range(self, rt, path.as_str(), name, offset, bytes)
+        let file = WrittenFile::open(rt, path)?;
+        file_calls::write_range(self, &file, name, offset, bytes)?;
+        self.written = Some(file);
+        Ok(())
+    }
+
+    /// Closes the file that was written to last.
+    pub fn close_written(&mut self)
+        ensures { self.new ≡ record self.old { written = None } }
+    {
+        drop(self.written.take());
     }
 
     /// Moves a file to another name, and replaces what stands there.
@@ -222,7 +209,8 @@ impl LockedFolder {
         ensures failed { self.new.changes.has_failed ≡ self.old.changes.has_failed }
     {
         let path = self.paths.file(alloc, name)?;
-        let file = file_syncs::sync_file(rt, path.as_str())?;
+        let written = self.written.take();
+        let file = file_syncs::sync_written(rt, &written, path.as_str())?;
         self.changes = self.changes.synced(&self.paths, name, file);
         Ok(())
     }
@@ -274,7 +262,7 @@ impl LockedFolder {
         Ok(())
     }
 
-    // Before a change: what was listed holds no longer, and a program that is killed after it leaves a byte that says
+    // Before a change: what was listed holds no longer, no file stays open that may get another name, and a program that is killed after it leaves a byte that says
     // enough.
     fn prepare(&mut self, next: Changes) -> Result<(), HostFault>
         ensures paths { self.new.paths ≡ self.old.paths }
@@ -282,8 +270,10 @@ impl LockedFolder {
         ensures err { OnErr result (self.new.changes ≡ self.old.changes) }
         ensures known { OnOk result (amount_of (unsynced_left_by self.new.changes) ≤ amount_of self.new.lock.known) }
         ensures unlisted { self.new.listing ≡ None }
+        ensures closed { self.new.written ≡ None }
     {
         self.listing = None;
+        self.written = None;
         self.lock.raise(&next)?;
         self.changes = next;
         Ok(())

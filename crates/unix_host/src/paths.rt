@@ -45,6 +45,13 @@ impl Paths {
         self.folder.as_str()
     }
 
+    /// The same, as each process reaches it.
+    pub fn whole(&self) -> &str
+        ensures { result.now ≡ string_bytes self.now.whole }
+    {
+        self.whole.as_str()
+    }
+
     /// The folder of what jobs write.
     pub fn outputs(&self) -> &str
         ensures { result.now ≡ string_bytes self.now.outputs }

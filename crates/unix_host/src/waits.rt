@@ -1,71 +1,88 @@
 //! How a session waits for a lock that another session holds.
-ghost use Rattle.std.specs.Prelude.{◌≡◌, ◌*◌, min};
+ghost use Rattle.std.specs.Prelude.{◌≡◌, option_map};
+ghost use Rattle.std.specs.Duration.{as_nanos};
+ghost use Rattle.unix_host.specs.inside.Rests.{nap_after, rest_after};
 
-use host_calls::EnterFault;
-use std::fs::{File, TryLockError};
+use crate::paths::Paths;
 use std::thread;
 use std::time::{Clock, Duration};
 
 // How often a lock is asked for, a second apart, before it counts as taken.
 const TRIES: u32 = 10;
 
-// How many naps there are: of 1, 2, 4 and 8 milliseconds, and then of 10, they last sixty seconds together.
-const NAPS: u32 = 6_002;
+// How many naps there are: of 1, 2, 4 and 8 milliseconds, and then of 10, they last five minutes together.
+const NAPS: u32 = 30_002;
 
 /// How a session waits for a lock that another session holds.
 #[derive(Clone, Copy, Debug, PartialEq, Eq)]
 pub enum Waits {
     /// It asks ten times, a second apart.
     Asking,
-    /// Before that it asks for sixty seconds, between naps of a few milliseconds.
-    Napping,
+    /// Before that it asks for five minutes, between naps of a few milliseconds.
+    Napping(WaitNotice),
 }
 
-/// Takes the lock of a file.
-pub fn wait_for(rt: &impl Clock, file: &File, waits: Waits) -> Result<(), EnterFault> {
-    if waits == Waits::Napping && naps_for(rt, file)? {
-        return Ok(());
+/// Who waits, and after how many naps a line says so: a hundred are a second.
+#[derive(Clone, Copy, Debug, PartialEq, Eq)]
+pub struct WaitNotice {
+    pub tool: &'static str,
+    pub naps: u32,
+}
+
+/// How long a session has waited so far.
+#[derive(Clone, Copy)]
+pub struct Waiting {
+    waits: Waits,
+    tries: u32,
+}
+
+impl Waiting {
+    /// A session that waits so, before its first try.
+    pub fn begun(waits: Waits) -> Waiting
+        ensures { result ≡ record { waits = waits; tries = 0 } }
+    {
+        Waiting { waits, tries: 0 }
     }
-    asks_for(rt, file)
-}
 
-// Whether the lock was taken between naps.
-fn naps_for(rt: &impl Clock, file: &File) -> Result<bool, EnterFault> {
-    let mut nap = 1;
-    for _ in 0..NAPS {
-        if takes(file)? {
-            return Ok(true);
+    /// After one more try at a taken lock: rests, and answers whether there is a next try. Once it says what is waited for.
+    pub fn goes_on<R: Clock + Eprint>(&mut self, rt: &R, paths: &Paths) -> bool {
+        self.tries = self.tries.saturating_add(1);
+        if let Waits::Napping(notice) = &self.waits {
+            if self.tries == notice.naps {
+                let (tool, spool) = (notice.tool, paths.whole());
+                let _ = eprintln!(rt; "{tool}: waiting for another program that uses {spool}");
+            }
         }
-        thread::sleep(rt, Duration::from_millis(nap));
-        nap = after_nap(nap);
+        match rest_after(self.waits, self.tries) {
+            Some(rest) => {
+                thread::sleep(rt, rest);
+                true
+            }
+            None => false,
+        }
     }
-    Ok(false)
 }
 
-// How many milliseconds the next nap lasts.
-fn after_nap(nap: u64) -> u64
-    ensures { result ≡ min (nap * 2) 10 }
+// How long a session rests after so many tries, if there is another try.
+fn rest_after(waits: Waits, tries: u32) -> Option<Duration>
+    ensures { option_map as_nanos result ≡ rest_after waits tries }
 {
-    nap.saturating_mul(2).min(10)
+    let naps = match waits {
+        Waits::Asking => 0,
+        Waits::Napping(_) => NAPS,
+    };
+    if tries <= naps {
+        Some(Duration::from_millis(nap_after(tries)))
+    } else if tries < naps + TRIES {
+        Some(Duration::from_secs(1))
+    } else {
+        None
+    }
 }
 
-fn asks_for(rt: &impl Clock, file: &File) -> Result<(), EnterFault> {
-    for turn in 1..=TRIES {
-        if takes(file)? {
-            return Ok(());
-        }
-        if turn < TRIES {
-            thread::sleep(rt, Duration::from_secs(1));
-        }
-    }
-    Err(EnterFault::Taken)
-}
-
-// Whether the lock was free, and is held now.
-fn takes(file: &File) -> Result<bool, EnterFault> {
-    match file.try_lock() {
-        Ok(()) => Ok(true),
-        Err(TryLockError::WouldBlock) => Ok(false),
-        Err(TryLockError::Error(_)) => Err(EnterFault::Failed),
-    }
+// How many milliseconds the nap after so many tries lasts.
+fn nap_after(tries: u32) -> u64
+    ensures { result ≡ nap_after tries }
+{
+    2u64.pow(tries.saturating_sub(1).min(4)).min(10)
 }

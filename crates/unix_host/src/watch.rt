@@ -1,27 +1,30 @@
-//! A rest that ends at a full second of the clock, and earlier where a file has changed.
-ghost use Rattle.std.specs.Prelude.{◌≡◌, ◌≢◌, ◌-◌, ◌*◌, IfOk};
+//! A rest that ends at a full second of the clock, and earlier where a file has changed or a child has ended.
+ghost use Rattle.std.specs.Prelude.{◌≡◌, ◌≢◌, ◌-◌, ◌*◌, ◌||◌, ◌%◌, IfOk, nat_eq};
 ghost use Rattle.std.specs.Duration.{as_nanos};
 ghost use Rattle.std.specs.Path.{IsAbsolute};
 ghost use Rattle.unix_host.specs.inside.Seconds.{nanos_left};
+ghost use Rattle.unix_host.specs.inside.WatchedChildren.{has_new_end};
 
+use crate::children::{ChildEnds, Children};
 use crate::paths::file_path;
 use crate::watched_file::WatchedFile;
 use host_calls::Name;
 use std::alloc::{AllocError, Global};
-use std::fs::Files;
+use std::fs::{File, Files};
 use std::thread;
 use std::time::{Clock, Duration};
 
-/// Files, and when the clock was read and they were looked at last.
+/// Files and the children of this process, and when the clock was read and they were looked at last.
 #[derive(Drop)]
 pub struct Watch {
     files: Vec<WatchedFile>,
+    children: Children,
     time: Option<Duration>,
 }
 
 impl Watch {
     /// A watch over these files of a folder, which have all been looked at.
-    pub fn over<R: Files + Clock>(
+    pub fn over<R: Files<File = File> + Clock>(
         rt: &R,
         alloc: Global,
         folder: &str,
@@ -33,13 +36,17 @@ impl Watch {
         for name in names {
             files.push(WatchedFile::at(file_path(alloc, folder, name)?))?;
         }
-        let mut watch = Watch { files, time: None };
+        let mut watch = Watch {
+            files,
+            children: Children::none(alloc),
+            time: None,
+        };
         watch.look(rt);
         Ok(watch)
     }
 
     /// Reads the clock, and looks at the files.
-    pub fn look<R: Files + Clock>(&mut self, rt: &R) -> Option<Duration>
+    pub fn look<R: Files<File = File> + Clock>(&mut self, rt: &R) -> Option<Duration>
         ensures { self.new.time ≡ result }
     {
         self.time = rt.since_1970().ok();
@@ -50,16 +57,23 @@ impl Watch {
     }
 
     /// Rests until the clock tells the second that comes so many after that of the last look, for no longer than so many
-    /// seconds, and for less where a file has changed since then.
-    pub fn rest<R: Files + Clock>(&mut self, rt: &R, seconds: u32) {
+    /// seconds, and for less where a file has changed since then or a child has ended. The end of a child ends one rest.
+    pub fn rest<R: Files<File = File> + Clock>(&mut self, rt: &R, seconds: u32) {
+        self.children.list(rt);
         self.nap(rt, seconds);
         self.look(rt);
     }
 
-    fn nap<R: Files + Clock>(&self, rt: &R, seconds: u32) {
+    fn nap<R: Files<File = File> + Clock>(&mut self, rt: &R, seconds: u32) {
         for place in 0..naps_in(seconds) {
             let left = time_left(seconds, self.time, rt.since_1970().ok());
-            if left.is_zero() || place > 0 && self.has_changed(rt) {
+            let is_changed = place > 0 && self.has_changed(rt);
+            let ends = if looks_at_children(place) {
+                Some(self.children.look(rt))
+            } else {
+                None
+            };
+            if is_over(left, is_changed, ends) {
                 return;
             }
             thread::sleep(rt, nap_at(place).min(left));
@@ -69,6 +83,20 @@ impl Watch {
     fn has_changed<R: Files>(&self, rt: &R) -> bool {
         self.files.iter().any(|file| file.has_changed(rt))
     }
+}
+
+// Whether a rest is over: no time is left, a file has changed, or a child has ended.
+fn is_over(left: Duration, is_changed: bool, ends: Option<ChildEnds>) -> bool
+    ensures { result ≡ (nat_eq (as_nanos left) 0 || (is_changed || has_new_end ends)) }
+{
+    left.is_zero() || is_changed || ends.is_some_and(|ends| ends.is_new())
+}
+
+// Whether children are looked at before the nap of this place: once a second.
+fn looks_at_children(place: u64) -> bool
+    ensures { result ≡ nat_eq (place % 4) 1 }
+{
+    place % 4 == 1
 }
 
 // How many naps last so many seconds.

@@ -1,5 +1,6 @@
 //! The system, but for what it refuses: to sync or to read what lies at one path, and to start a child.
-use std::alloc::{Allocator, Global};
+use std::alloc::{AllocError, Allocator, Global};
+use std::cell::Cell;
 use std::env::FillError;
 use std::fmt::Display;
 use std::fs::{File, Files, Metadata, OpenOptions};
@@ -13,11 +14,33 @@ use std::time::{Clock, Duration};
 // This device keeps nothing and gives nothing, and the system refuses to sync it.
 const DEVICE: &str = "/dev/null";
 
-/// A path with the end `device` is opened as that of a device.
+/// A path with the end `device` is opened as that of a device, but for so many first times.
 #[derive(Clone, Drop)]
 pub struct Refusing {
     pub rt: HostRuntime,
     pub device: &'static str,
+    pub spared: Cell<u32>,
+}
+
+/// The system, but for the children that it refuses.
+pub fn childless(rt: &HostRuntime) -> Result<Refusing, AllocError> {
+    Ok(Refusing {
+        rt: rt.clone()?,
+        device: "none",
+        spared: Cell::new(0),
+    })
+}
+
+impl Refusing {
+    // Whether this open of a path is that of the device.
+    fn is_device(&self, path: &str) -> bool {
+        if !path.ends_with(self.device) {
+            return false;
+        }
+        let spared = self.spared.get();
+        self.spared.set(spared.saturating_sub(1));
+        spared == 0
+    }
 }
 
 impl Files for Refusing {
@@ -26,7 +49,7 @@ impl Files for Refusing {
     type Dir = <HostRuntime as Files>::Dir;
 
     fn open_file(&self, how: &OpenOptions, path: &str) -> io::Result<File> {
-        if path.ends_with(self.device) {
+        if self.is_device(path) {
             self.rt.open_file(how, DEVICE)
         } else {
             self.rt.open_file(how, path)

@@ -6,6 +6,7 @@ ghost use Rattle.unix_host.specs.UnixHost.{unix_session};
 use crate::calls::{Call, sessions};
 use crate::refusing::Refusing;
 use crate::words::{clear, fresh_spool, host_of, host_over, line};
+use std::cell::Cell;
 use std::test::Fail;
 use unix_host::UnixHost;
 
@@ -46,13 +47,14 @@ pub fn seen_moving(
 pub fn seen_refused(
     rt: &HostRuntime,
     place: &str,
-    device: &'static str,
+    (device, spared): (&'static str, u32),
     calls: &[Call],
 ) -> Result<Vec<u8>, Fail> {
     let path = format!(in rt.alloc(); "{place}/spool")?;
     let outside = Refusing {
         rt: rt.clone()?,
         device,
+        spared: Cell::new(spared),
     };
     let mut host = host_over(outside, rt.alloc(), path.as_str())?;
     let seen = sessions(rt, path.as_str(), &mut host, &[calls], ":");
@@ -105,13 +107,13 @@ pub fn try_refused(
     rt: &HostRuntime,
     test: &str,
     made: &str,
-    device: &'static str,
+    (device, spared): (&'static str, u32),
     calls: &[Call],
     wanted: &str,
 ) -> Result<(), Fail> {
     let place = fresh_spool(rt, test)?;
     line(rt, made, place.as_str())?;
-    let seen = seen_refused(rt, place.as_str(), device, calls)?;
+    let seen = seen_refused(rt, place.as_str(), (device, spared), calls)?;
     clear(rt, place.as_str())?;
     are_wanted(rt, device, seen.as_slice(), wanted)
 }

@@ -1,5 +1,5 @@
 //! What the system refuses: to sync a device, to read a file as far as its length, and to start a child.
-use crate::calls::Call::{Read, Run, Settle, Sync, SyncNames};
+use crate::calls::Call::{Read, Run, Settle, Sync, SyncNames, Write};
 use crate::spools::try_refused;
 use std::test::Fail;
 
@@ -10,21 +10,29 @@ const MADE: &str = "mkdir -p \"$1/spool\" \"$1/spool.out\"; : >\"$1/spool/job\""
 #[test]
 fn a_sync_that_is_refused_is_a_fault(rt: HostRuntime) -> Result<(), Fail> {
     let calls = [Sync("job"), SyncNames, Settle];
-    for &(device, wanted) in &[
-        ("none", ";;;"),
-        ("/spool/job", "!;;!;"),
-        ("/spool", ";!;!;"),
-        ("_refused", ";;!;"),
+    for &(device, spared, wanted) in &[
+        ("none", 0, ";;;"),
+        ("/spool/job", 0, "!;;!;"),
+        // (the first open is that of its lock)
+        ("/spool", 1, ";!;!;"),
+        ("_refused", 0, ";;!;"),
     ] {
-        try_refused(&rt, "refused", MADE, device, &calls, wanted)?;
+        try_refused(&rt, "refused", MADE, (device, spared), &calls, wanted)?;
     }
     Ok(())
+}
+
+// A file that was written to is synced by the same open, and by one of its own from then on.
+#[test]
+fn a_sync_after_a_write_opens_nothing(rt: HostRuntime) -> Result<(), Fail> {
+    let calls = [Write("job", 0, "y"), Sync("job"), Sync("job")];
+    try_refused(&rt, "kept_open", MADE, ("/spool/job", 1), &calls, ";;!;")
 }
 
 // A new folder would vanish with its name.
 #[test]
 fn a_new_folder_that_cannot_be_made_certain_is_a_fault(rt: HostRuntime) -> Result<(), Fail> {
-    try_refused(&rt, "vanished", "mkdir \"$1\"", "_vanished", &[], "!")
+    try_refused(&rt, "vanished", "mkdir \"$1\"", ("_vanished", 0), &[], "!")
 }
 
 /// Makes a spool with a file of seven bytes.
@@ -34,7 +42,7 @@ const SEVEN: &str = "mkdir -p \"$1/spool\"; echo exit 0 >\"$1/spool/job\"";
 #[test]
 fn a_file_that_ends_early_is_a_fault(rt: HostRuntime) -> Result<(), Fail> {
     let calls = [Read("job", 0, 100), Read("job", 7, 100)];
-    try_refused(&rt, "short", SEVEN, "/spool/job", &calls, "!;;")
+    try_refused(&rt, "short", SEVEN, ("/spool/job", 0), &calls, "!;;")
 }
 
 // The outside of these tests starts nothing.
@@ -44,7 +52,7 @@ fn a_child_that_cannot_be_made_is_a_fault(rt: HostRuntime) -> Result<(), Fail> {
         &rt,
         "childless",
         "mkdir \"$1\"",
-        "none",
+        ("none", 0),
         &[Run("job")],
         "!;",
     )

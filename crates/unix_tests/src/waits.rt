@@ -2,13 +2,19 @@
 ghost use Rattle.std.specs.Prelude.{◌≡◌};
 ghost use Rattle.host_calls.specs.Session.{IsOutside};
 
-use crate::refusing::Refusing;
+use crate::refusing::childless;
 use crate::words::{begin, clear, fresh_spool, host_of, host_over, line};
 use host_calls::{EnterFault, Host, HostFault};
 use std::alloc::Global;
 use std::test::Fail;
 use std::time::{Clock, Duration};
-use unix_host::Waits;
+use unix_host::{WaitNotice, Waits};
+
+// Nobody waits as long in these tests as until a line says so.
+const NAPPING: Waits = Waits::Napping(WaitNotice {
+    tool: "at",
+    naps: 30_000,
+});
 
 /// What a host is answered that enters a folder, twice.
 type Answers = (Result<(), EnterFault>, Result<(), EnterFault>);
@@ -83,12 +89,8 @@ fn a_host_is_refused_while_another_holds_the_lock(rt: HostRuntime) -> Result<(),
 
 // The same where the second host naps, and where no rest takes time.
 fn answers_after_naps(rt: &HostRuntime, path: &str) -> Result<Answers, Fail> {
-    let outside = Refusing {
-        rt: rt.clone()?,
-        device: "none",
-    };
     let mut first = host_of(rt, path)?;
-    let mut second = host_over(outside, rt.alloc(), path)?.waiting(Waits::Napping);
+    let mut second = host_over(childless(rt)?, rt.alloc(), path)?.waiting(NAPPING);
     let answers = answers_of_both(rt.alloc(), &mut first, &mut second);
     drop(second);
     drop(first);
@@ -101,6 +103,25 @@ fn naps_end_too(rt: HostRuntime) -> Result<(), Fail> {
     let answers = answers_after_naps(&rt, path.as_str())?;
     clear(&rt, path.as_str())?;
     assert_eq!(rt; answers, (Err(EnterFault::Taken), Ok(())));
+    Ok(())
+}
+
+// Who comes while another is in a session finds the directory locked, also after the file beside it was removed. Its own file
+// is a new one, so it knows nothing of what is unsynced.
+#[test]
+fn a_lock_that_was_removed_still_keeps_others_out(rt: HostRuntime) -> Result<(), Fail> {
+    let path = fresh_spool(&rt, "unlinked")?;
+    let mut first = host_of(&rt, path.as_str())?;
+    begin(rt.alloc(), &mut first)?;
+    line(&rt, "rm \"$1.lock\"", path.as_str())?;
+    let mut second = host_over(childless(&rt)?, rt.alloc(), path.as_str())?;
+    let within = entered(rt.alloc(), &mut second);
+    first.leave();
+    let after = entered(rt.alloc(), &mut second);
+    drop(second);
+    drop(first);
+    clear(&rt, path.as_str())?;
+    assert_eq!(rt; (within, after), (Err(EnterFault::Taken), Ok(())));
     Ok(())
 }
 
@@ -125,7 +146,7 @@ fn a_lock_that_is_let_go_is_had_after_a_nap(rt: HostRuntime) -> Result<(), Fail>
     let path = fresh_spool(&rt, "let_go")?;
     let mut soonest = Duration::MAX;
     for _ in 0..10 {
-        soonest = soonest.min(time_to_enter(&rt, path.as_str(), Waits::Napping)?);
+        soonest = soonest.min(time_to_enter(&rt, path.as_str(), NAPPING)?);
     }
     let asked = time_to_enter(&rt, path.as_str(), Waits::Asking)?;
     clear(&rt, path.as_str())?;
