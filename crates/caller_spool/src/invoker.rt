@@ -9,8 +9,11 @@ use host_calls::Text;
 use process_input::{environment_variables, umask_in, variable};
 use std::alloc::AllocError;
 use std::fs::File;
-use std::io::Read;
+use std::io::ErrorKind;
 use std::{env, fs, str};
+
+/// What the system reports of this process.
+pub const PROCESS_STATUS: &str = "/proc/self/status";
 
 // The umask of a process that does not tell its own.
 const USUAL_UMASK: u16 = 0o022;
@@ -24,9 +27,11 @@ pub struct Invoker {
 }
 
 /// Who calls this process: `PWD` is the directory in which it is, `LOGNAME` the name of its user, and `TZ` the rule of the
-/// caller's zone. All other variables are those of the process.
-pub fn invoker_of(rt: &HostRuntime) -> Result<Invoker, AllocError> {
-    let status = status_of_process(rt);
+/// caller's zone. All other variables are those of the process. None where the status of the process can't be read.
+pub fn invoker_of(rt: &HostRuntime) -> Result<Option<Invoker>, AllocError> {
+    let Some(status) = status_of_process(rt) else {
+        return Ok(None);
+    };
     let user = calling_user(rt, status.as_slice())?;
     let umask = umask_by(status.as_slice());
     let settings = CallerSettings {
@@ -37,17 +42,24 @@ pub fn invoker_of(rt: &HostRuntime) -> Result<Invoker, AllocError> {
     let variables = environment_variables(rt)?;
     let zone = variable(rt, "TZ")?;
     let caller = caller_by(rt.alloc(), &variables, settings, zone.as_deref(), umask)?;
-    Ok(Invoker { user, caller })
+    Ok(Some(Invoker { user, caller }))
 }
 
-/// The user of this process.
-pub fn user_of_process(rt: &HostRuntime) -> Result<CallingUser, AllocError> {
-    calling_user(rt, status_of_process(rt).as_slice())
+/// The user of this process. None where its status can't be read.
+pub fn user_of_process(rt: &HostRuntime) -> Result<Option<CallingUser>, AllocError> {
+    match status_of_process(rt) {
+        Some(status) => Ok(Some(calling_user(rt, status.as_slice())?)),
+        None => Ok(None),
+    }
 }
 
-// What the system tells of this process, or nothing.
-fn status_of_process(rt: &HostRuntime) -> Vec<u8> {
-    fs::read(rt, "/proc/self/status").unwrap_or(Vec::new(rt.alloc()))
+// What the system reports of this process: nothing where there is no `/proc`. None where it can't be read.
+fn status_of_process(rt: &HostRuntime) -> Option<Vec<u8>> {
+    match fs::read(rt, PROCESS_STATUS) {
+        Ok(status) => Some(status),
+        Err(error) if error.kind() == ErrorKind::NotFound => Some(Vec::new(rt.alloc())),
+        Err(_) => None,
+    }
 }
 
 fn umask_by(status: &[u8]) -> u16

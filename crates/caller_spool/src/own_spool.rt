@@ -6,7 +6,10 @@ use std::os::unix::fs::{DirBuilderExt, OpenOptionsExt, PermissionsExt};
 use std::path::Path;
 use std::{fs, io};
 
-/// Makes a spool with an empty list `at.deny`, and the directories that it lies in, where they are absent. All are synced that
+/// The empty file within a spool that its atd locks.
+pub const DAEMON_LOCK: &str = ".ATD";
+
+/// Makes a spool with an empty list `at.deny` and the file that an atd locks, and the directories that it lies in, where they are absent. All are synced that
 /// are new, so that no accepted job vanishes with one. An error is for who works on the spool then.
 pub fn make_spool(rt: &HostRuntime, spool: &str) -> io::Result<()> {
     if has_list(rt, spool)? {
@@ -66,11 +69,26 @@ pub fn sync_folder(rt: &HostRuntime, path: &str) -> io::Result<()> {
     File::open(rt, path)?.sync_all()
 }
 
-// Makes the list that shuts nobody out.
+// Makes the list that shuts nobody out. It comes last, since a spool that has it is not looked at again.
 fn make_list(rt: &HostRuntime, spool: &str) -> io::Result<()> {
+    make_lock_file(rt, spool, DAEMON_LOCK)?;
     let deny = path_within(rt, spool, "at.deny")?;
+    open_own(rt, deny.as_str())?.sync_all()?;
+    sync_folder(rt, spool)
+}
+
+/// Makes an empty file in a spool, which a daemon locks, and opens it to be written to. It is durable then.
+pub fn make_lock_file(rt: &HostRuntime, spool: &str, name: &str) -> io::Result<File> {
+    let path = path_within(rt, spool, name)?;
+    let file = open_own(rt, path.as_str())?;
+    file.sync_all()?;
+    sync_folder(rt, spool)?;
+    Ok(file)
+}
+
+// Opens a file to be written to, which is made where it is absent.
+fn open_own(rt: &HostRuntime, path: &str) -> io::Result<File> {
     let mut options = OpenOptions::new();
     options.write(true).create(true).mode(0o600);
-    options.open(rt, deny.as_str())?.sync_all()?;
-    sync_folder(rt, spool)
+    options.open(rt, path)
 }

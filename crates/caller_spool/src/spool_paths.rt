@@ -78,3 +78,13 @@ pub fn is_directory_there(rt: &HostRuntime, path: &str) -> bool {
         Err(_) => false,
     }
 }
+
+/// Whether both paths name one directory, which is there.
+pub fn is_same_directory(rt: &HostRuntime, one: &str, other: &str) -> bool {
+    match (fs::metadata(rt, one), fs::metadata(rt, other)) {
+        (Ok(one), Ok(other)) => {
+            one.is_dir() && one.ino() == other.ino() && one.dev() == other.dev()
+        }
+        _ => false,
+    }
+}

@@ -3,7 +3,9 @@ use crate::held_locks::is_locked;
 use crate::machine_daemon::{ask_for_daemon, starts_daemons};
 use at_words::{ToolRequest, request};
 use caller_environment::ToolName;
-use caller_spool::{CallingUser, ToolSpool, is_directory_there, paths_of};
+use caller_spool::{
+    CallingUser, DAEMON_LOCK, ToolSpool, is_directory_there, path_within, paths_of,
+};
 use std::alloc::AllocError;
 use std::fs;
 use std::io::IsTerminal;
@@ -42,7 +44,13 @@ fn has_daemon(rt: &HostRuntime, user: &CallingUser, spool: &ToolSpool) -> Result
     let Some(paths) = paths_of(rt, spool.path.as_str())? else {
         return Ok(true);
     };
-    match fs::metadata(rt, paths.outputs.as_str()) {
+    let within = path_within(rt, paths.spool.as_str(), DAEMON_LOCK)?;
+    Ok(is_path_locked(rt, within.as_str())? || is_path_locked(rt, paths.outputs.as_str())?)
+}
+
+// Whether any process holds a lock of what has this path.
+fn is_path_locked(rt: &HostRuntime, path: &str) -> Result<bool, AllocError> {
+    match fs::metadata(rt, path) {
         Ok(found) => is_locked(rt, found.ino()),
         Err(_) => Ok(false),
     }

@@ -10,6 +10,7 @@ mod clock_mark;
 mod disk_probe;
 mod exit_codes;
 mod held_locks;
+mod lock_wait;
 mod machine_daemon;
 mod note_trims;
 mod one_daemon;

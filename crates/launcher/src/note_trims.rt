@@ -3,13 +3,14 @@
 ghost use Rattle.std.specs.Prelude.{◌≡◌, IfOk, IfSome};
 ghost use Rattle.listing_text.specs.Cause.{status_of};
 
+use crate::lock_wait::lock_wait;
+use caller_environment::ToolName;
 use caller_spool::path_within;
 use host_calls::Text;
 use listing_text::{Cause, Status};
 use real_programs::trim_over;
 use std::alloc::AllocError;
 use std::fs;
-use unix_host::Waits;
 
 /// Whether the words of atpost ask for a trim, by the one after its name.
 pub fn asks_for_trim(words: &[String]) -> bool {
@@ -41,7 +42,8 @@ fn is_endless(words: &[String]) -> bool {
     has_option(words, "--send") && !has_option(words, "--turns")
 }
 
-fn has_option(words: &[String], option: &str) -> bool {
+/// Whether a word begins so.
+pub fn has_option(words: &[String], option: &str) -> bool {
     words.iter().any(|word| word.as_str().starts_with(option))
 }
 
@@ -58,5 +60,6 @@ fn one_trim(rt: &HostRuntime, spool: &str) -> Result<Status, AllocError>
     for word in ["atpost", "--trim"] {
         words.push(String::from_str(alloc, word)?)?;
     }
-    trim_over(rt, &words, Text::of(alloc, spool)?, Waits::Napping)
+    let waits = lock_wait(rt, ToolName::Atpost);
+    trim_over(rt, &words, Text::of(alloc, spool)?, waits)
 }

@@ -5,12 +5,13 @@ ghost use Rattle.caller_environment.specs.declared.tool_name.ToolName.TheVariant
 ghost use Rattle.listing_text.specs.Cause.{status_of};
 ghost use Rattle.launcher.specs.ToolEnds.{IsToolEnd};
 
-use crate::note_trims::{asks_for_trim, trim_at_start};
-use crate::one_daemon::{DaemonLock, daemon_lock};
+use crate::lock_wait::lock_wait;
+use crate::note_trims::{asks_for_trim, has_option, trim_at_start};
+use crate::one_daemon::{DaemonLock, atd_lock, daemon_lock};
 use crate::refusal::refuse_tool;
 use crate::tool_end::ToolEnd;
 use caller_environment::ToolName;
-use caller_spool::{Invoker, SpoolPaths};
+use caller_spool::{Invoker, SpoolPaths, is_same_directory};
 use cause_output::Caller;
 use host_calls::{Name, Text};
 use listing_text::{Cause, Status};
@@ -23,7 +24,6 @@ use sequence_file::sequence_name;
 use start_journal::journal_name;
 use std::alloc::AllocError;
 use std::path::Path;
-use unix_host::Waits;
 
 /// Does what the words of a tool ask for over its spool. The paths are those of the spool, where it is there.
 pub fn answer_of(
@@ -39,13 +39,13 @@ pub fn answer_of(
     let status = match tool {
         ToolName::Atstat => return states_over(rt, words, &invoker.caller, spool),
         ToolName::At | ToolName::Batch | ToolName::Atq | ToolName::Atrm | ToolName::Atday => {
-            commands_over(rt, words, &invoker.caller, spool)?
+            commands_over(rt, tool, words, &invoker.caller, spool)?
         }
         ToolName::Atd => daemon_over(rt, words, &invoker.caller, spool, paths)?,
         ToolName::Atpost => mail_over(rt, words, spool, paths)?,
         ToolName::Atcron => crontab_over(rt, words, &invoker.caller, spool, paths)?,
-        ToolName::Ataccount => account_over(rt, words, spool, Waits::Napping)?,
-        ToolName::Atcheck => checker_over(rt, words, spool)?,
+        ToolName::Ataccount => account_over(rt, words, spool, lock_wait(rt, tool))?,
+        ToolName::Atcheck => checker_over(rt, words, spool, paths)?,
     };
     Ok(ToolEnd::By(status.cause))
 }
@@ -60,13 +60,21 @@ fn states_over(
     ensures { IfOk result (IsToolEnd Atstat) }
 {
     let mut clock = real_clock(rt)?;
-    let status = stat_over(rt, words, caller, spool, Waits::Napping, &mut clock)?;
+    let status = stat_over(
+        rt,
+        words,
+        caller,
+        spool,
+        lock_wait(rt, ToolName::Atstat),
+        &mut clock,
+    )?;
     Ok(ToolEnd::of(status))
 }
 
 /// The same of a tool that submits, lists, shows or removes jobs, or makes a day.
 pub fn commands_over(
     rt: &HostRuntime,
+    tool: ToolName,
     words: &[String],
     caller: &Caller,
     spool: Text,
@@ -75,7 +83,7 @@ pub fn commands_over(
     ensures code { IfOk result (λ status. status ≡ status_of status.cause) }
 {
     let mut clock = real_clock(rt)?;
-    at_over(rt, words, caller, spool, Waits::Napping, &mut clock)
+    at_over(rt, words, caller, spool, lock_wait(rt, tool), &mut clock)
 }
 
 // The same of atd, if no other one works on the spool.
@@ -91,14 +99,15 @@ fn daemon_over(
 {
     // It is held until the end.
     let lock = match paths {
-        Some(paths) => daemon_lock(rt, paths),
-        None => DaemonLock::Unlocked,
+        Some(paths) => atd_lock(rt, paths)?,
+        None => DaemonLock::Held(None, None),
     };
     if matches!(&lock, DaemonLock::Taken) {
         return Ok(refuse_tool(rt, ToolName::Atd, Cause::Busy));
     }
     let mut clock = clock_over(rt, paths, &[sequence_name()])?;
-    at_over(rt, words, caller, spool, Waits::Napping, &mut clock)
+    let waits = lock_wait(rt, ToolName::Atd);
+    at_over(rt, words, caller, spool, waits, &mut clock)
 }
 
 // The same of atpost: a trim, or sessions whose rests end when a job was submitted or a journal mark was written.
@@ -111,13 +120,18 @@ fn mail_over(
     ensures code { IfOk result (λ status. status ≡ status_of status.cause) }
 {
     if asks_for_trim(words) {
-        return trim_over(rt, words, spool, Waits::Napping);
+        return trim_over(rt, words, spool, lock_wait(rt, ToolName::Atpost));
+    }
+    let lock = lock_for(rt, ToolName::Atpost, words, "--send", paths)?;
+    if matches!(&lock, DaemonLock::Taken) {
+        return Ok(refuse_tool(rt, ToolName::Atpost, Cause::Busy));
     }
     if let Some(told) = trim_at_start(rt, words, spool.as_str())? {
         return Ok(told);
     }
     let mut clock = clock_over(rt, paths, &[sequence_name(), journal_name()])?;
-    post_over(rt, words, spool, Waits::Napping, &mut clock)
+    let waits = lock_wait(rt, ToolName::Atpost);
+    post_over(rt, words, spool, waits, &mut clock)
 }
 
 // The same of atcron.
@@ -131,8 +145,13 @@ fn crontab_over(
     requires umask { caller.now.context.umask < 512 }
     ensures code { IfOk result (λ status. status ≡ status_of status.cause) }
 {
+    let lock = lock_for(rt, ToolName::Atcron, words, "-f", paths)?;
+    if matches!(&lock, DaemonLock::Taken) {
+        return Ok(refuse_tool(rt, ToolName::Atcron, Cause::Busy));
+    }
     let mut clock = clock_over(rt, paths, &[])?;
-    cron_over(rt, words, caller, spool, Waits::Napping, &mut clock)
+    let waits = lock_wait(rt, ToolName::Atcron);
+    cron_over(rt, words, caller, spool, waits, &mut clock)
 }
 
 // The same of atcheck, whose next word names the directory into which it saves.
@@ -140,11 +159,45 @@ fn checker_over(
     rt: &HostRuntime,
     words: &mut Vec<String>,
     spool: Text,
+    paths: &Option<SpoolPaths>,
 ) -> Result<Status, AllocError>
     ensures code { IfOk result (λ status. status ≡ status_of status.cause) }
 {
     let new = take_folder(words).map(Text::from);
-    check_over(rt, words, spool, new, Waits::Napping)
+    if saves_into_itself(rt, words, paths, &new) {
+        return Ok(refuse_tool(rt, ToolName::Atcheck, Cause::Busy));
+    }
+    check_over(rt, words, spool, new, lock_wait(rt, ToolName::Atcheck))
+}
+
+// Whether both words of atcheck name one directory: it would wait for itself.
+fn saves_into_itself(
+    rt: &HostRuntime,
+    words: &[String],
+    paths: &Option<SpoolPaths>,
+    new: &Option<Text>,
+) -> bool {
+    match (words, paths, new) {
+        ([_, word], Some(paths), Some(new)) => {
+            word.as_str() == "--salvage"
+                && is_same_directory(rt, paths.spool.as_str(), new.as_str())
+        }
+        _ => false,
+    }
+}
+
+// Takes the lock of a daemon in the spool, where the spool is there and the words have the option without which there is none.
+fn lock_for(
+    rt: &HostRuntime,
+    tool: ToolName,
+    words: &[String],
+    option: &str,
+    paths: &Option<SpoolPaths>,
+) -> Result<DaemonLock, AllocError> {
+    match paths {
+        Some(paths) if has_option(words, option) => daemon_lock(rt, tool, paths),
+        _ => Ok(DaemonLock::Held(None, None)),
+    }
 }
 
 // A clock whose rests end at a full second, and earlier where one of these files of the spool has changed.

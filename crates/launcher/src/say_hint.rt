@@ -1,7 +1,8 @@
 //! On a terminal, a line that refuses has one after it that says what to do.
+use crate::one_daemon::lock_name;
 use crate::spool_trouble::trouble_of;
 use caller_environment::ToolName;
-use caller_spool::{CallingUser, ToolSpool, path_within, paths_of};
+use caller_spool::{CallingUser, SpoolPaths, ToolSpool, path_within, paths_of};
 use listing_text::Cause;
 use std::alloc::AllocError;
 use std::fs;
@@ -49,10 +50,18 @@ fn text_of_hint(
             spool_hint(alloc, trouble, path.as_str())
         }
         Hint::Lock => match paths_of(rt, spool.path.as_str())? {
-            Some(paths) => lock_hint(alloc, paths.spool.as_str()),
+            Some(paths) => lock_hint(alloc, locked_file(rt, tool, &paths)?.as_str()),
             None => lock_hint(alloc, spool.path.as_str()),
         },
         Hint::Text(text) => String::from_str(alloc, text),
+    }
+}
+
+// The file whose lock keeps this tool from the spool.
+fn locked_file(rt: &HostRuntime, tool: ToolName, paths: &SpoolPaths) -> Result<String, AllocError> {
+    match lock_name(tool) {
+        Some(name) => path_within(rt, paths.spool.as_str(), name),
+        None => String::from_str(rt.alloc(), paths.lock.as_str()),
     }
 }
 

@@ -5,7 +5,7 @@ ghost use Rattle.launcher.specs.ExitCodes.{IsExitCode};
 
 use crate::built_record::built_record;
 use crate::exit_codes::exit_code_of;
-use crate::refusal::refuse_tool;
+use crate::refusal::{refuse_tool, refuse_unknown_caller};
 use caller_environment::ToolName;
 use caller_spool::{callers_spool, user_of_process};
 use listing_text::Cause;
@@ -62,7 +62,9 @@ pub fn describe(rt: &HostRuntime, tool: ToolName, asked: Description) -> Result<
 fn put_spool(rt: &HostRuntime, tool: ToolName) -> Result<u8, AllocError>
     ensures { IfOk result IsExitCode }
 {
-    let user = user_of_process(rt)?;
+    let Some(user) = user_of_process(rt)? else {
+        return Ok(refuse_unknown_caller(rt, tool));
+    };
     let spool = callers_spool(rt, &user)?;
     let line = format!(in rt.alloc(); "{}\n", spool.path.as_str())?;
     Ok(put_description(rt, tool, line.as_bytes()))

@@ -7,7 +7,7 @@ use crate::after_submission::{after_submission, is_submission};
 use crate::clock_mark::warn_of_mark;
 use crate::exit_codes::exit_code_of;
 use crate::programs::{answer_of, commands_over};
-use crate::refusal::refuse_tool;
+use crate::refusal::{refuse_tool, refuse_unknown_caller};
 use crate::say_hint::say_hint;
 use crate::self_description::{describe, description_asked};
 use crate::send_program::unusable_program;
@@ -51,7 +51,9 @@ fn run_tool(rt: &HostRuntime, tool: ToolName, words: &mut Vec<String>) -> Result
     if tool == ToolName::Atday {
         return Ok(make_day(rt, words)?);
     }
-    let invoker = invoker_of(rt)?;
+    let Some(invoker) = invoker_of(rt)? else {
+        return Ok(refuse_unknown_caller(rt, tool));
+    };
     if tool == ToolName::Atcron && asks_for_next(words) {
         return Ok(list_next(rt, words, &invoker.caller)?);
     }
@@ -64,7 +66,13 @@ fn make_day(rt: &HostRuntime, words: &[String]) -> Result<u8, AllocError>
     ensures { IfOk result IsExitCode }
 {
     let caller = caller_of(rt)?;
-    let status = commands_over(rt, words, &caller, Text::of(rt.alloc(), "/")?)?;
+    let status = commands_over(
+        rt,
+        ToolName::Atday,
+        words,
+        &caller,
+        Text::of(rt.alloc(), "/")?,
+    )?;
     Ok(exit_code_of(&status.cause))
 }
 

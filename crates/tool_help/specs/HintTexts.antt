@@ -13,9 +13,9 @@ hint_line_of tool hint = name_of_tool tool ++ codes ": " ++ hint ++ codes "\n"
 abbrev pub help_hint_of : ToolName → List ℕ
 help_hint_of tool = codes "try " ++ name_of_tool tool ++ codes " --help"
 
--- who holds the lock beside the spool
+-- who holds the lock on a file
 abbrev pub lock_hint_of : List ℕ → List ℕ
-lock_hint_of beside = codes "another program holds the spool: try again, or see who by fuser " ++ beside ++ codes ".lock"
+lock_hint_of file = codes "another program holds the spool: try again, or see who by fuser " ++ file
 
 -- how a user may use at, by the lists in a directory
 abbrev pub access_hint_of : List ℕ → List ℕ → ListsFound → List ℕ

@@ -20,7 +20,7 @@ pub enum Hint {
     Lists,
     /// Mend what stops the use of the spool (see `spool_hint`).
     Spool,
-    /// See who holds the lock beside the spool.
+    /// See who holds the lock of the spool (see `lock_hint`).
     Lock,
     /// What this text says.
     Text(&'static str),

@@ -27,13 +27,11 @@ pub fn help_hint(alloc: Global, tool: ToolName) -> Result<String, AllocError>
     format!(in alloc; "try {} --help", tool.as_str())
 }
 
-/// Who holds the lock of the spool whose files beside it begin so.
-pub fn lock_hint(alloc: Global, beside: &str) -> Result<String, AllocError>
-    ensures { IfOk result (λ hint. string_bytes hint ≡ lock_hint_of beside.now) }
+/// Who holds the lock of a spool, or that of its daemon, on this file.
+pub fn lock_hint(alloc: Global, file: &str) -> Result<String, AllocError>
+    ensures { IfOk result (λ hint. string_bytes hint ≡ lock_hint_of file.now) }
 {
-    format!(in alloc;
-        "another program holds the spool: try again, or see who by fuser {beside}.lock"
-    )
+    format!(in alloc; "another program holds the spool: try again, or see who by fuser {file}")
 }
 
 /// How the user may use at, by the lists in the directory.
