@@ -62,7 +62,7 @@ case_door_a_spool_that_is_replaced() {
   ATSPOOL=$spool TZ=UTC "$door/at" -t 203001010000 <<<true 2>said || fail "it says $(cat said)"
   wait
   grep -q '^job 66 at' said || fail "in place of job 66 it says $(cat said)"
-  [ "$(ls old)" = '' ] || fail "the old directory has $(ls old)"
+  [ "$(ls old)" = at.deny ] || fail "the old directory has $(ls old)"
 }
 
 # The directory of outputs is removed beside an atd: it stays the only one, and goes on.
@@ -116,8 +116,7 @@ case_door_a_salvage_into_the_spool() {
     status=0; timeout 5 "$door/atcheck" $words --salvage >out 2>err || status=$?
     refused 5 'atcheck: spool busy'
   done
-  # shellcheck disable=SC2086
-  knock atcheck "$spool" "$spool"; refused 1 'atcheck: usage'
+  knock atcheck "$spool" "$spool"; [ "$status" = 0 ] || fail "without a salvage it ends with $status: $(cat err)"
 }
 
 # How long after its end atstat -w of a job answers, in milliseconds, as the job writes it.
