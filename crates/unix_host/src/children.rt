@@ -63,7 +63,7 @@ impl Children {
         let text = contents(rt, self.alloc, CHILDREN).unwrap_or(Vec::new(self.alloc));
         let mut children = Vec::new(self.alloc);
         for word in text.split(|byte| *byte == b' ') {
-            if let Some(number) = number_in(word) {
+            if let Some(number) = process_number_in(word) {
                 children.push(self.child(number)?)?;
             }
         }
@@ -100,7 +100,7 @@ impl WatchedChild {
     fn look<R: Files<File = File>>(&mut self, rt: &R, alloc: Global) -> bool
         ensures { result ≡ (self.new.has_ended && not self.old.has_ended) }
     {
-        if self.has_ended || !self.is_over(rt, alloc) {
+        if self.has_ended || !self.can_be_waited_for(rt, alloc) {
             return false;
         }
         self.has_ended = true;
@@ -109,7 +109,7 @@ impl WatchedChild {
 
     // Whether it has ended and can be waited for: while its memory is given back its program is gone, and it can't. A child of
     // another user can't be looked at.
-    fn is_over<R: Files<File = File>>(&self, rt: &R, alloc: Global) -> bool {
+    fn can_be_waited_for<R: Files<File = File>>(&self, rt: &R, alloc: Global) -> bool {
         match fs::metadata(rt, self.program.as_str()) {
             Err(error) if error.kind() == ErrorKind::NotFound => {
                 is_zombie_now(rt, alloc, self.number)
@@ -143,6 +143,6 @@ fn contents<R: Files<File = File>>(rt: &R, alloc: Global, path: &str) -> io::Res
     Ok(bytes)
 }
 
-fn number_in(word: &[u8]) -> Option<u32> {
+fn process_number_in(word: &[u8]) -> Option<u32> {
     str::from_utf8(word).ok()?.parse().ok()
 }

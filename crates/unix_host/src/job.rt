@@ -106,7 +106,8 @@ fn spawned<R: Processes>(
 
 // Whether the system had no memory, or no room for one more process: that may pass.
 fn is_short(error: &io::Error) -> bool
-    ensures { IsTrue result ↔ (error_kind error.now ≡ ErrorKind.OutOfMemory ⊎ error_kind error.now ≡ ErrorKind.WouldBlock) }
+    ensures { IsTrue result ↔
+        (error_kind error.now ≡ ErrorKind.OutOfMemory ⊎ error_kind error.now ≡ ErrorKind.WouldBlock) }
 {
     matches!(error.kind(), ErrorKind::OutOfMemory | ErrorKind::WouldBlock)
 }

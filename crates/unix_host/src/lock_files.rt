@@ -60,7 +60,7 @@ impl LockFile {
         if place == LockPlace::Beside {
             options.write(true).create(true).mode(0o600);
         }
-        match options.open(rt, path_of(paths, place)) {
+        match options.open(rt, locked_path(paths, place)) {
             Ok(file) => Ok(LockFile { place, file }),
             Err(_) => Err(EnterFault::Failed),
         }
@@ -85,7 +85,7 @@ impl LockFile {
 impl LockedFile {
     /// Whether its path still names it.
     pub fn is_named<R: Files>(&self, rt: &R, paths: &Paths) -> bool {
-        let path = path_of(paths, self.place);
+        let path = locked_path(paths, self.place);
         match (fs::metadata(rt, path), self.file.metadata()) {
             (Ok(named), Ok(held)) => named.ino() == held.ino() && named.dev() == held.dev(),
             _ => false,
@@ -119,7 +119,7 @@ pub fn try_both(beside: LockFile, within: LockFile) -> Result<BothLocks, EnterFa
 }
 
 // The path of what is locked there.
-fn path_of(paths: &Paths, place: LockPlace) -> &str
+fn locked_path(paths: &Paths, place: LockPlace) -> &str
     ensures { result.now ≡ lock_path paths.now place }
 {
     match place {

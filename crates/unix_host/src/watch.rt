@@ -73,7 +73,7 @@ impl Watch {
             } else {
                 None
             };
-            if is_over(left, is_changed, ends) {
+            if ends_rest(left, is_changed, ends) {
                 return;
             }
             thread::sleep(rt, nap_at(place).min(left));
@@ -86,7 +86,7 @@ impl Watch {
 }
 
 // Whether a rest is over: no time is left, a file has changed, or a child has ended.
-fn is_over(left: Duration, is_changed: bool, ends: Option<ChildEnds>) -> bool
+fn ends_rest(left: Duration, is_changed: bool, ends: Option<ChildEnds>) -> bool
     ensures { result ≡ (nat_eq (as_nanos left) 0 || (is_changed || has_new_end ends)) }
 {
     left.is_zero() || is_changed || ends.is_some_and(|ends| ends.is_new())

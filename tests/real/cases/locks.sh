@@ -143,7 +143,7 @@ awaits_end() { # number
 case_door_a_process_that_knows_nothing_of_itself() {
   needs_strace; doored; opened
   status=0
-  env -i PATH=/usr/bin:/bin ATSPOOL="$spool" "$strace" -o traced -P /proc/self/status -e inject=open,openat:error=EIO \
+  env -i PATH=/usr/bin:/bin ATSPOOL="$spool" "$strace" -o traced --quiet=path-resolution -P /proc/self/status -e inject=open,openat:error=EIO \
     "$door/at" -t 203001010000 >out 2>err <<<true || status=$?
   refused 2 'at: /proc/self/status can not be read'
 }
