@@ -38,7 +38,7 @@ cp "$here/packaging/debian/copyright" "$doc/copyright"
 gzip -9nc "$here/packaging/debian/changelog" >"$doc/changelog.gz"
 cp "$here/packaging/debian/default" "$root/etc/default/coefhird"
 find "$root/usr/share/man" -type f -exec gzip -9n {} +
-for link in $(find "$root/usr/share/man" -type l); do
+find "$root/usr/share/man" -type l | while IFS= read -r link; do
     ln -sf "$(readlink "$link").gz" "$link.gz"
     rm "$link"
 done

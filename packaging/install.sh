@@ -149,6 +149,7 @@ for crate in $crates; do
     if [ -n "$proof" ]; then file "$proof" "$program.built"; else rm -f "$program.built"; fi
 done
 # What install.sh put there before: a link of each name to one of several programs, and parts of a script.
+# shellcheck disable=SC2046
 (cd "$to/libexec/coefhird" && rm -f program help hints account_tool check_tool cron_tool post_tool $(commands 'where != "libexec"'))
 mkdir -p "$to/bin" "$to/sbin"
 for tool in $(commands 'what != "script"'); do ln -sfn "../libexec/coefhird/$(commands "name == \"$tool\"" what)" "$to/bin/$tool"; done
