@@ -3,7 +3,7 @@
 
 # Root made a user's spool in a directory that was the user's already: a link there got mode 600, and its user.
 case_a_spool_that_is_made() {
-  edit passwd 's|^eve:\(.*\):[^:]*:/bin/sh|eve:\1:/nonexistent:/bin/sh|'
+  edit passwd '/^ann:/d; s|^eve:\(.*\):[^:]*:/bin/sh|eve:\1:/nonexistent:/bin/sh|'
   cp "$here/attack_cases/swap" home/eve/swap
   setpriv --reuid=eve --regid=eve --clear-groups perl home/eve/swap /var/spool/coefhird/eve "$PWD/victim" &
   swap=$!
