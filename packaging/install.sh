@@ -223,9 +223,10 @@ case $PREFIX in
         ;;
     *)
         systemctl daemon-reload 2>/dev/null || true
-        echo 'to have an atd run for root, and one for each user who submits a job:'
+        echo 'to have an atd run for root, and what the jobs and the crontab of each user need:'
         echo '  systemd-tmpfiles --create coefhird.conf'
-        echo '  systemctl enable --now atd coefhird-users.path coefhird-boot.service'
+        echo '  systemctl enable --now atd coefhird-users.path coefhird-boot.service coefhird-boot.timer coefhird-known.timer \
+      coefhird-lists.path coefhird-lists.service'
         echo 'or, where no systemd runs it, as each user:'
         echo '  setsid -f atd >/dev/null'
         ;;
