@@ -38,7 +38,7 @@ cp "$here/packaging/debian/copyright" "$doc/copyright"
 gzip -9nc "$here/packaging/debian/changelog" >"$doc/changelog.gz"
 cp "$here/packaging/debian/default" "$root/etc/default/coefhird"
 find "$root/usr/share/man" -type f -exec gzip -9n {} +
-for link in $(find "$root/usr/share/man" -type l); do
+find "$root/usr/share/man" -type l | while IFS= read -r link; do
     ln -sf "$(readlink "$link").gz" "$link.gz"
     rm "$link"
 done
@@ -46,14 +46,17 @@ echo /etc/default/coefhird >"$root/DEBIAN/conffiles"
 # Where no systemd runs.
 install -D -m 755 "$here/packaging/debian/init" "$root/etc/init.d/coefhird-users"
 echo /etc/init.d/coefhird-users >>"$root/DEBIAN/conffiles"
-# What postinst puts back.
+# What postinst puts into its place where it is absent.
 install -D -m 644 "$root/usr/lib/systemd/system/atd.service" "$root/usr/share/coefhird/atd.service"
+install -D -m 644 "$here/packaging/debian/at.deny" "$root/usr/share/coefhird/at.deny"
 for script in preinst postinst prerm postrm; do
     install -m 755 "$here/packaging/debian/$script" "$root/DEBIAN/$script"
 done
 # The files of a spool that are no jobs, as tests of find.
 kept=$(awk '$1 == "kept" { for (i = 2; i <= NF; i++) printf " ! -name \047%s\047", $i }' "$here/packaging/programs")
-sed -i "s|@NO_JOBS@|${kept# }|" "$root/DEBIAN/postrm"
+# The units that can be enabled.
+units() { grep -l '^\[Install\]' "$here/packaging/systemd/$1"* | sed "s|.*/$1||" | paste -sd ' '; }
+sed -i "s|@NO_JOBS@|${kept# }|; s|@OF_SYSTEM@|$(units system-)|; s|@OF_USERS@|$(units user-)|" "$root/DEBIAN/postrm"
 size=$(du -sk "$root" | cut -f 1)
 sed -e "s/@VERSION@/$version/" -e "s/@SIZE@/$size/" "$here/packaging/debian/control" >"$root/DEBIAN/control"
 (cd "$root" && find . -type f ! -path './DEBIAN/*' -printf '%P\0' | sort -z | xargs -0 md5sum) >"$root/DEBIAN/md5sums"

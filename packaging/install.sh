@@ -149,6 +149,7 @@ for crate in $crates; do
     if [ -n "$proof" ]; then file "$proof" "$program.built"; else rm -f "$program.built"; fi
 done
 # What install.sh put there before: a link of each name to one of several programs, and parts of a script.
+# shellcheck disable=SC2046
 (cd "$to/libexec/coefhird" && rm -f program help hints account_tool check_tool cron_tool post_tool $(commands 'where != "libexec"'))
 mkdir -p "$to/bin" "$to/sbin"
 for tool in $(commands 'what != "script"'); do ln -sfn "../libexec/coefhird/$(commands "name == \"$tool\"" what)" "$to/bin/$tool"; done
@@ -222,9 +223,10 @@ case $PREFIX in
         ;;
     *)
         systemctl daemon-reload 2>/dev/null || true
-        echo 'to have an atd run for root, and one for each user who submits a job:'
+        echo 'to have an atd run for root, and what the jobs and the crontab of each user need:'
         echo '  systemd-tmpfiles --create coefhird.conf'
-        echo '  systemctl enable --now atd coefhird-users.path coefhird-boot.service'
+        echo '  systemctl enable --now atd coefhird-users.path coefhird-boot.service coefhird-boot.timer coefhird-known.timer \
+      coefhird-lists.path coefhird-lists.service'
         echo 'or, where no systemd runs it, as each user:'
         echo '  setsid -f atd >/dev/null'
         ;;

@@ -1,7 +1,7 @@
 #!/bin/sh
-# Removes what install.sh put below PREFIX. Spools stay, and what lies beside them. End atd before: that is
-# `systemctl disable --now atd coefhird-users.path coefhird-boot.service` and `systemctl stop 'coefhird-atd@*'`, and for the
-# unit of one user `systemctl --user disable --now atd`.
+# Removes what install.sh put below PREFIX. Spools stay, and what lies beside them. End atd before: that is `systemctl disable
+# --now` with the units that install.sh names, and `systemctl stop 'coefhird-at*@*'`, and for the unit of one user
+# `systemctl --user disable --now atd`.
 set -eu
 here=$(cd "$(dirname "$0")/.." && pwd)
 PREFIX=${PREFIX:-/usr/local}

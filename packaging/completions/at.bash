@@ -151,8 +151,9 @@ _coefhird_atusers() {
         -u) mapfile -t COMPREPLY < <(compgen -u -- "${COMP_WORDS[COMP_CWORD]}") ;;
         -q) mapfile -t COMPREPLY < <(compgen -W "$(_coefhird_queues) =" -- "${COMP_WORDS[COMP_CWORD]}") ;;
         atq) mapfile -t COMPREPLY < <(compgen -W -q -- "${COMP_WORDS[COMP_CWORD]}") ;;
-        atrm) ;;
-        *) mapfile -t COMPREPLY < <(compgen -W "-u atq atrm $(_coefhird_alone)" -- "${COMP_WORDS[COMP_CWORD]}") ;;
+        at) mapfile -t COMPREPLY < <(compgen -W -c -- "${COMP_WORDS[COMP_CWORD]}") ;;
+        atrm | atstat | atcheck | status | -c) ;;
+        *) mapfile -t COMPREPLY < <(compgen -W "-u at atcheck atq atrm atstat status $(_coefhird_alone)" -- "${COMP_WORDS[COMP_CWORD]}") ;;
     esac
 }
 

@@ -121,5 +121,5 @@ complete -c atwhen -n '__coefhird_time words' -a "$words"
 complete -c atwhen -n '__coefhird_time units' -a "$units"
 complete -c atwhen -n '__coefhird_time unit' -a "$unit"
 
-complete -c atusers -f -a 'atq atrm'
+complete -c atusers -f -a 'at atcheck atq atrm atstat status'
 complete -c atusers -s u -x -a '(__fish_complete_users)' -d 'the user whose jobs are meant'

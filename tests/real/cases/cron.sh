@@ -116,7 +116,8 @@ steps_of_atcrontab() {
   chmod -R a+rX "$place/pre" "$place/door" 2>/dev/null
   [ ! -d /run/systemd/system ] || mount -t tmpfs tmpfs /run/systemd || fail 'nothing can be mounted'
   table=home/.config/coefhird/crontab
-  none="atcrontab: there is no systemd to run atcron: start it by setsid -f atcron -f $PWD/$table"
+  [ ! -d /run/coefhird ] || mount -t tmpfs tmpfs /run/coefhird || fail 'nothing can be mounted'
+  none="atcrontab: nothing runs it: start it by setsid -f atcron -f $PWD/$table"
   edits() { status=0; second env -i PATH=/usr/bin:/bin EDITOR="$2" "$door/atcrontab" $1 >out 2>err </dev/null || status=$?; }
   edits -l; refused 1 "atcrontab: there is no $PWD/$table"
   printf '#!/bin/sh\nprintf "30 8 * * 1-5 run\\n" >"$1"\n' >good; printf '#!/bin/sh\nprintf "30 8 * * 1-5 run\\n61 * * * * x\\n" >"$1"\n' >spoils
@@ -147,6 +148,14 @@ steps_of_atcrontab() {
   grep -qE "^atcrontab: $PWD/$mark is (89|90) minutes ahead of the clock, and atcron submits nothing until then: see atcron\(8\)\$" err || fail "of a mark ahead: $(cat err)"
   printf '%08x\n' $(($(date +%s) / 60)) >$mark; edits "$PWD/other"; ended 0 '' "$none"$'\n'
   rm $mark
+  # one that was killed before it renamed its file: the next call removes that file, and no other
+  printf '#!/bin/sh\nkill -KILL $PPID\n' >killer; chmod 755 killer; second touch $table.mine $table.backup
+  mount --bind killer "$(realpath /usr/bin/sync)" || fail 'nothing can be mounted'
+  edits "$PWD/other" 2>/dev/null; [ "$status" = 137 ] && [ "$(ls home/.config/coefhird | wc -l)" = 4 ] || fail "a killed one: $status, $(ls home/.config/coefhird)"
+  umount "$(realpath /usr/bin/sync)"
+  edits "$PWD/other"; ended 0 '' "$none"$'\n'
+  [ "$(ls home/.config/coefhird | paste -sd ' ')" = 'crontab crontab.backup crontab.mine' ] || fail "a killed one leaves $(ls home/.config/coefhird)"
+  rm $table.mine $table.backup
   edits -r; ended 0 '' ''; [ ! -e $table ] || fail 'the file is not removed'
   for words in '' '-x' '-e -l' 'a b' '--from-cron' '--from-cron a b' '--next' '--next 1 a b'; do
     edits "$words"; refused 1 'atcrontab: usage: atcrontab -e | -l | -r | --from-cron FILE | --next COUNT [FILE] | FILE'

@@ -23,6 +23,7 @@ chown fresh $old/c0000301e187e0
 chmod 700 $old/a0000201c8b522 $old/c0000301e187e0; chmod 600 $old/a0000401c8b522
 dpkg -i --no-triggers /root/coefhird_*.deb >/root/said 2>&1 || fails "dpkg: $(tail -n 5 /root/said)"
 grep -q "2 jobs of Debian's at wait in $old" /root/said || fails "the package says nothing of the jobs that wait: $(cat /root/said)"
+grep -q 'MAIL=yes in /etc/default/coefhird' /root/said || fails "the package says nothing of mail: $(cat /root/said)"
 /usr/libexec/coefhird/from-debian-at >/root/printed || fails 'from-debian-at prints nothing'
 [ "$(grep -c 'runuser -u' /root/printed)" = 2 ] && [ -e $old/a0000201c8b522 ] || fails "it prints $(cat /root/printed)"
 /usr/libexec/coefhird/from-debian-at --make 2>/root/made || fails "from-debian-at: $(cat /root/made)"

@@ -88,7 +88,7 @@ traced_script() { # folder, word..
     s/^rename(at2?)?\((AT_FDCWD[^,]*, )?"([^"]*)", (AT_FDCWD[^,]*, )?"([^"]*)".*\) += 0$/rename \3 \5/p
     s/^unlink(at)?\((AT_FDCWD[^,]*, )?"([^"]*)".*\) += 0$/remove \3/p
     s/^write\([12]<[^>]*>, "([0-9]+ of [^"\\]*).*$/says \1/p
-  ' traced | grep -E "^says | $1(/|\$)" | sed -E "s|$1\\>|HERE|g; s|crontab\.[A-Za-z0-9]{6}\\>|crontab.NEW|g" >calls
+  ' traced | grep -E "^says | $1(/|\$)" | sed -E "s|$1\\>|HERE|g; s|crontab\.new\.[0-9]+\.[A-Za-z0-9]{6}\\>|crontab.NEW|g" >calls
 }
 steps_of_a_crontab() {
   needs_strace
