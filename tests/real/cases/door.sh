@@ -254,7 +254,7 @@ END
   extra=(ATSPOOL="$spool" TZ=UTC); hand true at -q c -m noon tomorrow; took 1
   knock at -c 1; cmp -s out "$(file_of 1)" || fail 'what is shown is not the job'
   knock atday --make 8; [ "$status" = 0 ] && [ "$(head -n 1 out)" = 'events 8' ] || fail "atday says $(cat out err)"
-  for tool in at batch atq atrm atstat atd atday ataccount atpost atcron atcheck atout atwhen atcrontab atsalvage; do
+  for tool in at batch atq atrm atstat atd atday ataccount atpost atcron atcheck atout atwhen atcrontab atsalvage atrestore; do
     knock "$tool" --help; [ "$status" = 0 ] && grep -q "^$tool" out && tail -n 1 out | grep -qE '^man [18] (at|batch)' && [ ! -s err ] || fail "$tool --help says $(cat out err)"
     knock "$tool" --version; [ "$status" = 0 ] && [ "$(head -n 1 out)" = "$tool (Coefhird) $(cat "$here/../../VERSION")" ] || fail "$tool --version says $(cat out err)"
   done
