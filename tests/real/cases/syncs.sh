@@ -112,3 +112,14 @@ steps_of_a_move() {
   made 'rename HERE/a0000101c8b522 HERE/moved.a0000101c8b522' 'sync HERE' 'says 1 of 1 jobs moved'
 }
 case_syncs_of_a_move() { doored; apart steps_of_a_move; }
+
+# What is saved, and the lists, are on the disk before they have the name of the spool.
+case_syncs_of_a_salvage() {
+  needs_strace; doored; opened; echo ann >spool/at.allow
+  with true at -t 203001010000; took 1
+  printf 0000000 >spool/.SEQ
+  traced_script "$PWD" env -i PATH=/usr/bin:/bin ATSPOOL="$spool" "$door/atsalvage" --yes
+  sed -n '/^sync HERE.spool.new..ATD$/,$p' calls | grep -v '^remove' >swapped; mv swapped calls
+  made 'sync HERE/spool.new/.ATD' 'sync HERE/spool.new/at.allow' 'sync HERE/spool.new/at.deny' 'sync HERE/spool.new' 'sync HERE/spool.lock' \
+    'rename HERE/spool HERE/spool.bad' 'rename HERE/spool.new HERE/spool' 'sync HERE'
+}
