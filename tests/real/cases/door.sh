@@ -282,6 +282,14 @@ case_door_outputs_and_times() {
   knock atd -s; ended 0 $'job 1 handed over\njob 1 exit 0\n' ''
   knock atout 1; ended 0 $'one\ntwo\n' ''
   knock atout 01; ended 0 $'one\ntwo\n' ''
+  # the newest of several outputs of one number, and a word on the older ones, by either form of the number
+  named=$(basename "$spool.out"/a00000001*)
+  echo older >"$spool.out/b0000101b968a0"; touch -d '3 days ago' "$spool.out/b0000101b968a0"
+  echo old >"$spool.out/Z0000000101b968a0"; touch -d '2 days ago' "$spool.out/Z0000000101b968a0"
+  knock atout 1; ended 0 $'one\ntwo\n' $'atout: this is the newest; older outputs of job 1: Z0000000101b968a0 b0000101b968a0\n'
+  touch "$spool.out/b0000101b968a0"; knock atout 1
+  ended 0 $'older\n' "atout: this is the newest; older outputs of job 1: $named Z0000000101b968a0"$'\n'
+  rm "$spool.out"/[bZ]*
   ln -s spool link; ATSPOOL=$PWD/link "$door/atout" 1 >out 2>err || fail "by a link: $(cat err)"
   # (it follows the file until it is ended)
   ATSPOOL=$spool "$door/atout" -f 1 >followed & follower=$!

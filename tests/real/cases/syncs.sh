@@ -107,9 +107,24 @@ steps_of_a_move() {
   needs_strace
   command -v runuser >/dev/null || skip 'there is no runuser'
   mkdir -m 700 /var/spool/atjobs old && : >/var/spool/atjobs/at.deny
-  printf '#!/bin/sh\n# atrun uid=0 gid=0\n# mail root 0\numask 22\ntrue\n' >old/a0000101c8b522; chmod 700 old/a0000101c8b522
+  debians_job() { printf '#!/bin/sh\n# atrun uid=0 gid=0\n# mail root 0\numask 22\ntrue\n' >"old/$1"; chmod 700 "old/$1"; }
+  moves() { status=0; "$place/pre/libexec/coefhird/from-debian-at" --make "$PWD/old" >out 2>err || status=$?; }
+  moved() { [ "$(find /var/spool/atjobs -name 'a0*' | wc -l)" = "$1" ] || fail "$2: the jobs are $(ls /var/spool/atjobs): $(cat out err)"; }
+  debians_job a0000101c8b522
   traced_script "$PWD/old" "$place/pre/libexec/coefhird/from-debian-at" --make "$PWD/old"
-  made 'rename HERE/a0000101c8b522 HERE/moved.a0000101c8b522' 'sync HERE' 'says 1 of 1 jobs moved'
+  made 'rename HERE/a0000101c8b522 HERE/moving.a0000101c8b522' 'sync HERE' \
+    'rename HERE/moving.a0000101c8b522 HERE/moved.a0000101c8b522' 'sync HERE' 'says 1 of 1 jobs moved'
+  moved 1 'a move'
+  # A call that ends at its first rename, or at its last one: no job is submitted twice, and the next call says what is left.
+  ends_at() { # path that a rename has
+    "$strace" -f -o /dev/null -P "$PWD/old/$1" -e trace=rename,renameat,renameat2 -e inject=rename,renameat,renameat2:error=EIO \
+      "$place/pre/libexec/coefhird/from-debian-at" --make "$PWD/old" >said 2>&1 && fail "$1: no step failed"
+  }
+  debians_job a0000201c8b522; ends_at a0000201c8b522; moved 1 'a call that ends before it begins'
+  moves; [ "$status" = 0 ] || fail "afterwards: $status: $(cat err)"; moved 2 'the next call'
+  debians_job a0000301c8b522; ends_at moved.a0000301c8b522; moved 3 'a call that ends after the answer of at'
+  moves; moved 3 'the next call'
+  [ "$status" = 1 ] && grep -q "^from-debian-at: $PWD/old/moving.a0000301c8b522 was being moved as a call ended: " err || fail "it says: $status: $(cat err)"
 }
 case_syncs_of_a_move() { doored; apart steps_of_a_move; }
 
