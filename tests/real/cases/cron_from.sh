@@ -36,6 +36,7 @@ case_cron_from_cron() {
   for text in texts/*.posix; do
     mkdir -m 700 one && : >one/at.deny
     call atcron "$PWD/one" -f "$text" --turns 1 </dev/null; ended 0 '' ''
+    [ -s one/.CRON ] || fail "$text marks no minute"
     rm -r one one.lock one.out
   done
 }

@@ -315,30 +315,38 @@ case_door_scripts_and_the_path() {
   done
   chmod 755 fakes/*
   printf '#!/bin/sh\n# atrun uid=%s gid=%s\n# mail root 0\numask 22\ntrue\n' "$(id -u)" "$(id -g)" >debians/a0000201e187e0; chmod 700 debians/a0000201e187e0
-  hostile() { env -i PATH="$PWD/fakes:/usr/bin:/bin" HOME="$PWD" SENDMAIL=/bin/true ATSPOOL="$spool" TZ=UTC "$@" >said 2>&1 </dev/null; }
+  printf '#!/bin/sh\n/usr/bin/head -n 1 >%q\n' "$PWD/mailed" >deliver; chmod 755 deliver; echo '@hourly x' >table
+  hostile() { env -i PATH="$PWD/fakes:/usr/bin:/bin" HOME="$PWD" SENDMAIL="$PWD/deliver" ATSPOOL="$spool" TZ=UTC "$@" >said 2>&1 </dev/null; }
   hostile sh -c 'cat'; [ -e called ] || fail 'nothing is called by this PATH'
   rm called
   extra=("ATSPOOL=$spool" TZ=UTC)
   hand true at -q b -t 203001010000
-  while read -r words; do
+  mkdir -p copy "$spool.out"; cp -a "$spool" copy/; : >"$spool.out/a0000000901e187e0"; touch -d '2 days ago' "$spool.out"/*; echo lost >"$spool.out/mail.00000007"
+  while IFS='|' read -r words wanted; do
+    case $words in *rotate*) printf 'A 00000001 b ann\nR 00000001\n' >"$spool/.ACC" ;; esac
     # shellcheck disable=SC2086
     hostile "$place/pre/"$words
     [ ! -e called ] || fail "$words calls a program of the caller: $(cat said)"
+    grep -qF -- "$wanted" said || [ -z "$wanted" ] || fail "$words says $(cat said)"
   done <<END
-bin/atwhen noon jan 24, 2030
-bin/atout 1
-bin/atcrontab -l
-bin/atcrontab --next 1
-sbin/atsalvage
-sbin/atsalvage --yes
-libexec/coefhird/from-debian-at $PWD/debians
-libexec/coefhird/from-cron /dev/null
-libexec/coefhird/send ann
-libexec/coefhird/rotate --now
-libexec/coefhird/trim
-libexec/coefhird/weekly
-bin/atusers atq
+bin/atwhen noon jan 24, 2030|Thu Jan 24 12:00:00 2030
+bin/atout 1|job 1 has no output
+bin/atcrontab -l|atcrontab: there is no
+bin/atcrontab --next 1|atcrontab: there is no
+sbin/atsalvage|has no journal
+sbin/atsalvage --yes|is replaced
+sbin/atrestore --yes $PWD/copy/spool|atrestore: $spool.bad is there
+libexec/coefhird/from-debian-at $PWD/debians|bin/at -q a -t 203001010000
+libexec/coefhird/from-cron $PWD/table|0 * * * * x
+libexec/coefhird/send ann|
+libexec/coefhird/rotate --now|
+libexec/coefhird/trim|
+libexec/coefhird/weekly|the mail of job 7 may be lost
+bin/atusers atq|
 END
+  grep -q '^From: ' mailed || fail 'send mails nothing'
+  [ ! -e "$spool.out/a0000000901e187e0" ] || fail 'trim removes nothing'
+  ls "$spool.accounts"/*.counts >said || fail 'rotate moves nothing'
 }
 
 # A submission that is killed before its commands ended is none; as many commands as may be are one.
@@ -351,7 +359,7 @@ case_door_commands_that_do_not_come_whole() {
   : >killed; wait
   [ -z "$(find spool -name 'a0*')" ] || fail 'a submission that was killed before its commands ended is a job'
   head -c 1048576 /dev/zero | tr '\0' '#' | "$door/at" -t 203001010000 2>err || fail "as many as may be: $(cat err)"
-  [ "$(tail -c 1048576 "$(file_of 1)" | tr -d '#' | wc -c)" = 0 ] || fail 'the commands are others'
+  [ "$(tail -c 1048576 "$(file_of 1)" | tr -cd '#' | wc -c)" = 1048576 ] || fail 'the commands are others'
 }
 
 # What a job has of its caller: each variable in its place, with PWD, LOGNAME and TZ set, and those of the three that were

@@ -74,9 +74,11 @@ case_door_a_long_turn() {
   (flock 9; : >held; sleep 1; : >freed) 9<"$spool.lock" &
   awaits held
   ATSPOOL=$PWD/link "$door/atq" >out; [ -e freed ] || fail 'a caller does not wait for the lock'
+  grep -q '^1	' out || fail "it lists $(cat out)"
   (flock 9; : >again; sleep 11) 9<"$spool.lock" &
   awaits again
   "$door/atrm" 1 2>said || fail "it says $(cat said)"
+  [ -z "$(find "$spool/" -name 'a0*')" ] || fail 'the job is not removed'
   wait
 }
 
@@ -95,6 +97,7 @@ case_door_a_daemon_in_a_crowd() {
   : >over; wait
   [ "$status" = 0 ] && [ ! -s said ] && [ ! -s served ] || fail "atd ends with $status: $(sort said | uniq -c; head -n 3 served)"
   [ ! -e failed ] || fail "callers are refused: $(sort failed | uniq -c)"
+  [ -d "$spool.out" ] && [ "$((0x$(cat "$spool/.SEQ")))" -ge 8 ] || fail "there were $(cat "$spool/.SEQ") submissions"
 }
 
 case_door_one_atd() {
