@@ -120,6 +120,11 @@ UTC|UTC
 END
   extra=(ATSPOOL="$spool" TZ=UTC); knock atq; ended 0 $'1\tMon Jul  1 00:00:00 2030 a '"$me"$'\n' ''
   extra=(ATSPOOL="$spool" TZ=Europe/Berlin); knock atq; ended 0 $'1\tMon Jul  1 02:00:00 2030 a '"$me"$'\n' ''
+  # (where TZDIR has the zones)
+  mkdir -p zones/My && cp /usr/share/zoneinfo/Asia/Kathmandu zones/My/Zone
+  rm -rf spool; opened; extra=(ATSPOOL="$spool" TZ=My/Zone TZDIR="$PWD/zones"); hand true at -t 203007010000
+  [ "$status" = 0 ] && [ "$(zone_of 1)" = '<+0545>-5:45' ] || fail "with TZDIR it is $(zone_of 1): $(cat err)"
+  extra=(ATSPOOL="$spool" TZ=My/Zone); hand true at -t 203007010000; refused 1 'at: bad TZ'
   for zone in Mars/Base Europe ../../../etc/passwd ':' "a b"; do
     extra=(ATSPOOL="$spool" TZ="$zone"); hand true at -t 203007010000; refused 1 'at: bad TZ'
   done
@@ -384,6 +389,10 @@ case_door_variables() {
   [ "$(names_of 2)" = 'B PWD A TZ LOGNAME ATSPOOL C' ] || fail "the variables are $(names_of 2)"
   grep -qx "LOGNAME='$me'; export LOGNAME" "$(file_of 2)" && grep -qx "PWD='$PWD'; export PWD" "$(file_of 2)" || fail "they are $(cat "$(file_of 2)")"
   env -i B=1 ATSPOOL="$spool" A=2 "$door/at" -t 203001010000 <<<true 2>err || fail "$(cat err)"
+  for mask in 0000 0027 0777; do
+    (umask $mask; exec env -i ATSPOOL="$spool" "$door/at" -t 203001010000 <<<true 2>/dev/null) || fail "with umask $mask"
+    grep -qx "umask $mask" "$(find "$spool/" -name 'a0*' | sort | tail -n 1)" || fail "the umask is not $mask"
+  done
   case $(names_of 3) in 'B ATSPOOL A '*) ;; *) fail "the variables are $(names_of 3)" ;; esac
   [ "$(names_of 3 | tr ' ' '\n' | tail -n +4 | sort | paste -sd ' ')" = 'LOGNAME PWD TZ' ] || fail "the variables are $(names_of 3)"
 }

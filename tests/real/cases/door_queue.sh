@@ -121,6 +121,22 @@ case_door_one_atd() {
   touch go; awaits ended
 }
 
+# Of those that begin at once, on a spool that has no outputs yet, one works.
+case_door_two_atd_at_once() {
+  needs_atd; doored
+  trap 'kill $(jobs -p) 2>/dev/null' EXIT
+  for round in 1 2 3 4; do
+    opened "new_$round"; export ATSPOOL=$spool TZ=UTC
+    for daemon in 1 2 3; do
+      (status=0; "$door/atd" >/dev/null 2>"said_$daemon" </dev/null & echo $! >"pid_$daemon"; wait $! || status=$?; echo "$status" >"ended_${round}_$daemon") &
+    done
+    for _ in $(seq 200); do [ "$(cat "ended_${round}"_* 2>/dev/null | wc -l)" -lt 2 ] || break; sleep 0.05; done
+    sleep 0.2
+    [ "$(cat "ended_${round}"_*)" = $'5\n5' ] || fail "of three, $(cat "ended_${round}"_* | wc -l) end: $(cat said_*)"
+    kill $(cat pid_*) 2>/dev/null; wait
+  done
+}
+
 # An atd by setsid -f, as the printed lines have it, outlives ^C and the end of the terminal, and so do its jobs.
 case_door_an_atd_of_its_own_group() {
   needs_atd; doored; opened

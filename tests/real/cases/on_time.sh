@@ -58,6 +58,22 @@ case_long_a_job_starts_at_its_minute() {
   [ "$late" -ge 0 ] && [ "$late" -lt 10000 ] || fail "the job started $late ms after its minute"
 }
 
+# A notice is sent as its job ends: atpost watches the spool, and does not rest to the end of the minute.
+case_long_a_notice_at_once() {
+  needs_atd; doored; opened; extra=(ATSPOOL="$spool" TZ=UTC)
+  printf '#!/bin/sh\ncat >%q\n' "$PWD/notice" >post; chmod 755 post
+  hand true at -m now; took 1
+  (exec env -i PATH=/usr/bin:/bin "${extra[@]}" "$door/atpost" --send "$PWD/post" >/dev/null 2>said </dev/null) & post=$!
+  trap 'kill "$post" 2>/dev/null' EXIT
+  for _ in $(seq 400); do grep -qs '^N 00000001' "$spool/.MAIL" && break; sleep 0.05; done
+  # (within one minute, with time to spare)
+  [ $(($(date +%s) % 60)) -lt 35 ] || sleep $((61 - $(date +%s) % 60))
+  sleep 2
+  knock atd -s; [ "$status" = 0 ] || fail "atd: $(cat err)"
+  for _ in $(seq 300); do [ ! -s notice ] || return 0; sleep 0.05; done
+  fail "no notice comes within 15 seconds: $(cat said "$spool/.MAIL")"
+}
+
 # However many submissions there are, atd makes one turn a second, and one more where a minute ends.
 case_a_flood_of_submissions() {
   needs_strace; needs_atd; doored; opened

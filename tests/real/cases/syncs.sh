@@ -138,3 +138,21 @@ case_syncs_of_a_salvage() {
   made 'sync HERE/spool.new/.ATD' 'sync HERE/spool.new/at.allow' 'sync HERE/spool.new/at.deny' 'sync HERE/spool.new' 'sync HERE/spool.lock' \
     'rename HERE/spool HERE/spool.bad' 'rename HERE/spool.new HERE/spool' 'sync HERE'
 }
+
+# A first spool is on the disk before a job is accepted, with rights for its user alone, whatever the umask is.
+steps_of_a_first_spool() {
+  needs_strace
+  home=$PWD/home
+  for mask in 0000 0277; do
+    rm -rf home/.local
+    umask $mask
+    traced_script "$PWD/home" setpriv --reuid=$number --regid=$number --clear-groups env -i HOME="$home" TZ=UTC "$door/at" -t 203001010000
+    umask 0022
+    [ "$(stat -c %a home/.local home/.local/state/coefhird/jobs{,.out,.lock} | paste -sd ' ')" = '700 700 700 600' ] && [ -z "$(find home/.local -perm /077)" ] \
+      || fail "with umask $mask the rights are $(stat -c '%a %n' home/.local/state/coefhird/jobs* home/.local/state/coefhird/jobs/*)"
+    for made in .local .local/state .local/state/coefhird .local/state/coefhird/jobs .local/state/coefhird/jobs/at.deny; do
+      grep -qx "sync HERE/$made" calls || fail "$made is not synced: $(cat calls)"
+    done
+  done
+}
+case_syncs_of_a_first_spool() { doored; apart steps_of_a_first_spool; }
