@@ -3,12 +3,13 @@
 # A spool in which so many jobs wait.
 filled() { # count, name
   opened "${2:-spool}"
-  local digits
-  for ((made = 1; made <= $1; made++)); do
-    printf -v digits %08x "$made"
-    printf '#!/bin/sh\n# at user=%s mail=0\numask 0022\ncd '\''/'\'' || {\n\techo '\''Execution directory inaccessible'\'' >&2\n\texit 1\n}\ntrue\n' "$me" \
-      >"$spool/a${digits}0fffffff"
-  done
+  awk -v count="$1" -v user="$me" -v spool="$spool" 'BEGIN {
+    for (job = 1; job <= count; job++) {
+      file = sprintf("%s/a%08x0fffffff", spool, job)
+      printf "#!/bin/sh\n# at user=%s mail=0\numask 0022\ncd \047/\047 || {\n\techo \047Execution directory inaccessible\047 >&2\n\texit 1\n}\ntrue\n", user >file
+      close(file)
+    }
+  }'
   printf '%08x\n' "$1" >"$spool/.SEQ"
   export ATSPOOL=$spool TZ=UTC
 }

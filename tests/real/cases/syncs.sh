@@ -150,9 +150,10 @@ steps_of_a_first_spool() {
     umask 0022
     [ "$(stat -c %a home/.local home/.local/state/coefhird/jobs{,.out,.lock} | paste -sd ' ')" = '700 700 700 600' ] && [ -z "$(find home/.local -perm /077)" ] \
       || fail "with umask $mask the rights are $(stat -c '%a %n' home/.local/state/coefhird/jobs* home/.local/state/coefhird/jobs/*)"
-    for made in .local .local/state .local/state/coefhird .local/state/coefhird/jobs .local/state/coefhird/jobs/at.deny; do
-      grep -qx "sync HERE/$made" calls || fail "$made is not synced: $(cat calls)"
-    done
+    # (each name is on the disk before anything is put below it)
+    sed -n '1,/at.deny/p' calls | sed 's|HERE/.local/state/coefhird|HERE/STATE|' >first; mv first calls
+    made 'sync HERE/.local' 'sync HERE' 'sync HERE/.local/state' 'sync HERE/.local' 'sync HERE/STATE' 'sync HERE/.local/state' \
+      'sync HERE/STATE/jobs' 'sync HERE/STATE' 'sync HERE/STATE/jobs/at.deny'
   done
 }
 case_syncs_of_a_first_spool() { doored; apart steps_of_a_first_spool; }
