@@ -139,6 +139,21 @@ case_syncs_of_a_salvage() {
     'rename HERE/spool HERE/spool.bad' 'rename HERE/spool.new HERE/spool' 'sync HERE'
 }
 
+# So is a copy that is put back, with its outputs.
+case_syncs_of_a_restore() {
+  needs_strace; doored; opened
+  with true at -t 203001010000; took 1
+  mkdir -p copy spool.out; : >spool.out/a0000000101e187e0; cp -a spool spool.out copy/
+  traced_script "$PWD" env -i PATH=/usr/bin:/bin ATSPOOL="$spool" "$door/atrestore" --yes copy/spool
+  grep -v '^remove' calls | sed -n '/sync HERE.spool.restore$/,$p' >swapped; sort swapped | uniq -c >counted
+  for made in spool.restore spool.restore/.SEQ "spool.restore/$(basename "$(file_of 1)")" spool.restore/.ATD spool.restore.out spool.restore.out/a0000000101e187e0; do
+    grep -q " sync HERE/$made\$" counted || fail "$made is not synced: $(cat calls)"
+  done
+  tail -n 8 swapped >calls
+  made 'sync HERE/spool.restore/.SEQ' 'sync HERE/spool.restore' 'sync HERE/spool.lock' 'rename HERE/spool.out HERE/spool.bad.out' \
+    'rename HERE/spool.restore.out HERE/spool.out' 'rename HERE/spool HERE/spool.bad' 'rename HERE/spool.restore HERE/spool' 'sync HERE'
+}
+
 # A first spool is on the disk before a job is accepted, with rights for its user alone, whatever the umask is.
 steps_of_a_first_spool() {
   needs_strace
