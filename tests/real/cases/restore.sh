@@ -6,7 +6,7 @@ notices() {
   call atpost "$spool" --send "$PWD/post" --turns 1 </dev/null; ended 0 '' ''; told
 }
 jobs_run() { call atd -s </dev/null; [ "$status" = 0 ] || fail "atd: $(cat err)"; }
-restores() { status=0; env -i PATH=/usr/bin:/bin ATSPOOL="$spool" TZ=UTC timeout 40 "$door/atrestore" "$@" >out 2>err </dev/null || status=$?; }
+restores() { status=0; env -i PATH=/usr/bin:/bin ATSPOOL="$spool" TZ=UTC timeout 120 "$door/atrestore" "$@" >out 2>err </dev/null || status=$?; }
 # A spool in which job 1 has run, jobs 2 to 4 wait, and 5 ran without a notice yet; and its copy, by the page.
 copied() {
   needs_atd; doored; opened; rm -rf copy post; mkdir copy
