@@ -1,4 +1,4 @@
-# Completions of at, batch, atq, atrm, atstat, atd, atday, ataccount, atpost, atcron, atcrontab, atcheck, atsalvage, atout, atwhen and atusers for bash.
+# Completions of at, batch, atq, atrm, atstat, atd, atday, ataccount, atpost, atcron, atcrontab, atcheck, atsalvage, atrestore, atout, atwhen and atusers for bash.
 
 _coefhird_jobs() { atq 2>/dev/null | cut -f 1; }
 
@@ -137,6 +137,14 @@ _coefhird_atcheck() { _coefhird_folder_or '--salvage' "${COMP_WORDS[COMP_CWORD]}
 
 _coefhird_atsalvage() { _coefhird_folder_or '--yes' "${COMP_WORDS[COMP_CWORD]}"; }
 
+_coefhird_atrestore() {
+    case ${COMP_WORDS[COMP_CWORD - 1]} in
+        --mail) mapfile -t COMPREPLY < <(compgen -W 'once again' -- "${COMP_WORDS[COMP_CWORD]}") ;;
+        --last) COMPREPLY=() ;;
+        *) _coefhird_folder_or '--yes --last --mail' "${COMP_WORDS[COMP_CWORD]}" ;;
+    esac
+}
+
 _coefhird_atout() {
     mapfile -t COMPREPLY < <(compgen -W "-f $(_coefhird_outputs) $(_coefhird_alone)" -- "${COMP_WORDS[COMP_CWORD]}")
 }
@@ -170,6 +178,7 @@ complete -F _coefhird_atcron atcron
 complete -F _coefhird_atcrontab atcrontab
 complete -F _coefhird_atcheck atcheck
 complete -F _coefhird_atsalvage atsalvage
+complete -F _coefhird_atrestore atrestore
 complete -F _coefhird_atout atout
 complete -F _coefhird_atwhen atwhen
 complete -F _coefhird_atusers atusers

@@ -1,4 +1,4 @@
-# Completions of at, batch, atq, atrm, atstat, atd, atday, ataccount, atpost, atcron, atcrontab, atcheck, atsalvage, atout and atwhen for fish.
+# Completions of at, batch, atq, atrm, atstat, atd, atday, ataccount, atpost, atcron, atcrontab, atcheck, atsalvage, atrestore, atout and atwhen for fish.
 
 function __coefhird_jobs
     atq 2>/dev/null
@@ -38,7 +38,7 @@ function __coefhird_time
 end
 
 # What each tool takes as its only word.
-for tool in at batch atq atrm atstat atd atday ataccount atpost atcron atcrontab atcheck atsalvage atout atwhen
+for tool in at batch atq atrm atstat atd atday ataccount atpost atcron atcrontab atcheck atsalvage atrestore atout atwhen
     complete -c $tool -n 'test (count (commandline -opc)) = 1' -l help -d 'print what it is for'
     complete -c $tool -n 'test (count (commandline -opc)) = 1' -l version -d 'print its version'
 end
@@ -112,6 +112,11 @@ complete -c atcheck -l salvage -d 'write what can be saved into the second direc
 
 complete -c atsalvage -f -a '(__fish_complete_directories)'
 complete -c atsalvage -l yes -d 'do not ask before the swap'
+
+complete -c atrestore -f -a '(__fish_complete_directories)'
+complete -c atrestore -l yes -d 'do not ask before the swap'
+complete -c atrestore -x -l last -d 'new jobs get numbers above this one'
+complete -c atrestore -x -l mail -a 'once again' -d 'what becomes of notices'
 
 complete -c atout -f -a '(__coefhird_outputs)'
 complete -c atout -s f -d 'wait for the job, and go on as it writes'

@@ -1,5 +1,5 @@
-// A clock that is told: it begins at a full minute, and a rest does not wait but makes it as much later. Each look at it takes up
-// to 0.1 s, as on a machine that does other work.
+// A clock that is told: it begins at a full minute, the next one or that after second FROM, and a rest does not wait but makes
+// it as much later. Each look at it takes up to 0.1 s, as on a machine that does other work.
 #define _GNU_SOURCE
 #include <sys/syscall.h>
 #include <time.h>
@@ -16,6 +16,10 @@ int clock_gettime(clockid_t clock, struct timespec *at)
     int status = (int)syscall(SYS_clock_gettime, clock, at);
     if (status != 0 || clock != CLOCK_REALTIME)
         return status;
+#ifdef FROM
+    if (shown == 0)
+        at->tv_sec = FROM;
+#endif
     if (shown == 0)
         shown = (at->tv_sec / MINUTE + 1) * MINUTE * SECOND;
     drawn = drawn * 6364136223846793005ULL + 1442695040888963407ULL;

@@ -213,6 +213,50 @@ case_check_salvage_counts() {
   [ -d spool.bad ] || fail "it says $(tail -n 3 said)"
 }
 
+# The script with another atcheck, which has the real one as $real.
+salvages_with() { # steps of a shell
+  mkdir -p tools; ln -sf "$door/at" "$door/atstat" tools/
+  printf '#!/bin/sh\nreal=%q\n%s\nexec "$real" "$@"\n' "$door/atcheck" "$1" >tools/atcheck; chmod 755 tools/atcheck
+  sed "s|^tools=.*|tools='$PWD/tools'|" "$door/atsalvage" >salvage
+  status=0; env -i PATH=/usr/bin:/bin "${extra[@]}" timeout 40 sh salvage --yes >out 2>err </dev/null || status=$?
+}
+# After any other status than those of a salvage, and where what was saved is not whole, all is as it was; and beside an atd.
+case_check_salvage_goes_no_further() {
+  doored; day_of_jobs; cp -a "$spool" whole; extra=(ATSPOOL="$spool" TZ=UTC)
+  faulty_spool; bytes_of "$spool" >before
+  stays() { bytes_of "$spool" | cmp -s - before && [ -z "$(ls -d spool.new* spool.bad* 2>/dev/null)" ] || fail "$1 leaves $(ls -d spool*): $(cat out err)"; }
+  for code in 2 4 5 6; do
+    salvages_with "[ \"\$*\" != '$spool' ] || exit $code"; [ "$status" = $code ] || fail "a check with $code: $status"; stays "a check with $code"
+    salvages_with "case \$* in *--salvage) mkdir \"\$2\"; exit $code ;; esac"; [ "$status" = $code ] || fail "a salvage with $code: $status"; stays "a salvage with $code"
+  done
+  salvages_with 'case $# in 1) exit 9 ;; esac'
+  [ "$status" = 9 ] && grep -qx "atsalvage: $spool.new is not whole" err || fail "what is not whole: $status: $(cat err)"; stays 'what is not whole'
+  for lock in spool.out spool/.ATD; do
+    case $lock in *.out) mkdir -p $lock ;; *) : >$lock ;; esac
+    flock $lock sh -c ': >held; while [ ! -e go ]; do sleep 0.05; done' & awaits held
+    knock atsalvage --yes; [ "$status" = 5 ] && grep -qx "atsalvage: an atd works on $spool: end it first" err || fail "beside $lock: $status: $(cat err)"
+    : >go; wait; rm go held
+  done
+  rm spool/.ATD; stays 'an atd'
+}
+
+# It swaps under the lock of the spool, whose byte says then that anything may be unsynced. Both lists are copied, and what was
+# submitted since the salvage is not thrown away.
+case_check_salvage_under_the_lock() {
+  doored; day_of_jobs; echo ann >spool/at.allow; cp -a "$spool" whole; extra=(ATSPOOL="$spool" TZ=UTC)
+  faulty_spool; printf c >spool.lock
+  salvages_with "case \$1 in *.new) flock $PWD/spool.lock sh -c ': >$PWD/held; sleep 1; [ ! -e $PWD/spool.bad ] || : >$PWD/early' >/dev/null 2>&1 & 
+    until [ -e $PWD/held ]; do sleep 0.05; done; exit 0 ;; esac"
+  [ "$status" = 0 ] && [ -d spool.bad ] && [ ! -e early ] || fail "it does not wait for the lock: $status, $(ls): $(cat out err)"
+  [ "$(cat spool.lock)" = a ] || fail "the lock says $(cat spool.lock)"
+  [ "$(stat -c '%a %s' spool/.ATD)" = '600 0' ] || fail 'there is no .ATD'
+  cmp spool/at.allow whole/at.allow && [ -e spool/at.deny ] || fail "the lists are $(ls -A spool)"
+  rm -rf spool spool.*; cp -a whole spool; rm spool/.JRN
+  salvages_with "case \$1 in *.new) ATSPOOL=$spool TZ=UTC LOGNAME=ann PWD=/ $bin/at -t 203001010000 </dev/null 2>$PWD/said ;; esac"
+  grep -q '^job 5 ' said && [ "$status" = 1 ] && grep -qx "atsalvage: $spool was changed meanwhile: call it again" err || fail "a submission meanwhile: $status: $(cat said out err)"
+  [ -e "$(file_of 5)" ] && [ ! -e spool.bad ] || fail "it leaves $(ls -d spool*)"
+}
+
 # Lines that nobody reads hold no lock: a submission beside them is made.
 case_check_into_a_pipe_that_nobody_reads() {
   opened

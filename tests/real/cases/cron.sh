@@ -163,3 +163,14 @@ steps_of_atcrontab() {
   [ -z "$(ls home/.config/coefhird)" ] || fail "there stays $(ls home/.config/coefhird)"
 }
 case_cron_atcrontab() { doored; apart steps_of_atcrontab; }
+
+# A day that comes once in eight years, since 2100 has no February 29: it is searched for that long.
+case_cron_next_after_eight_years() {
+  command -v cc >/dev/null || skip 'there is no cc'
+  doored; opened
+  cc -shared -fPIC "-DFROM=$(date -u -d '2096-03-01' +%s)LL" -o clock.so "$here/told_clock.c" || fail 'the clock is not compiled'
+  printf '0 0 29 2 * x\n' >table
+  extra=(ATSPOOL="$spool" TZ=UTC LD_PRELOAD="$PWD/clock.so")
+  knock atcron -f table --next 1
+  [ "$status" = 0 ] && grep -q 'Feb 29 00:00:00 2104' out && ! grep -q 2096 out || fail "it says: $status: $(cat out err)"
+}

@@ -36,6 +36,7 @@ case_cron_from_cron() {
   for text in texts/*.posix; do
     mkdir -m 700 one && : >one/at.deny
     call atcron "$PWD/one" -f "$text" --turns 1 </dev/null; ended 0 '' ''
+    [ -s one/.CRON ] || fail "$text marks no minute"
     rm -r one one.lock one.out
   done
 }
@@ -52,6 +53,17 @@ steps_of_from_cron() {
   printf '@hourly root x\n' >a=b; converts a=b; ended 0 $'0 * * * * root x\n' ''
   for file in /nowhere/at_all "$PWD"; do converts "$file"; refused 1 "atcrontab: $file can not be read"; done
   [ ! -e home/.config/coefhird ] || fail 'a crontab is made'
+  # (what cron takes for itself sets no variable of a command)
+  while IFS='|' read -r line why; do
+    printf '%s\n@hourly x\n' "$line" >text; converts text
+    ended 1 $'0 * * * * x\n' "atcrontab: line 1 has no equivalent: $line: $why"$'\n'
+  done <<'END'
+CRON_TZ=UTC|the whole crontab is read in the zone that atcron has as TZ
+MAILFROM=ann|atpost(8) mails to the user of a job
+CONTENT_TYPE=text/plain|atpost(8) sets it by what the job printed
+SHELL=/bin/bash|commands are run by /bin/sh
+LOGNAME=ann|it is the user of atcron
+END
   [ -d /etc/cron.d ] && mount -t tmpfs -o mode=755 tmpfs /etc/cron.d || return 0
   printf '@hourly root x\n@daily %s y\n' "$second" >/etc/cron.d/two
   for file in /etc/cron.d/two ./link; do

@@ -117,6 +117,8 @@ case_daemons_that_are_killed() {
   call atd -s </dev/null
   [ "$status" = 0 ] || fail "after the kills atd ends with $status: $(cat err)"
   sleep 0.5
+  # (each second submission is not killed, and its job runs, unless its atd is killed as it starts)
+  [ "$(wc -l <acknowledged)" -ge 50 ] && [ -s ran ] || fail "$(wc -l <acknowledged) jobs were acknowledged, and $(wc -l <ran) ran"
   [ -z "$(sort ran | uniq -d)" ] || fail "ran twice: $(sort ran | uniq -d | tr '\n' ' ')"
   while read -r number; do
     grep -q "^+S$(printf %08x "$number")" spool/.JRN || fail "job $number was acknowledged and never started"

@@ -120,6 +120,11 @@ UTC|UTC
 END
   extra=(ATSPOOL="$spool" TZ=UTC); knock atq; ended 0 $'1\tMon Jul  1 00:00:00 2030 a '"$me"$'\n' ''
   extra=(ATSPOOL="$spool" TZ=Europe/Berlin); knock atq; ended 0 $'1\tMon Jul  1 02:00:00 2030 a '"$me"$'\n' ''
+  # (where TZDIR has the zones)
+  mkdir -p zones/My && cp /usr/share/zoneinfo/Asia/Kathmandu zones/My/Zone
+  rm -rf spool; opened; extra=(ATSPOOL="$spool" TZ=My/Zone TZDIR="$PWD/zones"); hand true at -t 203007010000
+  [ "$status" = 0 ] && [ "$(zone_of 1)" = '<+0545>-5:45' ] || fail "with TZDIR it is $(zone_of 1): $(cat err)"
+  extra=(ATSPOOL="$spool" TZ=My/Zone); hand true at -t 203007010000; refused 1 'at: bad TZ'
   for zone in Mars/Base Europe ../../../etc/passwd ':' "a b"; do
     extra=(ATSPOOL="$spool" TZ="$zone"); hand true at -t 203007010000; refused 1 'at: bad TZ'
   done
@@ -254,7 +259,7 @@ END
   extra=(ATSPOOL="$spool" TZ=UTC); hand true at -q c -m noon tomorrow; took 1
   knock at -c 1; cmp -s out "$(file_of 1)" || fail 'what is shown is not the job'
   knock atday --make 8; [ "$status" = 0 ] && [ "$(head -n 1 out)" = 'events 8' ] || fail "atday says $(cat out err)"
-  for tool in at batch atq atrm atstat atd atday ataccount atpost atcron atcheck atout atwhen atcrontab atsalvage; do
+  for tool in at batch atq atrm atstat atd atday ataccount atpost atcron atcheck atout atwhen atcrontab atsalvage atrestore; do
     knock "$tool" --help; [ "$status" = 0 ] && grep -q "^$tool" out && tail -n 1 out | grep -qE '^man [18] (at|batch)' && [ ! -s err ] || fail "$tool --help says $(cat out err)"
     knock "$tool" --version; [ "$status" = 0 ] && [ "$(head -n 1 out)" = "$tool (Coefhird) $(cat "$here/../../VERSION")" ] || fail "$tool --version says $(cat out err)"
   done
@@ -282,6 +287,14 @@ case_door_outputs_and_times() {
   knock atd -s; ended 0 $'job 1 handed over\njob 1 exit 0\n' ''
   knock atout 1; ended 0 $'one\ntwo\n' ''
   knock atout 01; ended 0 $'one\ntwo\n' ''
+  # the newest of several outputs of one number, and a word on the older ones, by either form of the number
+  named=$(basename "$spool.out"/a00000001*)
+  echo older >"$spool.out/b0000101b968a0"; touch -d '3 days ago' "$spool.out/b0000101b968a0"
+  echo old >"$spool.out/Z0000000101b968a0"; touch -d '2 days ago' "$spool.out/Z0000000101b968a0"
+  knock atout 1; ended 0 $'one\ntwo\n' $'atout: this is the newest; older outputs of job 1: Z0000000101b968a0 b0000101b968a0\n'
+  touch "$spool.out/b0000101b968a0"; knock atout 1
+  ended 0 $'older\n' "atout: this is the newest; older outputs of job 1: $named Z0000000101b968a0"$'\n'
+  rm "$spool.out"/[bZ]*
   ln -s spool link; ATSPOOL=$PWD/link "$door/atout" 1 >out 2>err || fail "by a link: $(cat err)"
   # (it follows the file until it is ended)
   ATSPOOL=$spool "$door/atout" -f 1 >followed & follower=$!
@@ -307,30 +320,38 @@ case_door_scripts_and_the_path() {
   done
   chmod 755 fakes/*
   printf '#!/bin/sh\n# atrun uid=%s gid=%s\n# mail root 0\numask 22\ntrue\n' "$(id -u)" "$(id -g)" >debians/a0000201e187e0; chmod 700 debians/a0000201e187e0
-  hostile() { env -i PATH="$PWD/fakes:/usr/bin:/bin" HOME="$PWD" SENDMAIL=/bin/true ATSPOOL="$spool" TZ=UTC "$@" >said 2>&1 </dev/null; }
+  printf '#!/bin/sh\n/usr/bin/head -n 1 >%q\n' "$PWD/mailed" >deliver; chmod 755 deliver; echo '@hourly x' >table
+  hostile() { env -i PATH="$PWD/fakes:/usr/bin:/bin" HOME="$PWD" SENDMAIL="$PWD/deliver" ATSPOOL="$spool" TZ=UTC "$@" >said 2>&1 </dev/null; }
   hostile sh -c 'cat'; [ -e called ] || fail 'nothing is called by this PATH'
   rm called
   extra=("ATSPOOL=$spool" TZ=UTC)
   hand true at -q b -t 203001010000
-  while read -r words; do
+  mkdir -p copy "$spool.out"; cp -a "$spool" copy/; : >"$spool.out/a0000000901e187e0"; touch -d '2 days ago' "$spool.out"/*; echo lost >"$spool.out/mail.00000007"
+  while IFS='|' read -r words wanted; do
+    case $words in *rotate*) printf 'A 00000001 b ann\nR 00000001\n' >"$spool/.ACC" ;; esac
     # shellcheck disable=SC2086
     hostile "$place/pre/"$words
     [ ! -e called ] || fail "$words calls a program of the caller: $(cat said)"
+    grep -qF -- "$wanted" said || [ -z "$wanted" ] || fail "$words says $(cat said)"
   done <<END
-bin/atwhen noon jan 24, 2030
-bin/atout 1
-bin/atcrontab -l
-bin/atcrontab --next 1
-sbin/atsalvage
-sbin/atsalvage --yes
-libexec/coefhird/from-debian-at $PWD/debians
-libexec/coefhird/from-cron /dev/null
-libexec/coefhird/send ann
-libexec/coefhird/rotate --now
-libexec/coefhird/trim
-libexec/coefhird/weekly
-bin/atusers atq
+bin/atwhen noon jan 24, 2030|Thu Jan 24 12:00:00 2030
+bin/atout 1|job 1 has no output
+bin/atcrontab -l|atcrontab: there is no
+bin/atcrontab --next 1|atcrontab: there is no
+sbin/atsalvage|has no journal
+sbin/atsalvage --yes|is replaced
+sbin/atrestore --yes $PWD/copy/spool|atrestore: $spool.bad is there
+libexec/coefhird/from-debian-at $PWD/debians|bin/at -q a -t 203001010000
+libexec/coefhird/from-cron $PWD/table|0 * * * * x
+libexec/coefhird/send ann|
+libexec/coefhird/rotate --now|
+libexec/coefhird/trim|
+libexec/coefhird/weekly|the mail of job 7 may be lost
+bin/atusers atq|
 END
+  grep -q '^From: ' mailed || fail 'send mails nothing'
+  [ ! -e "$spool.out/a0000000901e187e0" ] || fail 'trim removes nothing'
+  ls "$spool.accounts"/*.counts >said || fail 'rotate moves nothing'
 }
 
 # A submission that is killed before its commands ended is none; as many commands as may be are one.
@@ -343,7 +364,7 @@ case_door_commands_that_do_not_come_whole() {
   : >killed; wait
   [ -z "$(find spool -name 'a0*')" ] || fail 'a submission that was killed before its commands ended is a job'
   head -c 1048576 /dev/zero | tr '\0' '#' | "$door/at" -t 203001010000 2>err || fail "as many as may be: $(cat err)"
-  [ "$(tail -c 1048576 "$(file_of 1)" | tr -d '#' | wc -c)" = 0 ] || fail 'the commands are others'
+  [ "$(tail -c 1048576 "$(file_of 1)" | tr -cd '#' | wc -c)" = 1048576 ] || fail 'the commands are others'
 }
 
 # What a job has of its caller: each variable in its place, with PWD, LOGNAME and TZ set, and those of the three that were
@@ -368,6 +389,10 @@ case_door_variables() {
   [ "$(names_of 2)" = 'B PWD A TZ LOGNAME ATSPOOL C' ] || fail "the variables are $(names_of 2)"
   grep -qx "LOGNAME='$me'; export LOGNAME" "$(file_of 2)" && grep -qx "PWD='$PWD'; export PWD" "$(file_of 2)" || fail "they are $(cat "$(file_of 2)")"
   env -i B=1 ATSPOOL="$spool" A=2 "$door/at" -t 203001010000 <<<true 2>err || fail "$(cat err)"
+  for mask in 0000 0027 0777; do
+    (umask $mask; exec env -i ATSPOOL="$spool" "$door/at" -t 203001010000 <<<true 2>/dev/null) || fail "with umask $mask"
+    grep -qx "umask $mask" "$(find "$spool/" -name 'a0*' | sort | tail -n 1)" || fail "the umask is not $mask"
+  done
   case $(names_of 3) in 'B ATSPOOL A '*) ;; *) fail "the variables are $(names_of 3)" ;; esac
   [ "$(names_of 3 | tr ' ' '\n' | tail -n +4 | sort | paste -sd ' ')" = 'LOGNAME PWD TZ' ] || fail "the variables are $(names_of 3)"
 }

@@ -13,6 +13,8 @@ export DEBIAN_FRONTEND=noninteractive PATH=/usr/sbin:/usr/bin:/sbin:/bin HOME=/r
 unset TZ ATSPOOL LOGNAME USER
 dpkg --remove at >/dev/null 2>&1
 useradd -m fresh || fails 'there is no useradd'
+# (root's zone is none of theirs)
+[ ! -e /usr/share/zoneinfo/Asia/Tokyo ] || ln -sfn /usr/share/zoneinfo/Asia/Tokyo /etc/localtime
 # Two jobs of Debian's wait: one of the user for 2030, and one of root whose time has passed.
 old=/var/spool/cron/atjobs
 mkdir -p $old
@@ -28,6 +30,19 @@ grep -q 'MAIL=yes in /etc/default/coefhird' /root/said || fails "the package say
 [ "$(grep -c 'runuser -u' /root/printed)" = 2 ] && [ -e $old/a0000201c8b522 ] || fails "it prints $(cat /root/printed)"
 /usr/libexec/coefhird/from-debian-at --make 2>/root/made || fails "from-debian-at: $(cat /root/made)"
 grep -qx '2 of 2 jobs moved' /root/made || fails "it says $(cat /root/made)"
+[ -e /home/fresh/.local/state/coefhird/jobs/c0000000101e187e0 ] || fails "its time is another one in the zone of root: $(ls /home/fresh/.local/state/coefhird/jobs)"
+# a file whose text names another user than its owner, and a link, stay where they are
+sed "2s/uid=.* gid/uid=0 gid/" $old/moved.c0000301e187e0 >$old/d0000601e187e0
+sed "2s/uid=.* gid/uid=$(id -u fresh) gid/" $old/moved.c0000301e187e0 >$old/e0000701e187e0
+cp $old/moved.a0000201c8b522 /root/linked; ln -s /root/linked $old/f0000801e187e0
+chown fresh $old/d0000601e187e0; chmod 700 $old/[de]* /root/linked
+atq >/root/listed; su fresh -c 'cd; atq' >>/root/listed; ls -l $old >/root/before
+/usr/libexec/coefhird/from-debian-at --make 2>/root/made && fails "another's file is moved"
+[ "$(grep -c "^from-debian-at: $old/[de]000.*: no user of this machine owns it, or another than its text names\$" /root/made)" = 2 ] \
+  && grep -qx "from-debian-at: $old/f0000801e187e0 is a link, and stays" /root/made && grep -qx '0 of 3 jobs moved' /root/made || fails "it says $(cat /root/made)"
+{ atq; su fresh -c 'cd; atq'; } | diff - /root/listed || fails 'a job is submitted'
+ls -l $old | diff - /root/before || fails 'a file is moved'
+rm $old/[def]000*
 /usr/libexec/coefhird/from-debian-at --make 2>/root/made; grep -qx '0 of 0 jobs moved' /root/made || fails 'it moves a job twice'
 [ "$(cat $old/a0000401c8b522)" = half ] || fails 'a job that is not whole was moved'
 /usr/libexec/coefhird/from-debian-at /nowhere 2>/root/made && fails 'a directory that is not there is moved'

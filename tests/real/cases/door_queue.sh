@@ -3,12 +3,13 @@
 # A spool in which so many jobs wait.
 filled() { # count, name
   opened "${2:-spool}"
-  local digits
-  for ((made = 1; made <= $1; made++)); do
-    printf -v digits %08x "$made"
-    printf '#!/bin/sh\n# at user=%s mail=0\numask 0022\ncd '\''/'\'' || {\n\techo '\''Execution directory inaccessible'\'' >&2\n\texit 1\n}\ntrue\n' "$me" \
-      >"$spool/a${digits}0fffffff"
-  done
+  awk -v count="$1" -v user="$me" -v spool="$spool" 'BEGIN {
+    for (job = 1; job <= count; job++) {
+      file = sprintf("%s/a%08x0fffffff", spool, job)
+      printf "#!/bin/sh\n# at user=%s mail=0\numask 0022\ncd \047/\047 || {\n\techo \047Execution directory inaccessible\047 >&2\n\texit 1\n}\ntrue\n", user >file
+      close(file)
+    }
+  }'
   printf '%08x\n' "$1" >"$spool/.SEQ"
   export ATSPOOL=$spool TZ=UTC
 }
@@ -74,9 +75,11 @@ case_door_a_long_turn() {
   (flock 9; : >held; sleep 1; : >freed) 9<"$spool.lock" &
   awaits held
   ATSPOOL=$PWD/link "$door/atq" >out; [ -e freed ] || fail 'a caller does not wait for the lock'
+  grep -q '^1	' out || fail "it lists $(cat out)"
   (flock 9; : >again; sleep 11) 9<"$spool.lock" &
   awaits again
   "$door/atrm" 1 2>said || fail "it says $(cat said)"
+  [ -z "$(find "$spool/" -name 'a0*')" ] || fail 'the job is not removed'
   wait
 }
 
@@ -95,6 +98,7 @@ case_door_a_daemon_in_a_crowd() {
   : >over; wait
   [ "$status" = 0 ] && [ ! -s said ] && [ ! -s served ] || fail "atd ends with $status: $(sort said | uniq -c; head -n 3 served)"
   [ ! -e failed ] || fail "callers are refused: $(sort failed | uniq -c)"
+  [ -d "$spool.out" ] && [ "$((0x$(cat "$spool/.SEQ")))" -ge 8 ] || fail "there were $(cat "$spool/.SEQ") submissions"
 }
 
 case_door_one_atd() {
@@ -116,6 +120,22 @@ case_door_one_atd() {
   "$door/atd" -s >out 2>err </dev/null || fail "after it: $(cat err)"
   [ "$(cat out)" = 'job 1 interrupted' ] || fail "it says $(cat out)"
   touch go; awaits ended
+}
+
+# Of those that begin at once, on a spool that has no outputs yet, one works.
+case_door_two_atd_at_once() {
+  needs_atd; doored
+  trap 'kill $(jobs -p) 2>/dev/null' EXIT
+  for round in 1 2 3 4; do
+    opened "new_$round"; export ATSPOOL=$spool TZ=UTC
+    for daemon in 1 2 3; do
+      (status=0; "$door/atd" >/dev/null 2>"said_$daemon" </dev/null & echo $! >"pid_$daemon"; wait $! || status=$?; echo "$status" >"ended_${round}_$daemon") &
+    done
+    for _ in $(seq 200); do [ "$(cat "ended_${round}"_* 2>/dev/null | wc -l)" -lt 2 ] || break; sleep 0.05; done
+    sleep 0.2
+    [ "$(cat "ended_${round}"_*)" = $'5\n5' ] || fail "of three, $(cat "ended_${round}"_* | wc -l) end: $(cat said_*)"
+    kill $(cat pid_*) 2>/dev/null; wait
+  done
 }
 
 # An atd by setsid -f, as the printed lines have it, outlives ^C and the end of the terminal, and so do its jobs.

@@ -68,6 +68,27 @@ steps_of_other_owners() {
     [ ! -e "aside.$beside" ] || mv "aside.$beside" "$spool.$beside"
   done
   login "$door/atrm" 1 2>err || fail "afterwards: $(cat err)"
+  # Their directory alone, and with root's files beside it: root's daemon runs none of their jobs.
+  for beside in nothing roots; do
+    spool=$home/theirs_$beside; second mkdir -m 700 "$spool"; second touch "$spool/at.deny"
+    login ATSPOOL="$spool" "$door/at" now <<<"touch $PWD/home/ran" 2>err || fail "$(cat err)"
+    rm -rf "$spool".*; [ $beside = nothing ] || { mkdir -m 700 "$spool.out"; : >"$spool.lock"; }
+    ls -A "$spool" >before; extra=(ATSPOOL="$spool" TZ=UTC)
+    for words in 'atd -s' 'atq' 'at now'; do
+      # shellcheck disable=SC2086
+      hand true $words; [ "$status" = 2 ] || fail "$words, with $beside: $status"; refused 2 "${words%% *}: spool fault"
+    done
+    ls -A "$spool" | cmp -s - before && [ ! -e home/ran ] || fail "root's daemon works on the spool of another user, with $beside beside it"
+  done
+  # What is saved goes into no directory beside which there is a link, and into nobody else's.
+  mkdir -m 700 roots saved aside; : >roots/at.deny; echo keep >kept; extra=(ATSPOOL="$PWD/roots" TZ=UTC)
+  second mkdir -m 700 home/saved
+  for what in "saved.lock $PWD/kept" "saved.out $PWD/aside" 'home/saved'; do
+    case $what in home/*) new=$PWD/home/saved ;; *) new=$PWD/saved; ln -s "${what#* }" "${what% *}" ;; esac
+    knock atcheck "$PWD/roots" "$new" --salvage; [ "$status" = 2 ] || fail "beside $what: $status"; refused 2 'atcheck: spool fault'
+    rm -f saved.lock saved.out
+    [ -z "$(find saved aside home/saved* -mindepth 1)" ] && [ "$(ls -d home/saved*)" = home/saved ] && [ "$(cat kept)" = keep ] || fail "something is saved beside $what"
+  done
 }
 case_door_other_owners() { needs_terminal; doored; apart steps_of_other_owners; }
 
@@ -119,10 +140,19 @@ steps_of_machine_lists() {
   mkdir etc && mount -t tmpfs tmpfs etc && mkdir etc/up etc/work \
     && mount -t overlay overlay -o "lowerdir=/etc,upperdir=$PWD/etc/up,workdir=$PWD/etc/work" /etc 2>/dev/null || skip 'there is no overlay'
   cp passwd /etc/passwd; rm -f /etc/at.allow /etc/at.deny
+  extra=(HOME="$home" LOGNAME="$second" TZ=UTC)
   while IFS='|' read -r allow deny status_wanted; do
     rm -f /etc/at.allow /etc/at.deny
     [ "$allow" = - ] || printf '%s\n' $allow >/etc/at.allow
     [ "$deny" = - ] || printf '%s\n' $deny >/etc/at.deny
+    # (nothing is made for whom they refuse, and the hint names the list)
+    case $status_wanted in
+      1)
+        rm -rf home/.local
+        typed "$door/atq" second
+        case $allow in -) hinted 'atq: not allowed' "$second stands in /etc/at.deny" ;; *) hinted 'atq: not allowed' "$second is to stand in /etc/at.allow" ;; esac
+        ;;
+    esac
     for words in 'at -t 203001010000' batch atq atstat 'atrm 99'; do
       tool=${words%% *}
       # shellcheck disable=SC2086
@@ -136,6 +166,7 @@ steps_of_machine_lists() {
       status=0; env -i "$door/$tool" ${words#"$tool"} <<<true >out 2>err || status=$?
       [ "$(cat err)" != "$tool: not allowed" ] || fail "root is refused by $tool"
     done
+    [ "$status_wanted" = 0 ] || [ ! -e home/.local ] || fail 'a spool is made for a user whom the lists refuse'
   done <<END
 -|-|0
 -|$second|1
@@ -147,7 +178,7 @@ other|-|1
 $second|$second|0
 END
 }
-case_door_machine_lists() { doored; apart steps_of_machine_lists; }
+case_door_machine_lists() { needs_terminal; doored; apart steps_of_machine_lists; }
 
 # A submission wakes the daemon of its user where the machine serves them: an empty file in /run/coefhird/wake.
 steps_of_a_wake() {
@@ -156,6 +187,9 @@ steps_of_a_wake() {
   woken() { find /run/coefhird/wake -type f -empty -user $second | wc -l; }
   login "$door/at" -t 203001010000 <<<true 2>err || fail "$(cat err)"
   [ "$(woken)" = 1 ] && [ "$(find /run/coefhird/wake -type f | wc -l)" = 1 ] || fail "there is $(ls -l /run/coefhird/wake)"
+  rm /run/coefhird/wake/*
+  login "$door/batch" <<<true 2>err || fail "$(cat err)"
+  [ "$(woken)" = 1 ] || fail 'a batch job wakes no daemon'
   rm /run/coefhird/wake/*
   for words in 'atq' 'atrm 1' 'at -q x' 'at 830'; do
     # shellcheck disable=SC2086

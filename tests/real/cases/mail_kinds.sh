@@ -25,10 +25,31 @@ case_mail_kinds() {
     cmp notice body || fail "kind $kind did not come whole"
     LC_ALL=C awk 'length > 990 { exit 1 }' messages/ann.$kind.* || fail "kind $kind has a line that is too long"
   done
+  # (mail carries lines of 990 bytes here, and none that is longer, by however little)
+  for bytes in 990:8bit 991:base64 998:base64 9900:base64; do
+    { echo "job 9 exit 0"; head -c "${bytes%:*}" /dev/zero | tr '\0' x; echo; } >notice
+    ./deliver ann <notice || fail "send fails on a line of $bytes"
+    grep -qx "Content-Transfer-Encoding: ${bytes#*:}" messages/ann.9.* || fail "a line of $bytes has $(grep Encoding messages/ann.9.*)"
+    rm messages/ann.9.*
+  done
   # what is no text of a line begins no second one of the head
   printf 'job 6 exit 0' | ./deliver ann || fail 'send fails without a newline'
   sed '1,/^$/d' messages/ann.6.* | cmp - <(printf 'job 6 exit 0\n') || fail "a line without an end: $(cat messages/ann.6.*)"
 }
+
+# The sender is at the domain that the machine names for mail, and else on the machine.
+steps_of_a_domain() {
+  mkdir etc && mount -t tmpfs tmpfs etc && mkdir etc/up etc/work \
+    && mount -t overlay overlay -o "lowerdir=/etc,upperdir=$PWD/etc/up,workdir=$PWD/etc/work" /etc 2>/dev/null || skip 'there is no overlay'
+  delivering
+  for domain in mail.example.org "$(uname -n)"; do
+    case $domain in mail.*) echo $domain >/etc/mailname ;; *) rm -f /etc/mailname ;; esac
+    rm -f messages/*; echo 'job 1 exit 0' | ./deliver ann || fail 'send fails'
+    grep -qx "From: atpost <root@$domain>" messages/ann.1.* || fail "the sender is $(grep ^From: messages/ann.1.*)"
+    grep -qx "Subject: atpost@$(uname -n): job 1 exit 0" messages/ann.1.* || fail "the subject is $(grep ^Subject: messages/ann.1.*)"
+  done
+}
+case_mail_of_a_domain() { doored; apart steps_of_a_domain; }
 
 # A program that fails: its status is that of send, and a line says which mail is lost.
 case_mail_that_is_lost() {

@@ -58,6 +58,23 @@ case_long_a_job_starts_at_its_minute() {
   [ "$late" -ge 0 ] && [ "$late" -lt 10000 ] || fail "the job started $late ms after its minute"
 }
 
+# A notice is sent as its job ends, and the next one too: atpost watches the spool, and does not rest for twenty seconds.
+case_a_notice_at_once() {
+  needs_atd; doored; opened; extra=(ATSPOOL="$spool" TZ=UTC)
+  printf '#!/bin/sh\ncat >%q.new && mv %q.new %q\n' "$PWD/notice" "$PWD/notice" "$PWD/notice" >post; chmod 755 post
+  (exec env -i PATH=/usr/bin:/bin "${extra[@]}" "$door/atpost" --send "$PWD/post" >/dev/null 2>said </dev/null) & post=$!
+  trap 'kill "$post" 2>/dev/null' EXIT
+  for job in 1 2 3; do
+    hand true at -m now; took $job
+    for _ in $(seq 160); do grep -qs "^N 0000000$job" "$spool/.MAIL" && break; sleep 0.05; done
+    grep -qs "^N 0000000$job" "$spool/.MAIL" || fail "job $job is not noted within eight seconds: $(cat said)"
+    knock atd -s; [ "$status" = 0 ] || fail "atd: $(cat err)"
+    for _ in $(seq 160); do [ ! -s notice ] || break; sleep 0.05; done
+    [ "$(cat notice)" = "job $job exit 0" ] || fail "no notice of job $job comes within eight seconds: $(cat said)"
+    rm notice
+  done
+}
+
 # However many submissions there are, atd makes one turn a second, and one more where a minute ends.
 case_a_flood_of_submissions() {
   needs_strace; needs_atd; doored; opened

@@ -107,8 +107,68 @@ steps_of_a_move() {
   needs_strace
   command -v runuser >/dev/null || skip 'there is no runuser'
   mkdir -m 700 /var/spool/atjobs old && : >/var/spool/atjobs/at.deny
-  printf '#!/bin/sh\n# atrun uid=0 gid=0\n# mail root 0\numask 22\ntrue\n' >old/a0000101c8b522; chmod 700 old/a0000101c8b522
+  debians_job() { printf '#!/bin/sh\n# atrun uid=0 gid=0\n# mail root 0\numask 22\ntrue\n' >"old/$1"; chmod 700 "old/$1"; }
+  moves() { status=0; "$place/pre/libexec/coefhird/from-debian-at" --make "$PWD/old" >out 2>err || status=$?; }
+  moved() { [ "$(find /var/spool/atjobs -name 'a0*' | wc -l)" = "$1" ] || fail "$2: the jobs are $(ls /var/spool/atjobs): $(cat out err)"; }
+  debians_job a0000101c8b522
   traced_script "$PWD/old" "$place/pre/libexec/coefhird/from-debian-at" --make "$PWD/old"
-  made 'rename HERE/a0000101c8b522 HERE/moved.a0000101c8b522' 'sync HERE' 'says 1 of 1 jobs moved'
+  made 'rename HERE/a0000101c8b522 HERE/moving.a0000101c8b522' 'sync HERE' \
+    'rename HERE/moving.a0000101c8b522 HERE/moved.a0000101c8b522' 'sync HERE' 'says 1 of 1 jobs moved'
+  moved 1 'a move'
+  # A call that ends at its first rename, or at its last one: no job is submitted twice, and the next call says what is left.
+  ends_at() { # path that a rename has
+    "$strace" -f -o /dev/null -P "$PWD/old/$1" -e trace=rename,renameat,renameat2 -e inject=rename,renameat,renameat2:error=EIO \
+      "$place/pre/libexec/coefhird/from-debian-at" --make "$PWD/old" >said 2>&1 && fail "$1: no step failed"
+  }
+  debians_job a0000201c8b522; ends_at a0000201c8b522; moved 1 'a call that ends before it begins'
+  moves; [ "$status" = 0 ] || fail "afterwards: $status: $(cat err)"; moved 2 'the next call'
+  debians_job a0000301c8b522; ends_at moved.a0000301c8b522; moved 3 'a call that ends after the answer of at'
+  moves; moved 3 'the next call'
+  [ "$status" = 1 ] && grep -q "^from-debian-at: $PWD/old/moving.a0000301c8b522 was being moved as a call ended: " err || fail "it says: $status: $(cat err)"
 }
 case_syncs_of_a_move() { doored; apart steps_of_a_move; }
+
+# What is saved, and the lists, are on the disk before they have the name of the spool.
+case_syncs_of_a_salvage() {
+  needs_strace; doored; opened; echo ann >spool/at.allow
+  with true at -t 203001010000; took 1
+  printf 0000000 >spool/.SEQ
+  traced_script "$PWD" env -i PATH=/usr/bin:/bin ATSPOOL="$spool" "$door/atsalvage" --yes
+  sed -n '/^sync HERE.spool.new..ATD$/,$p' calls | grep -v '^remove' >swapped; mv swapped calls
+  made 'sync HERE/spool.new/.ATD' 'sync HERE/spool.new/at.allow' 'sync HERE/spool.new/at.deny' 'sync HERE/spool.new' 'sync HERE/spool.lock' \
+    'rename HERE/spool HERE/spool.bad' 'rename HERE/spool.new HERE/spool' 'sync HERE'
+}
+
+# So is a copy that is put back, with its outputs.
+case_syncs_of_a_restore() {
+  needs_strace; doored; opened
+  with true at -t 203001010000; took 1
+  mkdir -p copy spool.out; : >spool.out/a0000000101e187e0; cp -a spool spool.out copy/
+  traced_script "$PWD" env -i PATH=/usr/bin:/bin ATSPOOL="$spool" "$door/atrestore" --yes copy/spool
+  grep -v '^remove' calls | sed -n '/sync HERE.spool.restore$/,$p' >swapped; sort swapped | uniq -c >counted
+  for made in spool.restore spool.restore/.SEQ "spool.restore/$(basename "$(file_of 1)")" spool.restore/.ATD spool.restore.out spool.restore.out/a0000000101e187e0; do
+    grep -q " sync HERE/$made\$" counted || fail "$made is not synced: $(cat calls)"
+  done
+  tail -n 8 swapped >calls
+  made 'sync HERE/spool.restore/.SEQ' 'sync HERE/spool.restore' 'sync HERE/spool.lock' 'rename HERE/spool.out HERE/spool.bad.out' \
+    'rename HERE/spool.restore.out HERE/spool.out' 'rename HERE/spool HERE/spool.bad' 'rename HERE/spool.restore HERE/spool' 'sync HERE'
+}
+
+# A first spool is on the disk before a job is accepted, with rights for its user alone, whatever the umask is.
+steps_of_a_first_spool() {
+  needs_strace
+  home=$PWD/home
+  for mask in 0000 0277; do
+    rm -rf home/.local
+    umask $mask
+    traced_script "$PWD/home" setpriv --reuid=$number --regid=$number --clear-groups env -i HOME="$home" TZ=UTC "$door/at" -t 203001010000
+    umask 0022
+    [ "$(stat -c %a home/.local home/.local/state/coefhird/jobs{,.out,.lock} | paste -sd ' ')" = '700 700 700 600' ] && [ -z "$(find home/.local -perm /077)" ] \
+      || fail "with umask $mask the rights are $(stat -c '%a %n' home/.local/state/coefhird/jobs* home/.local/state/coefhird/jobs/*)"
+    # (each name is on the disk before anything is put below it)
+    sed -n '1,/at.deny/p' calls | sed 's|HERE/.local/state/coefhird|HERE/STATE|' >first; mv first calls
+    made 'sync HERE/.local' 'sync HERE' 'sync HERE/.local/state' 'sync HERE/.local' 'sync HERE/STATE' 'sync HERE/.local/state' \
+      'sync HERE/STATE/jobs' 'sync HERE/STATE' 'sync HERE/STATE/jobs/at.deny'
+  done
+}
+case_syncs_of_a_first_spool() { doored; apart steps_of_a_first_spool; }

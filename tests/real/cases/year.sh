@@ -1,7 +1,8 @@
 # What keeps the files of a spool short: the account is split, and empty outputs are removed.
 
-rotates() { status=0; env -i ATSPOOL="$spool" "$libexec/rotate" "$@" >out 2>err </dev/null || status=$?; }
-trims() { status=0; env -i ATSPOOL="$spool" "$libexec/trim" >out 2>err </dev/null || status=$?; ended 0 '' ''; }
+# (they need no directory for temporary files)
+rotates() { status=0; env -i TMPDIR=/nowhere ATSPOOL="$spool" "$libexec/rotate" "$@" >out 2>err </dev/null || status=$?; }
+trims() { status=0; env -i TMPDIR=/nowhere ATSPOOL="$spool" "$libexec/trim" >out 2>err </dev/null || status=$?; ended 0 '' ''; }
 
 # The line of ataccount(8) that adds totals.
 added() {
@@ -99,7 +100,7 @@ case_account_split_that_is_killed() {
     [ ! -e "$spool.accounts/next" ] || if cmp -s account "$spool/.ACC"; then old=$((old + 1)); else new=$((new + 1)); fi
     looks
     rotates --now; ended 0 '' ''
-    [ ! -e "$spool.accounts/next" ] && [ ! -e "$spool/.ATMP" ] || fail "round $round: something stays: $(ls "$spool.accounts")"
+    [ ! -e "$spool.accounts/next" ] && [ ! -e "$spool/.ATMP" ] || [ -z "$(ls -d "$spool.accounts"/*.new "$spool.accounts".* 2>/dev/null)" ] || fail "round $round: something stays: $(ls "$spool.accounts")"
     cat "$spool".accounts/*.records "$spool/.ACC" | sort | cmp -s - <(sort account) || fail "round $round: a record is lost or there twice"
     [ "$(added "$spool".accounts/*.counts)" = 'ann a 300 300 300 0 0 0 0' ] || fail "round $round: $(cat "$spool".accounts/*.counts)"
   done
@@ -177,6 +178,21 @@ case_outputs_trimmed() {
   rm -f "$spool/mail.00000002"; trims
   printf '%s\n' "$(cd "$spool.out" && ls ?00000002* ?00000003*)" notes .hidden mail.1 a00000001 | sort >want
   ls -A "$spool.out" | sort | cmp -s - want || fail "at the end there stay $(ls -A "$spool.out"), not $(cat want)"
+}
+
+# Where a list can't be made whole nothing is removed; and a trim that is killed leaves nothing beside the spool.
+case_outputs_trimmed_of_no_whole_list() {
+  doored; opened; with true at -t 203001010000; took 1
+  mkdir -p "$spool.out"; : >"$spool.out/a0000000901e187e0"; touch -d '2 days ago' "$spool.out"/*
+  ls -A . >before
+  for fault in 's/^    names=.*/    false || return/' "s/^    flock .*/    { echo busy; return; }/" 's/^    echo whole$/    kill -9 $$/'; do
+    sed "$fault" "$libexec/trim" >trim; cmp -s trim "$libexec/trim" && fail "$fault is none"
+    status=0; env -i ATSPOOL="$spool" sh trim >out 2>err </dev/null || status=$?; rm trim
+    case $fault in *names*) refused_status=2 ;; *busy*) refused_status=5 ;; *) refused_status=137 ;; esac
+    [ "$status" = $refused_status ] && [ -e "$spool.out/a0000000901e187e0" ] || fail "$fault: $status: $(cat out err)"
+  done
+  rm -f out err; ls -A . | grep -vxE 'spool.lock|commands' | diff - <(grep -vxE 'spool.lock|commands|out|err' before) || fail 'something stays'
+  trims; [ ! -e "$spool.out/a0000000901e187e0" ] || fail 'the empty output stays'
 }
 
 # The notes of jobs that are done go as an atpost starts, unless it is to make a number of sessions; those that wait stay.
