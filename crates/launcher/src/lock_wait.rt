@@ -1,5 +1,6 @@
 //! How a tool waits for a spool that another program uses.
 use caller_environment::ToolName;
+use host_calls::Name;
 use std::io::IsTerminal;
 use unix_host::{WaitNotice, Waits};
 
@@ -15,8 +16,8 @@ pub fn lock_wait(rt: &HostRuntime, tool: ToolName) -> Waits {
     } else {
         NAPS_ELSEWHERE
     };
-    Waits::Napping(WaitNotice {
-        tool: tool.as_str(),
-        naps,
-    })
+    match Name::of(tool.as_str().as_bytes()) {
+        Some(tool) => Waits::Napping(WaitNotice { tool, naps }),
+        None => Waits::Asking,
+    }
 }

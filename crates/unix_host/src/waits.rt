@@ -4,8 +4,9 @@ ghost use Rattle.std.specs.Duration.{as_nanos};
 ghost use Rattle.unix_host.specs.inside.Rests.{nap_after, rest_after};
 
 use crate::paths::Paths;
-use std::thread;
+use host_calls::Name;
 use std::time::{Clock, Duration};
+use std::{str, thread};
 
 // How often a lock is asked for, a second apart, before it counts as taken.
 const TRIES: u32 = 10;
@@ -14,7 +15,7 @@ const TRIES: u32 = 10;
 const NAPS: u32 = 30_002;
 
 /// How a session waits for a lock that another session holds.
-#[derive(Clone, Copy, Debug, PartialEq, Eq)]
+#[derive(Clone, Copy)]
 pub enum Waits {
     /// It asks ten times, a second apart.
     Asking,
@@ -23,9 +24,9 @@ pub enum Waits {
 }
 
 /// Who waits, and after how many naps a line says so: a hundred are a second.
-#[derive(Clone, Copy, Debug, PartialEq, Eq)]
+#[derive(Clone, Copy)]
 pub struct WaitNotice {
-    pub tool: &'static str,
+    pub tool: Name,
     pub naps: u32,
 }
 
@@ -49,8 +50,7 @@ impl Waiting {
         self.tries = self.tries.saturating_add(1);
         if let Waits::Napping(notice) = &self.waits {
             if self.tries == notice.naps {
-                let (tool, spool) = (notice.tool, paths.whole());
-                let _ = eprintln!(rt; "{tool}: waiting for another program that uses {spool}");
+                say_wait(rt, &notice.tool, paths.whole());
             }
         }
         match rest_after(self.waits, self.tries) {
@@ -60,6 +60,13 @@ impl Waiting {
             }
             None => false,
         }
+    }
+}
+
+// (a line that can't be written is lost)
+fn say_wait<R: Eprint>(rt: &R, tool: &Name, spool: &str) {
+    if let Ok(tool) = str::from_utf8(tool.as_bytes()) {
+        let _ = eprintln!(rt; "{tool}: waiting for another program that uses {spool}");
     }
 }
 
