@@ -60,6 +60,6 @@ fn one_trim(rt: &HostRuntime, spool: &str) -> Result<Status, AllocError>
     for word in ["atpost", "--trim"] {
         words.push(String::from_str(alloc, word)?)?;
     }
-    let waits = lock_wait(rt, ToolName::Atpost);
+    let waits = lock_wait(rt);
     trim_over(rt, &words, Text::of(alloc, spool)?, waits)
 }

@@ -39,12 +39,12 @@ pub fn answer_of(
     let status = match tool {
         ToolName::Atstat => return states_over(rt, words, &invoker.caller, spool),
         ToolName::At | ToolName::Batch | ToolName::Atq | ToolName::Atrm | ToolName::Atday => {
-            commands_over(rt, tool, words, &invoker.caller, spool)?
+            commands_over(rt, words, &invoker.caller, spool)?
         }
         ToolName::Atd => daemon_over(rt, words, &invoker.caller, spool, paths)?,
         ToolName::Atpost => mail_over(rt, words, spool, paths)?,
         ToolName::Atcron => crontab_over(rt, words, &invoker.caller, spool, paths)?,
-        ToolName::Ataccount => account_over(rt, words, spool, lock_wait(rt, tool))?,
+        ToolName::Ataccount => account_over(rt, words, spool, lock_wait(rt))?,
         ToolName::Atcheck => checker_over(rt, words, spool, paths)?,
     };
     Ok(ToolEnd::By(status.cause))
@@ -60,21 +60,13 @@ fn states_over(
     ensures { IfOk result (IsToolEnd Atstat) }
 {
     let mut clock = real_clock(rt)?;
-    let status = stat_over(
-        rt,
-        words,
-        caller,
-        spool,
-        lock_wait(rt, ToolName::Atstat),
-        &mut clock,
-    )?;
+    let status = stat_over(rt, words, caller, spool, lock_wait(rt), &mut clock)?;
     Ok(ToolEnd::of(status))
 }
 
 /// The same of a tool that submits, lists, shows or removes jobs, or makes a day.
 pub fn commands_over(
     rt: &HostRuntime,
-    tool: ToolName,
     words: &[String],
     caller: &Caller,
     spool: Text,
@@ -83,7 +75,7 @@ pub fn commands_over(
     ensures code { IfOk result (λ status. status ≡ status_of status.cause) }
 {
     let mut clock = real_clock(rt)?;
-    at_over(rt, words, caller, spool, lock_wait(rt, tool), &mut clock)
+    at_over(rt, words, caller, spool, lock_wait(rt), &mut clock)
 }
 
 // The same of atd, if no other one works on the spool.
@@ -106,7 +98,7 @@ fn daemon_over(
         return Ok(refuse_tool(rt, ToolName::Atd, Cause::Busy));
     }
     let mut clock = clock_over(rt, paths, &[sequence_name()])?;
-    let waits = lock_wait(rt, ToolName::Atd);
+    let waits = lock_wait(rt);
     at_over(rt, words, caller, spool, waits, &mut clock)
 }
 
@@ -120,7 +112,7 @@ fn mail_over(
     ensures code { IfOk result (λ status. status ≡ status_of status.cause) }
 {
     if asks_for_trim(words) {
-        return trim_over(rt, words, spool, lock_wait(rt, ToolName::Atpost));
+        return trim_over(rt, words, spool, lock_wait(rt));
     }
     let lock = lock_for(rt, ToolName::Atpost, words, "--send", paths)?;
     if matches!(&lock, DaemonLock::Taken) {
@@ -130,7 +122,7 @@ fn mail_over(
         return Ok(told);
     }
     let mut clock = clock_over(rt, paths, &[sequence_name(), journal_name()])?;
-    let waits = lock_wait(rt, ToolName::Atpost);
+    let waits = lock_wait(rt);
     post_over(rt, words, spool, waits, &mut clock)
 }
 
@@ -150,7 +142,7 @@ fn crontab_over(
         return Ok(refuse_tool(rt, ToolName::Atcron, Cause::Busy));
     }
     let mut clock = clock_over(rt, paths, &[])?;
-    let waits = lock_wait(rt, ToolName::Atcron);
+    let waits = lock_wait(rt);
     cron_over(rt, words, caller, spool, waits, &mut clock)
 }
 
@@ -167,7 +159,7 @@ fn checker_over(
     if saves_into_itself(rt, words, paths, &new) {
         return Ok(refuse_tool(rt, ToolName::Atcheck, Cause::Busy));
     }
-    check_over(rt, words, spool, new, lock_wait(rt, ToolName::Atcheck))
+    check_over(rt, words, spool, new, lock_wait(rt))
 }
 
 // Whether both words of atcheck name one directory: it would wait for itself.

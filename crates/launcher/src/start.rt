@@ -66,13 +66,7 @@ fn make_day(rt: &HostRuntime, words: &[String]) -> Result<u8, AllocError>
     ensures { IfOk result IsExitCode }
 {
     let caller = caller_of(rt)?;
-    let status = commands_over(
-        rt,
-        ToolName::Atday,
-        words,
-        &caller,
-        Text::of(rt.alloc(), "/")?,
-    )?;
+    let status = commands_over(rt, words, &caller, Text::of(rt.alloc(), "/")?)?;
     Ok(exit_code_of(&status.cause))
 }
 

@@ -43,4 +43,4 @@ pub use host::UnixHost;
 pub use inputs::UnixInputs;
 pub use out::UnixOut;
 pub use readings::UnixReadings;
-pub use waits::{WaitNotice, Waits};
+pub use waits::Waits;

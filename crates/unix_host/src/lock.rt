@@ -37,6 +37,7 @@ use crate::paths::Paths;
 use crate::unsynced::Unsynced;
 use crate::waits::Waiting;
 use host_calls::{EnterFault, HostFault};
+use std::env::Env;
 use std::fs::{File, Files, Permissions};
 use std::os::unix::fs::{FileExt, PermissionsExt};
 use std::time::Clock;
@@ -53,7 +54,7 @@ pub struct Lock {
 
 impl Lock {
     /// Takes both locks of a spool, and waits so for them. None where one of the paths names another file by then.
-    pub fn take<R: Files<File = File> + Clock + Eprint>(
+    pub fn take<R: Files<File = File> + Clock + Env + Eprint>(
         rt: &R,
         paths: &Paths,
         waiting: &mut Waiting,

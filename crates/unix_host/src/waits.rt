@@ -1,10 +1,10 @@
 //! How a session waits for a lock that another session holds.
 ghost use Rattle.std.specs.Prelude.{◌≡◌, option_map};
 ghost use Rattle.std.specs.Duration.{as_nanos};
-ghost use Rattle.unix_host.specs.inside.Rests.{nap_after, rest_after};
+ghost use Rattle.unix_host.specs.inside.Rests.{is_told, nap_after, rest_after};
 
 use crate::paths::Paths;
-use host_calls::Name;
+use std::env::Env;
 use std::time::{Clock, Duration};
 use std::{str, thread};
 
@@ -14,20 +14,20 @@ const TRIES: u32 = 10;
 // How many naps there are: of 1, 2, 4 and 8 milliseconds, and then of 10, they last five minutes together.
 const NAPS: u32 = 30_002;
 
+// After how many naps a line says what is waited for: after three seconds where somebody looks on, and after sixty elsewhere.
+const NAPS_ON_TERMINAL: u32 = 302;
+
+const NAPS_ELSEWHERE: u32 = 6_002;
+
 /// How a session waits for a lock that another session holds.
-#[derive(Clone, Copy)]
+#[derive(Clone, Copy, Debug, PartialEq, Eq)]
 pub enum Waits {
     /// It asks ten times, a second apart.
     Asking,
-    /// Before that it asks for five minutes, between naps of a few milliseconds.
-    Napping(WaitNotice),
-}
-
-/// Who waits, and after how many naps a line says so: a hundred are a second.
-#[derive(Clone, Copy)]
-pub struct WaitNotice {
-    pub tool: Name,
-    pub naps: u32,
+    /// Before that it asks for five minutes, between naps of a few milliseconds. After one of them a line says so.
+    Napping,
+    /// The same, with a line after three seconds.
+    NappingOnTerminal,
 }
 
 /// How long a session has waited so far.
@@ -46,12 +46,10 @@ impl Waiting {
     }
 
     /// After one more try at a taken lock: rests, and answers whether there is a next try. Once it says what is waited for.
-    pub fn goes_on<R: Clock + Eprint>(&mut self, rt: &R, paths: &Paths) -> bool {
+    pub fn goes_on<R: Clock + Env + Eprint>(&mut self, rt: &R, paths: &Paths) -> bool {
         self.tries = self.tries.saturating_add(1);
-        if let Waits::Napping(notice) = &self.waits {
-            if self.tries == notice.naps {
-                say_wait(rt, &notice.tool, paths.whole());
-            }
+        if is_told(self.waits, self.tries) {
+            say_wait(rt, paths.whole());
         }
         match rest_after(self.waits, self.tries) {
             Some(rest) => {
@@ -63,11 +61,24 @@ impl Waiting {
     }
 }
 
-// (a line that can't be written is lost)
-fn say_wait<R: Eprint>(rt: &R, tool: &Name, spool: &str) {
-    if let Ok(tool) = str::from_utf8(tool.as_bytes()) {
-        let _ = eprintln!(rt; "{tool}: waiting for another program that uses {spool}");
+// Whether the line comes after so many tries.
+fn is_told(waits: Waits, tries: u32) -> bool
+    ensures { result ≡ is_told waits tries }
+{
+    match waits {
+        Waits::Asking => false,
+        Waits::Napping => tries == NAPS_ELSEWHERE,
+        Waits::NappingOnTerminal => tries == NAPS_ON_TERMINAL,
     }
+}
+
+// Says what is waited for, by the name as which the program was called. (a line that can't be written is lost)
+fn say_wait<R: Env + Eprint>(rt: &R, spool: &str) {
+    let mut name = [0; 256];
+    let count = rt.arg(0, &mut name).unwrap_or(0).min(name.len());
+    let path = str::from_utf8(&name[..count]).unwrap_or("");
+    let tool = path.rsplit('/').next().unwrap_or(path);
+    let _ = eprintln!(rt; "{tool}: waiting for another program that uses {spool}");
 }
 
 // How long a session rests after so many tries, if there is another try.
@@ -76,7 +87,7 @@ fn rest_after(waits: Waits, tries: u32) -> Option<Duration>
 {
     let naps = match waits {
         Waits::Asking => 0,
-        Waits::Napping(_) => NAPS,
+        Waits::Napping | Waits::NappingOnTerminal => NAPS,
     };
     if tries <= naps {
         Some(Duration::from_millis(nap_after(tries)))

@@ -3,20 +3,12 @@ ghost use Rattle.std.specs.Prelude.{◌≡◌};
 ghost use Rattle.host_calls.specs.Session.{IsOutside};
 
 use crate::refusing::childless;
-use crate::words::{begin, clear, fresh_spool, host_of, host_over, line, named};
+use crate::words::{begin, clear, fresh_spool, host_of, host_over, line};
 use host_calls::{EnterFault, Host, HostFault};
 use std::alloc::Global;
 use std::test::Fail;
 use std::time::{Clock, Duration};
-use unix_host::{WaitNotice, Waits};
-
-// Nobody waits as long in these tests as until a line says so, but where no rest takes time.
-fn napping() -> Result<Waits, HostFault> {
-    Ok(Waits::Napping(WaitNotice {
-        tool: named("at")?,
-        naps: 30_000,
-    }))
-}
+use unix_host::Waits;
 
 /// What a host is answered that enters a folder, twice.
 type Answers = (Result<(), EnterFault>, Result<(), EnterFault>);
@@ -92,7 +84,7 @@ fn a_host_is_refused_while_another_holds_the_lock(rt: HostRuntime) -> Result<(),
 // The same where the second host naps, and where no rest takes time.
 fn answers_after_naps(rt: &HostRuntime, path: &str) -> Result<Answers, Fail> {
     let mut first = host_of(rt, path)?;
-    let mut second = host_over(childless(rt)?, rt.alloc(), path)?.waiting(napping()?);
+    let mut second = host_over(childless(rt)?, rt.alloc(), path)?.waiting(Waits::Napping);
     let answers = answers_of_both(rt.alloc(), &mut first, &mut second);
     drop(second);
     drop(first);
@@ -148,7 +140,7 @@ fn a_lock_that_is_let_go_is_had_after_a_nap(rt: HostRuntime) -> Result<(), Fail>
     let path = fresh_spool(&rt, "let_go")?;
     let mut soonest = Duration::MAX;
     for _ in 0..10 {
-        soonest = soonest.min(time_to_enter(&rt, path.as_str(), napping()?)?);
+        soonest = soonest.min(time_to_enter(&rt, path.as_str(), Waits::Napping)?);
     }
     let asked = time_to_enter(&rt, path.as_str(), Waits::Asking)?;
     clear(&rt, path.as_str())?;
